@@ -102,7 +102,7 @@ def path_without_rt():
     return os.pathsep.join(one for one in folders if not os.path.exists(os.path.join(one, "rt")))
 
 
-def runs_what_stands_there(case):
+def runs_what_stands_there(case: Case) -> None:
     """A clone as it comes, twice; from another folder; through a link."""
     clone = Clone(case)
     clone.runs("at first")
@@ -112,7 +112,7 @@ def runs_what_stands_there(case):
     case.test("its path", clone.tool("program") == [clone.path("dist", "subttx")])
 
 
-def finds_damage(case):
+def finds_damage(case: Case) -> None:
     """One byte of the program is another; also after the choice was kept."""
     clone = Clone(case)
     clone.runs("whole")
@@ -126,7 +126,7 @@ def finds_damage(case):
     clone.does_not_run("no file", "dist/subttx is no program")
 
 
-def finds_changes(case):
+def finds_changes(case: Case) -> None:
     """A source is another one, is new, or is gone; also after the choice was kept."""
     clone = Clone(case)
     clone.runs("as it is")
@@ -138,7 +138,7 @@ def finds_changes(case):
     clone.does_not_run("another name", "dist/subttx was built from other sources")
 
 
-def runs_where_nothing_may_be_written(case):
+def runs_where_nothing_may_be_written(case: Case) -> None:
     """The clone belongs to another user, or may only be read."""
     clone, user = Clone(case), None if os.geteuid() else ANOTHER_USER
     if user and not Trial.can(["test", "-x", clone.path("subttx")], user=user):
@@ -150,7 +150,7 @@ def runs_where_nothing_may_be_written(case):
     case.test("nothing was written", not os.path.exists(clone.path("out")))
 
 
-def tells_of_another_machine(case):
+def tells_of_another_machine(case: Case) -> None:
     """What lies there can't be run, or answers something else."""
     clone = Clone(case)
     for name, text in (("no program of this machine", "\x7fELF\x02 and no more"),
@@ -161,7 +161,7 @@ def tells_of_another_machine(case):
         clone.does_not_run(name, "dist/subttx does not run here")
 
 
-def takes_first_what_was_built_here(case):
+def takes_first_what_was_built_here(case: Case) -> None:
     """out/ comes before dist/, as long as it is of the sources; what is left has no word."""
     clone = Clone(case)
     stored = clone.path("crates", "subttx", "stdout")
@@ -187,7 +187,7 @@ def a_log(clone, kept=()):
     return "\n".join([*lines, "== other", LINE, "rt: other NOT PROVED", "1 passed, 1 failed", ""])
 
 
-def release_takes_what_was_proved(case):
+def release_takes_what_was_proved(case: Case) -> None:
     """From a log of rt ci into dist/, also where a part is kept; and not without all lines."""
     clone = Clone(case)
     built = os.path.join("crates", "subttx", "out", "subttx")
@@ -217,7 +217,7 @@ def release_takes_what_was_proved(case):
     clone.runs("it runs")
 
 
-def release_keeps_lines_of_unchanged_sources(case):
+def release_keeps_lines_of_unchanged_sources(case: Case) -> None:
     """A line of dist/PROVED is kept for the crate whose sources are the same, and for no other."""
     clone = Clone(case)
     built = os.path.join("crates", "subttx", "out", "subttx")
@@ -233,7 +233,7 @@ def release_keeps_lines_of_unchanged_sources(case):
     case.test("other sources are told", done.status == 0 and b"other sources" in done.out, done)
 
 
-def compare_finds_other_bytes(case):
+def compare_finds_other_bytes(case: Case) -> None:
     """Both are of the same sources, and the programs differ; or dist/ is damaged."""
     clone = Clone(case)
     shutil.copy(clone.path("dist", "subttx"), case.path("other"))

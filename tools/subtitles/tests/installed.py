@@ -20,7 +20,7 @@ printf '%s\\n' "${COMPREPLY[@]}"
 '''
 
 
-def installs(case):
+def installs(case: Case) -> None:
     """The program and the tools, also when the folder was moved."""
     done = case.tool("install", "-p", case.bench.program, "first/prefix")
     case.test("status", done.status == 0, done)
@@ -61,7 +61,7 @@ def runs_the_whole_way(case, prefix):
               and b"tools/" not in done.out, done)
 
 
-def refuses_a_dash(case):
+def refuses_a_dash(case: Case) -> None:
     """A word that begins with a dash is no folder, also after `--`."""
     for words in (["-x"], ["--", "-x"], ["--prefix"]):
         done = case.tool("install", "-p", case.bench.program, *words)
@@ -69,7 +69,7 @@ def refuses_a_dash(case):
                   and not os.listdir(case.folder), done)
 
 
-def completes(case):
+def completes(case: Case) -> None:
     """Commands, and the options of each command that the manual names; those of a tool."""
     if not shutil.which("bash"):
         case.bench.over.append("completion, since there is no bash")
@@ -95,7 +95,7 @@ def completes(case):
               offered(tool, "-"))
 
 
-def names_one_version(case):
+def names_one_version(case: Case) -> None:
     version = (read(os.path.join(TOP, "VERSION")) or "none").strip()
     for name in PAGES:
         page = read(os.path.join(TOP, "docs", name))
@@ -104,7 +104,7 @@ def names_one_version(case):
     case.test("the change log", log and log[1].rstrip(",") == version, log)
 
 
-def makes_an_archive(case):
+def makes_an_archive(case: Case) -> None:
     """The archive's sums are right, and what is in it runs; twice the same bytes."""
     program, _ = chosen(TOP)
     proved = os.path.join(os.path.dirname(program), "PROVED")

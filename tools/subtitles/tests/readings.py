@@ -1,8 +1,11 @@
 """tools/reading-list: what a definition or a clause rests on, in a repository of two crates."""
+from __future__ import annotations
+
 import os
 
 from ..definitions import Library, counts
 from ..words import Stop
+from .bench import Case
 
 FILES = {
     "crates.txt": "# name: what it stands on\nlow:\nhigh: low\n",
@@ -51,14 +54,14 @@ pub fn count(n: u64) -> u64
 }
 
 
-def library(case):
+def library(case: Case) -> Library:
     for name, text in FILES.items():
         os.makedirs(os.path.dirname(case.path(name)), exist_ok=True)
         case.write(name, text.encode())
     return Library(case.folder)
 
 
-def finds_what_is_meant(case):
+def finds_what_is_meant(case: Case) -> None:
     """Names by their files, what is needed first, and nothing that is only bound."""
     them = library(case)
     for name, want in {
@@ -74,7 +77,7 @@ def finds_what_is_meant(case):
               counts(*them.reading("total")))
 
 
-def refuses_what_is_unclear(case):
+def refuses_what_is_unclear(case: Case) -> None:
     """A name of two files, and names of none."""
     them = library(case)
     for name, why in (("size", "high/Things.size"), ("none", "no definition"),

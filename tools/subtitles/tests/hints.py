@@ -1,0 +1,62 @@
+"""The type hints of tools/, by mypy --strict."""
+from __future__ import annotations
+
+import os
+import shutil
+
+from ..built import TOP
+from .bench import Case
+
+TOOLS = os.path.join(TOP, "tools")
+# What has no hints yet.
+MODULES = {"cited", "clones", "definitions", "edits", "every_place", "installed", "proved",
+           "readings"}
+SCRIPTS = {"check-every-place", "check-manual", "check-mending", "check-program", "dist", "edits",
+           "faults", "install", "make-examples", "prove", "reading-list", "refused-memory",
+           "release", "slow-proofs"}
+
+
+def is_python(path: str) -> bool:
+    """Whether a file is a script in Python."""
+    if not os.path.isfile(path):
+        return False
+    with open(path, "rb") as file:
+        return file.readline().endswith(b"python3\n")
+
+
+def has_hints(name: str) -> bool:
+    return not MODULES & {name.removesuffix(".py")}
+
+
+def modules(folder: str) -> list[str]:
+    """The modules of a folder and of those in it."""
+    found: list[str] = []
+    for name in sorted(filter(has_hints, os.listdir(folder))):
+        path = os.path.join(folder, name)
+        if os.path.isdir(path):
+            found += modules(path)
+        elif name.endswith(".py"):
+            found.append(path)
+    return found
+
+
+def scripts() -> list[str]:
+    """The scripts in Python."""
+    paths = (os.path.join(TOOLS, name) for name in sorted(set(os.listdir(TOOLS)) - SCRIPTS))
+    return list(filter(is_python, paths))
+
+
+def are_right(case: Case) -> None:
+    """Each module and each script is taken by mypy."""
+    mypy = shutil.which("mypy")
+    if mypy is None:
+        case.bench.over.append("type hints, since there is no mypy")
+        return
+    command = [mypy, "--strict", "--scripts-are-modules", "--follow-imports=silent",
+               f"--cache-dir={case.path('cache')}"]
+    done = case.call([*command, *modules(os.path.join(TOOLS, "subtitles")), *scripts()],
+                     env={**os.environ, "MYPYPATH": TOOLS})
+    case.test("mypy --strict", done.status == 0, done.out.decode())
+
+
+CASES = [are_right]
