@@ -1,7 +1,10 @@
 """Names that the documents cite in backquotes, and whether the sources have them; and how much has
 to be read for some of them."""
+from __future__ import annotations
+
 import os
 import re
+from typing import Iterator
 
 from .definitions import Library, counts
 
@@ -23,14 +26,15 @@ COMMENT = {".rt": re.compile(r"//.*"), ".antt": re.compile(r"(?:^|(?<=\s))--.*",
 class Sources:
     """The words of the sources, and the names of all files and folders."""
 
-    def __init__(self, top):
-        self.words, self.paths = set(), set()
+    def __init__(self, top: str) -> None:
+        self.words: set[str] = set()
+        self.paths: set[str] = set()
         for place, folders, names in os.walk(top):
             folders[:] = [name for name in folders if name not in LEFT_OUT]
             for name in [*folders, *names]:
                 self.take(top, os.path.relpath(os.path.join(place, name), top))
 
-    def take(self, top, path):
+    def take(self, top: str, path: str) -> None:
         """Takes a file or a folder, under its whole name and as a crate calls it; and its words."""
         parts = path.split(os.sep)
         for start in {0, *((1, 2) if parts[0] == "crates" else ())}:
@@ -41,7 +45,7 @@ class Sources:
         if is_source and os.path.isfile(os.path.join(top, path)):
             self.read(os.path.join(top, path))
 
-    def read(self, path):
+    def read(self, path: str) -> None:
         """Takes the words of a file, without its comments; of an edit only its name counts."""
         ending = os.path.splitext(path)[1]
         if ending != ".edit":
@@ -50,13 +54,13 @@ class Sources:
             text = COMMENT[ending].sub("", text) if ending in COMMENT else text
             self.words.update(WORD.findall(text))
 
-    def lacks(self, quoted):
+    def lacks(self, quoted: str) -> list[str]:
         """The names in a quoted text that the sources do not have.
 
         A word in capitals in a path stands for any name; a word before `=`, as in a line of the
         prover, is not looked at.
         """
-        found = []
+        found: list[str] = []
         for token in quoted.split():
             if PATH.fullmatch(token):
                 is_there = token.startswith(MADE) or self.has_path(token.rstrip("/"))
@@ -65,16 +69,17 @@ class Sources:
                 found += [word for word in WORD.findall(token) if word not in self.words]
         return found
 
-    def has_path(self, path):
+    def has_path(self, path: str) -> bool:
         parts = [r"[^/]+" if re.fullmatch("[A-Z]+", part) else re.escape(part)
                  for part in path.split("/")]
         form = re.compile("/".join(parts))
         return path in self.paths or any(map(form.fullmatch, self.paths))
 
 
-def unknown_names(top):
+def unknown_names(top: str) -> dict[str, list[str]]:
     """By document, `DOCUMENT:LINE: NAME` of each name that is quoted and that no source has."""
-    sources, found = Sources(top), {}
+    sources = Sources(top)
+    found: dict[str, list[str]] = {}
     for name, start in DOCUMENTS.items():
         with open(os.path.join(top, name), encoding="utf-8") as file:
             text = file.read()
@@ -86,7 +91,7 @@ def unknown_names(top):
     return found
 
 
-def rows_of_counts(top):
+def rows_of_counts(top: str) -> Iterator[tuple[str, str]]:
     """The rows of the table in ASSURANCE, each with the row that it has to be."""
     with open(os.path.join(top, "docs", "ASSURANCE.md"), encoding="utf-8") as file:
         rows, library = list(ROW.finditer(file.read())), Library(top)

@@ -4,9 +4,12 @@ They are read by text. A name in a definition is what the `use` lines of its fil
 file itself defines. Where it is bound, as a parameter, a field's label, a variable of a pattern, it
 is none of these; what one equation binds is not bound in the next.
 """
+from __future__ import annotations
+
 import collections
 import os
 import re
+from typing import Iterable, Iterator, NamedTuple, Union
 
 from .words import Stop
 
@@ -26,18 +29,20 @@ CLAUSE = re.compile(r"^ *ensures (\w+)? ?\{", re.M)
 class Definition:
     """A definition: its comment, and from `line` on its text with the comments in it."""
 
-    def __init__(self, file, line, comment, first):
+    def __init__(self, file: File, line: int, comment: list[str], first: str) -> None:
         self.file, self.line, self.comment, self.text = file, line, comment, [first]
-        self.name = HEAD.match(first)[1]
+        head = HEAD.match(first)
+        assert head
+        self.name = head[1]
         self.is_function = first.startswith(("abbrev", "unfoldable"))
         self.is_data = first.startswith(("data", "pub data"))
 
-    def code(self):
+    def code(self) -> list[str]:
         return [line for line in self.text if not line.lstrip().startswith("--")]
 
-    def parts(self):
+    def parts(self) -> list[str]:
         """Its type and its equations, or all of a record; each with the names that it binds."""
-        chunks = []
+        chunks: list[str] = []
         for line in self.code():
             if chunks and not (self.is_function and re.match(r"[^\s})]", line)):
                 chunks[-1] += "\n" + line
@@ -45,23 +50,32 @@ class Definition:
                 chunks.append(line)
         return chunks
 
-    def constructors(self):
+    def constructors(self) -> list[str]:
         return CONSTRUCTOR.findall("\n".join(self.code())) if self.is_data else []
 
 
-# What is no definition of specs/: of a library from elsewhere, as std, or, with its module, a type
-# that the code of a crate declares.
-Outside = collections.namedtuple("Outside", "crate module name")
+class Outside(NamedTuple):
+    """What is no definition of specs/: of a library from elsewhere, as std, or, with its module, a
+    type that the code of a crate declares."""
+
+    crate: str
+    module: str | None
+    name: str
+
+
+Meant = Union[Definition, Outside]
 
 
 class File:
     """A file of specs/ or of src/: what its `use` lines bring, and its definitions."""
 
-    def __init__(self, crate, path, module):
+    def __init__(self, crate: str, path: str, module: str) -> None:
         self.crate, self.path, self.module = crate, path, module
         with open(path, encoding="utf-8") as file:
             self.text = file.read()
-        self.names, self.aliases, self.passed_on = {}, {}, []
+        self.names: dict[str, tuple[str, str]] = {}
+        self.aliases: dict[str, str] = {}
+        self.passed_on: list[str] = []
         for how, source, names, alias in USE.findall(self.text):
             if path.endswith(".rt") and how != "ghost ":
                 continue
@@ -76,9 +90,11 @@ class File:
         self.constructors = {name: one for one in self.definitions.values()
                              for name in one.constructors()}
 
-    def read_definitions(self):
+    def read_definitions(self) -> dict[str, Definition]:
         """By name. The comment of a definition ends on the line above it."""
-        found, comment, now = {}, [], None
+        found: dict[str, Definition] = {}
+        comment: list[str] = []
+        now: Definition | None = None
         for number, line in enumerate(self.text.split("\n"), 1):
             if line.startswith("--"):
                 comment.append(line)
@@ -95,18 +111,18 @@ class File:
 class Library:
     """All files of specs/ of a folder crates/, with the crates in the order of crates.txt."""
 
-    def __init__(self, top):
-        self.top, self.files = top, {}
+    def __init__(self, top: str) -> None:
+        self.top = top
+        self.files: dict[str, File] = {}
         with open(os.path.join(top, "crates.txt"), encoding="utf-8") as file:
             self.crates = [line.split(":")[0].split()[0] for line in file if ":" in line
                            and not line.startswith("#")]
         for crate in self.crates:
             for path, module in self.paths(crate, "specs", ".antt"):
                 if not path.endswith("/Lib.antt"):
-                    file = File(crate, path, module)
-                    self.files[module] = file
+                    self.files[module] = File(crate, path, module)
 
-    def paths(self, crate, part, ending):
+    def paths(self, crate: str, part: str, ending: str) -> Iterator[tuple[str, str]]:
         """The files of a part of a crate, each with its module."""
         start = os.path.join(self.top, "crates", crate, part)
         for folder, _, names in sorted(os.walk(start)):
@@ -115,7 +131,7 @@ class Library:
                     inner = os.path.relpath(path, start)[:-len(ending)].replace(os.sep, ".")
                     yield path, f"Rattle.{crate}.{part}.{inner}"
 
-    def meant(self, module, name):
+    def meant(self, module: str, name: str) -> Meant:
         """What a module means by a name: a `Definition`, or what is `Outside`."""
         crate, _, inner = module.removeprefix("Rattle.").partition(".")
         if crate not in self.crates:
@@ -137,7 +153,7 @@ class Library:
             raise Stop(f"{module} has no {name}")
         return found
 
-    def named(self, file, name):
+    def named(self, file: File, name: str) -> Meant | None:
         """What a name stands for in a file, `None` for one that it neither defines nor takes."""
         if name in file.definitions:
             return file.definitions[name]
@@ -145,9 +161,10 @@ class Library:
             return file.constructors[name]
         return self.meant(*file.names[name]) if name in file.names else None
 
-    def used(self, file, text, bound):
+    def used(self, file: File, text: str, bound: set[str]) -> list[Meant]:
         """What a text of a file names, in its order, but what is bound."""
-        tokens, found = [token.lstrip("λ") for token in TOKEN.findall(text)], []
+        tokens = [token.lstrip("λ") for token in TOKEN.findall(text)]
+        found: list[Meant | None] = []
         around = zip(["", *tokens], tokens, [*tokens[1:], ""])
         for before, token, after in around:
             base, _, rest = token.partition(".")
@@ -160,7 +177,7 @@ class Library:
                   if "◌" in name and signs.issuperset(filter(None, name.split("◌")))]
         return [it for it in found if it]
 
-    def used_by(self, one):
+    def used_by(self, one: Definition) -> list[Meant]:
         """What a definition names."""
         first, *equations = one.parts()
         found = self.used(one.file, first, binders(first))
@@ -171,18 +188,18 @@ class Library:
             found += self.used(one.file, " ".join([left, *right]), bound)
         return [it for it in dict.fromkeys(found) if it is not one]
 
-    def is_constructor(self, file, name):
+    def is_constructor(self, file: File, name: str) -> bool:
         """Whether a name in a pattern is one of a form, and no variable."""
         if "." in name:
             return True
         it = self.named(file, name)
         return bool(it) and not (isinstance(it, Definition) and it.is_function)
 
-    def clause(self, name):
+    def clause(self, name: str) -> list[Meant]:
         """What a clause FUNCTION.CLAUSE names, or all clauses of FUNCTION."""
         function, _, clause = name.partition(".")
         crate, slash, function = function.rpartition("/")
-        found = []
+        found: list[tuple[File, str]] = []
         for one in [crate] if slash else self.crates:
             for path, module in self.paths(one, "src", ".rt"):
                 file = File(one, path, module)
@@ -193,7 +210,7 @@ class Library:
             raise Stop(f"{name} is a function of {places}: put the crate before it, as CRATE/NAME")
         return [it for file, text in found for it in self.used(file, text, binders(text))]
 
-    def roots(self, name):
+    def roots(self, name: str) -> list[Meant]:
         """What a name of the command line names: a definition, or a clause."""
         place, _, last = name.rpartition(".")
         found = [file.definitions[last] for file in self.files.values()
@@ -203,12 +220,13 @@ class Library:
             places = ", ".join(f"{one.file.crate}/{one.file.module.split('.specs.')[1]}.{last}"
                                for one in found)
             raise Stop(f"{name} is one of {places}")
-        found = found or self.clause(name)
-        if not found:
+        roots: list[Meant] = list(found)
+        roots = roots or self.clause(name)
+        if not roots:
             raise Stop(f"{name} is no definition of specs/, and no function or clause of src/")
-        return found
+        return roots
 
-    def place(self, outside):
+    def place(self, outside: Outside) -> tuple[str, int]:
         """The file and the line in which the code declares a type."""
         form = re.compile(rf"^ *(?:pub(?:\(\w+\))? )?(?:struct|enum|trait) {outside.name}\b", re.M)
         for path, _ in self.paths(outside.crate, "src", ".rt"):
@@ -218,25 +236,27 @@ class Library:
                 return path, text.count("\n", 0, found.start()) + 1
         raise Stop(f"{outside.crate} declares no {outside.name}")
 
-    def reading(self, name):
+    def reading(self, name: str) -> tuple[list[Definition], list[Outside]]:
         """What a name rests on: the definitions, in the order in which they are read, and what is
         outside, sorted."""
-        used, left = {}, collections.deque(self.roots(name))
+        used: dict[Meant, list[Meant]] = {}
+        left = collections.deque(self.roots(name))
         while left:
             one = left.popleft()
             if one not in used:
-                used[one] = self.used_by(one) if isinstance(one, Definition) else ()
+                used[one] = self.used_by(one) if isinstance(one, Definition) else []
                 left += used[one]
         needs = {one: {it for it in names if isinstance(it, Definition)}
                  for one, names in used.items() if isinstance(one, Definition)}
         return self.in_order(needs), sorted(it for it in used if isinstance(it, Outside))
 
-    def in_order(self, needs):
+    def in_order(self, needs: dict[Definition, set[Definition]]) -> list[Definition]:
         """Definitions, what is needed before what needs it: crate by crate, and as long as one can
         in one file."""
         ranks = {module: (self.crates.index(file.crate), at)
                  for at, (module, file) in enumerate(self.files.items())}
-        left, done = dict(needs), []
+        left = dict(needs)
+        done: list[Definition] = []
         while left:
             ready = [one for one, names in left.items() if not names & left.keys() - {one}]
             now = done[-1].file if done else None
@@ -248,13 +268,13 @@ class Library:
         return done
 
 
-def binders(text):
+def binders(text: str) -> set[str]:
     """The names that a text binds."""
     groups = [found for form in BINDS for found in form.findall(text)]
     return {name for group in groups for name in group.split()}
 
 
-def clauses(text, function, clause):
+def clauses(text: str, function: str, clause: str) -> Iterator[str]:
     """The texts of a function's clauses, or of the one of that name."""
     for found in FUNCTION.finditer(text):
         if found[2] != function:
@@ -266,7 +286,7 @@ def clauses(text, function, clause):
                 yield braced(head, start.end())
 
 
-def braced(text, start):
+def braced(text: str, start: int) -> str:
     """The text from `start` up to the brace that closes the one before it."""
     depth = 1
     for at in range(start, len(text)):
@@ -276,7 +296,7 @@ def braced(text, start):
     return text[start:]
 
 
-def counts(definitions, outside):
+def counts(definitions: list[Definition], outside: Iterable[Outside]) -> tuple[int, int, int]:
     """How many definitions, lines of them, and names of std a reading has."""
     lines = sum(len(one.code()) for one in definitions)
     return len(definitions), lines, sum(one.module is None for one in outside)

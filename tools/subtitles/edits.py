@@ -3,9 +3,12 @@
 A file NAME.edit has lines `file: PATH` and, below each, pairs of lines `old: TEXT` and `new: TEXT`:
 in that file of its crate the old text, which stands there once, gives way to the new one.
 """
+from __future__ import annotations
+
 import os
 import re
-from collections import Counter, namedtuple
+from collections import Counter
+from typing import NamedTuple
 
 from .words import Stop
 
@@ -17,22 +20,26 @@ NAME = re.compile(r"[A-Za-z0-9_-]+\.edit")
 PARTS = ("src/", "specs/", "proofs/")  # of a crate, in which an edit may change a file
 
 
-class Edit(namedtuple("Edit", "crate folder name")):
+class Edit(NamedTuple):
     """An edit; its text is CRATE/FOLDER/NAME."""
 
-    def __str__(self):
+    crate: str
+    folder: str
+    name: str
+
+    def __str__(self) -> str:
         return "/".join(self)
 
-    def path(self):
+    def path(self) -> str:
         return os.path.join(CRATES, self.crate, self.folder, self.name + ".edit")
 
-    def is_named(self, word):
+    def is_named(self, word: str) -> bool:
         """Whether a word means it: its name, its crate, or both, with or without the folder."""
         word = word.removesuffix(".edit").removeprefix("crates/")
         return word in (self.name, self.crate, f"{self.crate}/{self.name}", str(self))
 
 
-def edits_in(folder):
+def edits_in(folder: str) -> list[Edit]:
     """The edits of all crates in their folders of that name."""
     found = []
     for crate in sorted(os.listdir(CRATES)):
@@ -44,9 +51,11 @@ def edits_in(folder):
     return found
 
 
-def edited(edit):
+def edited(edit: Edit) -> dict[str, str]:
     """The files of the crate that the edit changes, by their path in it, with their new text."""
-    path, old, texts = None, None, {}
+    path: str | None = None
+    old: str | None = None
+    texts: dict[str, str] = {}
     with open(edit.path(), encoding="utf-8") as file:
         lines = file.read().split("\n")
     for line in lines:
@@ -68,7 +77,7 @@ def edited(edit):
     return texts
 
 
-def replaced(edit, path, text, old, new):
+def replaced(edit: Edit, path: str, text: str | None, old: str, new: str) -> str:
     """The text of a file of the crate, which is read where it is not given, with `old` replaced."""
     if not path.startswith(PARTS) or os.path.normpath(path) != path:
         raise Stop(f"{edit}: {path} is no file of {', '.join(PARTS)}")
@@ -85,13 +94,13 @@ def replaced(edit, path, text, old, new):
     return text.replace(old, new)
 
 
-def count_applying():
+def count_applying() -> tuple[int, int]:
     """Tells each edit that can't be made, and answers how many can and how many can't."""
     edits = edits_in(TRIED_BY_GATE) + edits_in(TRIED_BEFORE_RELEASE)
     failed = 0
-    for edit, number in Counter((edit.crate, edit.name) for edit in edits).items():
+    for (crate, name), number in Counter((one.crate, one.name) for one in edits).items():
         if number > 1:
-            print(f"{edit[0]}: two edits have the name {edit[1]}")
+            print(f"{crate}: two edits have the name {name}")
             failed += 1
     for edit in edits:
         try:

@@ -1,13 +1,16 @@
 """./subttx in a clone in which nothing is built: which program it runs, and why not another; and
 how tools/release brings a program there, with lines of the prover that a log tells."""
+from __future__ import annotations
+
 import os
 import shutil
 import subprocess
+from typing import Iterable
 
 from ..built import TOP, read
 from ..proved import Proved, digest_of, parsed, text_of
 from ..trial import ANOTHER_USER, Trial
-from .bench import SECONDS, Done
+from .bench import SECONDS, Case, Done
 
 PACKET = ["packet", "00"]
 SOURCE = os.path.join("crates", "ttx_packet", "src", "parity.rt")
@@ -19,7 +22,7 @@ NEITHER, PASSED, FAILED = (b"\n%d passed, %d failed\n" % it for it in ((0, 0), (
 NEEDED = ["subttx", "crates.txt", "tools", "crates"]
 
 
-def left_out(folder, names):
+def left_out(folder: str, names: list[str]) -> set[str]:
     """What a copy of the repository does without."""
     del folder
     return {"out", "must-fail", "release-edits", "__pycache__"} & set(names)
@@ -28,7 +31,7 @@ def left_out(folder, names):
 class Clone:
     """A copy of the repository in a case's folder, whose dist/ holds the program of its sources."""
 
-    def __init__(self, case):
+    def __init__(self, case: Case) -> None:
         self.case, self.top = case, case.path("clone")
         os.mkdir(self.top)
         for name in NEEDED:
@@ -40,14 +43,14 @@ class Clone:
         self.crates = dict(line.split(" ") for line in self.tool("sources", "--crates"))
         self.put("dist", case.bench.program)
 
-    def path(self, *names):
+    def path(self, *names: str) -> str:
         return os.path.join(self.top, *names)
 
-    def tool(self, name, *words):
+    def tool(self, name: str, *words: str) -> list[str]:
         """What a tool of the clone prints, as lines."""
         return self.case.call([self.path("tools", name), *words]).out.decode().splitlines()
 
-    def put(self, folder, program, line=LINE):
+    def put(self, folder: str, program: str, line: str = LINE) -> None:
         """Puts a program into a folder, with what PROVED has to say for the sources as they are."""
         os.makedirs(self.path(folder), exist_ok=True)
         shutil.copy(program, self.path(folder, "subttx"))
@@ -56,48 +59,48 @@ class Clone:
         self.write(os.path.join(folder, "PROVED"), text_of(
             Proved(self.tool("sources")[0], digest_of(program), VERSION, crates)))
 
-    def write(self, name, text):
+    def write(self, name: str, text: str) -> None:
         os.makedirs(os.path.dirname(self.path(name)), exist_ok=True)
         with open(self.path(name), "w", encoding="utf-8") as file:
             file.write(text)
 
-    def add_to(self, name, text):
+    def add_to(self, name: str, text: str) -> None:
         with open(self.path(name), "a", encoding="utf-8") as file:
             file.write(text)
 
-    def give_toolchain(self):
+    def give_toolchain(self) -> str:
         """Puts an rt into the clone; the PATH that finds it."""
         self.write("bin/rt", TOOLCHAIN)
         os.chmod(self.path("bin", "rt"), 0o755)
         return os.pathsep.join([self.path("bin"), path_without_rt()])
 
-    def call(self, command, path, user=None):
+    def call(self, command: list[str], path: str, user: int | None = None) -> Done:
         """Runs a command with this PATH, as another user where one is given."""
         done = subprocess.run(command, cwd=self.case.folder, env={**os.environ, "PATH": path},
                               user=user, stdin=subprocess.DEVNULL, stdout=subprocess.PIPE,
                               stderr=subprocess.PIPE, timeout=SECONDS, check=False)
         return Done(done.returncode, done.stdout, done.stderr.decode().splitlines())
 
-    def run(self, *words, script=None, user=None):
+    def run(self, *words: str, script: str | None = None, user: int | None = None) -> Done:
         """What ./subttx does where no rt is on the PATH."""
         return self.call([script or self.path("subttx"), *words], path_without_rt(), user)
 
-    def release(self, *words):
+    def release(self, *words: str) -> Done:
         return self.call([self.path("tools", "release"), *words], self.give_toolchain())
 
-    def runs(self, name, done=None):
+    def runs(self, name: str, done: Done | None = None) -> None:
         """The program is run, and nothing else is told."""
         done = done or self.run(*PACKET)
         self.case.test(name, done == self.case.call([self.case.bench.program, *PACKET]), done)
 
-    def does_not_run(self, name, why):
+    def does_not_run(self, name: str, why: str) -> None:
         """There is no program: that is told, and why, on two lines."""
         done = self.run(*PACKET)
         self.case.test(name, done.status == 2 and not done.out and len(done.told) == 2
                        and why in done.told[0] and "rt is not on the PATH" in done.told[1], done)
 
 
-def path_without_rt():
+def path_without_rt() -> str:
     folders = os.environ["PATH"].split(os.pathsep)
     return os.pathsep.join(one for one in folders if not os.path.exists(os.path.join(one, "rt")))
 
@@ -174,7 +177,7 @@ def takes_first_what_was_built_here(case: Case) -> None:
     clone.runs("dist/, where out/ is older")
 
 
-def a_log(clone, kept=()):
+def a_log(clone: Clone, kept: Iterable[str] = ()) -> str:
     """What rt ci prints: a crate with its tests, one that fails, and those that are kept."""
     lines = []
     for name in clone.crates:

@@ -9,11 +9,9 @@ from .bench import Case
 
 TOOLS = os.path.join(TOP, "tools")
 # What has no hints yet.
-MODULES = {"cited", "clones", "definitions", "edits", "every_place", "installed", "proved",
-           "readings"}
+MODULES = {"every_place"}
 SCRIPTS = {"check-every-place", "check-manual", "check-mending", "check-program", "dist", "edits",
-           "faults", "install", "make-examples", "prove", "reading-list", "refused-memory",
-           "release", "slow-proofs"}
+           "faults", "make-examples", "prove", "release", "slow-proofs"}
 
 
 def is_python(path: str) -> bool:

@@ -1,4 +1,6 @@
 """tools/install and tools/dist: what they make is run from another folder."""
+from __future__ import annotations
+
 import glob
 import os
 import re
@@ -9,7 +11,7 @@ import tarfile
 from ..built import TOP, chosen, read
 from ..prefix import PAGES
 from ..proved import lacking, parsed
-from .bench import example
+from .bench import Case, Done, example
 
 TIMES = ["--from", "20:15:00:00", "--to", "20:15:09:00"]
 COMPLETE = '''source "$1"
@@ -33,9 +35,9 @@ def installs(case: Case) -> None:
     runs_the_whole_way(case, case.path("moved"))
 
 
-def runs_the_whole_way(case, prefix):
+def runs_the_whole_way(case: Case, prefix: str) -> None:
     """From a recording to a verdict, with the tools of a prefix."""
-    def run(name, *words):
+    def run(name: str, *words: str) -> Done:
         return case.call([os.path.join(prefix, "bin", name), *words])
 
     stl = example("story.stl")
@@ -75,13 +77,14 @@ def completes(case: Case) -> None:
         case.bench.over.append("completion, since there is no bash")
         return
 
-    def offered(*words):
+    def offered(*words: str) -> set[str]:
         done = case.call(["bash", "-c", COMPLETE, "bash",
                           os.path.join(TOP, "tools", "completion.bash"), *words])
         return set(done.out.decode().split())
 
     paths = glob.glob(os.path.join(TOP, "docs", "manual", "*.md"))
-    headings = re.findall(r"^## `(\w+) (.*)`$", "".join(map(read, paths)), re.MULTILINE)
+    manual = "".join(read(path) or "" for path in paths)
+    headings = re.findall(r"^## `(\w+) (.*)`$", manual, re.MULTILINE)
     case.test("commands", offered("subttx", "") == {name for name, _ in headings}, headings)
     for name, words in headings:
         options = set(re.findall(r"--\w+", words))
@@ -98,9 +101,9 @@ def completes(case: Case) -> None:
 def names_one_version(case: Case) -> None:
     version = (read(os.path.join(TOP, "VERSION")) or "none").strip()
     for name in PAGES:
-        page = read(os.path.join(TOP, "docs", name))
+        page = read(os.path.join(TOP, "docs", name)) or ""
         case.test(name, re.search(rf'^\.TH .*"subttx {re.escape(version)}"', page, re.M))
-    log = re.search(r"^## (\S+)", read(os.path.join(TOP, "CHANGELOG.md")), re.M)
+    log = re.search(r"^## (\S+)", read(os.path.join(TOP, "CHANGELOG.md")) or "", re.M)
     case.test("the change log", log and log[1].rstrip(",") == version, log)
 
 

@@ -83,7 +83,7 @@ def refuses_what_is_unclear(case: Case) -> None:
     for name, why in (("size", "high/Things.size"), ("none", "no definition"),
                       ("count.none", "clause")):
         try:
-            told = them.reading(name)
+            told = str(them.reading(name))
         except Stop as reason:
             told = str(reason)
         case.test(name, why in told, told)
