@@ -1,11 +1,13 @@
 """tools/origin: the origin that a transmission was given is found again."""
 from __future__ import annotations
 
+import collections
 import random
 
 from ..pes import data_field, pes_packet, pts_in, teletext_packets
 from ..stl import gsi_block, subtitle_blocks
 from ..times import CLOCK, TICKS
+from ..votes import differences
 from .bench import Case, example, example_bytes, moved, packets, random_subtitles
 
 SEEDS = range(12)
@@ -86,7 +88,8 @@ def tells_that_ends_are_late(case: Case) -> None:
     late = moved(case.read("ends.pes"), lambda _, pts: pts if pts in begins else pts + 3 * TICKS)
     found = origin_of(case, stl, late)
     case.test("three frames", found[:2] == (0, 0)
-              and "origin: all ends are 3 frames late compared with the beginnings" in found[2], found)
+              and "origin: all ends are 3 frames late compared with the beginnings"
+              in found[2], found)
 
 
 def tells_that_rows_are_late(case: Case) -> None:
@@ -102,7 +105,8 @@ def tells_that_rows_are_late(case: Case) -> None:
             made += pes_packet(pts_in(one) + TICKS, sent[1:])
     found = origin_of(case, stl, made)
     case.test("one frame", found[:2] == (0, TICKS)
-              and "origin: all ends are 1 frame early compared with the beginnings" in found[2], found)
+              and "origin: all ends are 1 frame early compared with the beginnings"
+              in found[2], found)
 
 
 def tells_jitter(case: Case) -> None:
@@ -152,7 +156,20 @@ def goes_on_with_damaged_files(case: Case) -> None:
     case.test("a PES packet without a PTS", (status, found) == (0, 0), told)
 
 
-CASES = [finds_that_of_the_examples, finds_that_of_transmissions_at_random,
+def counts_all_pairs(case: Case) -> None:
+    """The votes are those of each pair of an edge and a change, counted one by one."""
+    for seed in SEEDS:
+        chance = random.Random(seed)
+        frames = sorted(chance.sample(range(4000), chance.randrange(1, 200)))
+        others = sorted(chance.sample(range(3000), chance.randrange(1, 150)))
+        least = frames[0] - others[-1]
+        size = frames[-1] - least + 1
+        counts = collections.Counter(frame - other for frame in frames for other in others[::2])
+        found = differences(frames, others[::2], least, size)
+        case.test(f"seed {seed}", list(found) == [counts[least + at] for at in range(size)])
+
+
+CASES = [counts_all_pairs, finds_that_of_the_examples, finds_that_of_transmissions_at_random,
          finds_it_where_sendings_are_lost, tells_that_all_is_late, tells_that_ends_are_late,
          tells_that_rows_are_late, tells_jitter, tells_what_is_not_unique, tells_what_does_not_fit,
          goes_on_with_damaged_files]
