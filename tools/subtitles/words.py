@@ -108,7 +108,7 @@ def counted(count: int, thing: str) -> str:
 
 def tell(line: str) -> None:
     """A line on standard error, after what was printed before it."""
-    with contextlib.suppress(OSError):
+    with contextlib.suppress(OSError, AttributeError):  # it is closed
         sys.stdout.flush()  # `run` tells where that fails
     print(f"{os.path.basename(sys.argv[0])}: {line}", file=sys.stderr)
 
