@@ -3,9 +3,10 @@ from __future__ import annotations
 
 import os
 import shutil
+import subprocess
 
 from ..built import TOP
-from .bench import Case
+from .bench import SECONDS, Case
 
 TOOLS = os.path.join(TOP, "tools")
 # What has no hints yet.
@@ -52,8 +53,12 @@ def are_right(case: Case) -> None:
         return
     command = [mypy, "--strict", "--scripts-are-modules", "--follow-imports=silent",
                f"--cache-dir={case.path('cache')}"]
-    done = case.call([*command, *modules(os.path.join(TOOLS, "subtitles")), *scripts()],
-                     env={**os.environ, "MYPYPATH": TOOLS})
+    try:
+        done = case.call([*command, *modules(os.path.join(TOOLS, "subtitles")), *scripts()],
+                         env={**os.environ, "MYPYPATH": TOOLS})
+    except subprocess.TimeoutExpired:
+        case.bench.over.append(f"type hints, since mypy took more than {SECONDS} seconds")
+        return
     case.test("mypy --strict", done.status == 0, done.out.decode())
 
 
