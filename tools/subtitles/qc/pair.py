@@ -67,6 +67,8 @@ class Pair:
                           f"{'it' if count == 1 else 'them'}")
         stl = self.asked.stl
         self.verdict.parts.append(Part(1, stl, stl, None, None, None, None, None, answer))
+        if is_refused:
+            self.steps.draw(self.names, [stl], [stl], 0)
 
     def judge_transmission(self) -> None:
         """Judges what was recorded, part by part."""
@@ -116,7 +118,7 @@ class Pair:
         judged = file_of(cut, one.names.cut) if self.is_summed else None
         self.verdict.parts.append(Part(number, one.stl, one.stl_path, cut, one.origin, one.begin,
                                        one.end, judged, answer))
-        self.steps.draw(one)
+        self.steps.draw(one.names, [one.stl_path, cut], [one.stl, one.names.cut], one.origin)
 
     # A feed.
 

@@ -132,16 +132,14 @@ class Steps:
         self.speech.end_list(answer.last)
         return answer
 
-    def draw(self, one: Stretch) -> None:
-        """Draws the report, where there is a folder for it."""
-        names = one.names
+    def draw(self, names: Names, given: list[str], typed: list[str], origin: int) -> None:
+        """Draws the report of some files, where there is a folder for it."""
         if names.out is None:
             return
-        words = [*self.asked.check_words(), *origin_words(one.origin)]
+        words = [*self.asked.check_words(), *origin_words(origin)]
         done = self.tool(
-            "preview", [one.stl_path, names.cut_path, *words, "-p", self.typed.program_path, "-o",
-                        names.report],
-            [one.stl, names.cut, *words, *self.typed.program_words, "-o", names.report])
+            "preview", [*given, *words, "-p", self.typed.program_path, "-o", names.report],
+            [*typed, *words, *self.typed.program_words, "-o", names.report])
         if done.status == 2:
             raise Unclear(f"no report was made: {'; '.join(done.told)}")
 

@@ -119,6 +119,9 @@ def judges_a_subtitle_file(case: Case) -> None:
         done = qc(case, *words)
         case.test(f"refused, {len(words)} files", done.status == 1 and lines_of(done)[-1] ==
                   "refused 50 Character block 1 at 6", done)
+    done = qc(case, example("accent.stl"), "-o", "out")
+    kept = sorted(os.listdir(case.path("out")))
+    case.test("its report", kept == ["accent.html", "accent.json", "accent.txt"], kept)
 
 
 def refuses_what_was_lost(case: Case) -> None:
