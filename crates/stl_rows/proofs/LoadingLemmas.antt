@@ -2,7 +2,8 @@
 -- goes_on-next, tells-stopped, tells-unread.
 use Rattle.std.proofs.Common.{rules, ◌≡◌, ◌<◌, ◌≤◌, ◌+◌, ℕ, Bool, true, false, List, ◌∷◌, ◌++◌, []}
 use Rattle.std.proofs.Common.{drop, take, length, map, Option, Some, None, Result, refl, sym}
-use Rattle.std.proofs.Common.{◌∙◌, ap, inl, arith, length-take, append_assoc, append-nil, length-append}
+use Rattle.std.proofs.Common.{◌∙◌, ap, inl, arith, length-take, append_assoc, append-nil}
+use Rattle.std.proofs.Common.{length-append}
 use Rattle.std.proofs.Math.Seq.{take-append-add, take-length}
 use Rattle.std.proofs.lemmas.Bool.Decides.{nat_tests}
 use Rattle.std.proofs.lemmas.List.Elements.{All-append, All-head, All-push, All-tail, All-take}
@@ -24,7 +25,8 @@ use Rattle.stl_file.specs.Reading.{Begun}
 use Rattle.stl_file.specs.Gsi.{gsi_size}
 use Rattle.stl_file.specs.Subtitle.{IsSubtitle, SubtitleValue}
 use Rattle.stl_file.specs.Reader.{ReaderValue, opened_at, outcome_of}
-use Rattle.stl_file.specs.Resuming.{Findings, FindsFrom, breaks, findings_of, findings_opened, finds}
+use Rattle.stl_file.specs.Resuming.{Findings, FindsFrom, breaks, findings_of, findings_opened}
+use Rattle.stl_file.specs.Resuming.{finds}
 use Rattle.stl_file.specs.Resuming.{LeadsOn, findings_by, findings_from, no_more, refuses, stopped}
 use Rattle.stl_file.proofs.FindingsLemmas.{stopped_whole}
 use Rattle.stl_rows.specs.declared.national.National.{National}

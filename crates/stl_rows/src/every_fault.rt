@@ -33,8 +33,8 @@ use sub_io::{Audience, Source, Stopped};
 /// `None` where faults were told: all of them by block, or those up to the one at which the device
 /// said stop. At a subtitle's first block that is what it is refused for, `File`: it is no record,
 /// is not drawn, and times are compared as if it were not there. At the last block of each other
-/// subtitle they are `OutOfOrder` or `Overlap`, by the times of the one before it, whatever was told
-/// of that one, and then the first fault of `draw`, as `Row`. Last comes the fault that ends
+/// subtitle they are `OutOfOrder` or `Overlap`, by the times of the one before it, whatever was
+/// told of that one, and then the first fault of `draw`, as `Row`. Last comes the fault that ends
 /// reading, `File`. Once one was told nothing is kept, and no memory is taken.
 ///
 /// # Errors
