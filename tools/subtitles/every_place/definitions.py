@@ -3,11 +3,14 @@
 Nothing is kept from one PES packet to the next but the list of the packets before it: what a
 receiver holds is looked up there at the end of each frame.
 """
-import collections
+from __future__ import annotations
 
-from ..teletext import CODE_WORDS, address_of, is_odd
+from typing import Iterator, NamedTuple, Sequence
+
+from ..teletext import CODE_WORDS, Page, address_of, is_odd
 from ..times import frame_at, time_of
-from .reading import StlFault, found_in, header_of, pes_packets_of, records_of
+from .reading import (
+    Header, Listed, Record, StlFault, found_in, header_of, pes_packets_of, records_of)
 from .rows import BLANK, COLUMNS, TextFault, drawn
 
 NAMES = dict(
@@ -20,13 +23,27 @@ NAMES = dict(
     |63 Early|64 Address|65 HeaderCode|66 Mode|67 Control|68 Parity|69 RowChanged|70 Enhancement
     |71 NoFirstHeader|72 Content|73 Gap|74 Late|77 Incomplete""".split("|")))
 
-# The words of `check`: `page` is its magazine, 0 for magazine 8, and its page number.
-Options = collections.namedtuple("Options", "page every origin option is_complete")
-# A Teletext packet as it is read: `header` is `None` in any other packet, and where it is none.
-Packet = collections.namedtuple("Packet", "data address header")
+
+class Options(NamedTuple):
+    """The words of `check`."""
+
+    page: Page
+    every: int
+    origin: int
+    option: str
+    is_complete: bool
 
 
-def options_of(words):
+class Packet(NamedTuple):
+    """A Teletext packet as it is read: `header` is `None` in any other packet, and where it is
+    none."""
+
+    data: bytes
+    address: tuple[int, int] | None
+    header: Header | None
+
+
+def options_of(words: list[str]) -> Options:
     """The options of `check` from its words, each a name and a text but for `--complete`."""
     is_complete = "--complete" in words
     words = [word for word in words if word != "--complete"]
@@ -37,19 +54,19 @@ def options_of(words):
                    is_complete)
 
 
-def refused(number, place=""):
+def refused(number: int, place: str = "") -> str:
     return f"refused {number} {NAMES[number]} {place}".rstrip()
 
 
-def ended(number, frame):
+def ended(number: int, frame: int) -> str:
     return f"ended {number} {NAMES[number]} frame {time_of(frame)}"
 
 
 # The subtitle file
 
-def stl_faults(data, option):
+def stl_faults(data: bytes, option: str) -> Iterator[str]:
     """The lines for everything that is broken in a subtitle file."""
-    before = None
+    before: Record | None = None
     for found in found_in(data):
         if isinstance(found, StlFault):
             yield refused(found.number, f"block {found.block}")
@@ -68,28 +85,28 @@ def stl_faults(data, option):
 class Due:
     """The page that is due at each frame."""
 
-    def __init__(self, records, option):
+    def __init__(self, records: list[Record], option: str) -> None:
         self.pages = [(one.tci, one.tco, drawn(one, option)) for one in records]
 
-    def at(self, frame):
+    def at(self, frame: int) -> bytes:
         return next((page for tci, tco, page in self.pages if tci <= frame < tco), BLANK)
 
-    def first(self):
+    def first(self) -> int | None:
         return self.pages[0][0] if self.pages else None
 
-    def last(self):
+    def last(self) -> int | None:
         return self.pages[-1][1] if self.pages else None
 
 
 # What is on air
 
-def span_of(packets, page):
+def span_of(packets: Sequence[Packet], page: Page) -> tuple[Sequence[Packet], bool]:
     """What follows the last header of the page, up to the header that ends it.
 
     Answers these packets, and whether the page is still open after them.
     """
     begin = next((at for at in reversed(range(len(packets)))
-                  if packets[at].header and packets[at].header[0] == page), None)
+                  if page_of(packets[at]) == page), None)
     if begin is None:
         return [], False
     for end, packet in enumerate(packets[begin + 1:], begin + 1):
@@ -98,51 +115,56 @@ def span_of(packets, page):
     return packets[begin + 1:], True
 
 
-def is_row(packet, page):
-    return packet.address and packet.address[0] == page[0] and 1 <= packet.address[1] <= 24
+def page_of(packet: Packet) -> Page | None:
+    return packet.header[0] if packet.header else None
 
 
-def first_of_row(packets, page, row):
+def is_row(packet: Packet, page: Page) -> bool:
+    address = packet.address
+    return address is not None and address[0] == page[0] and 1 <= address[1] <= 24
+
+
+def first_of_row(packets: Sequence[Packet], page: Page, row: int) -> bytes | None:
     """The codes of the first packet of a row in the span of the packets, `None` where none is."""
     for packet in span_of(packets, page)[0]:
-        if is_row(packet, page) and packet.address[1] == row:
+        if is_row(packet, page) and packet.address == (page[0], row):
             return codes_of(packet)
     return None
 
 
-def codes_of(packet):
+def codes_of(packet: Packet) -> bytes:
     return bytes(byte & 0x7F for byte in packet.data[2:])
 
 
-def shown(packets, page):
+def shown(packets: Sequence[Packet], page: Page) -> bytes:
     """The page that a receiver holds after the packets: 960 codes."""
-    rows = {}
+    rows: dict[int, bytes] = {}
     for packet in span_of(packets, page)[0]:
-        if is_row(packet, page):
+        if packet.address and is_row(packet, page):
             rows.setdefault(packet.address[1], codes_of(packet))
     return b"".join(rows.get(row, BLANK[:COLUMNS]) for row in range(1, 25))
 
 
 # The rules of a packet
 
-def is_exact(codes):
+def is_exact(codes: bytes) -> bool:
     return all(byte in CODE_WORDS for byte in codes)
 
 
-def is_plain_subtitle_header(control, option):
+def is_plain_subtitle_header(control: set[int], option: str) -> bool:
     """C4, C6 and C7 set; C5, C10, C12 and C13 clear; C14 set in German, and clear in English."""
-    national = {14} if option == "german" else set()
+    national: set[int] = {14} if option == "german" else set()
     return control >= {4, 6, 7} and control & {5, 10, 12, 13, 14} == national
 
 
-def packet_faults(packet, before, options):
+def packet_faults(packet: Packet, before: Sequence[Packet], options: Options) -> list[int]:
     """The numbers of the rules that a packet breaks after those before it."""
     address, header, page = packet.address, packet.header, options.page
     is_open = span_of(before, page)[1]
     is_stored = is_open and is_row(packet, page)
     headers = (one.header for one in before if one.header)
-    known = first_of_row(before, page, address[1]) if is_stored else None
-    broken = {
+    known = first_of_row(before, page, address[1]) if address and is_stored else None
+    broken: dict[int, object] = {
         64: not is_exact(packet.data[:2]),
         65: address and address[1] == 0 and not is_exact(packet.data[2:10]),
         66: header and (11 in header[1]) != (11 in next(headers, header)[1]),
@@ -157,28 +179,31 @@ def packet_faults(packet, before, options):
 
 # The ends of frames
 
+NO_CELL = -1  # of what stands at no cell
+
 class Ends:
     """What stands at the end of a frame, beside what stood at the end before."""
 
-    def __init__(self, due, options):
+    def __init__(self, due: Due, options: Options) -> None:
         self.due, self.options = due, options
-        self.first = self.frame = None  # the first frame, and that of the end before
-        self.standing = {}  # a number, and for 72 its cell
+        self.first = self.frame = 0  # the first frame, and that of the end before
+        self.standing: dict[int, int] = {}  # a number, and for 72 its cell
 
-    def stands(self, frame, packets, headers):
+    def stands(self, frame: int, packets: Sequence[Packet], headers: list[int]) -> dict[int, int]:
         """The numbers that stand at an end; `headers` are the frames with a header of the page."""
-        options, found = self.options, {}
+        options = self.options
+        found: dict[int, int] = {}
         held, due = shown(packets, options.page), self.due.at(frame)
         if held != due:
             found[72] = next(at for at in range(len(due)) if held[at] != due[at])
         is_window = frame >= self.first + options.every - 1
         if is_window and not any(frame < one + options.every for one in headers):
-            found[73] = True
+            found[73] = NO_CELL
         if options.is_complete and span_of(packets, options.page)[1]:
-            found[77] = True
+            found[77] = NO_CELL
         return found
 
-    def at(self, frame, packets, headers):
+    def at(self, frame: int, packets: Sequence[Packet], headers: list[int]) -> Iterator[str]:
         """The lines of an end."""
         found = self.stands(frame, packets, headers)
         for number in (72, 73, 77):
@@ -192,28 +217,31 @@ class Ends:
         self.standing, self.frame = found, frame
 
     @staticmethod
-    def place(number, frame, cell):
+    def place(number: int, frame: int, cell: int) -> str:
         words = f"frame {time_of(frame)}"
         return f"{words} row {cell // COLUMNS + 1} column {cell % COLUMNS}" if number == 72 \
             else words
 
-    def after_the_last(self):
+    def after_the_last(self) -> Iterator[str]:
         """The lines for what still stands after the last end."""
         for number in sorted(self.standing):
             yield ended(number, self.frame)
 
 
-def pes_events(due, data, options):
+def pes_events(due: Due, data: bytes, options: Options) -> Iterator[str]:
     """The lines for everything that is broken in a transmission."""
     listed, broken = pes_packets_of(data)
-    ends, frames, sent, headers = Ends(due, options), [], [], []
+    ends, begin = Ends(due, options), due.first()
+    frames: list[int] = []
+    sent: list[Packet] = []
+    headers: list[int] = []
     for index, (pts, teletext) in enumerate(listed):
         frame = frame_at(pts, options.origin)
         if frame is None:
             break
         if not frames:
             ends.first = frame
-            if due.first() is not None and due.first() < frame:
+            if begin is not None and begin < frame:
                 yield refused(63, f"frame {time_of(frame)}")
         else:
             if frame <= frames[-1]:
@@ -235,29 +263,31 @@ def pes_events(due, data, options):
     yield from end_of_list(due, frames, listed, broken)
 
 
-def end_of_list(due, frames, listed, broken):
+def end_of_list(due: Due, frames: list[int], listed: list[Listed],
+                broken: int | None) -> Iterator[str]:
     """The line for what ended reading; else that for an empty or an early end."""
+    end = due.last()
     if len(frames) < len(listed):
         yield refused(61, f"pes {len(frames)}")
     elif broken:
         yield refused(broken, f"pes {len(listed)}")
     elif not frames:
         yield refused(60)
-    elif due.last() is not None and due.last() > frames[-1]:
+    elif end is not None and end > frames[-1]:
         yield refused(74, f"frame {time_of(frames[-1])}")
 
 
-def transmissions(data, options):
+def transmissions(data: bytes, options: Options) -> tuple[int, int]:
     """The frames and the headers of the page of a file that is accepted."""
     frames, count = [], 0
     for pts, teletext in pes_packets_of(data)[0]:
-        frames.append(frame_at(pts, options.origin))
+        frames.append(frame_at(pts, options.origin) or 0)
         headers = [header_of(one) for one in teletext]
         count += sum(header is not None and header[0] == options.page for header in headers)
     return frames[-1] - frames[0] + 1, count
 
 
-def check_all(stl, pes, options):
+def check_all(stl: bytes, pes: bytes, options: Options) -> Iterator[str]:
     """The lines of `check --all`, as they are found."""
     count = 0
     for line in stl_faults(stl, options.option):

@@ -1,24 +1,33 @@
 """Pairs of files with the lines that `check --all` prints of them, worked out by hand."""
-import collections
+from __future__ import annotations
+
 import os
+from typing import NamedTuple
 
 from ..preview import TOP
 from ..stl import GSI, TTI, subtitle_blocks
 
-# `words` are the options of `check`, `lines` what it prints.
-Known = collections.namedtuple("Known", "name stl pes words lines")
+
+class Known(NamedTuple):
+    """`words` are the options of `check`, `lines` what it prints."""
+
+    name: str
+    stl: bytes
+    pes: bytes
+    words: str
+    lines: list[str]
 
 
-def example(name):
+def example(name: str) -> bytes:
     with open(os.path.join(TOP, "examples", name), "rb") as file:
         return file.read()
 
 
-def poked(data, changes):
-    data = bytearray(data)
+def poked(data: bytes, changes: dict[int, int]) -> bytes:
+    changed = bytearray(data)
     for at, byte in changes.items():
-        data[at] = byte
-    return bytes(data)
+        changed[at] = byte
+    return bytes(changed)
 
 
 # One subtitle from 10:00:00:00 to 10:00:02:00, sent at these two frames.
@@ -31,7 +40,7 @@ NO_END = {138: 0xFF}  # the first closing header a stuffing unit
 HI = b"\x0d\x0b\x0bHi\x0a\x0a"
 
 
-def five_subtitles():
+def five_subtitles() -> bytes:
     """One that overlaps and two with an accent, a good one, and one before the others."""
     accent = b"caf\xc2e"
     times = [(900_000, 900_050, HI), (900_040, 900_090, accent),
@@ -41,7 +50,7 @@ def five_subtitles():
     return HELLO[:GSI] + b"".join(blocks)
 
 
-def refused_three():
+def refused_three() -> bytes:
     """CS 1 in the first, JC 4 and VP 0 in the second, and an accent in the third."""
     texts = [HI, HI, b"caf\xc2e"]
     blocks = [subtitle_blocks(number, 900_000 + 50 * number, 900_050 + 50 * number, 22, 2, text)
@@ -49,13 +58,13 @@ def refused_three():
     return HELLO[:GSI] + poked(b"".join(blocks), {4: 1, TTI + 13: 0, TTI + 14: 4})
 
 
-def refused_of_two(last_sn):
+def refused_of_two(last_sn: int) -> bytes:
     """A subtitle of two blocks, SN 0, that ends where it begins, and the one of hello.stl."""
     block = subtitle_blocks(0, 900_000, 900_000, 22, 2, HI)
     return HELLO[:GSI] + poked(block * 2, {3: 0, TTI + 1: last_sn}) + HELLO[GSI:]
 
 
-def refused_between():
+def refused_between() -> bytes:
     """The one of hello.stl; one whose TCI is no time code; and one that begins before the first
     has ended."""
     late = subtitle_blocks(1, 900_000, 900_050, 22, 2, HI)

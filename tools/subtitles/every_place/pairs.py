@@ -3,9 +3,11 @@
 First both are made whole: `schedule` of the program writes the transmission. Then bytes, Teletext
 packets, PES packets and subtitles of them are changed. A `Pair` is what `check` is asked about.
 """
-import collections
+from __future__ import annotations
+
 import io
-import random
+from random import Random
+from typing import Callable, NamedTuple
 
 from ..pes import DATA, STUFFING_UNIT, UNIT, pes_packet, pes_packets, pts_bytes, pts_in
 from ..stl import GSI, TTI, USER_DATA, gsi_block, subtitle_blocks
@@ -13,8 +15,28 @@ from ..teletext import CODE_WORDS, MIRROR, mirrored, odd
 from ..teletext import packet as teletext_packet
 from ..times import CLOCK, FRAMES_OF_A_DAY, TICKS
 
-Pair = collections.namedtuple("Pair", "seed stl pes words")
-Shown = collections.namedtuple("Shown", "tci tco row justify text")
+Schedule = Callable[[bytes, list[str]], bytes]  # of a subtitle file, by words
+Change = Callable[[Random, bytearray], None]  # of a PES packet
+
+
+class Pair(NamedTuple):
+    """Two files, and the words of a check."""
+
+    seed: int
+    stl: bytes
+    pes: bytes
+    words: list[str]
+
+
+class Shown(NamedTuple):
+    """A subtitle; TCI and TCO are frames of the day."""
+
+    tci: int
+    tco: int
+    row: int
+    justify: int
+    text: bytes
+
 
 PACKET = 4  # where a data unit has its Teletext packet
 MOST_LINES = 16  # that `pes_packet` has room for
@@ -23,7 +45,7 @@ LETTERS = b"ABCDEFGHIJKLMNOPQRSTUVWXYZabcdefghijklmnopqrstuvwxyz 0123456789.,?!'
 
 # Subtitle files
 
-def random_text(chance, row):
+def random_text(chance: Random, row: int) -> bytes:
     """Some lines that fit at a row; seldom with a letter that is German alone."""
     lines = []
     for _ in range(chance.choice([1, 1, 2, 3])):
@@ -40,7 +62,7 @@ def random_text(chance, row):
     return text
 
 
-def random_subtitles(chance):
+def random_subtitles(chance: Random) -> list[Shown]:
     """Some subtitles in order, at any time of the day, some of them next to each other."""
     frame = chance.choice([0, 25, 900_000, chance.randrange(FRAMES_OF_A_DAY - 2000)])
     made = []
@@ -53,7 +75,7 @@ def random_subtitles(chance):
     return made
 
 
-def stl_file(chance, subtitles):
+def stl_file(chance: Random, subtitles: list[Shown]) -> bytes:
     """A subtitle file; now and then a comment or user data stands among its blocks."""
     made = gsi_block(b"At random", 0, len(subtitles))
     for number, one in enumerate(subtitles):
@@ -66,7 +88,7 @@ def stl_file(chance, subtitles):
     return made
 
 
-def other_subtitles(chance, subtitles):
+def other_subtitles(chance: Random, subtitles: list[Shown]) -> list[Shown]:
     """The subtitles with one of them changed: a transmission of the others shows another page."""
     subtitles = list(subtitles)
     at = chance.randrange(len(subtitles))
@@ -93,7 +115,7 @@ FIELDS = {3: [0, 1, 0xF0, 0xFD, 0xFE, 0xFF], 4: [0, 1], 5: [0, 10, 24], 8: [0, 2
 CODES = [0x00, 0x0B, 0x0D, 0x0E, 0x40, 0x5B, 0x80, 0x8A, 0x8F, 0xA7, 0xC8]
 
 
-def break_block(chance, data, block):
+def break_block(chance: Random, data: bytearray, block: int) -> None:
     """Another byte in a block: a field, or one of its text."""
     way = chance.random()
     if way < 0.5:
@@ -105,7 +127,7 @@ def break_block(chance, data, block):
         data[block + chance.randrange(3)] ^= 1  # SGN, SN
 
 
-def blocks_of_one(chance, block):
+def blocks_of_one(chance: Random, block: bytearray) -> bytearray:
     """A block left out, or some times; now and then as blocks of one subtitle."""
     count = chance.choice([0, 2, 2, 3, 10])
     if chance.random() < 0.6:
@@ -115,9 +137,9 @@ def blocks_of_one(chance, block):
     return block * count
 
 
-def break_stl(chance, data):
+def break_stl(chance: Random, whole: bytes) -> bytes:
     """A subtitle file with some bytes, blocks or its length otherwise."""
-    data = bytearray(data)
+    data = bytearray(whole)
     for _ in range(chance.choice([1, 1, 2, 5])):
         blocks = (len(data) - GSI) // TTI
         if blocks < 1:
@@ -142,17 +164,17 @@ def break_stl(chance, data):
 
 # Transmissions
 
-def units_in(packet):
+def units_in(packet: bytes | bytearray) -> list[int]:
     """Where the data units of a PES packet that carry Teletext begin."""
     return [at for at in range(DATA, len(packet), UNIT) if packet[at] in (2, 3)]
 
 
-def teletext_in(packet):
+def teletext_in(packet: bytes | bytearray) -> list[bytes]:
     """The Teletext packets of a PES packet."""
-    return [mirrored(packet[at + PACKET:at + UNIT]) for at in units_in(packet)]
+    return [mirrored(bytes(packet[at + PACKET:at + UNIT])) for at in units_in(packet)]
 
 
-def random_header(chance):
+def random_header(chance: Random) -> bytes:
     """A header of the page, of another one, or of another magazine, with any control bits."""
     units, tens = chance.choice([8, 8, 15]), chance.choice([8, 8, 15])
     numbers = [units, tens, 0, chance.choice([8, 8, 0]), 0, chance.choice([8, 8, 12]),
@@ -160,7 +182,7 @@ def random_header(chance):
     return teletext_packet(chance.choice([0, 0, 1]), 0, numbers, b" " * 32)
 
 
-def random_packet(chance):
+def random_packet(chance: Random) -> bytes:
     """A header, a row, or a packet of enhancement."""
     if chance.random() < 0.4:
         return random_header(chance)
@@ -168,13 +190,13 @@ def random_packet(chance):
     return teletext_packet(chance.choice([0, 0, 0, 2]), number, [], chance.choices(LETTERS, k=40))
 
 
-def change_bit(chance, packet):
+def change_bit(chance: Random, packet: bytearray) -> None:
     at = chance.choice(units_in(packet))
     place = chance.choice([chance.randrange(2), chance.randrange(10), chance.randrange(42)])
     packet[at + PACKET + place] ^= 1 << chance.randrange(8)
 
 
-def change_code(chance, packet):
+def change_code(chance: Random, packet: bytearray) -> None:
     """Another code word in an address or a header, or another letter in a row."""
     at = chance.choice(units_in(packet)) + PACKET
     place = chance.choice([chance.randrange(2, 10), chance.randrange(10, 42)])
@@ -182,16 +204,16 @@ def change_code(chance, packet):
     packet[at + place] = MIRROR[code]
 
 
-def change_byte(chance, packet):
+def change_byte(chance: Random, packet: bytearray) -> None:
     packet[chance.randrange(len(packet))] = chance.randrange(256)
 
 
-def drop_unit(chance, packet):
+def drop_unit(chance: Random, packet: bytearray) -> None:
     at = chance.choice(units_in(packet))
     packet[at:at + UNIT] = STUFFING_UNIT
 
 
-def add_unit(chance, packet):
+def add_unit(chance: Random, packet: bytearray) -> None:
     """One more packet at any place: a new one, or one of those there, changed or not."""
     teletext = teletext_in(packet)
     if len(teletext) >= MOST_LINES:
@@ -206,7 +228,7 @@ def add_unit(chance, packet):
     packet[:] = pes_packet(pts_in(packet), teletext)
 
 
-def swap_units(chance, packet):
+def swap_units(chance: Random, packet: bytearray) -> None:
     """Two packets change places: a row before its header, or rows after the closing header."""
     one, other = (chance.choice(units_in(packet)) + PACKET for _ in range(2))
     end = UNIT - PACKET
@@ -214,17 +236,18 @@ def swap_units(chance, packet):
         packet[other:other + end], packet[one:one + end]
 
 
-def move_frame(chance, packet):
+def move_frame(chance: Random, packet: bytearray) -> None:
     frames = chance.choice([-1, 1, 2, chance.randrange(-60, 60)])
     ticks = chance.choice([TICKS * frames] * 6 + [frames])
     packet[9:14] = pts_bytes((pts_in(packet) + ticks) % CLOCK)
 
 
-WITHIN = [change_bit, change_bit, change_code, change_code, change_code, drop_unit, add_unit,
-          add_unit, swap_units, move_frame, change_byte]
+WITHIN: list[Change] = [
+    change_bit, change_bit, change_code, change_code, change_code, drop_unit, add_unit, add_unit,
+    swap_units, move_frame, change_byte]
 
 
-def change_order(chance, packets):
+def change_order(chance: Random, packets: list[bytearray]) -> None:
     """PES packets twice, left out, or in another order."""
     at, way = chance.randrange(len(packets)), chance.randrange(5)
     if way == 0 and len(packets) > 1:
@@ -240,17 +263,17 @@ def change_order(chance, packets):
         del packets[at:at + chance.randrange(3)]
 
 
-def change_some(chance, packets):
+def change_some(chance: Random, packets: list[bytearray]) -> None:
     """One PES packet is changed, or some after each other in the same way."""
     way, seed = chance.choice(WITHIN), chance.random()
     first = chance.randrange(len(packets))
     count = chance.choice([1, 1, 1, 2, 3, len(packets)])
     for packet in packets[first:first + count]:
         if units_in(packet):
-            way(random.Random(seed), packet)
+            way(Random(seed), packet)
 
 
-def break_pes(chance, data):
+def break_pes(chance: Random, data: bytes) -> bytes:
     """A transmission with some of its packets, their order, or its length otherwise."""
     packets = list(map(bytearray, pes_packets(io.BytesIO(data))))
     for _ in range(chance.choice([0, 1, 1, 2, 3, 6, 12])):
@@ -267,7 +290,7 @@ def break_pes(chance, data):
 
 # Pairs
 
-def random_words(chance):
+def random_words(chance: Random) -> dict[str, str]:
     """The options that `schedule` and `check` share."""
     return {"--page": chance.choice(["888", "888", "888", "1A0", "8f0"]),
             "--every": str(chance.choice([1, 2, 25, 25, 50, 250])),
@@ -275,7 +298,7 @@ def random_words(chance):
             "--option": chance.choice(["english", "english", "german"])}
 
 
-def other_words(chance, words):
+def other_words(chance: Random, words: dict[str, str]) -> dict[str, str]:
     """The options with one of them otherwise, seldom."""
     if chance.random() >= 0.25:
         return words
@@ -287,23 +310,23 @@ def other_words(chance, words):
     return {**words, name: other[name]}
 
 
-def listed(words):
+def listed(words: dict[str, str]) -> list[str]:
     return [word for pair in words.items() for word in pair]
 
 
-def random_pair(seed, schedule):
+def random_pair(seed: int, schedule: Schedule) -> Pair:
     """A pair at random. `schedule` gives the transmission of a subtitle file, by words."""
-    chance = random.Random(seed)
+    chance = Random(seed)
     subtitles, words = random_subtitles(chance), random_words(chance)
     stl = stl_file(chance, subtitles)
-    mode = chance.choice([[], [], ["--serial"]])
-    pes = schedule(stl, [*listed(words), *mode])
+    modes: list[list[str]] = [[], [], ["--serial"]]
+    pes = schedule(stl, [*listed(words), *chance.choice(modes)])
     if chance.random() < 0.3:
         stl = stl_file(chance, other_subtitles(chance, subtitles))
     if chance.random() < 0.2:
         stl = break_stl(chance, stl)
     pes = break_pes(chance, pes)
-    words = listed(other_words(chance, words))
+    asked = listed(other_words(chance, words))
     if chance.random() < 0.4:
-        words.append("--complete")
-    return Pair(seed, stl, pes, words)
+        asked.append("--complete")
+    return Pair(seed, stl, pes, asked)

@@ -1,30 +1,53 @@
 """Subtitle files, PES packets and page headers, read as the standards say it, and what is wrong.
 
 Subtitle files are read by EBU Tech 3264, PES packets by EN 300 472, Teletext packets by EN 300 706,
-with the limits of docs/manual/limits.md. Numbers of faults are those of the manual's tables. Nothing here
-was written from the program's sources.
+with the limits of docs/manual/limits.md. Numbers of faults are those of the manual's tables.
+Nothing here was written from the program's sources.
 """
-import collections
+from __future__ import annotations
+
+from typing import Iterator, NamedTuple, Optional
 
 from ..pes import pts_in
 from ..stl import GSI, LAST, TTI, USER_DATA
-from ..teletext import NUMBER, address_of, mirrored
+from ..teletext import NUMBER, Page, address_of, mirrored
 from ..times import frame_of_code
 
 MOST_BLOCKS, MOST_BLOCKS_OF_ONE, MOST_PES_PACKETS = 99_999, 9, 2_160_000
 
-# A subtitle as the blocks of the file hold it. `block` is the number of its last block, and `text`
-# what its blocks hold before their unused space, joined.
-Record = collections.namedtuple("Record", "block tci tco row justify text")
-# A fault of a subtitle file that its blocks have: its number, and its block.
-StlFault = collections.namedtuple("StlFault", "number block")
+Listed = tuple[int, list[bytes]]  # a PES packet that is read: its PTS, and its Teletext packets
+Header = tuple[Page, set[int]]  # the page of a header, and which of the control bits 4 to 14 it has
+
+
+class Record(NamedTuple):
+    """A subtitle as the blocks of the file hold it.
+
+    `block` is the number of its last block, and `text` what its blocks hold before their unused
+    space, joined.
+    """
+
+    block: int
+    tci: int
+    tco: int
+    row: int
+    justify: int
+    text: bytes
+
+
+class StlFault(NamedTuple):
+    """A fault of a subtitle file that its blocks have: its number, and its block."""
+
+    number: int
+    block: int
+
+
 # Those of what the first block of a subtitle says of it: CS, JC, VP, TCI and TCO.
 OF_FIRST_BLOCK = {16, 18, 19, 20, 21}
 
 
 # Subtitle files
 
-def general_fault(data):
+def general_fault(data: bytes) -> int | None:
     """The number of what is wrong with the GSI block, `None` where nothing is."""
     if len(data) < GSI:
         return 10
@@ -38,7 +61,7 @@ def general_fault(data):
     return None if table == b"00" else 14
 
 
-def first_block_fault(block):
+def first_block_fault(block: bytes) -> int | None:
     """The number of what is wrong with the first block of a subtitle."""
     tci, tco = frame_of_code(block[5:9]), frame_of_code(block[9:13])
     questions = [(16, block[4] != 0), (18, block[14] > 3), (19, not 1 <= block[13] <= 23),
@@ -46,10 +69,10 @@ def first_block_fault(block):
     for number, is_broken in questions:
         if is_broken:
             return number
-    return None if tci < tco else 21
+    return 21 if tci is not None and tco is not None and tci >= tco else None
 
 
-def block_fault(block, group):
+def block_fault(block: bytes, group: list[bytes]) -> int | None:
     """The number of what is wrong with a block after the blocks `group` of its subtitle.
 
     A block that is passed over has none: user data, or a comment.
@@ -70,15 +93,16 @@ def block_fault(block, group):
     return 23 if len(group) == MOST_BLOCKS_OF_ONE else None
 
 
-def record_of(group, number):
+def record_of(group: list[bytes], number: int) -> Record:
     """The subtitle that a whole group of blocks holds."""
     head = group[0]
     text = b"".join(block[16:].partition(b"\x8f")[0] for block in group)
-    return Record(number, frame_of_code(head[5:9]), frame_of_code(head[9:13]), head[13], head[14],
-                  text)
+    tci, tco = frame_of_code(head[5:9]), frame_of_code(head[9:13])
+    assert tci is not None and tco is not None  # else its first block has a fault
+    return Record(number, tci, tco, head[13], head[14], text)
 
 
-def found_in(data):
+def found_in(data: bytes) -> Iterator[Record | StlFault]:
     """What a subtitle file holds, by block: records, and faults.
 
     Where what the first block of a subtitle says of it is broken, its blocks are known all the
@@ -88,7 +112,8 @@ def found_in(data):
     if number:
         yield StlFault(number, 0)
         return
-    group, is_record, count = [], True, 0
+    group: list[bytes] = []
+    is_record, count = True, 0
     while GSI + TTI * count < len(data):
         block = data[GSI + TTI * count:GSI + TTI * (count + 1)]
         count += 1
@@ -110,26 +135,26 @@ def found_in(data):
         yield StlFault(24, count)
 
 
-def records_of(data):
+def records_of(data: bytes) -> list[Record]:
     """The subtitles of a file."""
     return [found for found in found_in(data) if isinstance(found, Record)]
 
 
 # PES packets
 
-def is_pts(field):
+def is_pts(field: bytes) -> bool:
     """Whether five bytes are a PTS: 0010, and the three bits between its parts."""
-    return field[0] >> 4 == 2 and field[0] & 1 and field[2] & 1 and field[4] & 1
+    return field[0] >> 4 == 2 and field[0] & field[2] & field[4] & 1 == 1
 
 
-def head_fault(packet):
+def head_fault(packet: bytes) -> int | None:
     """The number of what is wrong before the data units of a whole packet."""
     questions = [(33, packet[6] >> 4 == 8), (34, packet[7] >> 6 == 2), (35, packet[8] == 0x24),
                  (36, is_pts(packet[9:14])), (37, 0x10 <= packet[45] <= 0x1F)]
     return next((number for number, is_kept in questions if not is_kept), None)
 
 
-def unit_fault(unit, last_line):
+def unit_fault(unit: bytes, last_line: tuple[int, int]) -> int | None:
     """The number of what is wrong with a data unit, after a line of the field."""
     if unit[1] != 0x2C:
         return 38
@@ -140,14 +165,15 @@ def unit_fault(unit, last_line):
     return 40 if unit[2] & 31 and line_of(unit) <= last_line else None
 
 
-def line_of(unit):
+def line_of(unit: bytes) -> tuple[int, int]:
     """The field and the line of a data unit, which rise; the first field has the bit set."""
     return (0 if unit[2] & 32 else 1, unit[2] & 31)
 
 
-def units_of(packet):
+def units_of(packet: bytes) -> tuple[list[bytes], int | None]:
     """The Teletext packets of the data units, and the number of what is wrong with one."""
-    packets, last_line = [], (0, 0)
+    packets: list[bytes] = []
+    last_line = 0, 0
     for at in range(46, len(packet), 46):
         unit = packet[at:at + 46]
         number = unit_fault(unit, last_line)
@@ -160,7 +186,7 @@ def units_of(packet):
     return packets, None
 
 
-def pes_at(data, begin):
+def pes_at(data: bytes, begin: int) -> int | tuple[int, int, list[bytes]]:
     """The packet that begins there: its length, its PTS, its Teletext packets; or a number."""
     head = data[begin:begin + 6]
     if len(head) < 6:
@@ -178,10 +204,11 @@ def pes_at(data, begin):
     return broken or (length, pts_in(packet), packets)
 
 
-def pes_packets_of(data):
+def pes_packets_of(data: bytes) -> tuple[list[Listed], int | None]:
     """The PES packets that can be read, each a PTS and Teletext packets; the number of the first
     fault, or `None` where all bytes are read."""
-    found, begin = [], 0
+    found: list[Listed] = []
+    begin = 0
     while begin < len(data):
         read = pes_at(data, begin) if len(found) < MOST_PES_PACKETS else 44
         if isinstance(read, int):
@@ -193,14 +220,14 @@ def pes_packets_of(data):
 
 # Teletext packets
 
-def header_of(packet):
+def header_of(packet: bytes) -> Header | None:
     """The page and the control bits of a packet with number 0, with correction; else `None`.
 
     The page is magazine and page number. The control bits are a set of 4 to 14.
     """
     address = address_of(packet)
-    numbers = [NUMBER[byte] for byte in packet[2:10]]
-    if address is None or address[1] != 0 or None in numbers:
+    numbers = [number for number in map(NUMBER.__getitem__, packet[2:10]) if number is not None]
+    if address is None or address[1] != 0 or len(numbers) < 8:
         return None
     bits = [(4, 3, 3), (5, 5, 2), (6, 5, 3), *((7 + at, 6, at) for at in range(4)),
             *((11 + at, 7, at) for at in range(4))]

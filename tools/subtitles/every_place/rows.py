@@ -1,4 +1,8 @@
 """The page that a subtitle draws, or what is wrong with its text; from the tables, byte by byte."""
+from __future__ import annotations
+
+from .reading import Record
+
 ROWS, COLUMNS, SPACE = 24, 40, 0x20
 DOUBLE_HEIGHT, END_BOX, START_BOX, NEW_LINE = 0x0D, 0x0A, 0x0B, 0x8A
 NO_CELL = range(0x80, 0x86)  # italics, underline and boxing on and off
@@ -12,21 +16,24 @@ CELLS = {
     "german": {**COMMON, 0x23: 0x23, 0xA4: 0x24, 0x24: 0x24, 0xA7: 0x40, 0xB0: 0x60, 0xFB: 0x7E},
 }
 UMLAUT = 0xC8  # stands before its letter
-UMLAUTS = {"english": {}, "german": {ord("A"): 0x5B, ord("O"): 0x5C, ord("U"): 0x5D,
-                                     ord("a"): 0x7B, ord("o"): 0x7C, ord("u"): 0x7D}}
+UMLAUTS: dict[str, dict[int, int]] = {
+    "english": {},
+    "german": {ord("A"): 0x5B, ord("O"): 0x5C, ord("U"): 0x5D,
+               ord("a"): 0x7B, ord("o"): 0x7C, ord("u"): 0x7D}}
 
 
 class TextFault(Exception):
     """A number of a fault and its place: a byte of the text, or a line of it."""
 
-    def __init__(self, number, at):
+    def __init__(self, number: int, at: int) -> None:
         super().__init__(number, at)
         self.number, self.at = number, at
 
 
-def lines_of(text, option):
+def lines_of(text: bytes, option: str) -> list[list[int]]:
     """The lines of a text as cells."""
-    lines, at = [[]], 0
+    lines: list[list[int]] = [[]]
+    at = 0
     while at < len(text):
         byte, after = text[at], text[at + 1:at + 2]
         if byte == NEW_LINE:
@@ -42,14 +49,14 @@ def lines_of(text, option):
     return lines
 
 
-def prepared(line):
+def prepared(line: list[int]) -> list[int]:
     """A line in its box; an empty one has none."""
     if not line or START_BOX in line:
         return line
     return [START_BOX] * 2 + line + [END_BOX] * 2
 
 
-def line_fault(lines, number, row):
+def line_fault(lines: list[list[int]], number: int, row: int) -> int | None:
     """The number of what is wrong with a prepared line in its row."""
     line = lines[number]
     if len(line) > COLUMNS:
@@ -61,7 +68,7 @@ def line_fault(lines, number, row):
     return 55 if line and number and DOUBLE_HEIGHT in lines[number - 1] else None
 
 
-def drawn(record, option):
+def drawn(record: Record, option: str) -> bytes:
     """The page of a subtitle: 960 codes, row by row. Raises a `TextFault` where there is none."""
     lines = [prepared(line) for line in lines_of(record.text, option)]
     page = bytearray(BLANK)

@@ -10,8 +10,8 @@ from .bench import SECONDS, Case
 
 TOOLS = os.path.join(TOP, "tools")
 # What has no hints yet.
-MODULES = {"every_place"}
-SCRIPTS = {"check-every-place", "check-manual", "check-mending", "check-program", "dist", "edits",
+MODULES: set[str] = set()
+SCRIPTS = {"check-manual", "check-mending", "check-program", "dist", "edits",
            "faults", "make-examples", "prove", "release", "slow-proofs"}
 
 
