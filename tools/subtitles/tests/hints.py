@@ -11,7 +11,7 @@ from .bench import SECONDS, Case
 TOOLS = os.path.join(TOP, "tools")
 # What has no hints yet.
 MODULES: set[str] = set()
-SCRIPTS = {"check-manual", "check-mending", "check-program", "dist", "edits",
+SCRIPTS = {"check-manual", "check-program", "dist", "edits",
            "faults", "make-examples", "prove", "release", "slow-proofs"}
 
 
