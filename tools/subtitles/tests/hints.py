@@ -11,8 +11,7 @@ from .bench import SECONDS, Case
 TOOLS = os.path.join(TOP, "tools")
 # What has no hints yet.
 MODULES: set[str] = set()
-SCRIPTS = {"check-manual", "check-program", "dist", "edits",
-           "faults", "make-examples", "prove", "release", "slow-proofs"}
+SCRIPTS = {"edits", "faults", "prove"}
 
 
 def is_python(path: str) -> bool:
