@@ -9,9 +9,6 @@ from ..built import TOP
 from .bench import SECONDS, Case
 
 TOOLS = os.path.join(TOP, "tools")
-# What has no hints yet.
-MODULES: set[str] = set()
-SCRIPTS = {"edits", "faults", "prove"}
 
 
 def is_python(path: str) -> bool:
@@ -22,14 +19,10 @@ def is_python(path: str) -> bool:
         return file.readline().endswith(b"python3\n")
 
 
-def has_hints(name: str) -> bool:
-    return not MODULES & {name.removesuffix(".py")}
-
-
 def modules(folder: str) -> list[str]:
     """The modules of a folder and of those in it."""
     found: list[str] = []
-    for name in sorted(filter(has_hints, os.listdir(folder))):
+    for name in sorted(os.listdir(folder)):
         path = os.path.join(folder, name)
         if os.path.isdir(path):
             found += modules(path)
@@ -40,7 +33,7 @@ def modules(folder: str) -> list[str]:
 
 def scripts() -> list[str]:
     """The scripts in Python."""
-    paths = (os.path.join(TOOLS, name) for name in sorted(set(os.listdir(TOOLS)) - SCRIPTS))
+    paths = (os.path.join(TOOLS, name) for name in sorted(os.listdir(TOOLS)))
     return list(filter(is_python, paths))
 
 
