@@ -32,7 +32,7 @@ class FaultList:
     def frame_of(self, entry: Entry) -> int | None:
         """The frame whose pictures belong to an entry, `None` where there is none."""
         if entry.first.pes is not None:
-            return self.held.last_frame
+            return self.held.last_frame if entry.first.pes == self.held.stop else None
         return entry.first.frame
 
     def is_shown(self, frame: int | None) -> bool:
@@ -110,6 +110,8 @@ class FaultList:
         last, words = entry.last, []
         if entry.count > 1:
             words.append(f"{entry.count:,} faults, the last at {place_words(last)}")
+        if entry.until_pes is not None:
+            words.append(f"up to PES packet {entry.until_pes}")
         if entry.until is not None:
             words.append(f"until {time_of(entry.until)}")
             if entry.count == 1 and last.frame is not None:
@@ -138,10 +140,11 @@ class FaultList:
     def seen(self, entry: Entry, frame: int | None) -> str:
         """What there is to see of an entry."""
         fault = entry.first
-        if frame is None:
-            return "<p>There is no frame to look at: no PES packet comes before it.</p>" \
-                if fault.pes is not None else ""
-        if not self.is_shown(frame):
+        if frame is None and fault.pes is None:
+            return ""
+        if frame is None and fault.pes == self.held.stop:
+            return "<p>There is no frame to look at: no PES packet comes before it.</p>"
+        if frame is None or not self.is_shown(frame):
             return f"<p>No pictures: {NOT_READ}.</p>"
         parts = []
         if fault.pes is not None:

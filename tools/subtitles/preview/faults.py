@@ -23,13 +23,15 @@ class Entry:
     """Faults of one number within one subtitle that are told one after another.
 
     `first` is the line of the first one as a verdict. `until` is the frame at whose end the last
-    one stood for the last time, `None` where it is told at one place alone.
+    one stood for the last time, `until_pes` the last of the PES packets that it passes over; `None`
+    where it is told at one place alone.
     """
 
     def __init__(self, index: int, line: str) -> None:
         self.index, self.first_line, self.last_line = index, line, line
         self.count = 1
         self.until: int | None = None
+        self.until_pes: int | None = None
 
     @functools.cached_property
     def first(self) -> Verdict:
@@ -143,6 +145,8 @@ class Faults:
             self.number = None
             if words[3] == "frame":
                 self.end(words[1], frame_at(words[4]))
+            elif words[1] in self.latest:
+                self.latest[words[1]].until_pes = int(words[4])
 
     def end(self, number: str, frame: int) -> None:
         """The last frame at whose end a fault stands."""
@@ -176,7 +180,7 @@ class Faults:
         if (number, due) == (self.number, self.due):
             entry = self.latest[number]
             entry.count += 1
-            entry.last_line, entry.until = line, None
+            entry.last_line, entry.until, entry.until_pes = line, None, None
         else:
             self.open_entry(line, number, due)
         if frame is not None and number in STANDING:

@@ -17,7 +17,7 @@ if TYPE_CHECKING:
 Cell = tuple[int, int]  # its row and its column
 Cut = tuple[int, int]  # the first and the last row of a picture
 
-NOT_READ = "the PES file can't be followed up to this frame"
+NOT_READ = "a receiver can't be followed up to there"
 # What is held beside what is due, with the words for the count of such subtitles.
 SAME, DIFFERENT, NOTHING, NOT_KNOWN = "same", "different", "nothing", "not known"
 KINDS = {SAME: "as due", DIFFERENT: "another page than the one that is due",

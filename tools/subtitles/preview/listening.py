@@ -160,6 +160,11 @@ class Heard:
         """How many frames from `first` to the one before `end` have a header of the page."""
         return bisect.bisect_left(self.sendings, end) - bisect.bisect_left(self.sendings, first)
 
+    @property
+    def stop(self) -> int:
+        """The PES packet at which hearing ended; after the last one where it did not."""
+        return self.halt[0] if self.halt else self.count
+
     def is_whole(self) -> bool:
         """Whether the file was read, and heard, to its end."""
         return self.halt is None and self.end.status == 0

@@ -15,7 +15,8 @@ if TYPE_CHECKING:
     from .listening import Heard, HeldUnits
 
 NAMED = ' class="named"'
-ORDER = 62
+OFF_FRAME, ORDER = 61, 62
+PASSED_OVER = range(33, 41)  # the one PES packet can't be read, and its length is known
 BYTES_A_LINE = 14  # of a packet, at most
 
 
@@ -39,7 +40,10 @@ def pes_words(fault: Verdict, held: Heard, origin: int) -> str:
         return f"<p>{words}</p>"
     if fault.number == ORDER:
         return f"<p>The frame of PES packet {number} is not after that of the one before.</p>"
-    return f"<p>PES packet {number} can't be read, and nothing after it.</p>"
+    if fault.number == OFF_FRAME:
+        return f"<p>The PTS of PES packet {number} is that of no frame of the day.</p>"
+    after = "" if fault.number in PASSED_OVER else ", and nothing after it"
+    return f"<p>PES packet {number} can't be read{after}.</p>"
 
 
 def around(held: Heard, frame: int, page: str) -> str:

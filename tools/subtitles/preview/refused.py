@@ -93,9 +93,16 @@ def test_no_transmission(trial: Trial) -> None:
         b"is drawn beside it\n"), done)
 
 
-def told_report(trial: Trial, told: list[str]) -> Element:
-    """The report of a program whose `check --all` prints these lines."""
-    stl, pes = written(trial, "told.stl", "story.stl"), written(trial, "told.pes", "story.pes")
+# A PES packet and the next one that can't be read, and after others a third one.
+TOLD_OF_PES = ["refused 37 DataId pes 1", "ended 37 DataId pes 2",
+               "refused 72 Content frame 20:15:05:12 row 22 column 9",
+               "ended 72 Content frame 20:15:06:24",
+               "trusted frames 20:15:07:00 20:15:09:00", "refused 37 DataId pes 4", "3 faults"]
+
+
+def told_report(trial: Trial, told: list[str], words: str = "story.pes") -> Element:
+    """The report of a program whose `check --all` prints these lines; `words` make the PES file."""
+    stl, pes = written(trial, "told.stl", "story.stl"), written(trial, "told.pes", words)
     lines = " ".join(f"'{line}'" for line in told)
     script = trial.path("told")
     with open(script, "w", encoding="utf-8") as file:
@@ -126,6 +133,25 @@ def test_trusted(trial: Trial) -> None:
     means = [item for item in root.iter(HTML + "dl") if item.get("id") == "n72"]
     trial.test("what 72 means stands once", len(means) == 1
                and len(re.findall("at the end of that frame this cell", text)) == 1, means)
+
+
+def test_passed_over(trial: Trial) -> None:
+    """A list that goes on after PES packets which can't be read: what is said and drawn of it."""
+    root = told_report(trial, TOLD_OF_PES, "story.pes 413=20")
+    items = ["".join(item.itertext()) for each in root.iter(HTML + "ol")
+             for item in each.iter(HTML + "li")]
+    trial.test("passed over: the list", "up to PES packet 2" in items[0]
+               and "up to PES" not in items[2], items)
+    parts = {part.get("id"): "".join(part.itertext()) for part in root.iter(HTML + "section")}
+    trial.test("passed over: the first one", "PES packet 1 can't be read." in parts["place"]
+               and "Pictures at the last frame before that PES packet, 20:15:00:00"
+               in parts["place"], parts["place"])
+    trial.test("passed over: a later one", "PES packet 4 can't be read." in parts["f3"]
+               and "No pictures: " in parts["f3"], parts["f3"])
+    drawn = [item for item in root.iter(HTML + "rect") if item.get("class") == "trusted"]
+    trial.test("passed over: trusted is drawn after it", len(drawn) == 1, drawn)
+    text = "".join(root.itertext())
+    trial.test("passed over: where hearing ends", "nothing heard after 20:15:00:00" in text)
 
 
 def test_links_at_the_top(trial: Trial) -> None:
@@ -166,5 +192,5 @@ def test_foot(trial: Trial) -> None:
         trial.test(f"foot: sum of {os.path.basename(path)}", digest in text and path in text)
 
 
-TESTS = [test_refused_subtitles, test_no_transmission, test_trusted, test_links_at_the_top,
-         test_foot]
+TESTS = [test_refused_subtitles, test_no_transmission, test_trusted, test_passed_over,
+         test_links_at_the_top, test_foot]

@@ -121,7 +121,7 @@ class Looks:
         asked, faults, held = report.asked, report.faults, report.held
         last = held.last_frame
         faults.mark(held.falls)
-        if last is not None and any(entry.last.pes is not None for entry in faults.entries):
+        if last is not None and any(entry.first.pes == held.stop for entry in faults.entries):
             faults.mark([last])
         due = due_pages(program, asked, [*report.frames, last or 0])
         option = GERMAN if asked.option == "german" else ENGLISH

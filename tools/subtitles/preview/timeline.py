@@ -186,7 +186,7 @@ class Strip:
         return shape
 
     def hatching(self, words: list[str]) -> Iterator[str]:
-        """Lines over the time of which nothing is known."""
+        """Lines over the time of which a receiver hears nothing."""
         end = self.timeline.end
         if end is None or end >= self.end:
             return
@@ -198,7 +198,7 @@ class Strip:
         if end >= self.begin:
             side = f"left:{left / 10:.4g}%" if left < WIDTH / 2 else \
                 f"right:{(WIDTH - left) / 10:.4g}%"
-            words.append(f'<span class="end" style="{side}">nothing known after '
+            words.append(f'<span class="end" style="{side}">nothing heard after '
                          f"{time_of(end - 1)}</span>")
 
     def sendings(self) -> Iterator[str]:

@@ -131,7 +131,8 @@ def takes_lines_of_every_kind(case: Case) -> None:
               f"case $* in check*.cut.pes) printf '%s\\n' {lines}; exit 1 ;; esac\n"
               f"exec '{case.bench.program}' \"$@\"\n")
     os.chmod(case.write("program", script.encode()), 0o755)
-    done = case.tool("qc", STORY, example("story.pes"), "-p", "./program", "--json", "lines.json")
+    done = case.tool("qc", STORY, example("story.pes"), "-p", "./program", "--json", "lines.json",
+                     "--csv", "lines.csv")
     case.test("status", done.status == 1, done)
     verdict = loaded(case, "lines.json")
     case.test("trusted", verdict["trusted"] == [
@@ -143,6 +144,9 @@ def takes_lines_of_every_kind(case: Case) -> None:
         {"number": 38, "pes": 1, "until": None, "until_pes": 2, "pes_time": "20:15:03:00"},
         {"number": 72, "pes": None, "until": "20:15:06:24", "until_pes": None, "pes_time": None}],
         faults)
+    rows = list(csv.DictReader(case.read("lines.csv").decode().splitlines()))
+    case.test("a line a fault", [(row["number"], row["until"], row["until_pes"]) for row in rows] ==
+              [("38", "", "2"), ("72", "20:15:06:24", "")], rows)
 
 
 def agrees_with_the_schema(case: Case) -> None:
