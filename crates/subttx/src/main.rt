@@ -13,7 +13,7 @@ mod handing_on;
 mod opening;
 mod words;
 
-ghost use Rattle.std.specs.Prelude.{◌≡◌, IfErr, IfOk};
+ghost use Rattle.std.specs.Prelude.{◌≡◌, ◌≤◌, IfErr, IfOk, length};
 ghost use Rattle.sub_io.specs.Buffered.{failures_and_refused};
 ghost use Rattle.sub_request.specs.Files.{files_of};
 ghost use Rattle.subttx.specs.Ending.{Answered, Ends, EndsRun, IsCause, lines_of};
@@ -86,8 +86,8 @@ fn answer_given<R: AllocGlobal + Files, K: Sink>(
     open_and_answer(rt, &request, out)
 }
 
-// Opens the files that the request names, and answers it over them. Where a file can't be opened,
-// nothing is printed.
+// Opens the files that the request names, and answers it over them, with room for their buffers.
+// Where memory runs out, or a file can't be opened, nothing is printed.
 fn open_and_answer<R: AllocGlobal + Files, K: Sink>(
     rt: &R,
     request: &Request<'_>,
@@ -104,9 +104,26 @@ fn open_and_answer<R: AllocGlobal + Files, K: Sink>(
     let Some(mut rooms) = room(rt.alloc(), size_of_rooms(&names)) else {
         return Err(UsageFault::Memory);
     };
-    let Some(files) = open(rt, &names) else {
-        return Err(UsageFault::Open);
-    };
-    let rooms = rooms.as_mut_slice();
-    Ok(answer_opened(rt.alloc(), request, files, rooms, out))
+    open_in_rooms(rt, request, rooms.as_mut_slice(), out)
+}
+
+// The same, where the room is there.
+fn open_in_rooms<R: AllocGlobal + Files, K: Sink>(
+    rt: &R,
+    request: &Request<'_>,
+    rooms: &mut [u8],
+    out: &mut BufferedSink<'_, K>,
+) -> Result<Status, UsageFault>
+    requires rooms { 2 ≤ length rooms.old }
+    requires out { failures_and_refused (K.failure_count out.old.device) out.old.refused ≡ 0 }
+    ensures ends { IfOk result (Ends R.File.remaining R.File.contents request.now
+        (lines_of K.contents K.failure_count out.old)
+        (lines_of K.contents K.failure_count out.new)) }
+    ensures unanswered { IfErr result (λ _. out.new ≡ out.old) }
+    ensures fault { IfErr result (IsUnopened (files_of request.now)) }
+{
+    match open(rt, &request.files()) {
+        Some(files) => Ok(answer_opened(rt.alloc(), request, files, rooms, out)),
+        None => Err(UsageFault::Open),
+    }
 }
