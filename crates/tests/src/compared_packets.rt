@@ -45,6 +45,22 @@ fn tells_a_data_field_that_is_sent_again(rt: HostRuntime) -> Result<(), Fail> {
     Ok(())
 }
 
+#[test]
+fn goes_on_behind_a_piece_that_is_refused(rt: HostRuntime) -> Result<(), Fail> {
+    let mut file = twice()?;
+    file[45] = 0x20; // data_identifier of the first PES packet
+    let mut source = MemSource::new(&file);
+    let mut reader = ComparingReader::new();
+    let answer = reader.next(&mut source);
+    assert_same(&rt, &answer, &Err(PesFault::DataId));
+    assert!(rt; PesFault::DataId.is_of_piece() && !PesFault::Truncated.is_of_piece());
+    reader.pass_over();
+    assert_compares(&rt, &mut reader, &mut source, Compared::Other, (3600, 1));
+    reader.pass_over();
+    assert_compares(&rt, &mut reader, &mut source, Compared::End, (0, 0));
+    Ok(())
+}
+
 /// What is answered to the second PES packet, where the lowest bit of a byte of it is another.
 fn second_answer(rt: &impl Abort, place: usize) -> Result<Compared, PesFault> {
     let mut file = twice()?;

@@ -12,3 +12,5 @@ pub mod ReaderLemmas
 pub mod OutcomeLemmas
 pub mod SameBytesLemmas
 pub mod TakenPackets
+pub mod PieceLemmas
+pub mod PieceListLemmas

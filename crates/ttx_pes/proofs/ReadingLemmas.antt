@@ -115,7 +115,7 @@ abbrev ValueAndRest : Type 0
 ValueAndRest = PesValue × List ℕ
 
 -- A packet of the grammar, from the pieces that were read.
-sound_from : (b : List ℕ) (size : ℕ) (v : PesValue)
+pub sound_from : (b : List ℕ) (size : ℕ) (v : PesValue)
     → AreBytes b
     → size_at (take 6 b) ≡ Ok size
     → 6 ≤ length b

@@ -1,5 +1,5 @@
--- The number and the name by which a fault of a PES packet is told (own), and which faults are
--- those of a device.
+-- The number and the name by which a fault of a PES packet is told (own), which faults are those of
+-- a device, and after which reading can go on.
 use Rattle.std.specs.Prelude.{Bool, true, false, codes}
 use Rattle.sub_io.specs.FaultCode.{FaultCodeValue, fault_code}
 use Rattle.ttx_pes.specs.declared.fault.PesFault.{PesFault}
@@ -22,6 +22,18 @@ pes_code fault.Read = fault_code 41 (codes "Read")
 pes_code fault.Write = fault_code 42 (codes "Write")
 pes_code fault.Ended = fault_code 43 (codes "Ended")
 pes_code fault.TooMany = fault_code 44 (codes "TooMany")
+
+-- The fault is one of a packet that is as long as its length field says: another may follow it.
+abbrev pub is_of_piece : PesFault → Bool
+is_of_piece fault.Flags = true
+is_of_piece fault.NoTime = true
+is_of_piece fault.HeaderLength = true
+is_of_piece fault.Time = true
+is_of_piece fault.DataId = true
+is_of_piece fault.UnitLength = true
+is_of_piece fault.Framing = true
+is_of_piece fault.LineOrder = true
+is_of_piece _ = false
 
 -- The source failed.
 abbrev pub is_read : PesFault → Bool

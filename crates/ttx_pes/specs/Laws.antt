@@ -8,6 +8,7 @@ use Rattle.ttx_pes.specs.DataUnit.{UnitValue}
 use Rattle.ttx_pes.specs.LineOrder.{numbered_units, AreInLineOrder, RisesTo}
 use Rattle.ttx_pes.specs.PesPacket.{PesValue, IsPesPacket, IsPesValue, canonical_packet}
 use Rattle.ttx_pes.specs.PesPacket.{numbered_frame}
+use Rattle.ttx_pes.specs.Pieces.{FallInto, pieces_after}
 use Rattle.ttx_pes.specs.Reader.{BeginsNone}
 use Rattle.ttx_pes.specs.Reading.{packet_at, answer_at, rest_after, is_format_fault, most_packets}
 use Rattle.ttx_pes.specs.Refusal.{told_fault, FailFirst}
@@ -101,3 +102,10 @@ LawOfNumberedFrame =
     → AllByRecursion IsPacket packets
     → IsPesValue (numbered_frame pts packets)
     × (map (λ (u : UnitValue). u.packet) (numbered_units 0 packets) ≡ packets)
+
+-- Bytes fall into the pieces that are read of them: the longest list of byte strings, each as long as
+-- its length field says, that, joined, begins the bytes. What is read of a piece is what the grammar
+-- says of it, or its fault.
+-- So what is told of pieces that are passed over is told of all of them, and of nothing else.
+abbrev pub LawOfPieces : Type 0
+LawOfPieces = (bytes : List ℕ) → AreBytes bytes → FallInto bytes (pieces_after 0 bytes)

@@ -9,3 +9,4 @@ pub mod Laws
 pub mod Fault
 pub mod Taking
 pub mod Comparing
+pub mod Pieces

@@ -1,8 +1,9 @@
 //! Reading PES packets that are mostly the one before, sent again.
-ghost use Rattle.std.specs.Prelude.{◌≡◌, ℕ, ◌+◌, ◌≤◌, ◌≢◌, true, [], Ok};
+ghost use Rattle.std.specs.Prelude.{◌≡◌, ℕ, ◌+◌, ◌≤◌, ◌≢◌, true, [], None, Ok, IfErr};
 ghost use Rattle.sub_io.specs.Device.{CanFail, CountsIf, failed};
-ghost use Rattle.ttx_pes.specs.Comparing.{as_given, TakesDataField};
-ghost use Rattle.ttx_pes.specs.Fault.{is_read};
+ghost use Rattle.ttx_pes.specs.Comparing.{as_given, behind_after, passed_over, TakesDataField};
+ghost use Rattle.ttx_pes.specs.Fault.{is_of_piece, is_read};
+ghost use Rattle.ttx_pes.specs.Pieces.{TakesPiece};
 ghost use Rattle.ttx_pes.specs.declared.comparing_reader.Compared.TheVariants.{Same, Other};
 ghost use Rattle.ttx_pes.specs.declared.progress.Progress.TheVariants.{Reading, AtEnd, Broken};
 ghost use Rattle.ttx_pes.specs.PesPacket.{empty_value};
@@ -38,11 +39,14 @@ pub enum Compared {
 #[derive(Drop)]
 pub struct ComparingReader {
     progress: Progress,
+    // Directly after the fault of a piece, how many pieces were taken with it.
+    behind: Option<u32>,
     room: Room,
     kept: KeptFrame,
 }
 
 impl Model for ComparingReader {
+    ghost use Rattle.std.specs.Prelude.{◌≤◌, IfSome};
     ghost use Rattle.ttx_pes.specs.Comparing.{ComparingValue};
     ghost use Rattle.ttx_pes.specs.Reader.{GivesAtMost};
     ghost use Rattle.ttx_pes.specs.Reading.{most_packets};
@@ -53,9 +57,11 @@ impl Model for ComparingReader {
       progress = r.progress;
       frame = r.kept.frame;
       data_field = r.kept.data_field;
+      behind = r.behind;
     } };
 
-    ghost invariant = { λ r. GivesAtMost most_packets r.progress };
+    ghost invariant = { λ r. GivesAtMost most_packets r.progress
+        × IfSome r.behind (λ given. given ≤ most_packets) };
 }
 
 // Takes the next packet, and compares it with the one that is kept.
@@ -74,6 +80,10 @@ fn read_compared<S: Source>(
     ensures units { result ≡ Ok Same → kept.new.frame.units ≡ kept.old.frame.units }
     ensures other { result ≡ Ok Other → kept.new.data_field ≢ kept.old.data_field }
     ensures below { as_given result ≡ Ok true → given ≢ most_packets }
+    ensures piece { IfErr result (λ fault. is_of_piece fault ≡ true
+        → TakesPiece (S.remaining source.old) (S.remaining source.new) fault) }
+    ensures before_piece { IfErr result (λ fault. is_of_piece fault ≡ true
+        → given ≢ most_packets) }
     ensures count { CountsIf S.failure_count source.old (failed is_read result) source.new }
 {
     let Some(size) = take_packet(given, source, room)? else {
@@ -90,10 +100,11 @@ impl ComparingReader {
     /// A reader at the start of a file, with a frame of PTS 0 and no units.
     pub fn new() -> Self
         ensures { result
-            ≡ record { progress = Reading 0; frame = empty_value; data_field = [] } }
+            ≡ record { progress = Reading 0; frame = empty_value; data_field = []; behind = None } }
     {
         ComparingReader {
             progress: Progress::Reading(0),
+            behind: None,
             room: [0; LONGEST_PACKET],
             kept: KeptFrame::new(),
         }
@@ -116,7 +127,8 @@ impl ComparingReader {
     /// # Errors
     ///
     /// Those of `PesReader::next`, in its order: the header of each packet is read, and the units
-    /// of a data field that is sent again were read before.
+    /// of a data field that is sent again were read before. After `Flags` to `LineOrder` exactly the
+    /// packet's bytes were taken, and `pass_over` lets reading go on.
     pub fn next<S: Source>(&mut self, source: &mut S) -> Result<Compared, PesFault>
         requires { CanFail (S.failure_count source.old) }
         ensures tells { TellsPacket self.old.progress (S.remaining source.old)
@@ -130,6 +142,11 @@ impl ComparingReader {
         ensures units { result ≡ Ok Same → self.new.frame.units ≡ self.old.frame.units }
         ensures other { result ≡ Ok Other → self.new.data_field ≢ self.old.data_field }
 
+        // After the fault of a piece its bytes were taken.
+        ensures piece { IfErr result (λ fault. is_of_piece fault ≡ true
+            → TakesPiece (S.remaining source.old) (S.remaining source.new) fault) }
+        ensures behind { self.new.behind ≡ behind_after self.old.progress result }
+
         ensures progress { self.new.progress
             ≡ progress_after self.old.progress (given_frame (as_given result) self.new.frame) }
         ensures few { (given : ℕ) → self.new.progress ≡ Reading given → given ≤ most_packets }
@@ -138,6 +155,7 @@ impl ComparingReader {
         ensures broken { self.old.progress ≡ Broken → source.new ≡ source.old }
         ensures count { CountsIf S.failure_count source.old (failed is_read result) source.new }
     {
+        self.behind = None;
         let given = match self.progress {
             Progress::Reading(given) => given,
             Progress::AtEnd => {
@@ -165,9 +183,24 @@ impl ComparingReader {
             }
             Err(fault) => {
                 self.progress = Progress::Broken;
+                if fault.is_of_piece() {
+                    self.behind = Some(given + 1);
+                }
                 self.kept.clear();
                 Err(fault)
             }
+        }
+    }
+
+    /// Goes on behind the piece whose fault was answered last: one of what stands in a packet that
+    /// is as long as its length field says. After any other answer nothing is done.
+    pub fn pass_over(&mut self)
+        ensures over { self.new ≡ passed_over self.old }
+        ensures few { (given : ℕ) → self.new.progress ≡ Reading given → given ≤ most_packets }
+    {
+        if let Some(given) = self.behind {
+            self.progress = Progress::Reading(given);
+            self.behind = None;
         }
     }
 }

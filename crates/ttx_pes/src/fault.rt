@@ -42,7 +42,7 @@ pub enum PesFault {
 }
 
 impl PesFault {
-    ghost use Rattle.ttx_pes.specs.Fault.{pes_code};
+    ghost use Rattle.ttx_pes.specs.Fault.{is_of_piece, pes_code};
 
     /// The number and the name by which the fault is told (own).
     pub fn code(self) -> FaultCode
@@ -64,6 +64,24 @@ impl PesFault {
             PesFault::Write => FaultCode::new(42, "Write"),
             PesFault::Ended => FaultCode::new(43, "Ended"),
             PesFault::TooMany => FaultCode::new(44, "TooMany"),
+        }
+    }
+
+    /// Whether it is a fault of what stands in a packet that is as long as its length field says
+    /// (EN 300 472, PES_packet_length): it is known then where the next one begins.
+    pub fn is_of_piece(self) -> bool
+        ensures { result ≡ is_of_piece self }
+    {
+        match self {
+            PesFault::Flags
+            | PesFault::NoTime
+            | PesFault::HeaderLength
+            | PesFault::Time
+            | PesFault::DataId
+            | PesFault::UnitLength
+            | PesFault::Framing
+            | PesFault::LineOrder => true,
+            _ => false,
         }
     }
 }

@@ -1,6 +1,6 @@
 //! Laws of the format, each as a call whose contract is the law.
 ghost use Rattle.ttx_pes.specs.Laws.{LawOfAnswers, LawOfCanonicalPacket, LawOfGrammar};
-ghost use Rattle.ttx_pes.specs.Laws.{LawOfNumberedFrame};
+ghost use Rattle.ttx_pes.specs.Laws.{LawOfNumberedFrame, LawOfPieces};
 ghost use Rattle.ttx_pes.specs.Laws.{LawOfLineOrder, LawOfOneValue, LawOfPacketValue, LawOfReading};
 ghost use Rattle.ttx_pes.specs.Laws.{LawOfReadingBack, LawOfRefusal};
 
@@ -62,4 +62,10 @@ pub fn law_of_line_order()
 /// packets.
 pub fn law_of_numbered_frame()
     ensures { LawOfNumberedFrame }
+{}
+
+/// Bytes fall into the pieces that are read of them, PES packets or such as are passed over: the
+/// longest list of byte strings, each as long as its length field says, that begins the bytes.
+pub fn law_of_pieces()
+    ensures { LawOfPieces }
 {}

@@ -36,7 +36,7 @@ pub use comparing_reader::{Compared, ComparingReader};
 pub use fault::PesFault;
 pub use laws::{
     law_of_answers, law_of_canonical_packet, law_of_grammar, law_of_line_order,
-    law_of_numbered_frame, law_of_one_value, law_of_packet_value, law_of_reading,
+    law_of_numbered_frame, law_of_one_value, law_of_packet_value, law_of_pieces, law_of_reading,
     law_of_reading_back, law_of_refusal,
 };
 pub use line_numbers::put_frame;

@@ -1,13 +1,14 @@
 //! The bytes of the next PES packet, taken from a source.
 ghost use Rattle.std.specs.Prelude.{◌≡◌, ◌+◌, ◌%◌, ◌<◌, ◌≤◌, ◌≢◌, length, take};
 ghost use Rattle.std.specs.Prelude.{drop, None, Ok, Err, IfOk, IfErr, IfSome, IsSome, OnErr};
+ghost use Rattle.std.specs.Prelude.{false};
 ghost use Rattle.std.specs.Io.KnownBytes.{IsAtEnd};
 ghost use Rattle.sub_io.specs.Device.{CanFail, CountsFailure, CountsIf, failed};
 ghost use Rattle.sub_io.specs.Reading.{AreBytes};
-ghost use Rattle.ttx_pes.specs.Fault.{is_read};
+ghost use Rattle.ttx_pes.specs.Fault.{is_of_piece, is_read};
 ghost use Rattle.ttx_pes.specs.declared.progress.Progress.TheVariants.{Reading};
 ghost use Rattle.ttx_pes.specs.PesPacket.{longest_packet, payload_size};
-ghost use Rattle.ttx_pes.specs.Reading.{most_packets, value_at};
+ghost use Rattle.ttx_pes.specs.Reading.{most_packets, size_at, value_at};
 ghost use Rattle.ttx_pes.specs.Reader.{TellsPacket};
 ghost use Rattle.ttx_pes.specs.Taking.{Settles, StopsBelow, TakesOn};
 
@@ -78,6 +79,9 @@ pub(crate) fn take_packet<S: Source>(
     ensures range { IfOk result (λ taken. IfSome taken (λ size.
         (payload_size ≤ size) × (size ≤ longest_packet) × (size % payload_size ≡ 0))) }
     ensures below { IfOk result (λ taken. IsSome taken → given ≢ most_packets) }
+    ensures sized { IfOk result (λ taken. IfSome taken (λ size.
+        size_at (take 6 (take size room.new)) ≡ Ok (length (take size room.new)))) }
+    ensures of_no_piece { IfErr result (λ fault. is_of_piece fault ≡ false) }
     ensures count { CountsIf S.failure_count source.old (failed is_read result) source.new }
 {
     let most = if given == MOST_PACKETS { HEAD } else { PAYLOAD };

@@ -1,7 +1,8 @@
 //! The first 46 bytes of a PES packet, read and written (EN 300 472, PES packet header and
 //! data_identifier).
-ghost use Rattle.std.specs.Prelude.{◌≡◌, ◌+◌, ◌*◌, ◌/◌, ◌%◌, ◌^◌, ◌<◌, ◌≤◌, true, length};
+ghost use Rattle.std.specs.Prelude.{◌≡◌, ◌+◌, ◌*◌, ◌/◌, ◌%◌, ◌^◌, ◌<◌, ◌≤◌, true, false, length};
 ghost use Rattle.std.specs.Prelude.{slice_index, IfOk, IfErr};
+ghost use Rattle.ttx_pes.specs.Fault.{is_of_piece};
 ghost use Rattle.ttx_pes.specs.PesPacket.{header_size, longest_packet, payload_size};
 ghost use Rattle.ttx_pes.specs.PesPacket.{pes_packet_header, pts_bytes};
 ghost use Rattle.ttx_pes.specs.Reading.{pts_at, size_at, is_format_fault};
@@ -22,6 +23,7 @@ pub(crate) const LONGEST_PACKET: usize = 9 * PAYLOAD;
 pub(crate) fn size_of(head: &[u8; 6]) -> Result<usize, PesFault>
     ensures exact { size_at head.now ≡ result }
     ensures kind { IfErr result (λ fault. is_format_fault fault ≡ true) }
+    ensures of_no_piece { IfErr result (λ fault. is_of_piece fault ≡ false) }
     ensures range { IfOk result (λ size.
         (payload_size ≤ size) × (size ≤ longest_packet) × (size % payload_size ≡ 0)) }
 {

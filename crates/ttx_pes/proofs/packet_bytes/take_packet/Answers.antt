@@ -68,6 +68,17 @@ returns-clause-taken g c =
     (c.in_ok-fill_on.ensures.bytes _ (c.in_ok-got.ensures.bytes _ (Consumes-nil _)))
     (omega arith) (sized ∙ ap (λ (k : ℕ). Ok k) (sym all ∙ sym len)))
 
+pub returns-clause-sized : goal.returns-clause-sized
+returns-clause-sized g c =
+    let n = c.in_ok-fill_on.field-0 in
+    let from = c.in_ok-fill_on.ensures.from in
+    let all : n ≡ c.in_ok-size.size = omega (arith, c.in_ok-fill_on.ensures.bound) in
+    let len = length-take-le n c.fill_on-2.new.room c.in_ok-fill_on.ensures.room in
+    let sized = size_kept c.in_ok-got.got n c.fill_on.new.room c.fill_on-2.new.room
+    c.unwrap.result.now _ (omega arith) from c.in_ok-fill_on.ensures.kept (search rules)
+    c.in_ok-size.ensures.exact in
+    rw (← all) (sized ∙ ap (λ (k : ℕ). Ok k) (sym all ∙ sym len))
+
 pub returns-in_err-fill_on-clause-fault : goal.returns-in_err-fill_on-clause-fault
 returns-in_err-fill_on-clause-fault g c =
     grind (arith, nat_tests, err_from_is_err_and, tells_failed, failed_second, Consumes-nil)

@@ -1,0 +1,47 @@
+-- Pieces of bytes, as a reader takes them. Main lemma: taken_piece.
+use Rattle.std.proofs.Common.{◌≡◌, ◌≤◌, ℕ, List, [], ◌++◌, length, take, drop, Option, Ok, Err}
+use Rattle.std.proofs.Common.{refl, sym, ap, ◌∙◌, arith, length-take}
+use Rattle.std.proofs.lemmas.List.{append-nil, take-append-drop}
+use Rattle.sub_io.specs.Reading.{AreBytes}
+use Rattle.ttx_pes.specs.declared.fault.PesFault.{PesFault}
+use Rattle.ttx_pes.specs.Pieces.{IsPiece, TakesPiece}
+use Rattle.ttx_pes.specs.Reading.{size_at, value_at, packet_at}
+use Rattle.ttx_pes.specs.Taking.{Settles}
+use Rattle.ttx_pes.proofs.DataUnitLemmas.{AreBytes-take}
+use Rattle.ttx_pes.proofs.PesHeaderLemmas.{head_sound}
+use Rattle.ttx_pes.proofs.TakingLemmas.{settles_as}
+
+-- Bytes of the size that they tell are a piece.
+pub sized_piece : (b : List ℕ)
+    → AreBytes b
+    → 6 ≤ length b
+    → size_at (take 6 b) ≡ Ok (length b)
+    → IsPiece b
+sized_piece b fit long e =
+    let h = head_sound (take 6 b) (length b) (length-take 6 b ∙ omega arith) (AreBytes-take 6 b fit)
+    e in
+    record {
+      n = h.0;
+      body = drop 6 b;
+      bytes = sym (take-append-drop 6 b) ∙ ap (λ (x : List ℕ). x ++ drop 6 b) h.4;
+      size = (h.1, h.2);
+      long = h.3;
+    }
+
+-- The piece that was taken where its fault is answered. For `read_compared`.
+pub taken_piece : (old new : Option (List ℕ)) (taken body : List ℕ) (f : PesFault)
+    → Settles old new taken (value_at (drop 6 taken))
+    → body ≡ drop 6 taken
+    → value_at body ≡ Err f
+    → AreBytes taken
+    → 6 ≤ length taken
+    → size_at (take 6 taken) ≡ Ok (length taken)
+    → TakesPiece old new f
+taken_piece old new taken body f h same e fit long sized =
+    let s = settles_as old new taken body (Err f) h same e in
+    record {
+      bytes = taken;
+      is_piece = sized_piece taken fit long sized;
+      consumed = h.consumed;
+      refused = ap packet_at (sym (append-nil taken)) ∙ s.answer [] (λ _. refl);
+    }

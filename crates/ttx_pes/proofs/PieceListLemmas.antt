@@ -1,0 +1,422 @@
+-- Bytes fall into pieces as they are read one by one. Main lemma: falls_into.
+use Rattle.std.proofs.Common.{◌≡◌, ◌≢◌, ℕ, zero, suc, ◌+◌, ◌-◌, ◌/◌, ◌<◌, ◌≤◌, ◌⊎◌, true}
+use Rattle.std.proofs.Common.{false, List, [], ◌∷◌, ◌++◌, length, take, drop, Option, Some, None}
+use Rattle.std.proofs.Common.{Result, Ok, Err, refl, sym, ap, subst, ◌∙◌, append_assoc, arith, inl, inr}
+use Rattle.std.proofs.Common.{length-append, length-take, length-drop}
+use Rattle.std.proofs.Math.Seq.{take-add}
+use Rattle.std.proofs.lemmas.Bool.{cases_lt}
+use Rattle.std.proofs.lemmas.Bool.Decides.{nat_tests}
+use Rattle.std.proofs.lemmas.List.{append-nil, drop_at, get_or-take, take-append-drop, take_at}
+use Rattle.std.specs.List.{AllByRecursion, AllZip, concat}
+use Rattle.sub_io.specs.Reading.{◌>>=◌, AreBytes}
+use Rattle.ttx_pes.specs.declared.fault.PesFault.{PesFault}
+use Rattle.ttx_pes.specs.declared.fault.PesFault.TheVariants as fault
+use Rattle.ttx_pes.specs.DataUnit.{UnitValue}
+use Rattle.ttx_pes.specs.Fault.{is_of_piece}
+use Rattle.ttx_pes.specs.Laws.{LawOfPieces}
+use Rattle.ttx_pes.specs.PesPacket.{PesValue}
+use Rattle.ttx_pes.specs.Pieces.{FallInto, IsPiece, IsReadAs, PiecesValue, TakesPiece}
+use Rattle.ttx_pes.specs.Pieces.{answer_left, behind_piece, no_piece, piece_then, pieces_after}
+use Rattle.ttx_pes.specs.Pieces.{pieces_from, with_piece}
+use Rattle.ttx_pes.specs.Reading.{answer_at, most_packets, packet_at, pts_at, rest_after, size_at}
+use Rattle.ttx_pes.specs.Reading.{teletext_at, told_size, unit_at, units_at, value_at}
+use Rattle.ttx_pes.proofs.DataUnitLemmas.{AreBytes-drop, AreBytes-take}
+use Rattle.ttx_pes.proofs.PesHeaderLemmas.{head_complete}
+use Rattle.ttx_pes.proofs.PieceLemmas.{sized_piece}
+use Rattle.ttx_pes.proofs.ReadingLemmas.{answer_cases, answer_full, answer_packet, packet_cut}
+use Rattle.ttx_pes.proofs.ReadingLemmas.{packet_parts, packet_short, packet_size, packet_whole}
+use Rattle.ttx_pes.proofs.ReadingLemmas.{rest_after-packet, sound_from}
+use Rattle.ttx_pes.proofs.ReaderLemmas.{left}
+use Rattle.sub_io.proofs.ReadingLemmas.{Ok-injective, step_gave}
+
+-- ---- the faults of a piece
+
+-- What is wrong in a header.
+pts_fault : (b : List ℕ) (f : PesFault) → pts_at b ≡ Err f → is_of_piece f ≡ true
+unfolding pts_at
+pts_fault b f e = grind (arith, nat_tests)
+
+-- What is wrong in a data unit.
+unit_fault : (units : List UnitValue) (b : List ℕ) (f : PesFault)
+    → unit_at units b ≡ Err f
+    → is_of_piece f ≡ true
+unfolding unit_at teletext_at
+unit_fault units b f e = grind (arith, nat_tests)
+
+-- What is wrong in data units.
+units_fault : (n : ℕ) (units : List UnitValue) (b : List ℕ) (f : PesFault)
+    → units_at n units b ≡ Err f
+    → is_of_piece f ≡ true
+unfolding units_at
+units_fault zero units b f e = absurd cc
+units_fault (suc n) units b f e = elim (answer_cases (unit_at units (take 46 b))) [
+  | inl (more, ok) ↦
+      units_fault n more (drop 46 b) f
+      (sym (ap (λ r. r >>= λ us. units_at n us (drop 46 b)) ok) ∙ e)
+  | inr (g, bad) ↦
+      unit_fault units (take 46 b) f
+      (bad ∙ sym (ap (λ r. r >>= λ us. units_at n us (drop 46 b)) bad) ∙ e)
+]
+
+-- What is wrong in a packet behind its length field.
+value_fault : (b : List ℕ) (f : PesFault) → value_at b ≡ Err f → is_of_piece f ≡ true
+unfolding value_at
+value_fault b f e =
+    let units = units_fault (length (drop 40 b) / 46) [] (drop 40 b) f in
+    let header = pts_fault b f in
+    grind (arith, nat_tests)
+
+-- A wrong start or length is no fault of a piece.
+size_fault : (b : List ℕ) (f : PesFault) → size_at b ≡ Err f → is_of_piece f ≡ false
+unfolding size_at
+size_fault b f e = grind (arith, nat_tests)
+
+-- ---- the piece at the front
+
+-- A piece in front of bytes tells its size.
+record Tells (p more : List ℕ) : Type 0 where
+  pub sized : size_at (take 6 (p ++ more)) ≡ Ok (length p)
+  pub some : 184 ≤ length p
+
+tells_size : (p more : List ℕ) → IsPiece p → Tells p more
+tells_size p more h =
+    let lo = h.size.0 in
+    let long = h.long in
+    record {
+      sized = ap (λ (x : List ℕ). size_at (take 6 (x ++ more))) h.bytes
+          ∙ head_complete h.n h.size.0 h.size.1
+          ∙ ap (λ (k : ℕ). Ok k) (sym h.long);
+      some = omega arith;
+    }
+
+-- The size that is read is the one that is told.
+size_is : (b : List ℕ) (size : ℕ)
+    → 6 ≤ length b
+    → size_at (take 6 b) ≡ Ok size
+    → told_size b ≡ size
+unfolding size_at
+size_is b size long e = grind (arith, nat_tests, get_or-take)
+
+-- A piece stands in front of these bytes, and this is what is read of it.
+record StandsInFront (b : List ℕ) (size : ℕ) : Type 0 where
+  pub told : told_size b ≡ size
+  pub six : 6 ≤ length b
+  pub le : size ≤ length b
+  pub long : length (take size b) ≡ size
+  pub sized : size_at (take 6 b) ≡ Ok size
+  pub is_piece : IsPiece (take size b)
+  pub read : packet_at b ≡ (value_at (take (size - 6) (drop 6 b)) >>= λ v. Ok (v, drop size b))
+  pub alone :
+      packet_at (take size b) ≡ (value_at (take (size - 6) (drop 6 b)) >>= λ v. Ok (v, []))
+
+-- No piece does, by this fault.
+record StandsNone (b : List ℕ) (f : PesFault) : Type 0 where
+  pub read : packet_at b ≡ Err f
+  pub kind : is_of_piece f ≡ false
+  pub none : (p more : List ℕ) → IsPiece p → b ≡ p ++ more → ⊥
+
+stands_in_front : (b : List ℕ) (size : ℕ)
+    → AreBytes b
+    → 6 ≤ length b
+    → size_at (take 6 b) ≡ Ok size
+    → size ≤ length b
+    → StandsInFront b size
+stands_in_front b size fit six e le =
+    let told = size_is b size six e in
+    let long : length (take size b) ≡ size = length-take size b ∙ omega arith in
+    let body = take (size - 6) (drop 6 b) in
+    let lo : 6 ≤ size = omega arith in
+    let parts : take size b ≡ take 6 b ++ body = grind (arith, nat_tests, take-add) in
+    let head : length (take 6 b) ≡ 6 = length-take 6 b ∙ omega arith in
+    let len : length body ≡ size - 6 = grind (arith, nat_tests, length-take, length-drop) in
+    let front : take 6 (take size b) ≡ take 6 b = ap (take 6) parts ∙ take_at (take 6 b) body 6 head in
+    record {
+      told = told;
+      six = six;
+      le = le;
+      long = long;
+      sized = e;
+      is_piece = sized_piece (take size b) (AreBytes-take size b fit) (omega arith)
+          (ap size_at front ∙ e ∙ ap (λ (k : ℕ). Ok k) (sym long));
+      read = packet_whole b size six e le;
+      alone = ap packet_at (parts ∙ ap (λ (x : List ℕ). take 6 b ++ x) (sym (append-nil body)))
+          ∙ packet_parts (take 6 b) body [] size head e lo len;
+    }
+
+-- Whether one does.
+front_cases : (b : List ℕ) → AreBytes b
+    → ((size : ℕ) × StandsInFront b size) ⊎ ((f : PesFault) × StandsNone b f)
+front_cases b fit = elim (cases_lt (length b) 6) [
+  | inl short ↦ inr (
+    fault.Truncated,
+    record {
+      read = packet_short b short;
+      kind = refl;
+      none = λ p more h is.
+          let t = tells_size p more h in
+          let some = t.some in
+          absurd (omega (arith, ap length is, length-append p more));
+    },
+  )
+  | inr six ↦ elim (answer_cases (size_at (take 6 b))) [
+    | inr (f, bad) ↦ inr (
+      f,
+      record {
+        read = packet_size b f six bad;
+        kind = size_fault (take 6 b) f bad;
+        none = λ p more h is.
+            let t = tells_size p more h in
+            let same = ap (λ (x : List ℕ). size_at (take 6 x)) is in
+            absurd cc;
+      },
+    )
+    | inl (size, sized) ↦ elim (cases_lt (length b) size) [
+      | inl cut ↦ inr (
+        fault.Truncated,
+        record {
+          read = packet_cut b size six sized cut;
+          kind = refl;
+          none = λ p more h is.
+              let t = tells_size p more h in
+              let same : size ≡ length p = Ok-injective size (length p)
+              (sym sized ∙ ap (λ (x : List ℕ). size_at (take 6 x)) is ∙ t.sized) in
+              absurd (omega (arith, ap length is, length-append p more));
+        },
+      )
+      | inr all ↦ inl (size, stands_in_front b size fit six sized all)
+    ]
+  ]
+]
+
+-- ---- all pieces
+
+-- What the bytes that are left after `given` pieces fall into.
+record Falls (given : ℕ) (bytes : List ℕ) (value : PiecesValue) : Type 0 where
+  pub packets : List (List ℕ)
+  pub rest : List ℕ
+  pub each : AllByRecursion IsPiece packets
+  pub read : AllZip IsReadAs packets value.pieces
+  pub few : given + length packets ≤ most_packets
+  pub joined : bytes ≡ concat packets ++ rest
+  pub longest :
+      (others : List (List ℕ)) (more : List ℕ)
+      → AllByRecursion IsPiece others
+      → given + length others ≤ most_packets
+      → bytes ≡ concat others ++ more
+      → length others ≤ length packets
+  pub left_is : (n : ℕ) → n ≡ given + length packets → answer_at n rest ≡ answer_left value.left
+
+-- No piece of them is taken.
+falls_none : (given : ℕ) (bytes : List ℕ) (left : Option PesFault)
+    → given ≤ most_packets
+    → answer_at given bytes ≡ answer_left left
+    → ((p more : List ℕ) → IsPiece p → given < most_packets → bytes ≡ p ++ more → ⊥)
+    → Falls given bytes (no_piece left)
+falls_none given bytes left few is none = record {
+  packets = [];
+  rest = bytes;
+  each = tt;
+  read = tt;
+  few = omega arith;
+  joined = refl;
+  longest = most;
+  left_is = λ n e. ap (λ (k : ℕ). answer_at k bytes) (e ∙ omega arith) ∙ is;
+}
+  where
+    most : (others : List (List ℕ)) (more : List ℕ)
+        → AllByRecursion IsPiece others
+        → given + length others ≤ most_packets
+        → bytes ≡ concat others ++ more
+        → length others ≤ 0
+    most [] more each within parts = omega arith
+    most (p ∷ others) more each within parts =
+        absurd (none p (concat others ++ more) each.0 (omega arith)
+        (parts ∙ append_assoc p (concat others) more))
+
+-- The first of them is taken, and then others.
+falls_more : (given size : ℕ) (bytes : List ℕ) (piece : Result PesValue PesFault)
+    (more_pieces : PiecesValue)
+    → given < most_packets
+    → StandsInFront bytes size
+    → IsReadAs (take size bytes) piece
+    → Falls (given + 1) (drop size bytes) more_pieces
+    → Falls given bytes (with_piece piece more_pieces)
+falls_more given size bytes piece more_pieces below s is h = record {
+  packets = take size bytes ∷ h.packets;
+  rest = h.rest;
+  each = (s.is_piece, h.each);
+  read = (is, h.read);
+  few = omega (arith, h.few);
+  joined = sym (take-append-drop size bytes)
+      ∙ ap (λ (x : List ℕ). take size bytes ++ x) h.joined
+      ∙ sym (append_assoc (take size bytes) (concat h.packets) h.rest);
+  longest = most;
+  left_is = λ n e. h.left_is n (e ∙ omega arith);
+}
+  where
+    most : (others : List (List ℕ)) (more : List ℕ)
+        → AllByRecursion IsPiece others
+        → given + length others ≤ most_packets
+        → bytes ≡ concat others ++ more
+        → length others ≤ suc (length h.packets)
+    most [] more each within parts = omega arith
+    most (p ∷ others) more each within parts =
+        let at = parts ∙ append_assoc p (concat others) more in
+        let t = tells_size p (concat others ++ more) each.0 in
+        let same : length p ≡ size = Ok-injective (length p) size
+        (sym t.sized ∙ sym (ap (λ (x : List ℕ). size_at (take 6 x)) at) ∙ s.sized) in
+        let rest = ap (drop size) at ∙ drop_at p (concat others ++ more) size same in
+        let fewer = h.longest others more each.1 (omega arith) rest in
+        omega arith
+
+-- The next answer decides.
+next_piece : (room given : ℕ) (bytes : List ℕ) (r : Result (Option PesValue) PesFault)
+    (value : PiecesValue)
+    → answer_at given bytes ≡ r
+    → piece_then r (pieces_from room (given + 1) (behind_piece bytes)) ≡ value
+    → pieces_from (suc room) given bytes ≡ value
+unfolding pieces_from
+next_piece room given bytes r value e is = rw e is
+
+-- The bytes that are left fall into the pieces that are read.
+falls_from : (room given : ℕ) (bytes : List ℕ)
+    → AreBytes bytes
+    → given + room ≡ most_packets
+    → Falls given bytes (pieces_from room given bytes)
+unfolding pieces_from answer_at
+falls_from zero given [] fit e =
+    falls_none given [] None (omega arith) refl (λ p more h below parts. absurd (omega arith))
+falls_from zero given (x ∷ b) fit e =
+    falls_none given (x ∷ b) (Some fault.TooMany) (omega arith)
+    (ap (λ (k : ℕ). answer_at k (x ∷ b)) (let is : given ≡ most_packets = omega arith in is)
+    ∙ answer_full (x ∷ b) (omega arith))
+    (λ p more h below parts. absurd (omega arith))
+falls_from (suc room) given [] fit e =
+    falls_none given [] None (omega arith) refl (λ p more h below parts.
+    let t = tells_size p more h in
+    let some = t.some in
+    absurd (omega (arith, ap length parts, length-append p more)))
+falls_from (suc room) given (x ∷ b) fit e =
+    let bytes = x ∷ b in
+    let below : given ≢ most_packets = λ is. absurd (omega arith) in
+    elim (front_cases bytes fit) [
+      | inr (f, s) ↦
+          let is = answer_packet given bytes (Err f) (omega arith) below s.read in
+          subst (Falls given bytes)
+          (sym (next_piece room given bytes (Err f) (no_piece (Some f)) is (rw s.kind refl)))
+          (falls_none given bytes (Some f) (omega arith) is
+          (λ p more h lt parts. s.none p more h parts))
+      | inl (size, s) ↦
+          let behind : behind_piece bytes ≡ drop size bytes =
+          ap (λ (k : ℕ). drop k bytes) s.told in
+          let others = falls_from room (given + 1) (drop size bytes)
+          (AreBytes-drop size bytes fit) (omega arith) in
+          elim (answer_cases (value_at (take (size - 6) (drop 6 bytes)))) [
+            | inl (v, ok) ↦
+                let is = answer_packet given bytes (Ok (v, drop size bytes)) (omega arith) below
+                (s.read ∙ rw ok refl) in
+                subst (Falls given bytes)
+                (sym (next_piece room given bytes (Ok (Some v)) _ is (rw behind refl)))
+                (falls_more given size bytes (Ok v) _ (omega arith) s
+                (sound_from bytes size v fit s.sized s.six s.le ok) others)
+            | inr (f, bad) ↦
+                let is = answer_packet given bytes (Err f) (omega arith) below
+                (s.read ∙ rw bad refl) in
+                let kind = value_fault (take (size - 6) (drop 6 bytes)) f bad in
+                subst (Falls given bytes)
+                (sym (next_piece room given bytes (Err f) _ is (rw (kind, behind) refl)))
+                (falls_more given size bytes (Err f) _ (omega arith) s
+                (kind, s.alone ∙ rw bad refl) others)
+          ]
+    ]
+
+-- Before the first of them.
+all_fall : (bytes : List ℕ) (value : PiecesValue) → Falls 0 bytes value → FallInto bytes value
+all_fall bytes value h = record {
+  packets = h.packets;
+  rest = h.rest;
+  each = h.each;
+  read = h.read;
+  few = let few = h.few in omega arith;
+  joined = h.joined;
+  longest = λ others more each within parts.
+      h.longest others more each (omega arith) parts;
+  left_is = h.left_is (length h.packets) (omega arith);
+}
+
+-- The bytes of a file fall into the pieces that are read: the law.
+pub falls_into : LawOfPieces
+falls_into bytes fit = all_fall bytes _ (falls_from most_packets 0 bytes fit refl)
+
+-- ---- one piece on
+
+-- The next piece, by those that may still come.
+pieces_from-room : (room given : ℕ) (bytes : List ℕ)
+    → given + room ≡ most_packets
+    → pieces_from room given bytes
+    ≡ piece_then (answer_at given bytes) (pieces_from (room - 1) (given + 1) (behind_piece bytes))
+unfolding pieces_from answer_at
+pieces_from-room room given bytes e = grind (arith, nat_tests)
+
+-- What the bytes give after `given` pieces, by the next answer.
+pub pieces_after-next : (given : ℕ) (bytes : List ℕ)
+    (answer : Result (Option PesValue) PesFault)
+    → given ≤ most_packets
+    → answer_at given bytes ≡ answer
+    → pieces_after given bytes
+    ≡ piece_then answer (pieces_after (given + 1) (behind_piece bytes))
+pieces_after-next given bytes answer few is = grind (arith, nat_tests, pieces_from-room)
+
+-- Where no packet is read, none is answered.
+no_answer : (given : ℕ) (bytes : List ℕ) (f : PesFault) (v : PesValue)
+    → packet_at bytes ≡ Err f
+    → answer_at given bytes ≡ Ok (Some v)
+    → ⊥
+unfolding answer_at
+no_answer given [] f v bad e = absurd cc
+no_answer given (x ∷ b) f v bad e = grind (arith, nat_tests)
+
+-- What is left behind a packet that is read.
+behind_read : (b : List ℕ) (p : PesValue × List ℕ)
+    → packet_at b ≡ Ok p
+    → rest_after b ≡ behind_piece b
+behind_read b p e = elim (cases_lt (length b) 6) [
+  | inl short ↦ let told = packet_short b short in absurd cc
+  | inr long ↦ elim (answer_cases (size_at (take 6 b))) [
+    | inr (f, bad) ↦ let told = packet_size b f long bad in absurd cc
+    | inl (size, sized) ↦ elim (cases_lt (length b) size) [
+      | inl cut ↦ let told = packet_cut b size long sized cut in absurd cc
+      | inr all ↦
+          let s = step_gave (value_at (take (size - 6) (drop 6 b))) _ p
+          (sym (packet_whole b size long sized all) ∙ e) in
+          let rest : drop size b ≡ p.1 =
+          ap (λ (x : PesValue × List ℕ). x.1) (Ok-injective (s.0, drop size b) p s.2) in
+          rest_after-packet p.0 b p.1 e ∙ sym rest
+          ∙ ap (λ (k : ℕ). drop k b) (sym (size_is b size long sized))
+    ]
+  ]
+]
+
+-- What is left behind a PES packet is left behind a piece.
+pub behind_packet : (given : ℕ) (bytes : List ℕ) (v : PesValue)
+    → answer_at given bytes ≡ Ok (Some v)
+    → rest_after bytes ≡ behind_piece bytes
+behind_packet given bytes v e = elim (answer_cases (packet_at bytes)) [
+  | inr (f, bad) ↦ absurd (no_answer given bytes f v bad e)
+  | inl (p, read) ↦ behind_read bytes p read
+]
+
+-- What was taken where the fault of a piece is answered is all of it.
+pub behind_taken : (old new : Option (List ℕ)) (bytes : List ℕ) (f : PesFault)
+    → TakesPiece old new f
+    → old ≡ Some bytes
+    → new ≡ Some (behind_piece bytes)
+behind_taken old new bytes f h told =
+    let (rest, parts, new_is) = left old new bytes h.bytes h.consumed told in
+    let t = tells_size h.bytes rest h.is_piece in
+    let some = t.some in
+    let size = size_is (h.bytes ++ rest) (length h.bytes)
+    (omega (arith, length-append h.bytes rest)) t.sized in
+    let all : behind_piece (h.bytes ++ rest) ≡ rest =
+    ap (λ (k : ℕ). drop k (h.bytes ++ rest)) size ∙ drop_at h.bytes rest (length h.bytes) refl in
+    new_is ∙ ap (λ (x : List ℕ). Some x) (sym (ap behind_piece parts ∙ all))
