@@ -58,13 +58,16 @@ def pes_batches(file: Source) -> Iterator[list[bytes]]:
 
 def whole_in(data: bytes) -> tuple[list[bytes], bytes]:
     """The PES packets with which some bytes begin, and the bytes after them."""
-    found, at, size = [], 0, len(data)
+    found: list[bytes] = []
+    at, size = 0, len(data)
     while size - at >= HEAD and data.startswith(START, at):
-        end = at + HEAD + (data[at + 4] << 8 | data[at + 5])
-        if end > size:
+        head, length = data[at:at + HEAD], HEAD + (data[at + 4] << 8 | data[at + 5])
+        if at + length > size:
             break
-        found.append(data[at:end])
-        at = end
+        # Most have the length of the one before.
+        while at + length <= size and data.startswith(head, at):
+            found.append(data[at:at + length])
+            at += length
     return found, data[at:]
 
 

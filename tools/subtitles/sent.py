@@ -2,13 +2,13 @@
 from __future__ import annotations
 
 import collections
-from typing import Iterable, NamedTuple
+import itertools
+from typing import NamedTuple, Sequence
 
 from .pes import UNIT, data_field, has_pts, pts_in
 from .teletext import (
     ERASE, MIRROR, SERIAL, SUBTITLE, Page, address_of, has_bit, is_odd, mirrored)
-from .units import (
-    ADDRESS, MAY_BE_HEADER, TELETEXT, TEXT, Units, has_no_header, of_magazine)
+from .units import ADDRESS, TELETEXT, TEXT, Units, header_in, of_magazine, with_headers
 
 ROWS = range(1, 25)
 # A byte of a row as it was sent: its code, a space where it has even parity.
@@ -40,13 +40,24 @@ class Sent:
         self.last: int | None = None
         self.others: collections.Counter[Page] = collections.Counter()
 
-    def take_all(self, packets: Iterable[bytes]) -> None:
-        """Hears PES packets. While the page is not open nothing but a header is of interest."""
-        for data in packets:
-            if self.is_open or not has_no_header(data):
-                self.take(data)
-            elif has_pts(data):
+    def take_all(self, packets: Sequence[bytes]) -> None:
+        """Hears PES packets. While the page is not open nothing but its header is of interest, or
+        one that is counted."""
+        at = 0
+        for number in itertools.chain(with_headers(packets, self.is_wanted), [len(packets)]):
+            while self.is_open and at < number:
+                self.take(packets[at])
+                at += 1
+            if any(map(has_pts, packets[at:number])):
                 self.field, self.has_header = b"", False
+            if number < len(packets):
+                self.take(packets[number])
+            at = number + 1
+
+    def is_wanted(self, coded: bytes) -> bool:
+        """Whether the coded bytes of a header are of interest while the page is not open."""
+        header = header_in(coded)
+        return header is not None and (header[:2] == self.page or has_bit(header[2], SUBTITLE))
 
     def take(self, data: bytes) -> None:
         """Hears a PES packet; one without a PTS has no time, and is passed over."""
@@ -64,7 +75,7 @@ class Sent:
 
     def hear(self, units: Units) -> None:
         """The steps of a receiver (EN 300 706)."""
-        headers, own = units.marks(ADDRESS.start + 1, MAY_BE_HEADER), b""
+        headers, own = units.may_be_headers(), b""
         number = -1
         while True:
             at = headers.find(1, number + 1)
@@ -100,7 +111,8 @@ class Sent:
         else:
             if magazine == self.page[0] or has_bit(header, SERIAL):
                 self.is_open = False
-            self.others[magazine, page] += has_bit(header, SUBTITLE)
+            if has_bit(header, SUBTITLE):
+                self.others[magazine, page] += 1
 
     def note(self, pts: int) -> None:
         """Notes a change, where the page holds another text than before."""

@@ -5,8 +5,10 @@ one step, so that those which are of no interest cost next to nothing.
 """
 from __future__ import annotations
 
+import bisect
 import functools
-from typing import Iterator
+import itertools
+from typing import Callable, Iterator, Sequence
 
 from .pes import UNIT
 from .teletext import MIRROR, NUMBER, Header, address_of, header_of, mirrored, page_in
@@ -17,8 +19,9 @@ ADDRESS = slice(4, 6)  # of a data unit: the address, and behind it
 CODED = slice(4, 14)  # the address and the eight coded bytes of a header
 TEXT = 6  # where the forty bytes of a row begin
 
-# By the second byte of an address: 1 where the packet number may be 0, a header's.
-MAY_BE_HEADER = bytes(NUMBER[byte] == 0 for byte in MIRROR)
+# By the first and by the second byte of an address: 1 where the packet number may be 0, a header's.
+IS_EVEN = bytes(number is not None and number < 8 for number in map(NUMBER.__getitem__, MIRROR))
+IS_LOW = bytes(NUMBER[byte] == 0 for byte in MIRROR)
 
 
 def of_magazine(magazine: int) -> bytes:
@@ -45,6 +48,17 @@ class Units:
         """What a table says of a byte of each of them."""
         return self.data[self.first + byte:self.end:UNIT].translate(table)
 
+    def may_be_headers(self) -> bytes:
+        """1 for each of them that may be a page header."""
+        return both(self.marks(ADDRESS.start, IS_EVEN), self.marks(ADDRESS.start + 1, IS_LOW))
+
+    def coded_headers(self) -> Iterator[bytes]:
+        """The coded bytes of those that may be a page header."""
+        for number, is_one in enumerate(self.may_be_headers()):
+            if is_one:
+                at = self.first + UNIT * number
+                yield self.data[at + CODED.start:at + CODED.stop]
+
     def header(self, number: int) -> Header | None:
         """The page header that one of them is; `None` where it is something else."""
         at = self.first + UNIT * number
@@ -54,7 +68,7 @@ class Units:
 
     def headers(self) -> Iterator[Header]:
         """The page headers among them."""
-        marks = self.marks(ADDRESS.start + 1, MAY_BE_HEADER)
+        marks = self.may_be_headers()
         number = marks.find(1)
         while number >= 0:
             header = self.header(number)
@@ -63,12 +77,35 @@ class Units:
             number = marks.find(1, number + 1)
 
 
-def has_no_header(packet: bytes) -> bool:
-    """Whether it is plain that no data unit of a PES packet is a page header."""
-    first = 10 + packet[8] if len(packet) > 9 else len(packet)
-    lengths = packet[first + 1::UNIT]
-    return lengths.count(LENGTH) == len(lengths) \
-        and 1 not in packet[first + 1 + ADDRESS.start::UNIT].translate(MAY_BE_HEADER)
+def both(marks: bytes, others: bytes) -> bytes:
+    """1 where it is 1 in both."""
+    joined = int.from_bytes(marks, "big") & int.from_bytes(others, "big")
+    return joined.to_bytes(len(marks), "big")
+
+
+def with_headers(packets: Sequence[bytes], is_wanted: Callable[[bytes], bool]) -> Iterator[int]:
+    """The numbers, rising, of the PES packets in which a data unit may be a page header of which
+    the coded bytes are wanted, as they are sent.
+
+    By EN 300 472 the head of a PES packet is as long as a data unit, and each has whole data units:
+    then all of them are looked at in one step.
+    """
+    data = b"".join(packets)
+    is_regular = all(len(one) % UNIT == 0 and one[8] == UNIT - 10 for one in packets)
+    if not is_regular or data[1::UNIT].count(LENGTH) + len(packets) < len(data) // UNIT:
+        yield from (number for number, one in enumerate(packets)
+                    if any(map(is_wanted, Units(one).coded_headers())))
+        return
+    marks = both(data[ADDRESS.start::UNIT].translate(IS_EVEN),
+                 data[ADDRESS.start + 1::UNIT].translate(IS_LOW))
+    begins = list(itertools.accumulate((len(one) // UNIT for one in packets), initial=0))
+    at = marks.find(1)
+    while at >= 0:
+        if is_wanted(data[UNIT * at + CODED.start:UNIT * at + CODED.stop]):
+            number = bisect.bisect_right(begins, at) - 1
+            yield number
+            at = begins[number + 1] - 1
+        at = marks.find(1, at + 1)
 
 
 def units_one_by_one(packet: bytes, at: int) -> Iterator[bytes]:

@@ -159,12 +159,12 @@ class Election:
         for is_begin in (True, False):
             own = [(edge.frame - fit.start, edge.letters) for edge in self.edges
                    if edge.is_begin == is_begin and 0 <= edge.frame - fit.start <= self.length]
-            late = {shift: sum(self.letters_at(frames + shift) == letters
-                               for frames, letters in own)
-                    for shift in range(-MOST_APART, MOST_APART + 1)}
-            best = max(late, key=late.__getitem__)
-            if len(own) > 1 and best and late[best] == len(own) and late[0] * 2 < len(own):
-                return is_begin, best
+            shifts = (shift for shift in range(-MOST_APART, MOST_APART + 1)
+                      if all(self.letters_at(frames + shift) == letters for frames, letters in own))
+            late = next(shifts, 0)
+            agree = sum(self.letters_at(frames) == letters for frames, letters in own)
+            if len(own) > 1 and late and agree * 2 < len(own):
+                return is_begin, late
         return None
 
     def letters_at(self, frames: int) -> bytes | None:
