@@ -7,6 +7,7 @@ import random
 from ..pes import data_field, pes_packet, pts_in, teletext_packets
 from ..stl import gsi_block, subtitle_blocks
 from ..times import CLOCK, TICKS
+from ..units import Units, header_in, with_headers
 from ..votes import differences
 from .bench import Case, example, example_bytes, moved, packets, random_subtitles
 
@@ -169,7 +170,33 @@ def counts_all_pairs(case: Case) -> None:
         case.test(f"seed {seed}", list(found) == [counts[least + at] for at in range(size)])
 
 
-CASES = [counts_all_pairs, finds_that_of_the_examples, finds_that_of_transmissions_at_random,
-         finds_it_where_sendings_are_lost, tells_that_all_is_late, tells_that_ends_are_late,
-         tells_that_rows_are_late, tells_jitter, tells_what_is_not_unique, tells_what_does_not_fit,
-         goes_on_with_damaged_files]
+def broken_somewhere(chance: random.Random, whole: bytes) -> bytes:
+    """A PES packet with another byte, or without some of its data units; most are as they were."""
+    data, way = bytearray(whole), chance.random()
+    if way < 0.1:
+        data[chance.randrange(6, len(data))] = chance.randrange(256)
+    elif way < 0.15:
+        data = data[:chance.randrange(6, len(data))]
+    return bytes(data)
+
+
+def asks_many_in_one_step(case: Case) -> None:
+    """Which PES packets may have a header is the same as where each is asked by itself."""
+    def is_wanted(coded: bytes) -> bool:
+        return header_in(coded) is not None
+
+    for seed in SEEDS:
+        chance = random.Random(seed)
+        case.schedule(case.write("own.stl", random_subtitles(seed)[0]), "own.pes")
+        some = packets(case.read("own.pes"))
+        for them in (some, [broken_somewhere(chance, one) for one in some]):
+            one_by_one = [number for number, one in enumerate(them)
+                          if any(map(is_wanted, Units(one).coded_headers()))]
+            found = list(with_headers(them, is_wanted))
+            case.test(f"seed {seed}", found == one_by_one, (found, one_by_one))
+
+
+CASES = [counts_all_pairs, asks_many_in_one_step, finds_that_of_the_examples,
+         finds_that_of_transmissions_at_random, finds_it_where_sendings_are_lost,
+         tells_that_all_is_late, tells_that_ends_are_late, tells_that_rows_are_late, tells_jitter,
+         tells_what_is_not_unique, tells_what_does_not_fit, goes_on_with_damaged_files]
