@@ -1,8 +1,8 @@
 -- Bytes fall into pieces as they are read one by one. Main lemma: falls_into.
 use Rattle.std.proofs.Common.{◌≡◌, ◌≢◌, ℕ, zero, suc, ◌+◌, ◌-◌, ◌/◌, ◌<◌, ◌≤◌, ◌⊎◌, true}
 use Rattle.std.proofs.Common.{false, List, [], ◌∷◌, ◌++◌, length, take, drop, Option, Some, None}
-use Rattle.std.proofs.Common.{Result, Ok, Err, refl, sym, ap, subst, ◌∙◌, append_assoc, arith, inl, inr}
-use Rattle.std.proofs.Common.{length-append, length-take, length-drop}
+use Rattle.std.proofs.Common.{Result, Ok, Err, refl, sym, ap, subst, ◌∙◌, append_assoc, arith, inl}
+use Rattle.std.proofs.Common.{inr, length-append, length-take, length-drop}
 use Rattle.std.proofs.Math.Seq.{take-add}
 use Rattle.std.proofs.lemmas.Bool.{cases_lt}
 use Rattle.std.proofs.lemmas.Bool.Decides.{nat_tests}
@@ -129,7 +129,8 @@ stands_in_front b size fit six e le =
     let parts : take size b ≡ take 6 b ++ body = grind (arith, nat_tests, take-add) in
     let head : length (take 6 b) ≡ 6 = length-take 6 b ∙ omega arith in
     let len : length body ≡ size - 6 = grind (arith, nat_tests, length-take, length-drop) in
-    let front : take 6 (take size b) ≡ take 6 b = ap (take 6) parts ∙ take_at (take 6 b) body 6 head in
+    let front : take 6 (take size b) ≡ take 6 b =
+    ap (take 6) parts ∙ take_at (take 6 b) body 6 head in
     record {
       told = told;
       six = six;

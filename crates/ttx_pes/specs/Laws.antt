@@ -103,9 +103,9 @@ LawOfNumberedFrame =
     → IsPesValue (numbered_frame pts packets)
     × (map (λ (u : UnitValue). u.packet) (numbered_units 0 packets) ≡ packets)
 
--- Bytes fall into the pieces that are read of them: the longest list of byte strings, each as long as
--- its length field says, that, joined, begins the bytes. What is read of a piece is what the grammar
--- says of it, or its fault.
+-- Bytes fall into the pieces that are read of them: the longest list of byte strings, each as long
+-- as its length field says, that, joined, begins the bytes. What is read of a piece is what the
+-- grammar says of it, or its fault.
 -- So what is told of pieces that are passed over is told of all of them, and of nothing else.
 abbrev pub LawOfPieces : Type 0
 LawOfPieces = (bytes : List ℕ) → AreBytes bytes → FallInto bytes (pieces_after 0 bytes)

@@ -9,7 +9,8 @@ use Rattle.std.specs.List.{AllByRecursion, AllZip, concat}
 use Rattle.ttx_pes.specs.declared.fault.PesFault.{PesFault}
 use Rattle.ttx_pes.specs.declared.fault.PesFault.TheVariants.{TooMany}
 use Rattle.ttx_pes.specs.Fault.{is_of_piece}
-use Rattle.ttx_pes.specs.PesPacket.{PesValue, IsPesPacket, packet_length, packet_start, payload_size}
+use Rattle.ttx_pes.specs.PesPacket.{PesValue, IsPesPacket, packet_length, packet_start}
+use Rattle.ttx_pes.specs.PesPacket.{payload_size}
 use Rattle.ttx_pes.specs.Reading.{answer_at, most_packets, packet_at, told_size}
 
 -- A piece, n times 184 bytes:

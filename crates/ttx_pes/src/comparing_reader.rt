@@ -127,8 +127,8 @@ impl ComparingReader {
     /// # Errors
     ///
     /// Those of `PesReader::next`, in its order: the header of each packet is read, and the units
-    /// of a data field that is sent again were read before. After `Flags` to `LineOrder` exactly the
-    /// packet's bytes were taken, and `pass_over` lets reading go on.
+    /// of a data field that is sent again were read before. After `Flags` to `LineOrder` exactly
+    /// the packet's bytes were taken, and `pass_over` lets reading go on.
     pub fn next<S: Source>(&mut self, source: &mut S) -> Result<Compared, PesFault>
         requires { CanFail (S.failure_count source.old) }
         ensures tells { TellsPacket self.old.progress (S.remaining source.old)
