@@ -7,9 +7,9 @@ import select
 import subprocess
 import time
 
-from ..pes import pes_packet
+from ..pes import pes_packet, pts_in
 from ..teletext import packet
-from ..times import TICKS
+from ..times import TICKS, frame_of
 from .bench import Case, Done, example, example_bytes, packets, tool_path
 from .streams import PAYLOAD, PID, extracted, of_the_pid, stream_of
 
@@ -181,6 +181,28 @@ def is_seen_by_check(case: Case) -> None:
     case.test("check", status == 1 and lines[-1] == "refused 38 UnitLength pes 0", lines)
 
 
+def is_trusted_nowhere_around(case: Case) -> None:
+    """What `check --all` calls trusted ends before a PES packet that lost a TS packet, and begins
+    with the next one again: each TS packet is lost in turn."""
+    pes = packets(case.read(os.path.basename(case.schedule(example("story.stl"), "every.pes",
+                                                           "--every", "25"))))
+    frames = [pts_in(one) // TICKS for one in pes]
+    made = ts_packets(pes)
+    for place, (number, one) in enumerate(made):
+        if one[1] & 0x40 or number == len(pes) - 1:
+            continue
+        done = extracted(case, b"".join(each for at, (_, each) in enumerate(made) if at != place))
+        status, lines = case.program("check", example("story.stl"), "--every", "25", "--all",
+                                     case.write("lost.pes", done.out))
+        case.test(f"{place}: told", status == 1 and f"refused 38 UnitLength pes {number}" in lines,
+                  lines)
+        before = frames[number - 1] if number else frames[0]
+        spans = [[frame_of(time) or 0 for time in line.split()[2:]] for line in lines
+                 if line.startswith("trusted ")]
+        case.test(f"{place}: trusted", all(end < before or begin >= frames[number + 1]
+                                           for begin, end in spans), lines)
+
+
 def hands_on_at_once(case: Case) -> None:
     """Each PES packet comes as soon as its last TS packet was sent, whole and damaged."""
     pes = packets(example_bytes("story.pes"))
@@ -222,4 +244,5 @@ def says_what_there_is(case: Case) -> None:
 
 
 CASES = [fills_up_what_is_lost, tells_between_which_times, reads_counters_as_the_standard_says,
-         leaves_what_is_scrambled_out, is_seen_by_check, hands_on_at_once, says_what_there_is]
+         leaves_what_is_scrambled_out, is_seen_by_check, is_trusted_nowhere_around,
+         hands_on_at_once, says_what_there_is]
