@@ -4,6 +4,7 @@ pub mod Countdown
 pub mod Counted
 pub mod Device
 pub mod FaultCode
+pub mod HandingOn
 pub mod Memory
 pub mod Reading
 pub mod Telling

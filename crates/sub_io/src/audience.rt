@@ -1,9 +1,11 @@
 //! Devices that are told things, one after another, and may stop.
 
 ghost use Rattle.std.specs.Prelude.{◌≡◌, [], ◌∷◌, Bool, false, Option, None, Some, is_err, is_some};
-ghost use Rattle.std.specs.Prelude.{IsErr};
+ghost use Rattle.std.specs.Prelude.{IsErr, not, true};
+ghost use Rattle.std.proofs.Common.{subst, sym};
 ghost use Rattle.sub_io.specs.Telling.{KeepsFirst, Tells};
 
+use crate::{Live, LiveAudience};
 use std::marker::Model;
 
 /// A device wants to be told nothing more.
@@ -81,4 +83,30 @@ impl<T: Drop> Audience<T> for FirstTold<T> {
         self.first = Some(item);
         Err(Stopped)
     }
+}
+
+impl<T> Live for FirstTold<T> {
+    ghost is_settled = { λ _. true };
+
+    ghost is_handed_on = { λ old ok new. (new ≡ old) × (is_some new ≡ not ok) };
+
+    /// Does nothing: it keeps what it was told, and hands on nothing.
+    ///
+    /// # Errors
+    ///
+    /// `Stopped` once it was told something.
+    fn hand_on(&mut self) -> Result<(), Stopped> {
+        if self.first.is_some() {
+            return Err(Stopped);
+        }
+        Ok(())
+    }
+}
+
+impl<T: Drop> LiveAudience<T> for FirstTold<T> {
+    ghost stays_told = { record {
+      told = λ start old new ok items settled told on.
+          subst (λ d. Tells KeepsFirst start d items) (sym on.0) told;
+      stopped = λ old new ok on. on.1;
+    } };
 }

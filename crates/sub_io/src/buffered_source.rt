@@ -1,14 +1,14 @@
 //! A source that reads ahead, so that many short pulls cost few calls of the source inside.
 
-ghost use Rattle.std.specs.Prelude.{◌≡◌, ◌≢◌, ◌+◌, ◌<◌, ◌≤◌, min, [], ◌++◌, length, slice_range};
-ghost use Rattle.std.specs.Prelude.{take, Ok, Some, None, IfOk, OnErr, MatchResult};
+ghost use Rattle.std.specs.Prelude.{◌≡◌, ◌≢◌, ◌==◌, ◌+◌, ◌<◌, ◌≤◌, min, [], ◌++◌, length, take};
+ghost use Rattle.std.specs.Prelude.{slice_range, Ok, Some, None, IfOk, OnErr, MatchResult};
 ghost use Rattle.std.specs.Io.{ReadsAtMost};
 ghost use Rattle.std.specs.Io.KnownBytes.{Consumes, IsAtEnd, Keeps, prepend_known};
 ghost use Rattle.sub_io.specs.Buffered.{ReadAhead};
 ghost use Rattle.sub_io.specs.Calls.{ReadsAhead, answered};
 ghost use Rattle.sub_io.specs.Device.{CanFail, CountsFailure, Pulls};
 
-use crate::{Failed, Source};
+use crate::{Ahead, Failed, Source};
 use std::marker::Model;
 
 /// A source that asks the source inside for as many bytes as it has room for, and gives them in
@@ -156,5 +156,14 @@ impl<S: Source> Source for BufferedSource<'_, S> {
     /// The failures of the source inside.
     fn failures(&self) -> u64 {
         self.inner.failures()
+    }
+}
+
+impl<S: Source> Ahead for BufferedSource<'_, S> {
+    ghost must_ask = { λ s. length s.held == 0 };
+
+    /// Where no byte is held.
+    fn asks(&self) -> bool {
+        self.start == self.end
     }
 }

@@ -1,13 +1,13 @@
 //! Devices over memory: a source that gives the bytes of a slice, and a sink that fills one.
 
 ghost use Rattle.std.specs.Prelude.{◌≡◌, ℕ, ◌+◌, ◌-◌, ◌<◌, ◌≤◌, min, List, [], length, take, Ok};
-ghost use Rattle.std.specs.Prelude.{IfOk, IsErr, OnOk, Some, true, ◌↔◌};
+ghost use Rattle.std.specs.Prelude.{IfOk, IsErr, OnOk, Some, false, true, ◌↔◌};
 ghost use Rattle.std.specs.Io.{ReadsAtMost};
 ghost use Rattle.std.specs.Io.KnownBytes.{Keeps};
 ghost use Rattle.sub_io.specs.Device.{CanFail, CountsFailure, Pulls, Pushes, holds_nothing};
 ghost use Rattle.sub_io.specs.Memory.{Written};
 
-use crate::{Close, Failed, Flush, Sink, Source};
+use crate::{Ahead, Close, Failed, Flush, Sink, Source};
 use std::marker::Model;
 
 /// A source that gives the bytes of a slice. It never fails.
@@ -55,6 +55,15 @@ impl Source for MemSource<'_> {
     /// 0, since no call fails.
     fn failures(&self) -> u64 {
         0
+    }
+}
+
+impl Ahead for MemSource<'_> {
+    ghost must_ask = { λ _. false };
+
+    /// Never: all bytes are there.
+    fn asks(&self) -> bool {
+        false
     }
 }
 
