@@ -101,18 +101,20 @@ module _ {D : Type 0} {IsPull : D → ℕ → Option ℕ → D → Type 0} where
   pub PullsSome-none : (a : D) → PullsSome IsPull a a
   PullsSome-none a = record { pulls = []; each = refl }
 
-  -- Once.
-  pub PullsSome-one : (a b : D) (room : ℕ) (answer : Option ℕ) → IsPull a room answer b
-      → PullsSome IsPull a b
-  PullsSome-one a b room answer pull =
-      record { pulls = (room, answer) ∷ []; each = (b, pull, refl) }
-
   -- The one and then the other.
   pub PullsSome-trans : (a b c : D) → PullsSome IsPull a b → PullsSome IsPull b c
       → PullsSome IsPull a c
   PullsSome-trans a b c p q = record {
     pulls = p.pulls ++ q.pulls;
     each = each-trans IsPull a b c p.pulls q.pulls p.each q.each;
+  }
+
+  -- One more.
+  pub PullsSome-more : (a b c : D) (room : ℕ) (answer : Option ℕ) → PullsSome IsPull a b
+      → IsPull b room answer c → PullsSome IsPull a c
+  PullsSome-more a b c room answer p pull = record {
+    pulls = p.pulls ++ (room, answer) ∷ [];
+    each = each-trans IsPull a b c p.pulls ((room, answer) ∷ []) p.each (c, pull, refl);
   }
 
   -- What each pull keeps, they all keep.
@@ -122,4 +124,4 @@ module _ {D : Type 0} {IsPull : D → ℕ → Option ℕ → D → Type 0} where
   PullsSome-keep R keeps a b was some = each-keeps IsPull R keeps a b some.pulls was some.each
 
 -- For a function that pulls: `using(sub_io::proofs::CallLemmas::pulls)`.
-pub ruleset pulls = (PullsSome-none, PullsSome-one, PullsSome-trans)
+pub ruleset pulls = (PullsSome-none, PullsSome-more, PullsSome-trans)
