@@ -11,6 +11,7 @@ use Rattle.stl_file.specs.Tti.{ebn, text_of, unused_space}
 use Rattle.stl_file.specs.SubtitleBlocks.{joined, BelongsTo, AreLinked, Begins, AreBlocksOf}
 use Rattle.stl_file.specs.Subtitle.{SubtitleValue, IsSubtitle, has_no_unused}
 use Rattle.stl_file.specs.NormalForm.{block_head, block_of, blocks_from, full_pieces, blocks_of}
+use Rattle.stl_file.specs.TimeCode.{frame_in, is_time}
 use Rattle.stl_file.proofs.TimeCodeLemmas.{time_in_range}
 use Rattle.stl_file.proofs.SubtitleLemmas.{before_clean, clean_take, clean_drop}
 use Rattle.stl_file.proofs.SubtitleBlocksLemmas.{linked_cons, linked_text, blocks_subtitle}
@@ -45,7 +46,7 @@ block_belongs s e piece le = grind (arith, length-append, length-replicate)
 block_begins : (s : SubtitleValue) (e : ℕ) (piece : List ℕ)
     → IsSubtitle s
     → Begins s (block_of s e piece)
-unfolding block_of
+unfolding block_of is_time frame_in
 block_begins s e piece h = grind (arith, nat_tests, time_in_range)
 
 -- ---- the blocks of a subtitle, as they are written

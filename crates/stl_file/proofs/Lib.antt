@@ -13,4 +13,3 @@ pub mod ReaderLemmas
 pub mod BlocksOfLemmas
 pub mod NormalCountsLemmas
 pub mod NormalFormLemmas
-pub mod RefusalLemmas

@@ -1,18 +1,28 @@
 -- `step_at`: the blocks that are read without a fault are those of subtitles; main lemmas:
 -- step_sound, first_kept, further_kept, step_kept, step_passed.
-use Rattle.std.proofs.Common.{◌≡◌, ℕ, true, cond, List, [], ◌∷◌, ◌++◌, length, refl, arith}
-use Rattle.std.proofs.Common.{length-append, Option, Some, None, Ok, ◌+◌, ◌<◌, ◌≤◌, ◌⊎◌}
+use Rattle.std.proofs.Common.{◌≡◌, ℕ, Bool, false, true, cond, List, [], ◌∷◌, ◌++◌, length, refl}
+use Rattle.std.proofs.Common.{arith, length-append, Option, Some, None, Result, Ok, ◌+◌, ◌<◌, ◌≤◌}
+use Rattle.std.proofs.Common.{◌⊎◌}
 use Rattle.std.specs.List.{AllByRecursion, flat_map}
 use Rattle.std.proofs.lemmas.Grind.{flat_map-append}
 use Rattle.std.proofs.lemmas.List.{append-nil}
 use Rattle.std.proofs.lemmas.Bool.Decides.{nat_tests}
-use Rattle.stl_file.specs.Tti.{is_kept, sgn, sn, ebn, cs, vp, jc, cf, text_of, is_passed}
+use Rattle.stl_file.specs.declared.fault.StlFault.{StlFault}
+use Rattle.stl_file.specs.Questions.{Questions, asked}
+use Rattle.stl_file.specs.Tti.{is_kept, ebn, cf, text_of, is_passed}
 use Rattle.stl_file.specs.SubtitleBlocks.{BelongsTo, AreLinked, Begins, AreBlocksOf}
 use Rattle.stl_file.specs.Subtitle.{SubtitleValue}
 use Rattle.stl_file.specs.Reading.{Begun, BlockStep, More, Give, step_at, closed, first_at, kept_at}
-use Rattle.stl_file.proofs.TimeCodeLemmas.{time_sound, time_complete}
+use Rattle.stl_file.specs.Reading.{asked_of_first}
 
 -- ---- a first block
+
+-- Where there is an answer, no question is answered wrongly.
+asked-right : {X : Type 0} (qs : Questions) (answer : Result X StlFault) (x : X)
+    → asked qs answer ≡ Ok x
+    → (answer ≡ Ok x) × AllByRecursion (λ (q : StlFault × Bool). q.1 ≡ false) qs
+asked-right [] answer x e = (e, tt)
+asked-right (q ∷ qs) answer x e = grind (arith, nat_tests, asked-right qs answer x)
 
 -- A first block that was read begins the subtitle that was read.
 pub first_sound : (b : List ℕ) (s : SubtitleValue)
@@ -20,18 +30,14 @@ pub first_sound : (b : List ℕ) (s : SubtitleValue)
     → Begins s b × (s.text ≡ text_of b)
 unfolding first_at
 first_sound b s e =
-    let tests : (cs b ≡ 0) × (jc b ≤ 3) × (1 ≤ vp b) × (vp b ≤ 23) × (s.tci < s.tco) =
-    grind (arith, nat_tests) in
-    let fields : (sgn b ≡ s.sgn) × (sn b ≡ s.sn) × (vp b ≡ s.vp) × (jc b ≡ s.jc)
-    × (s.text ≡ text_of b) = grind (arith, nat_tests) in
-    grind (arith, nat_tests, time_sound)
+    let right = asked-right (asked_of_first b) _ s e in grind (arith, nat_tests)
 
 -- A block that begins a subtitle is read as its first.
 first_complete : (b : List ℕ) (s : SubtitleValue)
     → Begins s b
     → first_at b ≡ Ok (record s { text = text_of b })
 unfolding first_at
-first_complete b s h = grind (arith, nat_tests, time_complete)
+first_complete b s h = grind (arith, nat_tests)
 
 -- So it is kept.
 pub first_kept : (s : SubtitleValue) (b : List ℕ)

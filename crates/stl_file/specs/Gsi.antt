@@ -20,10 +20,11 @@
 --   TNS  243   5   number of subtitles
 --
 -- DFC, DSC and CCT decide whether a file is taken; all other bytes are kept and not looked at.
-use Rattle.std.specs.Prelude.{◌≡◌, ℕ, ◌+◌, ◌/◌, ◌%◌, not, ◌&&◌, ◌==◌, if◌then◌else◌, ◌⊎◌, List, []}
-use Rattle.std.specs.Prelude.{◌∷◌, ◌++◌, length, take, drop, slice_index, bytes_eq, Result, Ok, Err}
+use Rattle.std.specs.Prelude.{◌≡◌, ℕ, ◌+◌, ◌/◌, ◌%◌, not, ◌&&◌, ◌==◌, ◌⊎◌, List, []}
+use Rattle.std.specs.Prelude.{◌∷◌, ◌++◌, length, take, drop, slice_index, bytes_eq, Result, Ok}
 use Rattle.stl_file.specs.declared.fault.StlFault.{StlFault}
 use Rattle.stl_file.specs.declared.fault.StlFault.TheVariants as fault
+use Rattle.stl_file.specs.Questions.{Questions, asked}
 
 -- Bytes of a GSI block.
 abbrev pub gsi_size : ℕ
@@ -72,14 +73,18 @@ pub record IsGsi (g : List ℕ) : Type 0 where
   pub display : (dsc g ≡ level_1) ⊎ (dsc g ≡ level_2)
   pub alphabet : cct g ≡ latin
 
+-- What is asked of the block.
+abbrev pub asked_of_gsi : List ℕ → Questions
+asked_of_gsi g =
+    (fault.Format, not (bytes_eq (dfc g) stl_25) && not (bytes_eq (dfc g) stl_30))
+    ∷ (fault.Rate, bytes_eq (dfc g) stl_30)
+    ∷ (fault.Display, not (dsc g == level_1) && not (dsc g == level_2))
+    ∷ (fault.Alphabet, not (bytes_eq (cct g) latin))
+    ∷ []
+
 -- The block itself, or its first fault.
 unfoldable pub gsi_at : List ℕ → Result (List ℕ) StlFault
-gsi_at g =
-    if not (bytes_eq (dfc g) stl_25) && not (bytes_eq (dfc g) stl_30) then Err fault.Format
-    else if bytes_eq (dfc g) stl_30 then Err fault.Rate
-    else if not (dsc g == level_1) && not (dsc g == level_2) then Err fault.Display
-    else if not (bytes_eq (cct g) latin) then Err fault.Alphabet
-    else Ok g
+gsi_at g = asked (asked_of_gsi g) (Ok g)
 
 -- The ASCII digit of a number below ten.
 abbrev pub digit : ℕ → ℕ

@@ -4,11 +4,11 @@ pub mod Gsi
 pub mod GsiFields
 pub mod NormalCounts
 pub mod NormalForm
+pub mod Questions
 pub mod Reader
 pub mod Reading
 pub mod Subtitle
 pub mod SubtitleBlocks
 pub mod TimeCode
 pub mod Tti
-pub mod Refusal
 pub mod Resuming

@@ -3,15 +3,16 @@
 -- The suffix `_at` means: as read at the front of these bytes, or the first fault in the order of
 -- the lines below.
 use Rattle.std.specs.Prelude.{ℕ, zero, suc, ◌+◌, ◌-◌, ◌*◌, ◌≤◌, Bool, true, false, not, ◌==◌, ◌&&◌}
-use Rattle.std.specs.Prelude.{nat_lt, nat_le, List, [], ◌∷◌, ◌++◌, length, take, drop, slice_index}
+use Rattle.std.specs.Prelude.{nat_lt, nat_le, List, [], ◌∷◌, ◌++◌, length, take, drop}
 use Rattle.std.specs.Prelude.{if◌then◌else◌, Option, Some, None, Result, Ok, Err}
 use Rattle.sub_io.specs.Reading.{◌>>=◌}
 use Rattle.stl_file.specs.declared.fault.StlFault.{StlFault}
 use Rattle.stl_file.specs.declared.fault.StlFault.TheVariants as fault
-use Rattle.stl_file.specs.TimeCode.{frame_of, is_time_code}
+use Rattle.stl_file.specs.Questions.{Questions, asked}
+use Rattle.stl_file.specs.TimeCode.{frame_in, is_time}
 use Rattle.stl_file.specs.Tti.{block_size, most_blocks, most_of_subtitle, first_reserved, user_data}
 use Rattle.stl_file.specs.Tti.{last_block, not_cumulative, is_comment, sgn, sn, ebn, cs, vp, jc, cf}
-use Rattle.stl_file.specs.Tti.{text_of, tci_place, tco_place}
+use Rattle.stl_file.specs.Tti.{text_of, tci, tco}
 use Rattle.stl_file.specs.Subtitle.{SubtitleValue}
 
 -- ---- one block
@@ -28,37 +29,36 @@ pub data BlockStep : Type 0 where
   More : Option Begun → BlockStep
   Give : SubtitleValue → BlockStep
 
--- The frame of the time code at a place.
-unfoldable pub time_at : List ℕ → ℕ → Result ℕ StlFault
-time_at b place =
-    let hours = slice_index b place in
-    let minutes = slice_index b (place + 1) in
-    let seconds = slice_index b (place + 2) in
-    let frames = slice_index b (place + 3) in
-    if is_time_code hours minutes seconds frames
-    then Ok (frame_of hours minutes seconds frames)
-    else Err fault.Time
+-- What is asked of the first block of a subtitle.
+abbrev pub asked_of_first : List ℕ → Questions
+asked_of_first b =
+    (fault.Cumulative, not (cs b == not_cumulative))
+    ∷ (fault.Justify, nat_lt 3 (jc b))
+    ∷ (fault.Row, not (nat_le 1 (vp b) && nat_le (vp b) 23))
+    ∷ (fault.Time, not (is_time (tci b)))
+    ∷ (fault.Time, not (is_time (tco b)))
+    ∷ (fault.EmptyTime, not (nat_lt (frame_in (tci b)) (frame_in (tco b))))
+    ∷ []
 
 -- The subtitle that a first block begins, with the text of that block.
 unfoldable pub first_at : List ℕ → Result SubtitleValue StlFault
 first_at b =
-    if not (cs b == not_cumulative) then Err fault.Cumulative
-    else if nat_lt 3 (jc b) then Err fault.Justify
-    else if not (nat_le 1 (vp b) && nat_le (vp b) 23) then Err fault.Row
-    else do
-      tci ← time_at b tci_place
-      tco ← time_at b tco_place
-      (if nat_lt tci tco
-          then Ok (record {
-            sgn = sgn b;
-            sn = sn b;
-            tci = tci;
-            tco = tco;
-            vp = vp b;
-            jc = jc b;
-            text = text_of b;
-          })
-          else Err fault.EmptyTime)
+    asked (asked_of_first b) (Ok (record {
+      sgn = sgn b;
+      sn = sn b;
+      tci = frame_in (tci b);
+      tco = frame_in (tco b);
+      vp = vp b;
+      jc = jc b;
+      text = text_of b;
+    }))
+
+-- What is asked of a further block.
+abbrev pub asked_of_further : Begun → List ℕ → Questions
+asked_of_further begun b =
+    (fault.Sequence, not ((sgn b == begun.subtitle.sgn) && (sn b == begun.subtitle.sn)))
+    ∷ (fault.TooLong, begun.blocks == most_of_subtitle)
+    ∷ []
 
 -- EBN FF ends a subtitle, any other that is kept goes on
 abbrev pub closed : ℕ → SubtitleValue → ℕ → BlockStep
@@ -71,10 +71,8 @@ kept_at None b = do
   s ← first_at b
   Ok (closed (ebn b) s 1)
 kept_at (Some begun) b =
-    if not ((sgn b == begun.subtitle.sgn) && (sn b == begun.subtitle.sn)) then Err fault.Sequence
-    else if begun.blocks == most_of_subtitle then Err fault.TooLong
-    else Ok (closed (ebn b)
-    (record begun.subtitle { text = begun.subtitle.text ++ text_of b }) (begun.blocks + 1))
+    asked (asked_of_further begun b) (Ok (closed (ebn b)
+    (record begun.subtitle { text = begun.subtitle.text ++ text_of b }) (begun.blocks + 1)))
 
 -- What was begun, where a subtitle is read in place: so many of its blocks were read, 0 before the
 -- first.
@@ -88,14 +86,19 @@ step_in s count (Err f) = Err f
 step_in s count (Ok true) = Ok (Give s)
 step_in s count (Ok false) = Ok (More (begun_in s count))
 
+-- What is asked of any block but user data.
+abbrev pub asked_of_block : List ℕ → Questions
+asked_of_block b =
+    (fault.Extension, nat_le first_reserved (ebn b) && not (ebn b == last_block))
+    ∷ (fault.CommentFlag, nat_lt is_comment (cf b))
+    ∷ []
+
 -- Any block: user data and comments leave what was begun as it is.
 unfoldable pub step_at : Option Begun → List ℕ → Result BlockStep StlFault
 step_at begun b =
     if ebn b == user_data then Ok (More begun)
-    else if nat_le first_reserved (ebn b) && not (ebn b == last_block) then Err fault.Extension
-    else if nat_lt 1 (cf b) then Err fault.CommentFlag
-    else if cf b == is_comment then Ok (More begun)
-    else kept_at begun b
+    else asked (asked_of_block b)
+    (if cf b == is_comment then Ok (More begun) else kept_at begun b)
 
 -- ---- all blocks that follow
 
@@ -131,8 +134,3 @@ abbrev pub BegunFits : Option Begun → Type 0
 BegunFits None = Unit {0}
 BegunFits (Some begun) =
     (length begun.subtitle.text ≤ 112 * begun.blocks) × (begun.blocks ≤ most_of_subtitle)
-
--- What was begun, if the step leaves something begun, keeps that after a block too.
-abbrev pub StepFits : BlockStep → Type 0
-StepFits (Give s) = Unit {0}
-StepFits (More begun) = BegunFits begun

@@ -1,12 +1,11 @@
 -- The blocks of a subtitle, and the blocks of a file, as relations: they say what a file is and
 -- nothing of how it is read (EBU Tech 3264, TTI blocks; the rules on one subtitle's blocks are
 -- (own)).
-use Rattle.std.specs.Prelude.{◌≡◌, ℕ, ◌+◌, ◌<◌, ◌≤◌, true, List, [], ◌∷◌, length, slice_index}
-use Rattle.std.specs.Prelude.{filter}
+use Rattle.std.specs.Prelude.{◌≡◌, ℕ, ◌<◌, ◌≤◌, true, List, [], ◌∷◌, length, filter}
 use Rattle.std.specs.List.{flat_map, AllByRecursion}
-use Rattle.stl_file.specs.TimeCode.{frame_of, is_time_code}
+use Rattle.stl_file.specs.TimeCode.{frame_in, is_time}
 use Rattle.stl_file.specs.Tti.{block_size, most_of_subtitle, first_reserved, last_block}
-use Rattle.stl_file.specs.Tti.{not_cumulative, no_comment, tci_place, tco_place}
+use Rattle.stl_file.specs.Tti.{not_cumulative, no_comment, tci, tco}
 use Rattle.stl_file.specs.Tti.{sgn, sn, ebn, cs, vp, jc, cf, text_of, is_kept}
 use Rattle.stl_file.specs.Subtitle.{SubtitleValue}
 
@@ -18,16 +17,10 @@ joined bs = flat_map (λ b. b) bs
 abbrev pub IsBlock : List ℕ → Type 0
 IsBlock b = length b ≡ block_size
 
--- The four bytes from a place are the time code of a frame.
-pub record IsTimeAt (b : List ℕ) (place frame : ℕ) : Type 0 where
-  pub in_range :
-      is_time_code (slice_index b place) (slice_index b (place + 1)) (slice_index b (place + 2))
-      (slice_index b (place + 3))
-      ≡ true
-  pub is :
-      frame
-      ≡ frame_of (slice_index b place) (slice_index b (place + 1)) (slice_index b (place + 2))
-      (slice_index b (place + 3))
+-- These four bytes are the time code of a frame.
+pub record IsTime (b : List ℕ) (frame : ℕ) : Type 0 where
+  pub in_range : is_time b ≡ true
+  pub is : frame ≡ frame_in b
 
 -- A block with this subtitle group and subtitle number, and no comment.
 pub record BelongsTo (sgn_is sn_is : ℕ) (b : List ℕ) : Type 0 where
@@ -51,8 +44,8 @@ pub record Begins (s : SubtitleValue) (b : List ℕ) : Type 0 where
   pub sn_is : sn b ≡ s.sn
   pub vp_is : vp b ≡ s.vp
   pub jc_is : jc b ≡ s.jc
-  pub tci : IsTimeAt b tci_place s.tci
-  pub tco : IsTimeAt b tco_place s.tco
+  pub tci_is : IsTime (tci b) s.tci
+  pub tco_is : IsTime (tco b) s.tco
   pub times : s.tci < s.tco
   pub vp_range : (1 ≤ s.vp) × (s.vp ≤ 23)
   pub jc_range : s.jc ≤ 3

@@ -1,6 +1,7 @@
 -- Time codes (EBU Tech 3264, TTI block, fields TCI and TCO) at 25 frames a second, as frames of the
 -- day: 0 to 2,159,999.
 use Rattle.std.specs.Prelude.{ℕ, ◌+◌, ◌*◌, ◌/◌, ◌%◌, Bool, ◌&&◌, nat_lt, List, [], ◌∷◌}
+use Rattle.std.specs.Prelude.{slice_index}
 
 -- Frames of a day.
 abbrev pub day : ℕ
@@ -14,6 +15,15 @@ frame_of hours minutes seconds frames = ((hours * 60 + minutes) * 60 + seconds) 
 abbrev pub is_time_code : ℕ → ℕ → ℕ → ℕ → Bool
 is_time_code hours minutes seconds frames =
     nat_lt hours 24 && nat_lt minutes 60 && nat_lt seconds 60 && nat_lt frames 25
+
+-- Whether these four bytes are a time code.
+unfoldable pub is_time : List ℕ → Bool
+is_time b =
+    is_time_code (slice_index b 0) (slice_index b 1) (slice_index b 2) (slice_index b 3)
+
+-- The frame of the time code that they are.
+unfoldable pub frame_in : List ℕ → ℕ
+frame_in b = frame_of (slice_index b 0) (slice_index b 1) (slice_index b 2) (slice_index b 3)
 
 -- Hours, minutes, seconds and frames of a frame of the day, in a byte each.
 abbrev pub time_bytes : ℕ → List ℕ

@@ -15,6 +15,7 @@
 -- The functions take the block's bytes; places count from 0.
 use Rattle.std.specs.Prelude.{ℕ, ◌+◌, ◌*◌, Bool, not, ◌==◌, ◌||◌, ◌&&◌, nat_lt}
 use Rattle.std.specs.Prelude.{List, drop, slice_index, [], ◌∷◌, if◌then◌else◌}
+use Rattle.stl_file.specs.Gsi.{field}
 
 -- Bytes of a TTI block.
 abbrev pub block_size : ℕ
@@ -72,13 +73,13 @@ ebn b = slice_index b 3
 abbrev pub cs : List ℕ → ℕ
 cs b = slice_index b 4
 
--- The place of TCI.
-abbrev pub tci_place : ℕ
-tci_place = 5
+-- TCI, the time code in
+abbrev pub tci : List ℕ → List ℕ
+tci b = field 5 4 b
 
--- The place of TCO.
-abbrev pub tco_place : ℕ
-tco_place = 9
+-- TCO, the time code out
+abbrev pub tco : List ℕ → List ℕ
+tco b = field 9 4 b
 
 -- VP, the vertical position
 abbrev pub vp : List ℕ → ℕ

@@ -4,7 +4,6 @@ ghost use Rattle.std.specs.Prelude.{◌≡◌, ◌↔◌, ℕ, List, Ok, take};
 ghost use Rattle.stl_file.specs.File.{IsFile};
 ghost use Rattle.stl_file.specs.NormalForm.{counted_gsi, normal_form, subtitles_of};
 ghost use Rattle.stl_file.specs.Reader.{outcome_of};
-ghost use Rattle.stl_file.specs.Refusal.{LawOfRefusedBlock, LawOfRefusedGsi};
 ghost use Rattle.stl_file.specs.Resuming.{findings_of, stopped};
 ghost use Rattle.stl_file.specs.Subtitle.{SubtitleValue};
 
@@ -48,16 +47,4 @@ pub fn law_of_normal_form_again()
         → IsFile s g ts
         → IsFile (normal_form g ts) h us
         → normal_form h us ≡ normal_form g ts }
-{}
-
-/// The fault that is told of a GSI block is that of the first question that it fails, in the order
-/// of `StlReader::open`; it is taken where it fails none.
-pub fn law_of_refused_gsi()
-    ensures { LawOfRefusedGsi }
-{}
-
-/// The fault that is told of a TTI block, at its number, is that of the first question that it
-/// fails, in the order of `StlReader::next`; it is taken where it fails none.
-pub fn law_of_refused_block()
-    ensures { LawOfRefusedBlock }
 {}

@@ -1,13 +1,15 @@
 //! Subtitles, with their text in the file's code (EBU Tech 3264).
 
 ghost use Rattle.std.specs.Prelude.{◌≡◌, ◌+◌, ◌≤◌, ◌++◌, length, take, true, ◌==◌, ◌&&◌};
-ghost use Rattle.std.specs.Prelude.{Err, IfErr, Ok, OnOk};
+ghost use Rattle.std.specs.Prelude.{Err, IfErr, IfOk, Ok, OnOk, is_ok};
 ghost use Rattle.std.specs.Option.{SomeIff};
+ghost use Rattle.stl_file.specs.declared.fault.StlFault.TheVariants.{Time};
 ghost use Rattle.stl_file.specs.Fault.{is_of_block};
-ghost use Rattle.stl_file.specs.Reading.{first_at, time_at};
+ghost use Rattle.stl_file.specs.Reading.{first_at};
 ghost use Rattle.stl_file.specs.Subtitle.{IsSubtitle, SubtitleValue, empty_subtitle};
 ghost use Rattle.stl_file.specs.Subtitle.{has_no_unused};
-ghost use Rattle.stl_file.specs.Tti.{before_unused, sgn, sn, tci_place, tco_place, text_of};
+ghost use Rattle.stl_file.specs.TimeCode.{frame_in, is_time};
+ghost use Rattle.stl_file.specs.Tti.{before_unused, sgn, sn, text_of};
 
 use crate::fault::StlFault;
 use crate::time_code::TimeCode;
@@ -188,8 +190,8 @@ impl Subtitle {
         if vp < 1 || vp > 23 {
             return Err(StlFault::Row);
         }
-        let tci = time_in(block)?;
-        let tco = time_out(block)?;
+        let tci = time_of(block.tci())?;
+        let tco = time_of(block.tco())?;
         if tci.frame() >= tco.frame() {
             return Err(StlFault::EmptyTime);
         }
@@ -230,29 +232,12 @@ impl Subtitle {
     }
 }
 
-// TCI as a time code.
-#[tactic(auto, using(crate::proofs::TimeCodeLemmas::time_at_field))]
-fn time_in(block: &Tti) -> Result<TimeCode, StlFault>
-    ensures exact { time_at block.now tci_place ≡ result }
-    ensures own { IfErr result (λ fault. is_of_block fault ≡ true) }
-{
-    time_of(block.tci())
-}
-
-// TCO as a time code.
-#[tactic(auto, using(crate::proofs::TimeCodeLemmas::time_at_field))]
-fn time_out(block: &Tti) -> Result<TimeCode, StlFault>
-    ensures exact { time_at block.now tco_place ≡ result }
-    ensures own { IfErr result (λ fault. is_of_block fault ≡ true) }
-{
-    time_of(block.tco())
-}
-
 // The time code of the four bytes of TCI or TCO.
-#[tactic(auto, unfolding(crate::specs::Reading::time_at))]
+#[tactic(auto, unfolding(crate::specs::TimeCode::is_time, crate::specs::TimeCode::frame_in))]
 fn time_of(bytes: [u8; 4]) -> Result<TimeCode, StlFault>
-    ensures exact { time_at bytes 0 ≡ result }
-    ensures own { IfErr result (λ fault. is_of_block fault ≡ true) }
+    ensures is_one { is_time bytes ≡ is_ok result }
+    ensures value { IfOk result (λ time. frame_in bytes ≡ time) }
+    ensures fault { IfErr result (λ fault. fault ≡ Time) }
 {
     let [hours, minutes, seconds, frames] = bytes;
     let time = TimeCode::new(hours, minutes, seconds, frames);

@@ -2,7 +2,7 @@
 
 ghost use Rattle.std.specs.Prelude.{◌≡◌, ◌+◌, ◌≤◌, length};
 ghost use Rattle.stl_file.specs.Gsi.{field};
-ghost use Rattle.stl_file.specs.Tti.{cf, cs, ebn, jc, sgn, sn, tf, vp};
+ghost use Rattle.stl_file.specs.Tti.{cf, cs, ebn, jc, sgn, sn, tci, tco, tf, vp};
 
 use byteorder::{ByteOrder, LittleEndian};
 use std::marker::Model;
@@ -71,14 +71,14 @@ impl Tti {
 
     /// TCI, the time code in: hours, minutes, seconds and frames.
     pub fn tci(&self) -> [u8; 4]
-        ensures { result ≡ field 5 4 self.now }
+        ensures { result ≡ tci self.now }
     {
         self.time_at(5)
     }
 
     /// TCO, the time code out: hours, minutes, seconds and frames.
     pub fn tco(&self) -> [u8; 4]
-        ensures { result ≡ field 9 4 self.now }
+        ensures { result ≡ tco self.now }
     {
         self.time_at(9)
     }
