@@ -1,5 +1,6 @@
 //! Reading PES packets that are mostly the one before, sent again.
 ghost use Rattle.std.specs.Prelude.{◌≡◌, ℕ, ◌+◌, ◌≤◌, ◌≢◌, true, [], None, Ok, IfErr};
+ghost use Rattle.sub_io.specs.Calls.{PullsSome};
 ghost use Rattle.sub_io.specs.Device.{CanFail, CountsIf, failed};
 ghost use Rattle.ttx_pes.specs.Comparing.{as_given, behind_after, passed_over, TakesDataField};
 ghost use Rattle.ttx_pes.specs.Fault.{is_of_piece, is_read};
@@ -84,6 +85,7 @@ fn read_compared<S: Source>(
         → TakesPiece (S.remaining source.old) (S.remaining source.new) fault) }
     ensures before_piece { IfErr result (λ fault. is_of_piece fault ≡ true
         → given ≢ most_packets) }
+    ensures pulls { PullsSome S.is_pull source.old source.new }
     ensures count { CountsIf S.failure_count source.old (failed is_read result) source.new }
 {
     let Some(size) = take_packet(given, source, room)? else {
@@ -129,6 +131,7 @@ impl ComparingReader {
     /// Those of `PesReader::next`, in its order: the header of each packet is read, and the units
     /// of a data field that is sent again were read before. After `Flags` to `LineOrder` exactly
     /// the packet's bytes were taken, and `pass_over` lets reading go on.
+    #[tactic(auto, using(sub_io::proofs::CallLemmas::pulls))]
     pub fn next<S: Source>(&mut self, source: &mut S) -> Result<Compared, PesFault>
         requires { CanFail (S.failure_count source.old) }
         ensures tells { TellsPacket self.old.progress (S.remaining source.old)
@@ -153,6 +156,7 @@ impl ComparingReader {
         // After the end and after a fault nothing is taken.
         ensures at_end { self.old.progress ≡ AtEnd → source.new ≡ source.old }
         ensures broken { self.old.progress ≡ Broken → source.new ≡ source.old }
+        ensures pulls { PullsSome S.is_pull source.old source.new }
         ensures count { CountsIf S.failure_count source.old (failed is_read result) source.new }
     {
         self.behind = None;

@@ -3,6 +3,7 @@ ghost use Rattle.std.specs.Prelude.{◌≡◌, ◌+◌, ◌%◌, ◌<◌, ◌≤
 ghost use Rattle.std.specs.Prelude.{drop, None, Ok, Err, IfOk, IfErr, IfSome, IsSome, OnErr};
 ghost use Rattle.std.specs.Prelude.{false};
 ghost use Rattle.std.specs.Io.KnownBytes.{IsAtEnd};
+ghost use Rattle.sub_io.specs.Calls.{PullsSome};
 ghost use Rattle.sub_io.specs.Device.{CanFail, CountsFailure, CountsIf, failed};
 ghost use Rattle.sub_io.specs.Reading.{AreBytes};
 ghost use Rattle.ttx_pes.specs.Fault.{is_of_piece, is_read};
@@ -48,6 +49,7 @@ fn fill_on<S: Source>(
     ensures end { IfOk result (λ n. n < least → IsAtEnd (S.remaining source.new)) }
     ensures err { OnErr result (StopsBelow (S.remaining source.old) (take held room.old)
         (S.remaining source.new) least) }
+    ensures pulls { PullsSome S.is_pull source.old source.new }
     ensures count { CountsFailure (S.failure_count source.old) result (S.failure_count source.new) }
 {
     let mut at = held;
@@ -63,6 +65,7 @@ fn fill_on<S: Source>(
 
 // Takes the next packet's bytes into the room and answers how many they are, `None` at the end of
 // the source. No pull comes before the faults that the bytes held already show.
+#[tactic(auto, using(sub_io::proofs::CallLemmas::pulls))]
 pub(crate) fn take_packet<S: Source>(
     given: u32,
     source: &mut S,
@@ -82,6 +85,7 @@ pub(crate) fn take_packet<S: Source>(
     ensures sized { IfOk result (λ taken. IfSome taken (λ size.
         size_at (take 6 (take size room.new)) ≡ Ok (length (take size room.new)))) }
     ensures of_no_piece { IfErr result (λ fault. is_of_piece fault ≡ false) }
+    ensures pulls { PullsSome S.is_pull source.old source.new }
     ensures count { CountsIf S.failure_count source.old (failed is_read result) source.new }
 {
     let most = if given == MOST_PACKETS { HEAD } else { PAYLOAD };

@@ -6,11 +6,14 @@ use Rattle.std.proofs.KnownBytes.{Consumes-kept}
 use Rattle.std.proofs.lemmas.List.{length-take-le, take-take}
 use Rattle.std.proofs.lemmas.Result.{err_from_is_err_and}
 use Rattle.std.proofs.lemmas.Slice.{take-put_mid_below}
+use Rattle.sub_io.proofs.CallLemmas.{PullsSome-more}
 use Rattle.sub_io.proofs.DeviceLemmas.{Consumes-more}
 use Rattle.ttx_pes.proofs.packet_bytes.fill_on.Goals as goal
 
 pub loop-at-preserved : goal.loop-at-preserved
-loop-at-preserved g c = grind (arith, nat_tests, take-put_mid_below, Consumes-more)
+loop-at-preserved g c =
+    let some = PullsSome-more _ _ _ _ _ c.loop-at.invariant.pulls c.pull.ensures.call in
+    grind (arith, nat_tests, take-put_mid_below, Consumes-more)
 
 pub returns-in_err-n-clause-err : goal.returns-in_err-n-clause-err
 returns-in_err-n-clause-err g c =
@@ -21,3 +24,11 @@ returns-in_err-n-clause-err g c =
     let held = length-take-le c.args.held old (omega arith) in
     let p = err_from_is_err_and c.from_residual.result c.from_residual.ensures.1 in
     grind (arith, nat_tests, take-take, Consumes-kept)
+
+pub returns-in_err-n-clause-pulls : goal.returns-in_err-n-clause-pulls
+returns-in_err-n-clause-pulls g c =
+    PullsSome-more _ _ _ _ _ c.loop-at.invariant.pulls c.pull.ensures.call
+
+pub returns-then-n-eq0-clause-pulls : goal.returns-then-n-eq0-clause-pulls
+returns-then-n-eq0-clause-pulls g c =
+    PullsSome-more _ _ _ _ _ c.loop-at.invariant.pulls c.pull.ensures.call
