@@ -130,10 +130,11 @@ class FaultList:
         details = self.details(entry)
         if details and self.is_shown(frame):
             parts.append(f'<p class="details">{details[0].upper()}{details[1:]}.</p>')
-        if self.span_words(entry):
-            parts.append(f"<p>{self.span_words(entry).capitalize()}.</p>")
+        span = self.span_words(entry)
+        if span:
+            parts.append(f"<p>{span[0].upper()}{span[1:]}.</p>")
         if fault.pes is not None:
-            parts.append(pes_words(fault, self.held, self.report.origin))
+            parts.append(pes_words(fault, entry.until_pes, self.held, self.report.origin))
         parts.append(self.seen(entry, frame))
         return "".join(parts) + "</section>"
 

@@ -197,7 +197,7 @@ def reading_words(held: Heard) -> str:
     """How far the PES file was read and heard."""
     words = f"{held.count:,} PES packet{'s' * (held.count != 1)} read."
     if held.end.status:
-        words += (" The file can't be read on after that: "
+        words += (" A receiver is followed up to there, where <code>packets</code> ends with "
                   f"<code>{shown(held.end.line)}</code>.")
     if held.halt:
         words += (f" A receiver follows the file as far as PES packet {held.halt[0]}, whose frame "

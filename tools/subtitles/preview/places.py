@@ -29,8 +29,8 @@ def place_of_pts(pts: int, origin: int) -> str:
     return time if ticks % TICKS == 0 else f"none: {time} is {ticks % TICKS} ticks before"
 
 
-def pes_words(fault: Verdict, held: Heard, origin: int) -> str:
-    """What is known of the PES packet that a fault names."""
+def pes_words(fault: Verdict, until: int | None, held: Heard, origin: int) -> str:
+    """What is known of the PES packet that a fault names, up to another one where it is given."""
     number = fault.pes
     if held.halt and held.halt[0] == number:
         words = f"PES packet {number} has the PTS {held.halt[1]}. Its frame: " \
@@ -41,7 +41,11 @@ def pes_words(fault: Verdict, held: Heard, origin: int) -> str:
     if fault.number == ORDER:
         return f"<p>The frame of PES packet {number} is not after that of the one before.</p>"
     if fault.number == OFF_FRAME:
-        return f"<p>The PTS of PES packet {number} is that of no frame of the day.</p>"
+        them = f"packet {number} is that" if until is None else \
+            f"packets {number} to {until} are those"
+        return f"<p>The PTS of PES {them} of no frame of the day.</p>"
+    if until is not None:
+        return f"<p>PES packets {number} to {until} can't be read.</p>"
     after = "" if fault.number in PASSED_OVER else ", and nothing after it"
     return f"<p>PES packet {number} can't be read{after}.</p>"
 

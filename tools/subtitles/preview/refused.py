@@ -143,7 +143,7 @@ def test_passed_over(trial: Trial) -> None:
     trial.test("passed over: the list", "up to PES packet 2" in items[0]
                and "up to PES" not in items[2], items)
     parts = {part.get("id"): "".join(part.itertext()) for part in root.iter(HTML + "section")}
-    trial.test("passed over: the first one", "PES packet 1 can't be read." in parts["place"]
+    trial.test("passed over: the first one", "PES packets 1 to 2 can't be read." in parts["place"]
                and "Pictures at the last frame before that PES packet, 20:15:00:00"
                in parts["place"], parts["place"])
     trial.test("passed over: a later one", "PES packet 4 can't be read." in parts["f3"]
