@@ -9,3 +9,4 @@ pub mod RowPacketLemmas
 pub mod BlockLemmas
 pub mod LaneLemmas
 pub mod PageIdLemmas
+pub mod SentWordLemmas

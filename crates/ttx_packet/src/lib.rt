@@ -19,6 +19,7 @@ mod laws;
 mod packet;
 mod page_id;
 mod parity;
+mod sent_packet;
 
 pub use bit_order::{mirror, mirrored};
 pub use control::Control;
@@ -31,3 +32,4 @@ pub use laws::{
 pub use packet::Packet;
 pub use page_id::{PageFault, PageId};
 pub use parity::{is_odd, par};
+pub use sent_packet::SentPacket;

@@ -1,5 +1,6 @@
 //! A packet of 42 bytes: its address, its header, its text.
-ghost use Rattle.std.specs.Prelude.{◌≡◌, ◌≤◌, ◌<◌, ◌↔◌, ℕ, IfSome, IsNone, IsTrue};
+ghost use Rattle.std.specs.Prelude.{◌≡◌, ◌+◌, ◌*◌, ◌/◌, ◌%◌, ◌≤◌, ◌<◌, ◌↔◌, ℕ, IfSome, IsNone};
+ghost use Rattle.std.specs.Prelude.{IsTrue};
 ghost use Rattle.std.specs.Prelude.{drop, map, option_map, slice_index};
 ghost use Rattle.ttx_packet.specs.BitOrder.{mirror};
 ghost use Rattle.ttx_packet.specs.PacketAddress.{HasExactAddress, IsPacket, address, address_pair};
@@ -118,19 +119,7 @@ impl Packet {
         let s4_c6 = unham(self.bytes[7])?;
         let c7_c10 = unham(self.bytes[8])?;
         let c11_c14 = unham(self.bytes[9])?;
-        let subcode = u16::from(s1)
-            + 0x10 * u16::from(s2_c4 % 8)
-            + 0x100 * u16::from(s3)
-            + 0x1000 * u16::from(s4_c6 % 4);
-        let bits = u16::from(s2_c4 / 8)
-            + 2 * u16::from(s4_c6 / 4)
-            + 8 * u16::from(c7_c10)
-            + 0x80 * u16::from(c11_c14);
-        Some(Header {
-            page: units + 0x10 * tens,
-            subcode,
-            control: Control::from_bits_retain(bits),
-        })
+        Some(header_of(&[units, tens, s1, s2_c4, s3, s4_c6, c7_c10, c11_c14]))
     }
 
     /// Whether both address bytes are code words, with no bit to correct (EN 300 706, 8.2).
@@ -201,6 +190,40 @@ impl Packet {
         ensures made { IsMadeRow magazine row codes.now result }
     {
         Packet::new(row_bytes(magazine, row, codes))
+    }
+}
+
+// The header that the numbers of its eight coded bytes say.
+#[inline(always)]
+pub(crate) fn header_of(numbers: &[u8; 8]) -> Header
+    requires { (k : ℕ) → slice_index numbers.now k < 16 }
+    ensures page { result.page
+        ≡ slice_index numbers.now 0 + 0x10 * slice_index numbers.now 1 }
+    ensures subcode { result.subcode
+        ≡ slice_index numbers.now 2
+        + 0x10 * (slice_index numbers.now 3 % 8)
+        + 0x100 * slice_index numbers.now 4
+        + 0x1000 * (slice_index numbers.now 5 % 4) }
+    ensures control { result.control.0
+        ≡ slice_index numbers.now 3 / 8
+        + 2 * (slice_index numbers.now 5 / 4)
+        + 8 * slice_index numbers.now 6
+        + 0x80 * slice_index numbers.now 7 }
+{
+    let s2_c4 = numbers[3];
+    let s4_c6 = numbers[5];
+    let subcode = u16::from(numbers[2])
+        + 0x10 * u16::from(s2_c4 % 8)
+        + 0x100 * u16::from(numbers[4])
+        + 0x1000 * u16::from(s4_c6 % 4);
+    let bits = u16::from(s2_c4 / 8)
+        + 2 * u16::from(s4_c6 / 4)
+        + 8 * u16::from(numbers[6])
+        + 0x80 * u16::from(numbers[7]);
+    Header {
+        page: numbers[0] + 0x10 * numbers[1],
+        subcode,
+        control: Control::from_bits_retain(bits),
     }
 }
 

@@ -1,0 +1,132 @@
+//! A packet as a data unit carries it, read without turning its bits round.
+ghost use Rattle.std.specs.Prelude.{◌≡◌, ◌<◌, MatchOption, Some, map};
+ghost use Rattle.ttx_packet.specs.BitOrder.{mirror};
+ghost use Rattle.ttx_packet.specs.Hamming84.{IsCodeWord, decoded};
+ghost use Rattle.ttx_packet.specs.PacketAddress.{HasExactAddress, address};
+
+use crate::bit_order::mirrored;
+use crate::header::Header;
+use crate::packet::{Packet, header_of};
+use std::marker::Model;
+
+/// What stands in `SENT_WORDS` at a byte that is no code word.
+const NOTHING: u8 = 255;
+
+/// The number of the Hamming 8/4 code word that each byte is, where the bit that is sent first is
+/// the highest. Made from the code words; the check computes the definitions over all 256 bytes and
+/// compares.
+#[rattlefmt::skip]
+const SENT_WORDS: [u8; 256] = [
+    255, 255, 255, 255, 255, 255, 255, 255, 255, 255, 255,   8, 255, 255, 255, 255,
+    255, 255, 255, 255, 255, 255, 255, 255, 255, 255, 255, 255,   6, 255, 255, 255,
+    255, 255, 255, 255, 255, 255,   4, 255, 255, 255, 255, 255, 255, 255, 255, 255,
+    255,  10, 255, 255, 255, 255, 255, 255, 255, 255, 255, 255, 255, 255, 255, 255,
+      1, 255, 255, 255, 255, 255, 255, 255, 255, 255, 255, 255, 255, 255, 255, 255,
+    255, 255, 255, 255, 255, 255, 255,  15, 255, 255, 255, 255, 255, 255, 255, 255,
+    255, 255, 255, 255, 255, 255, 255, 255, 255, 255, 255, 255, 255,  13, 255, 255,
+    255, 255, 255, 255, 255, 255, 255, 255, 255, 255,   3, 255, 255, 255, 255, 255,
+    255, 255, 255, 255, 255,  12, 255, 255, 255, 255, 255, 255, 255, 255, 255, 255,
+    255, 255,   2, 255, 255, 255, 255, 255, 255, 255, 255, 255, 255, 255, 255, 255,
+    255, 255, 255, 255, 255, 255, 255, 255,   0, 255, 255, 255, 255, 255, 255, 255,
+    255, 255, 255, 255, 255, 255, 255, 255, 255, 255, 255, 255, 255, 255, 255,  14,
+    255, 255, 255, 255, 255, 255, 255, 255, 255, 255, 255, 255, 255, 255,   5, 255,
+    255, 255, 255, 255, 255, 255, 255, 255, 255,  11, 255, 255, 255, 255, 255, 255,
+    255, 255, 255,   9, 255, 255, 255, 255, 255, 255, 255, 255, 255, 255, 255, 255,
+    255, 255, 255, 255,   7, 255, 255, 255, 255, 255, 255, 255, 255, 255, 255, 255,
+];
+
+// The number of the code word that a byte is, where the bit that is sent first is the highest.
+// `None` for any other byte.
+#[inline(always)]
+fn sent_number(byte: u8) -> Option<u8>
+    ensures { MatchOption result (IsCodeWord (mirror byte) → ⊥)
+        (λ n. (n < 16) × IsCodeWord (mirror byte) × (decoded (mirror byte) ≡ Some n)) }
+{
+    let number = SENT_WORDS[byte as usize];
+    if number == NOTHING {
+        None
+    } else {
+        Some(number)
+    }
+}
+
+/// A Teletext packet as a DVB data unit carries it: 42 bytes, of each the bit that is sent first
+/// the highest (EN 300 472, data field syntax). It lends the bytes.
+///
+/// Contracts see it as the packet, its bytes in Teletext's own order of bits. Most packets of a
+/// service are of other pages, which their first bytes tell: so those alone are looked at, by
+/// tables, and no other byte is turned round.
+#[derive(Drop)]
+pub struct SentPacket<'a> {
+    bytes: &'a [u8; 42],
+}
+
+impl<'a> Model for SentPacket<'a> {
+    ghost use Rattle.std.specs.Prelude.{◌≡◌, ℕ, List, length, map};
+    ghost use Rattle.ttx_packet.specs.BitOrder.{mirror};
+
+    ghost Value = { List ℕ };
+
+    ghost view = { λ p. map mirror p.bytes.now };
+
+    ghost invariant = { λ p. length p.bytes.now ≡ 42 };
+}
+
+impl<'a> SentPacket<'a> {
+    ghost use Rattle.ttx_packet.specs.PageHeader.{HasExactHeader, coded_header};
+
+    /// The packet that a data unit carries as these 42 bytes.
+    #[inline(always)]
+    pub fn new(bytes: &'a [u8; 42]) -> Self
+        ensures { result ≡ map mirror bytes.now }
+    {
+        SentPacket { bytes }
+    }
+
+    /// The packet in Teletext's own order of bits: each byte is turned round.
+    #[inline(always)]
+    pub fn packet(&self) -> Packet
+        ensures { result ≡ self.now }
+    {
+        Packet::new(mirrored(self.bytes))
+    }
+
+    /// The magazine, 0 to 7, and the packet number Y, 0 to 31, where both address bytes are code
+    /// words, with no bit to correct (EN 300 706, magazine and packet address). Magazine 0 is
+    /// magazine 8.
+    ///
+    /// `None` where one of them is not.
+    #[inline(always)]
+    #[tactic(auto, unfolding(crate::specs::PacketAddress::address))]
+    pub fn exact_address(&self) -> Option<(u8, u8)>
+        ensures { MatchOption result (HasExactAddress self.now → ⊥)
+            (λ a. HasExactAddress self.now × (address self.now
+            ≡ Some (record { magazine = a.0; packet_number = a.1 }))) }
+    {
+        let low = sent_number(self.bytes[0])?;
+        let high = sent_number(self.bytes[1])?;
+        let number = low + 16 * high;
+        Some((number % 8, number / 8))
+    }
+
+    /// What the eight coded bytes of a header say, where they are code words, with no bit to
+    /// correct (EN 300 706, page header). The address is not looked at.
+    ///
+    /// `None` where one of them is not.
+    #[inline(always)]
+    #[tactic(auto, unfolding(crate::specs::PageHeader::coded_header))]
+    pub fn exact_header(&self) -> Option<Header>
+        ensures { MatchOption result (HasExactHeader self.now → ⊥)
+            (λ h. HasExactHeader self.now × (coded_header self.now ≡ Some h)) }
+    {
+        let units = sent_number(self.bytes[2])?;
+        let tens = sent_number(self.bytes[3])?;
+        let s1 = sent_number(self.bytes[4])?;
+        let s2_c4 = sent_number(self.bytes[5])?;
+        let s3 = sent_number(self.bytes[6])?;
+        let s4_c6 = sent_number(self.bytes[7])?;
+        let c7_c10 = sent_number(self.bytes[8])?;
+        let c11_c14 = sent_number(self.bytes[9])?;
+        Some(header_of(&[units, tens, s1, s2_c4, s3, s4_c6, c7_c10, c11_c14]))
+    }
+}
