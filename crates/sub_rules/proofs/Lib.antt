@@ -5,4 +5,5 @@ pub mod FrameLists
 pub mod GrowingLists
 pub mod PacketLists
 pub mod PesReadingLemmas
+pub mod PieceFileLemmas
 pub mod TestLemmas

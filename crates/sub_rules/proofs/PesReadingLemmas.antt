@@ -55,7 +55,7 @@ found_below origin pts (suc n) None e =
     let ih = found_below origin pts n None in grind (arith, nat_tests)
 
 -- The frame of the day that has a PTS is found.
-frame_found :
+pub frame_found :
     (origin pts frame : ℕ)
     → frame < day
     → pts_of origin frame ≡ pts
@@ -72,7 +72,7 @@ frame_found origin pts frame in_day e =
     go r none = grind arith
 
 -- Where no frame of the day has a PTS, none is found.
-no_frame_found :
+pub no_frame_found :
     (origin pts : ℕ)
     → ((frame : ℕ) → frame < day → pts_of origin frame ≢ pts)
     → frame_of_pts origin pts ≡ None

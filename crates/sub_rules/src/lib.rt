@@ -16,10 +16,12 @@ mod event;
 mod fault;
 mod fault_place;
 mod packet_rule;
+mod piece;
 mod sending;
 
 pub use event::{EndRule, Event};
 pub use fault::CheckFault;
 pub use fault_place::FaultPlace;
 pub use packet_rule::{PacketRule, Watched};
+pub use piece::{NextPiece, next_piece};
 pub use sending::{Sending, next_sending, units_of};

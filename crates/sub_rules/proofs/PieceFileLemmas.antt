@@ -1,0 +1,207 @@
+-- One piece read, in terms of the value of the whole file: `reads_sent`, `reads_off`, `reads_bad`,
+-- `pieces_end`; and that a file is read up to the first piece that is passed over: `file_until`.
+use Rattle.std.proofs.lemmas.Bool.Decides.{nat_tests}
+use Rattle.std.proofs.Common.{◌≡◌, ◌≢◌, ℕ, ◌+◌, ◌<◌, ◌≤◌, true, false, List, []}
+use Rattle.std.proofs.Common.{◌∷◌, Option, Some, None, Result, Ok, Err, refl, sym, ap, ◌∙◌, arith}
+use Rattle.std.proofs.Common.{cond}
+use Rattle.std.proofs.Common.{◌++◌, length, length-append}
+use Rattle.std.proofs.KnownBytes.{Consumes-nil, Consumes-trans}
+use Rattle.std.proofs.lemmas.List.{append-nil}
+use Rattle.std.proofs.lemmas.List.Folds.{concat-append}
+use Rattle.std.specs.List.{AllByRecursion, concat}
+use Rattle.ttx_pes.proofs.PesHeaderLemmas.{body_complete, body_of, packet_of_body, six_of}
+use Rattle.ttx_pes.proofs.PieceListLemmas.{pieces_after-next}
+use Rattle.ttx_pes.specs.Comparing.{TakesDataField}
+use Rattle.ttx_pes.specs.Fault.{is_of_piece, is_read}
+use Rattle.ttx_pes.specs.PesPacket.{PesValue, IsPesPacket}
+use Rattle.ttx_pes.specs.Pieces.{IsPiece, PiecesValue, TakesPiece, behind_piece, piece_then}
+use Rattle.ttx_pes.specs.Pieces.{pieces_after}
+use Rattle.ttx_pes.specs.Reading.{answer_at, most_packets}
+use Rattle.ttx_pes.specs.declared.fault.PesFault.{PesFault}
+use Rattle.stl_file.specs.TimeCode.{day}
+use Rattle.sub_plan.specs.FrameTime.{pts_of}
+use Rattle.sub_rules.specs.FrameRules.{Unread}
+use Rattle.sub_rules.specs.FrameRules.Unread.{BadPacket, NoFrame}
+use Rattle.sub_rules.specs.PacketRules.{packets_of_units}
+use Rattle.sub_rules.specs.Pieces.{Piece, PieceFileValue, ReadsPiece, ReadsPieces, file_of_pieces}
+use Rattle.sub_rules.specs.Pieces.{TakesOnePiece, TakesPieces, piece_of, piece_with, pieces_at}
+use Rattle.sub_rules.specs.Pieces.Piece.{Passed, Sent}
+use Rattle.sub_rules.specs.Sendings.{IsFrameOf}
+use Rattle.sub_rules.proofs.PesReadingLemmas.{frame_found, no_frame_found}
+
+-- A piece, and then a file.
+abbrev pub before : Piece → PieceFileValue → PieceFileValue
+before piece rest = record { pieces = piece ∷ rest.pieces; unread = rest.unread }
+
+-- What a reader answers, and then a file.
+abbrev pub pieces_by : ℕ → Result (Option PesValue) PesFault → PieceFileValue → PieceFileValue
+pieces_by origin (Ok (Some v)) rest = before (piece_of origin (Ok v)) rest
+pieces_by origin (Ok None) rest = record { pieces = []; unread = None }
+pieces_by origin (Err f) rest =
+    cond (is_of_piece f) (before (piece_of origin (Err f)) rest)
+    (record { pieces = []; unread = Some (BadPacket f) })
+
+-- The file of an answer and of what comes then.
+file_of-then : (origin : ℕ) (answer : Result (Option PesValue) PesFault) (more : PiecesValue)
+    → file_of_pieces origin (piece_then answer more)
+    ≡ pieces_by origin answer (file_of_pieces origin more)
+file_of-then origin answer more = grind (arith, nat_tests)
+
+-- A file is what its first piece is, and then the file of the others.
+pub pieces_at-next : (origin given : ℕ) (bytes : List ℕ)
+    (answer : Result (Option PesValue) PesFault)
+    → given ≤ most_packets
+    → answer_at given bytes ≡ answer
+    → pieces_at origin given bytes
+    ≡ pieces_by origin answer (pieces_at origin (given + 1) (behind_piece bytes))
+unfolding pieces_at
+pieces_at-next origin given bytes answer few is =
+    ap (file_of_pieces origin) (pieces_after-next given bytes answer few is)
+    ∙ file_of-then origin answer (pieces_after (given + 1) (behind_piece bytes))
+
+-- ---- what is read of one piece
+
+-- The first of the pieces that are left, by the answer.
+reads_piece : (origin n : ℕ) (bytes : List ℕ) (pieces : List Piece) (unread : Option Unread)
+    (piece : Piece) (answer : Result (Option PesValue) PesFault)
+    → n ≤ most_packets
+    → ReadsPieces origin n bytes pieces unread
+    → answer_at n bytes ≡ answer
+    → ((rest : PieceFileValue) → pieces_by origin answer rest ≡ before piece rest)
+    → ReadsPiece origin n bytes pieces unread piece
+reads_piece origin n bytes pieces unread piece answer few reads is by =
+    let rest = pieces_at origin (n + 1) (behind_piece bytes) in
+    let whole = sym reads ∙ pieces_at-next origin n bytes answer few is ∙ by rest in
+    record {
+      more = rest.pieces;
+      first = ap (λ (f : PieceFileValue). f.pieces) whole;
+      left = let same : unread ≡ rest.unread = ap (λ (f : PieceFileValue). f.unread) whole in
+          grind arith;
+    }
+
+-- A PES packet with a frame is a piece that is sent.
+pub reads_sent : (origin n : ℕ) (bytes : List ℕ) (pieces : List Piece) (unread : Option Unread)
+    (v : PesValue) (frame : ℕ)
+    → n ≤ most_packets
+    → ReadsPieces origin n bytes pieces unread
+    → answer_at n bytes ≡ Ok (Some v)
+    → IsFrameOf origin v.pts frame
+    → ReadsPiece origin n bytes pieces unread
+    (Sent (record { frame = frame; packets = packets_of_units v.units }))
+unfolding piece_of
+reads_sent origin n bytes pieces unread v frame few reads is of =
+    reads_piece origin n bytes pieces unread _ (Ok (Some v)) few reads is (λ rest.
+    ap (λ (f : Option ℕ). before (piece_with f (packets_of_units v.units)) rest)
+    (frame_found origin v.pts frame of.in_day of.is))
+
+-- One with none is passed over.
+pub reads_off : (origin n : ℕ) (bytes : List ℕ) (pieces : List Piece) (unread : Option Unread)
+    (v : PesValue)
+    → n ≤ most_packets
+    → ReadsPieces origin n bytes pieces unread
+    → answer_at n bytes ≡ Ok (Some v)
+    → ((frame : ℕ) → frame < day → pts_of origin frame ≢ v.pts)
+    → ReadsPiece origin n bytes pieces unread (Passed NoFrame)
+unfolding piece_of
+reads_off origin n bytes pieces unread v few reads is none =
+    reads_piece origin n bytes pieces unread _ (Ok (Some v)) few reads is (λ rest.
+    ap (λ (f : Option ℕ). before (piece_with f (packets_of_units v.units)) rest)
+    (no_frame_found origin v.pts none))
+
+-- A piece that is no PES packet is passed over.
+pub reads_bad : (origin n : ℕ) (bytes : List ℕ) (pieces : List Piece) (unread : Option Unread)
+    (f : PesFault)
+    → n ≤ most_packets
+    → ReadsPieces origin n bytes pieces unread
+    → answer_at n bytes ≡ Err f
+    → is_of_piece f ≡ true
+    → ReadsPiece origin n bytes pieces unread (Passed (BadPacket f))
+unfolding piece_of
+reads_bad origin n bytes pieces unread f few reads is kind =
+    reads_piece origin n bytes pieces unread _ (Err f) few reads is (λ rest. rw kind refl)
+
+-- Where no piece is left, the list is at its end.
+pub pieces_end : (origin n : ℕ) (bytes : List ℕ) (pieces : List Piece) (unread : Option Unread)
+    → n ≤ most_packets
+    → ReadsPieces origin n bytes pieces unread
+    → answer_at n bytes ≡ Ok None
+    → (pieces ≡ []) × (unread ≡ None)
+pieces_end origin n bytes pieces unread few reads is =
+    let whole = sym reads ∙ pieces_at-next origin n bytes (Ok None) few is in
+    (ap (λ (f : PieceFileValue). f.pieces) whole, ap (λ (f : PieceFileValue). f.unread) whole)
+
+-- The same where bytes are left.
+pub pieces_stop : (origin n : ℕ) (bytes : List ℕ) (pieces : List Piece) (unread : Option Unread)
+    (f : PesFault)
+    → n ≤ most_packets
+    → ReadsPieces origin n bytes pieces unread
+    → answer_at n bytes ≡ Err f
+    → is_of_piece f ≡ false
+    → (pieces ≡ []) × (unread ≡ Some (BadPacket f))
+pieces_stop origin n bytes pieces unread f few reads is kind =
+    let whole = sym reads ∙ pieces_at-next origin n bytes (Err f) few is ∙ rw kind refl in
+    (ap (λ (x : PieceFileValue). x.pieces) whole, ap (λ (x : PieceFileValue). x.unread) whole)
+
+-- The fault of a piece is not that the source failed.
+pub no_failure : (f : PesFault) → is_of_piece f ≡ true → is_read f ≡ false
+no_failure f kind = grind (arith, nat_tests)
+
+-- ---- what was taken
+
+-- A PES packet is a piece.
+pub packet_is_piece : (v : PesValue) (b : List ℕ) → IsPesPacket v b → IsPiece b
+packet_is_piece v b h =
+    let body = body_of v b h in
+    let parts = packet_of_body v b h in
+    let size = h.size.0 in
+    let c = body_complete v b h in
+    record {
+      n = h.n;
+      body = body;
+      bytes = parts;
+      size = h.size;
+      long = ap length parts ∙ omega (arith, length-append (six_of h.n) body, c.1);
+    }
+
+-- The PES packet that was taken, as a piece.
+pub packet_taken : (old new : Option (List ℕ)) (v : PesValue) (field : List ℕ)
+    → TakesDataField old new v field
+    → TakesOnePiece old new
+packet_taken old new v field t = record {
+  bytes = t.packet.bytes;
+  is_piece = packet_is_piece v t.packet.bytes t.packet.is_packet;
+  consumed = t.packet.consumed;
+}
+
+-- A piece that is passed over.
+pub piece_taken : (old new : Option (List ℕ)) (f : PesFault)
+    → TakesPiece old new f
+    → TakesOnePiece old new
+piece_taken old new f t = record {
+  bytes = t.bytes;
+  is_piece = t.is_piece;
+  consumed = t.consumed;
+}
+
+-- One piece more, for a loop over them.
+each_piece_more : (pieces : List (List ℕ)) (b : List ℕ)
+    → AllByRecursion IsPiece pieces
+    → IsPiece b
+    → AllByRecursion IsPiece (pieces ++ b ∷ [])
+each_piece_more [] b h p = (p, tt)
+each_piece_more (x ∷ pieces) b h p = (h.0, each_piece_more pieces b h.1 p)
+
+-- At first none was taken.
+pub takes_no_pieces : (old : Option (List ℕ)) → TakesPieces 0 old old
+takes_no_pieces old = grind (arith, nat_tests, Consumes-nil)
+
+-- One more was.
+pub takes_more_pieces : (n : ℕ) (old mid new : Option (List ℕ))
+    → TakesPieces n old mid
+    → TakesOnePiece mid new
+    → TakesPieces (n + 1) old new
+takes_more_pieces n old mid new h t =
+    let joined : concat (h.pieces ++ t.bytes ∷ []) ≡ concat h.pieces ++ t.bytes =
+    grind (arith, nat_tests, concat-append, append-nil) in
+    grind (arith, nat_tests, concat-append, append-nil, length-append, each_piece_more,
+    Consumes-trans)

@@ -1,0 +1,72 @@
+-- What the reader answers is the next piece, or that none is left: by PieceFileLemmas.
+use Rattle.std.proofs.Common.{◌≡◌, ◌∙◌, refl, ap, true, false, Some, List, ℕ, arith}
+use Rattle.std.proofs.lemmas.Bool.Decides.{nat_tests}
+use Rattle.ttx_pes.specs.Fault.{is_of_piece}
+use Rattle.ttx_pes.proofs.PieceListLemmas.{behind_packet, behind_taken}
+use Rattle.sub_rules.specs.FrameRules.Unread.{BadPacket}
+use Rattle.sub_rules.proofs.PieceFileLemmas.{no_failure, packet_taken, pieces_end, pieces_stop}
+use Rattle.sub_rules.proofs.PieceFileLemmas.{reads_bad}
+use Rattle.sub_rules.proofs.piece.next_piece.Goals as goal
+
+pub returns-then-not-is_of_piece-clause-exact : goal.returns-then-not-is_of_piece-clause-exact
+returns-then-not-is_of_piece-clause-exact g c = λ pieces unread bytes told fine reads.
+    let is = c.in-Err.ensures.tells.exact c.args.pes c.requires.reading bytes told fine in
+    let kind : is_of_piece c.in-Err.fault ≡ false = grind (arith, nat_tests) in
+    let end = pieces_stop _ _ bytes pieces unread c.in-Err.fault c.requires.few reads is kind in
+    (end.0, BadPacket c.in-Err.fault, end.1, refl)
+
+pub returns-else-not-is_of_piece-clause-exact : goal.returns-else-not-is_of_piece-clause-exact
+returns-else-not-is_of_piece-clause-exact g c = λ pieces unread bytes told fine reads.
+    let kind : is_of_piece c.in-Err.fault ≡ true = grind (arith, nat_tests) in
+    let is = c.in-Err.ensures.tells.exact c.args.pes c.requires.reading bytes told
+    (no_failure c.in-Err.fault kind) in (
+      BadPacket c.in-Err.fault,
+      refl,
+      reads_bad _ _ bytes pieces unread c.in-Err.fault c.requires.few reads is kind,
+    )
+
+pub returns-else-not-is_of_piece-clause-left : goal.returns-else-not-is_of_piece-clause-left
+returns-else-not-is_of_piece-clause-left g c = λ bytes told some.
+    let kind : is_of_piece c.in-Err.fault ≡ true = grind (arith, nat_tests) in
+    behind_taken _ _ bytes c.in-Err.fault (c.in-Err.ensures.piece kind) told
+
+pub returns-in-Ok-End-clause-exact : goal.returns-in-Ok-End-clause-exact
+returns-in-Ok-End-clause-exact g c = λ pieces unread bytes told fine reads.
+    let tells = rw c.in-Ok-End.field-0-is at c.in-Ok-End.ensures.tells in
+    pieces_end _ _ bytes pieces unread c.requires.few reads
+    (tells.exact c.args.pes c.requires.reading bytes told refl)
+
+pub returns-in-Ok-Same-clause-exact : goal.returns-in-Ok-Same-clause-exact
+returns-in-Ok-Same-clause-exact g c = λ pieces unread bytes told fine reads.
+    let tells = rw c.in-Ok-Same.field-0-is at c.in-Ok-Same.ensures.tells in
+    c.piece_of.ensures.exact c.next.new.self.frame bytes pieces unread (grind (arith, nat_tests))
+    c.requires.few (tells.exact c.args.pes c.requires.reading bytes told refl) reads
+
+pub returns-in-Ok-Same-clause-taken : goal.returns-in-Ok-Same-clause-taken
+returns-in-Ok-Same-clause-taken g c = λ some.
+    packet_taken _ _ _ _ (c.in-Ok-Same.ensures.taken (rw c.in-Ok-Same.field-0-is refl))
+
+pub returns-in-Ok-Same-clause-left : goal.returns-in-Ok-Same-clause-left
+returns-in-Ok-Same-clause-left g c = λ bytes told some.
+    let tells = rw c.in-Ok-Same.field-0-is at c.in-Ok-Same.ensures.tells in
+    tells.left c.args.pes c.requires.reading bytes told
+    ∙ ap (λ (x : List ℕ). Some x) (behind_packet c.args.pes bytes c.next.new.self.frame
+    (tells.exact c.args.pes c.requires.reading bytes told refl))
+
+pub returns-in-Ok-Other-clause-exact : goal.returns-in-Ok-Other-clause-exact
+returns-in-Ok-Other-clause-exact g c = λ pieces unread bytes told fine reads.
+    let tells = rw c.in-Ok-Other.field-0-is at c.in-Ok-Other.ensures.tells in
+    c.piece_of-in-Ok-Other.ensures.exact c.next.new.self.frame bytes pieces unread
+    (grind (arith, nat_tests)) c.requires.few
+    (tells.exact c.args.pes c.requires.reading bytes told refl) reads
+
+pub returns-in-Ok-Other-clause-taken : goal.returns-in-Ok-Other-clause-taken
+returns-in-Ok-Other-clause-taken g c = λ some.
+    packet_taken _ _ _ _ (c.in-Ok-Other.ensures.taken (rw c.in-Ok-Other.field-0-is refl))
+
+pub returns-in-Ok-Other-clause-left : goal.returns-in-Ok-Other-clause-left
+returns-in-Ok-Other-clause-left g c = λ bytes told some.
+    let tells = rw c.in-Ok-Other.field-0-is at c.in-Ok-Other.ensures.tells in
+    tells.left c.args.pes c.requires.reading bytes told
+    ∙ ap (λ (x : List ℕ). Some x) (behind_packet c.args.pes bytes c.next.new.self.frame
+    (tells.exact c.args.pes c.requires.reading bytes told refl))

@@ -1,0 +1,122 @@
+-- A PES file as pieces: those that are sent as frames of the day, and those that are passed over,
+-- since they are no PES packets of the grammar or their PTS is that of no frame of the day (own).
+use Rattle.std.specs.Prelude.{◌≡◌, ℕ, ◌+◌, List, [], ◌∷◌, length, map, Option, Some, None, Result}
+use Rattle.std.specs.Prelude.{Ok, Err}
+use Rattle.std.specs.Io.KnownBytes.{Consumes}
+use Rattle.std.specs.List.{AllByRecursion, concat}
+use Rattle.ttx_pes.specs.declared.fault.PesFault.{PesFault}
+use Rattle.ttx_pes.specs.PesPacket.{PesValue}
+use Rattle.ttx_pes.specs.Pieces.{IsPiece, PiecesValue, behind_piece, pieces_after}
+use Rattle.ttx_pes.specs.Reader.{FailsWithin}
+use Rattle.sub_rules.specs.FirstBroken.{unread_fault}
+use Rattle.sub_rules.specs.FrameRules.{Unread}
+use Rattle.sub_rules.specs.FrameRules.Unread.{BadPacket, NoFrame}
+use Rattle.sub_rules.specs.PacketRules.{packets_of_units}
+use Rattle.sub_rules.specs.PesReading.{PesFileValue, frame_of_pts}
+use Rattle.sub_rules.specs.Transmission.{SentFrame, Transmission}
+use Rattle.sub_rules.specs.declared.fault.CheckFault.{CheckFault}
+use Rattle.sub_rules.specs.declared.piece.NextPiece.{NextPiece}
+use Rattle.sub_rules.specs.declared.piece.NextPiece.TheVariants as next
+
+-- A piece of a PES file: a frame is sent by it, or it is passed over.
+pub data Piece : Type 0 where
+  Sent : SentFrame → Piece
+  Passed : Unread → Piece
+
+-- A PES file, read with an origin: its pieces, up to what keeps it from being read to its end.
+pub record PieceFileValue : Type 0 where
+  pub pieces : List Piece
+  pub unread : Option Unread
+
+-- A PES packet of this frame and these packets; passed over where its PTS is that of none.
+abbrev pub piece_with : Option ℕ → List (List ℕ) → Piece
+piece_with None packets = Passed NoFrame
+piece_with (Some frame) packets = Sent (record { frame = frame; packets = packets })
+
+-- What is read of a piece, by the PTS of frame 0.
+unfoldable pub piece_of : ℕ → Result PesValue PesFault → Piece
+piece_of origin (Ok v) = piece_with (frame_of_pts origin v.pts) (packets_of_units v.units)
+piece_of origin (Err f) = Passed (BadPacket f)
+
+-- What keeps bytes from being read on.
+abbrev pub unread_by : Option PesFault → Option Unread
+unread_by None = None
+unread_by (Some f) = Some (BadPacket f)
+
+-- What pieces are as a file.
+abbrev pub file_of_pieces : ℕ → PiecesValue → PieceFileValue
+file_of_pieces origin value = record {
+  pieces = map (piece_of origin) value.pieces;
+  unread = unread_by value.left;
+}
+
+-- What the bytes that are left after `given` pieces are read as.
+unfoldable pub pieces_at : ℕ → ℕ → List ℕ → PieceFileValue
+pieces_at origin given bytes = file_of_pieces origin (pieces_after given bytes)
+
+-- What the bytes of a PES file are read as, where reading goes on behind a piece that is passed
+-- over.
+abbrev pub piece_file_of : ℕ → List ℕ → PieceFileValue
+piece_file_of origin bytes = pieces_at origin 0 bytes
+
+-- After `given` pieces the bytes are read as these, up to what is unread.
+abbrev pub ReadsPieces : ℕ → ℕ → List ℕ → List Piece → Option Unread → Type 0
+ReadsPieces origin given bytes pieces unread =
+    pieces_at origin given bytes ≡ record { pieces = pieces; unread = unread }
+
+-- The first of the pieces that are left after n pieces, and those behind it.
+pub record ReadsPiece
+    (origin n : ℕ) (bytes : List ℕ) (pieces : List Piece) (unread : Option Unread) (piece : Piece)
+    : Type 0 where
+  pub more : List Piece
+  pub first : pieces ≡ piece ∷ more
+  pub left : ReadsPieces origin (n + 1) (behind_piece bytes) more unread
+
+-- What is read of the bytes that are left after n pieces, which are read as these pieces, by an
+-- answer, with the value v of the PES packet that is sent: the first of the pieces; or that there
+-- is none, and what keeps the bytes from being read on.
+abbrev pub TellsPiece : ℕ → ℕ → List ℕ → List Piece → Option Unread → PesValue
+    → Result (Option NextPiece) CheckFault → Type 0
+TellsPiece origin n bytes pieces unread v (Ok None) = (pieces ≡ []) × (unread ≡ None)
+TellsPiece origin n bytes pieces unread v (Ok (Some (next.Sent s))) =
+    ReadsPiece origin n bytes pieces unread
+    (Sent (record { frame = s.frame; packets = packets_of_units v.units }))
+TellsPiece origin n bytes pieces unread v (Ok (Some (next.Passed f))) =
+    (u : Unread)
+    × (f ≡ unread_fault n (Some u))
+    × ReadsPiece origin n bytes pieces unread (Passed u)
+TellsPiece origin n bytes pieces unread v (Err f) =
+    (pieces ≡ []) × (u : Unread) × (unread ≡ Some u) × (f ≡ unread_fault n (Some u))
+
+-- The bytes that were taken are a piece.
+pub record TakesOnePiece (old new : Option (List ℕ)) : Type 0 where
+  pub bytes : List ℕ
+  pub is_piece : IsPiece bytes
+  pub consumed : Consumes old new bytes
+
+-- So many pieces were taken.
+pub record TakesPieces (n : ℕ) (old new : Option (List ℕ)) : Type 0 where
+  pub pieces : List (List ℕ)
+  pub number : length pieces ≡ n
+  pub each : AllByRecursion IsPiece pieces
+  pub consumed : Consumes old new (concat pieces)
+
+-- The source failed while this piece was read, counted from 0: those before it were taken.
+pub record FailsAtPiece (n : ℕ) (old new : Option (List ℕ)) : Type 0 where
+  pub behind : Option (List ℕ)
+  pub before : TakesPieces n old behind
+  pub within : FailsWithin behind new
+
+-- The frames that are sent by pieces.
+unfoldable pub frames_of : List Piece → Transmission
+frames_of [] = []
+frames_of (Sent s ∷ pieces) = s ∷ frames_of pieces
+frames_of (Passed u ∷ pieces) = frames_of pieces
+
+-- What is read of pieces up to the first one that is passed over.
+unfoldable pub read_until_passed : List Piece → Option Unread → PesFileValue
+read_until_passed [] unread = record { frames = []; unread = unread }
+read_until_passed (Sent s ∷ pieces) unread =
+    let rest = read_until_passed pieces unread in
+    record { frames = s ∷ rest.frames; unread = rest.unread }
+read_until_passed (Passed u ∷ pieces) unread = record { frames = []; unread = Some u }

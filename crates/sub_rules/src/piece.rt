@@ -1,0 +1,106 @@
+//! Pieces of a PES file, one after another: those that are sent, and those that are passed over.
+ghost use Rattle.std.specs.Prelude.{◌≡◌, ℕ, ◌+◌, ◌<◌, ◌≤◌, List, IfErr, IfOk, IsSome, Option, Ok};
+ghost use Rattle.std.specs.Prelude.{Some, false, true};
+ghost use Rattle.sub_io.specs.Calls.{PullsSome};
+ghost use Rattle.sub_io.specs.Device.{CanFail, CountsIf, failed};
+ghost use Rattle.sub_io.specs.Reading.{IfTold};
+ghost use Rattle.ttx_pes.specs.PesPacket.{PesValue};
+ghost use Rattle.ttx_pes.specs.Pieces.{behind_piece};
+ghost use Rattle.ttx_pes.specs.Reader.{FailsWithin};
+ghost use Rattle.ttx_pes.specs.Reading.{answer_at, most_packets};
+ghost use Rattle.ttx_pes.specs.declared.progress.Progress.TheVariants.{Reading};
+ghost use Rattle.stl_file.specs.TimeCode.{day};
+ghost use Rattle.sub_rules.specs.Fault.{is_pes_read};
+ghost use Rattle.sub_rules.specs.FrameRules.{Unread};
+ghost use Rattle.sub_rules.specs.Pieces.{Piece, ReadsPieces, TakesOnePiece, TellsPiece};
+
+use crate::fault::CheckFault;
+use crate::sending::Sending;
+use sub_io::Source;
+use sub_plan::Options;
+use ttx_pes::{Compared, ComparingReader, PesFault};
+
+/// A piece of a PES file: it begins as a PES packet does, and is as long as its length field says
+/// (EN 300 472, PES_packet_length).
+#[derive(Clone, Copy, Debug, PartialEq, Eq)]
+pub enum NextPiece {
+    /// It is a PES packet, and its PTS is that of a frame of the day.
+    Sent(Sending),
+    /// It is none, or its PTS is not: its fault, `Pes` or `OffFrame`.
+    Passed(CheckFault),
+}
+
+/// Reads the next piece, the one of this number from 0, as `next_sending` does, and goes on behind
+/// one that is passed over: `None` at the end of the source.
+///
+/// The reader lends what was read. After a piece that is passed over `again` says nothing of what
+/// was sent before it.
+///
+/// # Errors
+///
+/// `Pes` with the fault of bytes that are no piece: `Truncated`, `Start`, `Length` or `TooMany`;
+/// `Read` where the source failed.
+pub fn next_piece<S: Source>(
+    reader: &mut ComparingReader,
+    source: &mut S,
+    options: &Options,
+    pes: u32,
+) -> Result<Option<NextPiece>, CheckFault>
+    requires failures { CanFail (S.failure_count source.old) }
+    requires reading { reader.old.progress ≡ Reading pes }
+    requires few { pes ≤ most_packets }
+    ensures exact { (pieces : List Piece) (unread : Option Unread)
+        → IfTold (S.remaining source.old) (λ bytes. failed is_pes_read result ≡ false
+        → ReadsPieces options.now.origin pes bytes pieces unread
+        → TellsPiece options.now.origin pes bytes pieces unread reader.new.frame result) }
+    // Exactly the bytes of the piece were taken.
+    ensures taken { IfOk result (λ piece. IsSome piece
+        → TakesOnePiece (S.remaining source.old) (S.remaining source.new)) }
+    ensures left { IfTold (S.remaining source.old) (λ bytes. IfOk result (λ piece. IsSome piece
+        → S.remaining source.new ≡ Some (behind_piece bytes))) }
+    ensures progress { IfOk result (λ piece. IsSome piece
+        → reader.new.progress ≡ Reading (pes + 1)) }
+    // More than a day has frames are refused.
+    ensures below { IfOk result (λ piece. IsSome piece → pes < most_packets) }
+    // What is sent again is what was sent before.
+    ensures again { (sending : Sending) → result ≡ Ok (Some (NextPiece.Sent sending))
+        → sending.again ≡ true → reader.new.frame.units ≡ reader.old.frame.units }
+    ensures day { (sending : Sending) → result ≡ Ok (Some (NextPiece.Sent sending))
+        → sending.frame < day }
+    // That the source failed is told at this piece, within which it failed.
+    ensures place { IfErr result (λ f. is_pes_read f ≡ true
+        → f ≡ CheckFault.Pes pes PesFault.Read) }
+    ensures within { IfErr result (λ f. is_pes_read f ≡ true
+        → FailsWithin (S.remaining source.old) (S.remaining source.new)) }
+    ensures pulls { PullsSome S.is_pull source.old source.new }
+    ensures count { CountsIf S.failure_count source.old (failed is_pes_read result) source.new }
+{
+    match reader.next(source) {
+        Err(fault) => {
+            if !fault.is_of_piece() {
+                return Err(CheckFault::Pes { pes, fault });
+            }
+            reader.pass_over();
+            Ok(Some(NextPiece::Passed(CheckFault::Pes { pes, fault })))
+        }
+        Ok(Compared::End) => Ok(None),
+        Ok(Compared::Same) => Ok(Some(piece_of(reader.frame().pts(), options, pes, true))),
+        Ok(Compared::Other) => Ok(Some(piece_of(reader.frame().pts(), options, pes, false))),
+    }
+}
+
+// The piece that a PES packet of this PTS and this number is.
+fn piece_of(pts: u64, options: &Options, pes: u32, again: bool) -> NextPiece
+    ensures exact { (v : PesValue) (bytes : List ℕ) (pieces : List Piece) (unread : Option Unread)
+        → v.pts ≡ pts → pes ≤ most_packets → answer_at pes bytes ≡ Ok (Some v)
+        → ReadsPieces options.now.origin pes bytes pieces unread
+        → TellsPiece options.now.origin pes bytes pieces unread v (Ok (Some result)) }
+    ensures again { (sending : Sending) → result ≡ NextPiece.Sent sending
+        → sending.again ≡ again }
+    ensures day { (sending : Sending) → result ≡ NextPiece.Sent sending → sending.frame < day }
+{
+    match options.frame_of(pts) {
+        Some(frame) => NextPiece::Sent(Sending { frame, again }),
+        None => NextPiece::Passed(CheckFault::OffFrame { pes }),
+    }
+}
