@@ -37,7 +37,7 @@ use Rattle.sub_laws.proofs.PrefixLemmas.{first-same, last-same}
 use Rattle.sub_laws.proofs.PesFileLemmas.{carried_is_read}
 use Rattle.sub_laws.proofs.PlaceLemmas.{Complete-from_holds, Good-from_holds, refuted}
 use Rattle.sub_laws.proofs.PlanLemmas.{law_of_complete_plan, law_of_plan, law_of_plan_read}
-use Rattle.sub_laws.proofs.RobustLemmas.{promised}
+use Rattle.sub_laws.proofs.RobustLemmas.{law_of_good}
 use Rattle.sub_rules.specs.Fault.{is_failure, is_failure_kind, is_pes_read, is_subtitle_fault}
 use Rattle.ttx_pes.specs.declared.fault.PesFault.TheVariants as Pes
 use Rattle.sub_rules.specs.declared.fault.CheckFault.TheVariants as fault
@@ -206,11 +206,11 @@ module _ (programme : ProgrammeValue) (options : OptionsValue) (is : IsOptions o
     serves = λ t carries ok.
         let accepts = accepts_carried bytes t result decides carries ok in
         let promises =
-        promised programme t options (good_from bytes None t accepts.0 accepts.1) in
+        law_of_good programme t options (good_from bytes None t accepts.0 accepts.1) in
         record {
-          robust = promises.headline.robust;
-          robust_to_loss = promises.headline.to_loss;
-          recovers = promises.headline.recovers;
+          robust = promises.robust;
+          robust_to_loss = promises.to_loss;
+          recovers = promises.recovers;
           shown = λ asks.
               promises.shown (complete_pages bytes None t accepts.0 accepts.1 asks);
         };

@@ -19,6 +19,7 @@ use Rattle.sub_plan.specs.Schedule.{plan}
 use Rattle.sub_io.specs.Telling.{Tells, TellsPrefix}
 use Rattle.std.specs.Prelude.{◌+◌, flat_map, ⊤}
 use Rattle.ttx_packet.specs.PageId.{PageIdValue}
+use Rattle.ttx_page.specs.Receiver.{ReceiverClass}
 use Rattle.stl_file.specs.Reading.{Outcome}
 use Rattle.stl_rows.specs.Loading.{TellsFault}
 use Rattle.sub_rules.specs.Events.{events, events_of_first}
@@ -53,9 +54,12 @@ pub record ServesReceivers
   -- With lost rows too.
   pub robust_to_loss : RobustToMarkedLoss programme transmission options
   -- By it receivers recover from whatever they held before.
-  pub recovers : Recovers programme transmission options
+  pub recovers : (class : ReceiverClass) → Recovers class programme transmission options
   -- Where complete pages are asked for, it is shown by every receiver that waits for a page's end.
-  pub shown : IsTrue options.asks_complete → Shown programme transmission options
+  pub shown :
+      IsTrue options.asks_complete
+      → (class : ReceiverClass)
+      → Shown class programme transmission options
 
 -- ---- what an answer tells, and counts
 

@@ -9,7 +9,7 @@
 //! ```text
 //! check(&programme, &mut source, &options)?; // Accepted { frames: 51, transmissions: 2 }
 //! check_all(&programme, &mut source, &options, &mut audience)?; // tells every broken place
-//! law_of_good: Good programme transmission options → Robust programme transmission options
+//! law_of_good: Good programme transmission options → HasPromises programme transmission options
 //! ```
 #![tactic(auto)]
 
@@ -21,10 +21,9 @@ pub use files::check_files;
 pub use sub_checker::{Accepted, law_of_sent_again};
 pub use sub_laws::{
     law_of_all_kept, law_of_clean_spans, law_of_clean_stretch, law_of_complete_plan,
-    law_of_first_event, law_of_good, law_of_good_and_complete, law_of_good_and_marked_loss,
-    law_of_good_and_recovery, law_of_good_dropping_and_complete, law_of_good_dropping_and_recovery,
-    law_of_pes_files, law_of_plan, law_of_plan_read, law_of_repeats, law_of_spans_by_packet,
-    law_of_stretch, law_of_sufficient_parts, law_of_told_stretch, law_of_untold_stretch,
-    law_of_whole_recovery, law_of_whole_stretch, law_of_window,
+    law_of_first_event, law_of_good, law_of_pes_files, law_of_plan, law_of_plan_read,
+    law_of_repeats, law_of_spans_by_packet, law_of_stretch, law_of_sufficient_parts,
+    law_of_told_stretch, law_of_untold_stretch, law_of_whole_recovery, law_of_whole_stretch,
+    law_of_window,
 };
 pub use sub_rules::{CheckFault, EndRule, Event, FaultPlace, PacketRule, Watched};

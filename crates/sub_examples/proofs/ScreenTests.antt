@@ -171,7 +171,7 @@ example_of_no_end = record {
       } in
       let due =
       shown 900000 0 900000 (true ∷ []) sent (unheard None) (open_with None) listening
-      ((λ e. absurd (true≢false e)), tt) (AreNear-themselves sent)
+      (le_refl 900000) (le_refl 900000) ((λ e. absurd (true≢false e)), tt) (AreNear-themselves sent)
       (open_with None, (opens (unheard None).held, first_header), refl) holds in
       none-some due.page due.is;
 }

@@ -56,9 +56,9 @@ example_of_clean_stretch = record {
       let trusted = (law_of_clean_stretch later_subtitle damaged_first (each 1) None 900001 900002
       clean).trusted in
       let restored =
-      (trusted.recovers Storing 900001 0 900001 (all_kept sent) got old new
+      trusted.recovers Storing 900001 0 900001 (all_kept sent) got old new
       (listening damaged_first 900001 0 900001 refl) (omega arith) (omega arith) (may_all sent) near
-      hears).restored in
+      hears in
       elim (restored.cells refl 22 19 (omega arith, omega arith, omega arith)) [
         | inl due ↦ inl due
         | inr hit ↦ inr hit.0

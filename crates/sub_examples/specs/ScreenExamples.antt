@@ -1,6 +1,7 @@
 -- What comes onto a screen, packet by packet, and a good transmission that is not shown.
 use Rattle.std.specs.Prelude.{◌≡◌, [], ◌∷◌, false, Option, Some, None}
 use Rattle.ttx_page.specs.Page.{Rows, blank}
+use Rattle.ttx_page.specs.Receiver.ReceiverClass.{Storing}
 use Rattle.ttx_page.specs.Screen.{Display, Shows}
 use Rattle.stl_rows.specs.Programme.{ProgrammeValue}
 use Rattle.sub_plan.specs.Options.{OptionsValue}
@@ -45,7 +46,7 @@ pub record IsHeldAndNotShown
     : Type 0 where
   pub good : Good programme transmission options
   pub not_complete : Complete transmission options → ⊥
-  pub not_shown : Shown programme transmission options → ⊥
+  pub not_shown : Shown Storing programme transmission options → ⊥
 
 -- A header and nothing after it.
 abbrev pub ExampleOfNoEnd : Type 0

@@ -1,5 +1,6 @@
 -- With all packets kept, robust to lost rows is robust: `law_of_all_kept`.
-use Rattle.std.proofs.Common.{ℕ, List, sym, subst, arith}
+use Rattle.std.proofs.Common.{ℕ, Bool, List, sym, subst, arith}
+use Rattle.std.specs.Prelude.{All, IsTrue}
 use Rattle.std.specs.List.{AllZip}
 use Rattle.ttx_packet.specs.OneBit.{AreNear}
 use Rattle.ttx_page.specs.Receiver.{State}
@@ -8,7 +9,7 @@ use Rattle.stl_rows.specs.Programme.{ProgrammeValue}
 use Rattle.sub_plan.specs.Options.{OptionsValue}
 use Rattle.sub_rules.specs.Transmission.{on_air}
 use Rattle.sub_laws.specs.Robust.{IsServed, Robust}
-use Rattle.sub_laws.specs.LostRows.{RobustWithAllKept}
+use Rattle.sub_laws.specs.LostRows.{IsRobustWithMarks}
 use Rattle.sub_laws.specs.Laws.{LawOfAllKept}
 
 -- What is promised with one excuse is promised with each that it gives.
@@ -25,7 +26,9 @@ pub law_of_all_kept : LawOfAllKept
 law_of_all_kept programme transmission options = (robust, kept)
   where
     robust :
-        RobustWithAllKept programme transmission options
+        ((g j f : ℕ) (marks : List Bool)
+        → All IsTrue marks
+        → IsRobustWithMarks programme transmission options g j f marks)
         → Robust programme transmission options
     robust with_all g j f got old new listening near unheard shut hears =
         let sent : List (List ℕ) = on_air transmission g j f in
@@ -37,7 +40,9 @@ law_of_all_kept programme transmission options = (robust, kept)
 
     kept :
         Robust programme transmission options
-        → RobustWithAllKept programme transmission options
+        → (g j f : ℕ) (marks : List Bool)
+        → All IsTrue marks
+        → IsRobustWithMarks programme transmission options g j f marks
     kept robust g j f marks all got old new listening may near unheard shut hears =
         let sent : List (List ℕ) = on_air transmission g j f in
         let nothing = law_of_nothing_lost options.page sent marks all may in

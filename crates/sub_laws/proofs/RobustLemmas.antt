@@ -7,24 +7,15 @@ use Rattle.ttx_page.specs.Noise.{ErasesPage}
 use Rattle.ttx_page.specs.PacketKind.{kind}
 use Rattle.ttx_page.specs.Span.{span}
 use Rattle.ttx_page.proofs.LateStart.{codes_of_same}
-use Rattle.stl_rows.specs.Programme.{ProgrammeValue}
-use Rattle.sub_plan.specs.Options.{OptionsValue}
-use Rattle.sub_rules.specs.Transmission.{Transmission, first_frame, last_frame, on_air_until}
-use Rattle.sub_rules.specs.Good.{Good, IsCleanSpan}
-use Rattle.sub_laws.specs.Laws.{LawOfWindow, LawOfGood, LawOfGoodAndMarkedLoss}
-use Rattle.sub_laws.specs.OnScreen.{LawOfGoodAndComplete, LawOfGoodDroppingAndComplete}
-use Rattle.sub_laws.specs.Recovery.{LawOfGoodAndRecovery, LawOfGoodDroppingAndRecovery}
-use Rattle.sub_laws.specs.Stretch.{HasPromises}
-use Rattle.sub_laws.specs.Sufficient.{IsSufficient, LawOfSufficientParts}
+use Rattle.sub_rules.specs.Transmission.{first_frame, on_air_until}
+use Rattle.sub_rules.specs.Good.{IsCleanSpan}
+use Rattle.sub_laws.specs.Laws.{LawOfGood, LawOfWindow}
+use Rattle.sub_laws.specs.Sufficient.{LawOfSufficientParts}
 use Rattle.sub_laws.proofs.StretchLemmas.{law_of_stretch, law_of_whole_stretch, window}
 use Rattle.sub_laws.proofs.TransmissionLemmas.{packets_between-each}
 
 -- A good transmission has what suffices, in all its frames.
-suffices :
-    (programme : ProgrammeValue) (transmission : Transmission) (options : OptionsValue)
-    → Good programme transmission options
-    → IsSufficient programme transmission options (first_frame transmission)
-    (last_frame transmission)
+pub suffices : LawOfSufficientParts
 suffices programme transmission options good = record {
   first = le_refl (first_frame transmission);
   rising = good.rising;
@@ -48,53 +39,12 @@ suffices programme transmission options good = record {
   content = good.content;
 }
 
--- The parts that suffice.
-pub law_of_sufficient_parts : LawOfSufficientParts
-law_of_sufficient_parts programme transmission options = record {
-  of_good = suffices programme transmission options;
-  promises = λ enough.
-      law_of_whole_stretch programme transmission options
-      (law_of_stretch programme transmission options _ _ enough);
-}
-
 -- What is promised of a good transmission.
-pub promised :
-    (programme : ProgrammeValue) (transmission : Transmission) (options : OptionsValue)
-    → Good programme transmission options
-    → HasPromises programme transmission options
-promised programme transmission options good =
-    (law_of_sufficient_parts programme transmission options).promises
-    (suffices programme transmission options good)
-
--- It is robust.
 pub law_of_good : LawOfGood
 law_of_good programme transmission options good =
-    (promised programme transmission options good).headline.robust
-
--- Also to lost rows.
-pub law_of_good_and_marked_loss : LawOfGoodAndMarkedLoss
-law_of_good_and_marked_loss programme transmission options good =
-    (promised programme transmission options good).headline.to_loss
-
--- By it receivers recover.
-pub law_of_good_and_recovery : LawOfGoodAndRecovery
-law_of_good_and_recovery programme transmission options good =
-    (promised programme transmission options good).headline.recovers
-
--- So do receivers that drop rows.
-pub law_of_good_dropping_and_recovery : LawOfGoodDroppingAndRecovery
-law_of_good_dropping_and_recovery programme transmission options good =
-    (promised programme transmission options good).dropping
-
--- Where its pages are complete, it is shown.
-pub law_of_good_and_complete : LawOfGoodAndComplete
-law_of_good_and_complete programme transmission options good =
-    (promised programme transmission options good).shown
-
--- And by receivers that drop rows.
-pub law_of_good_dropping_and_complete : LawOfGoodDroppingAndComplete
-law_of_good_dropping_and_complete programme transmission options good =
-    (promised programme transmission options good).shown_dropping
+    law_of_whole_stretch programme transmission options
+    (law_of_stretch programme transmission options _ _
+    (suffices programme transmission options good))
 
 -- The law of the window.
 pub law_of_window : LawOfWindow

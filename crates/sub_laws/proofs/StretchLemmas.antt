@@ -11,7 +11,7 @@ use Rattle.ttx_page.specs.Noise.{EndsAs, IsSound}
 use Rattle.ttx_page.specs.Page.{cell, IsCell}
 use Rattle.ttx_page.specs.PacketKind.{kind}
 use Rattle.ttx_page.specs.Receiver.{ReceiverClass, State}
-use Rattle.ttx_page.specs.Receiver.ReceiverClass.{Dropping, Storing}
+use Rattle.ttx_page.specs.Receiver.ReceiverClass.{Storing}
 use Rattle.ttx_page.specs.Recovery.{EndsAfresh}
 use Rattle.ttx_page.specs.Shown.{shown}
 use Rattle.ttx_page.specs.Span.{holds_header, is_unended}
@@ -22,13 +22,13 @@ use Rattle.ttx_page.proofs.SpanLists.{holds-append_left, holds-append_right}
 use Rattle.stl_rows.specs.Programme.{ProgrammeValue}
 use Rattle.sub_plan.specs.Options.{OptionsValue}
 use Rattle.sub_plan.specs.Schedule.{due_in}
-use Rattle.sub_rules.specs.Transmission.{Transmission, first_frame, last_frame, packets_between}
+use Rattle.sub_rules.specs.Transmission.{Transmission, first_frame, packets_between}
 use Rattle.sub_rules.specs.Transmission.{on_air, on_air_until, packets_of}
 use Rattle.sub_laws.specs.LostRows.{RobustToMarkedLoss}
 use Rattle.sub_laws.specs.OnScreen.{CompleteWithin, ShownWithin}
-use Rattle.sub_laws.specs.Recovery.{IsRestoredFrom, RecoversWithin}
+use Rattle.sub_laws.specs.Recovery.{IsRestored, Recovers, RecoversWithin}
 use Rattle.sub_laws.specs.Robust.{IsListening, Robust}
-use Rattle.sub_laws.specs.Stretch.{HasHeadline, LawOfWholeRecovery, LawOfWholeStretch}
+use Rattle.sub_laws.specs.Stretch.{LawOfWholeRecovery, LawOfWholeStretch}
 use Rattle.sub_laws.specs.Sufficient.{IsSufficient, LawOfStretch}
 use Rattle.sub_laws.proofs.AllKept.{law_of_all_kept}
 use Rattle.sub_laws.proofs.TransmissionLemmas.{packets_between-split}
@@ -122,18 +122,16 @@ module _ (programme : ProgrammeValue) (transmission : Transmission) (options : O
       (IsExcused : ℕ → ℕ → Type 0) (old new : State)
       → (holds_header K sent ≡ true → EndsAfresh options.page sent IsExcused new)
       → (IsFalse old.heard → IsFalse old.is_open → EndsAs options.page sent IsExcused new)
-      → IsRestoredFrom programme options g f sent IsExcused old new
+      → IsRestored programme options g f sent IsExcused old new
   restored IsExcused old new afresh ends = record {
-    restored = record {
-      in_time = window;
-      heard = λ holds. (afresh holds).heard;
-      is_open = λ holds. (afresh holds).is_open;
-      cells = λ holds row column named. elim ((afresh holds).cells row column named) [
-        | inl shows ↦ inl (shows ∙ shows_due holds row column named)
-        | inr hit ↦ inr hit
-      ];
-    };
-    heard = λ unheard shut. let is = (ends unheard shut).heard in (λ h. sym is ∙ h, λ h. is ∙ h);
+    in_time = window;
+    heard = λ holds. (afresh holds).heard;
+    heard_then = λ unheard shut heard. sym ((ends unheard shut).heard) ∙ heard;
+    is_open = λ holds. (afresh holds).is_open;
+    cells = λ holds row column named. elim ((afresh holds).cells row column named) [
+      | inl shows ↦ inl (shows ∙ shows_due holds row column named)
+      | inr hit ↦ inr hit
+    ];
   }
 
   -- The page is ended at the end of frame f, where pages are complete.
@@ -174,8 +172,8 @@ module _ (programme : ProgrammeValue) (transmission : Transmission) (options : O
         let heard : List (List ℕ) = on_air transmission g j f in
         let clean = sound programme transmission options a b enough g j f listening from to in
         let held =
-        (recovers g j f marks got old.held new.held listening from to may near
-        (screens.held_by class options.page got old new run)).restored in
+        recovers g j f marks got old.held new.held listening from to may near
+        (screens.held_by class options.page got old new run) in
         record {
           page = new.held.page;
           is =
@@ -199,8 +197,7 @@ law_of_stretch programme transmission options a b enough = record {
 -- ---- all frames
 
 module _ (programme : ProgrammeValue) (transmission : Transmission) (options : OptionsValue)
-    (recovers : RecoversWithin Storing programme transmission options (first_frame transmission)
-    (last_frame transmission)) where
+    (recovers : Recovers Storing programme transmission options) where
   -- Where receivers recover in all frames, the transmission is robust to lost rows.
   to_loss : RobustToMarkedLoss programme transmission options
   to_loss g j f marks got old new listening may near unheard shut hears =
@@ -208,9 +205,9 @@ module _ (programme : ProgrammeValue) (transmission : Transmission) (options : O
       recovers g j f marks got old new listening listening.not_before listening.not_after may near
       hears in
       record {
-        in_time = restored.restored.in_time;
-        heard = restored.heard unheard shut;
-        cells = restored.restored.cells;
+        in_time = restored.in_time;
+        heard = (restored.heard_then unheard shut, restored.heard);
+        cells = restored.cells;
       }
 
   -- And so it is robust. Also for the examples.
@@ -218,27 +215,18 @@ module _ (programme : ProgrammeValue) (transmission : Transmission) (options : O
   robust_of_recovers =
       (law_of_all_kept programme transmission options).0 (λ g j f marks all. to_loss g j f marks)
 
-  -- And by it receivers recover: the headline, and what widens it.
-  headline : HasHeadline programme transmission options
-  headline = record {
-    robust = robust_of_recovers;
-    to_loss = to_loss;
-    recovers = λ g j f marks got old new listening may near hears.
-        (recovers g j f marks got old new listening listening.not_before listening.not_after may
-        near hears).restored;
-  }
-
 -- Recovery in all frames is enough for the headline.
 pub law_of_whole_recovery : LawOfWholeRecovery
-law_of_whole_recovery = headline
+law_of_whole_recovery programme transmission options recovers = (
+  robust_of_recovers programme transmission options recovers,
+  to_loss programme transmission options recovers,
+)
 
 -- What may be trusted of all frames is what is promised of the transmission.
 pub law_of_whole_stretch : LawOfWholeStretch
 law_of_whole_stretch programme transmission options trusted = record {
-  headline = headline programme transmission options (trusted.recovers Storing);
-  dropping = trusted.recovers Dropping;
-  shown = λ complete g j f marks got old new listening.
-      trusted.shown complete Storing g j f marks got old new listening listening.not_before
-      listening.not_after;
-  shown_dropping = λ complete. trusted.shown complete Dropping;
+  robust = robust_of_recovers programme transmission options (trusted.recovers Storing);
+  to_loss = to_loss programme transmission options (trusted.recovers Storing);
+  recovers = trusted.recovers;
+  shown = trusted.shown;
 }

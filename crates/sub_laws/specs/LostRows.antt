@@ -1,5 +1,5 @@
 -- A transmission that is robust where packets are lost too: any but page headers.
-use Rattle.std.specs.Prelude.{ℕ, Bool, List, All, IsTrue, IsFalse}
+use Rattle.std.specs.Prelude.{ℕ, Bool, List, IsFalse}
 use Rattle.std.specs.List.{AllZip, items_where_true}
 use Rattle.ttx_packet.specs.OneBit.{AreNear}
 use Rattle.ttx_page.specs.LostRows.{IsHitOrLost, MayBeMarked, arrivals_of}
@@ -29,11 +29,4 @@ IsRobustWithMarks programme transmission options g j f marks =
 abbrev pub RobustToMarkedLoss : ProgrammeValue → Transmission → OptionsValue → Type 0
 RobustToMarkedLoss programme transmission options =
     (g j f : ℕ) (marks : List Bool)
-    → IsRobustWithMarks programme transmission options g j f marks
-
--- Robust to lost rows where no packet is lost: all marks say that the packet is kept.
-abbrev pub RobustWithAllKept : ProgrammeValue → Transmission → OptionsValue → Type 0
-RobustWithAllKept programme transmission options =
-    (g j f : ℕ) (marks : List Bool)
-    → All IsTrue marks
     → IsRobustWithMarks programme transmission options g j f marks

@@ -1,22 +1,19 @@
 -- What is on the screen of a receiver that shows a page only when a later header has ended it,
 -- wherever it starts, whatever bits are wrong and whatever rows are lost.
-use Rattle.std.specs.Prelude.{◌≡◌, ℕ, ◌≤◌, ◌⊎◌, Bool, List, [], Option, Some, IsTrue, IsFalse}
+use Rattle.std.specs.Prelude.{◌≡◌, ℕ, ◌≤◌, Bool, List, [], Option, Some, IsTrue, IsFalse}
 use Rattle.std.specs.List.{AllZip, items_where_true}
 use Rattle.ttx_packet.specs.OneBit.{AreNear}
 use Rattle.ttx_page.specs.DroppedRows.{ExcusedBy}
 use Rattle.ttx_page.specs.LostRows.{IsHitOrLost, MayBeMarked, arrivals_of}
-use Rattle.ttx_page.specs.Page.{Rows, space, cell, IsCell}
+use Rattle.ttx_page.specs.Page.{Rows}
 use Rattle.ttx_page.specs.PacketKind.{kind}
 use Rattle.ttx_page.specs.Receiver.{ReceiverClass}
-use Rattle.ttx_page.specs.Receiver.ReceiverClass.{Dropping}
-use Rattle.ttx_page.specs.Screen.{Display, Shows, ShowsBy}
+use Rattle.ttx_page.specs.Screen.{Display, ShowsBy}
 use Rattle.ttx_page.specs.Span.{holds_header, is_unended}
 use Rattle.stl_rows.specs.Programme.{IsProgramme, ProgrammeValue}
 use Rattle.sub_plan.specs.Options.{IsOptions, OptionsValue}
-use Rattle.sub_plan.specs.Schedule.{due_in}
-use Rattle.sub_rules.specs.Good.{Good}
 use Rattle.sub_laws.specs.Planned.{planned}
-use Rattle.sub_laws.specs.Robust.{IsListening}
+use Rattle.sub_laws.specs.Robust.{HoldsDuePage, IsListening}
 use Rattle.sub_rules.specs.Transmission.{Transmission, first_frame, last_frame, on_air}
 use Rattle.sub_rules.specs.Transmission.{on_air_until}
 
@@ -36,39 +33,19 @@ abbrev pub Complete : Transmission → OptionsValue → Type 0
 Complete transmission options =
     CompleteWithin transmission options (first_frame transmission) (last_frame transmission)
 
--- On the screen is a page, and each cell of it is that of the page that is due at the frame, or an
--- excused space.
+-- On the screen is a page, and it is the one that is due at the frame, but for excused spaces.
 pub record HasDuePage
     (programme : ProgrammeValue) (f : ℕ) (IsExcused : ℕ → ℕ → Type 0) (screen : Option Rows)
     : Type 0 where
   pub page : Rows
   pub is : screen ≡ Some page
-  pub cells :
-      (row column : ℕ)
-      → IsCell row column
-      → (cell page row column ≡ cell (due_in programme f) row column)
-      ⊎ ((cell page row column ≡ space) × IsExcused row column)
+  pub cells : HoldsDuePage programme f IsExcused page
 
--- A transmission that is shown: wherever one starts and stops, whatever rows are lost, whatever is
--- got of the others with at most one bit wrong in each byte, whatever a receiver held and showed
--- before, and whatever its choices, the due page is on its screen once a header of its page was
--- sent, and a space is excused only where its byte was hit or its row lost.
-abbrev pub Shown : ProgrammeValue → Transmission → OptionsValue → Type 0
-Shown programme transmission options =
-    (g j f : ℕ) (marks : List Bool) (got : List (List ℕ)) (old new : Display)
-    → IsListening transmission g j f
-    → AllZip MayBeMarked (on_air transmission g j f) marks
-    → AllZip AreNear (items_where_true marks (on_air transmission g j f)) got
-    → Shows options.page old got new
-    → IsTrue (holds_header (kind options.page) (on_air transmission g j f))
-    → HasDuePage programme f
-    (IsHitOrLost options.page (on_air transmission g j f) (arrivals_of marks got)) new.screen
-
--- ---- in a stretch of frames
-
--- The frames from a to b are shown by receivers of the class: as above, with start and stop in
--- these frames. Where rows are dropped, a space is excused where any byte of its row was hit, or
--- the row lost.
+-- The frames from a to b are shown by receivers of the class: wherever one starts and stops there,
+-- whatever rows are lost, whatever is got of the others with at most one bit wrong in each byte,
+-- whatever a receiver held and showed before, and whatever its choices, the due page is on its
+-- screen once a header of its page was sent. A space is excused only where its byte was hit or its
+-- row lost; by a receiver that drops rows, where any byte of its row was hit, or the row lost.
 abbrev pub ShownWithin :
     ReceiverClass → ProgrammeValue → Transmission → OptionsValue → ℕ → ℕ → Type 0
 ShownWithin class programme transmission options a b =
@@ -84,24 +61,10 @@ ShownWithin class programme transmission options a b =
     (ExcusedBy class (IsHitOrLost options.page (on_air transmission g j f) (arrivals_of marks got)))
     new.screen
 
--- ---- good transmissions
-
--- A good transmission of complete pages is shown.
--- So the headline holds of the screens of decoders that wait for the end of a page.
-abbrev pub LawOfGoodAndComplete : Type 0
-LawOfGoodAndComplete =
-    (programme : ProgrammeValue) (transmission : Transmission) (options : OptionsValue)
-    → Good programme transmission options
-    → Complete transmission options
-    → Shown programme transmission options
-
--- A good transmission of complete pages is shown by receivers that drop rows too.
-abbrev pub LawOfGoodDroppingAndComplete : Type 0
-LawOfGoodDroppingAndComplete =
-    (programme : ProgrammeValue) (transmission : Transmission) (options : OptionsValue)
-    → Good programme transmission options
-    → Complete transmission options
-    → ShownWithin Dropping programme transmission options (first_frame transmission)
+-- All frames are.
+abbrev pub Shown : ReceiverClass → ProgrammeValue → Transmission → OptionsValue → Type 0
+Shown class programme transmission options =
+    ShownWithin class programme transmission options (first_frame transmission)
     (last_frame transmission)
 
 -- The schedule of a programme that has a subtitle is one of complete pages, in both modes.

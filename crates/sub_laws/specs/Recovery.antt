@@ -1,32 +1,34 @@
 -- What every receiver holds of a transmission, whatever it held before: wherever it starts,
 -- whatever bits are wrong and whatever rows are lost.
-use Rattle.std.specs.Prelude.{◌≡◌, ◌↔◌, ℕ, ◌+◌, ◌≤◌, ◌⊎◌, Bool, List, IsTrue, IsFalse}
+use Rattle.std.specs.Prelude.{◌≡◌, ℕ, ◌+◌, ◌≤◌, Bool, List, IsTrue, IsFalse}
 use Rattle.std.specs.List.{AllZip, items_where_true}
 use Rattle.ttx_packet.specs.OneBit.{AreNear}
 use Rattle.ttx_page.specs.DroppedRows.{ExcusedBy}
 use Rattle.ttx_page.specs.LostRows.{IsHitOrLost, MayBeMarked, arrivals_of}
-use Rattle.ttx_page.specs.Page.{space, cell, IsCell}
 use Rattle.ttx_page.specs.PacketKind.{kind}
-use Rattle.ttx_page.specs.Receiver.{Hears, HearsBy, ReceiverClass, State}
-use Rattle.ttx_page.specs.Receiver.ReceiverClass.{Dropping}
+use Rattle.ttx_page.specs.Receiver.{HearsBy, ReceiverClass, State}
 use Rattle.ttx_page.specs.Span.{holds_header, is_unended}
 use Rattle.stl_rows.specs.Programme.{ProgrammeValue}
 use Rattle.sub_plan.specs.Options.{OptionsValue}
-use Rattle.sub_plan.specs.Schedule.{due_in}
-use Rattle.sub_rules.specs.Good.{Good}
-use Rattle.sub_laws.specs.Robust.{IsListening}
+use Rattle.sub_laws.specs.Robust.{HoldsDuePage, IsListening}
 use Rattle.sub_rules.specs.Transmission.{Transmission, first_frame, last_frame, on_air}
 
 -- What is promised to a receiver that listened from frame g to the end of frame f, where these
 -- packets were sent, whatever it held before, and its state is now this one.
 pub record IsRestored
     (programme : ProgrammeValue) (options : OptionsValue) (g f : ℕ)
-    (sent : List (List ℕ)) (IsExcused : ℕ → ℕ → Type 0) (new : State)
+    (sent : List (List ℕ)) (IsExcused : ℕ → ℕ → Type 0) (old new : State)
     : Type 0 where
   -- By the end of frame g + every a header of its page was sent.
   pub in_time : g + options.every ≤ f → IsTrue (holds_header (kind options.page) sent)
-  -- Once one was sent, it has heard its page.
+  -- Once one was sent, it has heard its page; and where it had not heard it before, and the page
+  -- was not open, it has heard it only then.
   pub heard : IsTrue (holds_header (kind options.page) sent) → IsTrue new.heard
+  pub heard_then :
+      IsFalse old.heard
+      → IsFalse old.is_open
+      → IsTrue new.heard
+      → IsTrue (holds_header (kind options.page) sent)
   -- The page is then open exactly where no header after its last one ends the span.
   pub is_open :
       IsTrue (holds_header (kind options.page) sent)
@@ -34,44 +36,14 @@ pub record IsRestored
   -- And each cell holds the due page's code, or it is an excused space.
   pub cells :
       IsTrue (holds_header (kind options.page) sent)
-      → (row column : ℕ)
-      → IsCell row column
-      → (cell new.page row column ≡ cell (due_in programme f) row column)
-      ⊎ ((cell new.page row column ≡ space) × IsExcused row column)
+      → HoldsDuePage programme f IsExcused new.page
 
--- A transmission from which receivers recover: wherever one starts and stops, whatever rows are
--- lost, whatever is got of the others with at most one bit wrong in each byte, whatever a receiver
--- held before, heard or not, open or not, with any page, and whatever its choices, it is restored,
--- and a space is excused only where its byte was hit or its row lost. The marks stand beside the
--- packets: true where one is kept, and page headers are kept.
-abbrev pub Recovers : ProgrammeValue → Transmission → OptionsValue → Type 0
-Recovers programme transmission options =
-    (g j f : ℕ) (marks : List Bool) (got : List (List ℕ)) (old new : State)
-    → IsListening transmission g j f
-    → AllZip MayBeMarked (on_air transmission g j f) marks
-    → AllZip AreNear (items_where_true marks (on_air transmission g j f)) got
-    → Hears options.page old got new
-    → IsRestored programme options g f (on_air transmission g j f)
-    (IsHitOrLost options.page (on_air transmission g j f) (arrivals_of marks got)) new
-
--- ---- in a stretch of frames
-
--- What is promised to a receiver in a stretch of frames: it is restored; and where it had not heard
--- its page, and that was not open, it has heard it exactly where a header of it was sent.
-pub record IsRestoredFrom
-    (programme : ProgrammeValue) (options : OptionsValue) (g f : ℕ)
-    (sent : List (List ℕ)) (IsExcused : ℕ → ℕ → Type 0) (old new : State)
-    : Type 0 where
-  pub restored : IsRestored programme options g f sent IsExcused new
-  pub heard :
-      IsFalse old.heard
-      → IsFalse old.is_open
-      → IsTrue new.heard
-      ↔ IsTrue (holds_header (kind options.page) sent)
-
--- Receivers of the class recover in the frames from a to b: as above, with start and stop in these
--- frames. Where rows are dropped, a space is excused where any byte of its row was hit, or the row
--- lost.
+-- Receivers of the class recover in the frames from a to b: wherever one starts and stops there,
+-- whatever rows are lost, whatever is got of the others with at most one bit wrong in each byte,
+-- whatever a receiver held before, heard or not, open or not, with any page, and whatever its
+-- choices, it is restored. A space is excused only where its byte was hit or its row lost; by a
+-- receiver that drops rows, where any byte of its row was hit, or the row lost. The marks stand
+-- beside the packets: true where one is kept, and page headers are kept.
 abbrev pub RecoversWithin :
     ReceiverClass → ProgrammeValue → Transmission → OptionsValue → ℕ → ℕ → Type 0
 RecoversWithin class programme transmission options a b =
@@ -82,24 +54,12 @@ RecoversWithin class programme transmission options a b =
     → AllZip MayBeMarked (on_air transmission g j f) marks
     → AllZip AreNear (items_where_true marks (on_air transmission g j f)) got
     → HearsBy class options.page old got new
-    → IsRestoredFrom programme options g f (on_air transmission g j f)
+    → IsRestored programme options g f (on_air transmission g j f)
     (ExcusedBy class (IsHitOrLost options.page (on_air transmission g j f) (arrivals_of marks got)))
     old new
 
--- ---- good transmissions
-
--- Receivers recover from anything by a good transmission.
--- So what was on the air before, and what noise made of it, is over with the next header.
-abbrev pub LawOfGoodAndRecovery : Type 0
-LawOfGoodAndRecovery =
-    (programme : ProgrammeValue) (transmission : Transmission) (options : OptionsValue)
-    → Good programme transmission options
-    → Recovers programme transmission options
-
--- Receivers that drop rows recover from anything by a good transmission.
-abbrev pub LawOfGoodDroppingAndRecovery : Type 0
-LawOfGoodDroppingAndRecovery =
-    (programme : ProgrammeValue) (transmission : Transmission) (options : OptionsValue)
-    → Good programme transmission options
-    → RecoversWithin Dropping programme transmission options (first_frame transmission)
+-- They recover in all frames.
+abbrev pub Recovers : ReceiverClass → ProgrammeValue → Transmission → OptionsValue → Type 0
+Recovers class programme transmission options =
+    RecoversWithin class programme transmission options (first_frame transmission)
     (last_frame transmission)

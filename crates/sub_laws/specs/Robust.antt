@@ -2,7 +2,7 @@
 use Rattle.std.specs.Prelude.{◌≡◌, ◌↔◌, ℕ, ◌+◌, ◌≤◌, ◌⊎◌, List, length, IsTrue, IsFalse}
 use Rattle.std.specs.List.{AllZip}
 use Rattle.ttx_packet.specs.OneBit.{AreNear}
-use Rattle.ttx_page.specs.Page.{space, cell, IsCell}
+use Rattle.ttx_page.specs.Page.{Rows, space, cell, IsCell}
 use Rattle.ttx_page.specs.PacketKind.{kind}
 use Rattle.ttx_page.specs.Receiver.{State, Hears}
 use Rattle.ttx_page.specs.Shown.{IsHit}
@@ -20,6 +20,14 @@ pub record IsListening (transmission : Transmission) (g j f : ℕ) : Type 0 wher
   pub not_after : f ≤ last_frame transmission
   pub in_frame : j ≤ length (packets_of transmission g)
 
+-- Each cell of a page holds the code of the page that is due at the frame, or is an excused space.
+abbrev pub HoldsDuePage : ProgrammeValue → ℕ → (ℕ → ℕ → Type 0) → Rows → Type 0
+HoldsDuePage programme f IsExcused page =
+    (row column : ℕ)
+    → IsCell row column
+    → (cell page row column ≡ cell (due_in programme f) row column)
+    ⊎ ((cell page row column ≡ space) × IsExcused row column)
+
 -- What is promised to a receiver that listened from frame g to the end of frame f, where these
 -- packets were sent, and its state is now this one.
 pub record IsServed
@@ -33,10 +41,7 @@ pub record IsServed
   -- Then each cell holds the due page's code, or it is an excused space.
   pub cells :
       IsTrue (holds_header (kind options.page) sent)
-      → (row column : ℕ)
-      → IsCell row column
-      → (cell new.page row column ≡ cell (due_in programme f) row column)
-      ⊎ ((cell new.page row column ≡ space) × IsExcused row column)
+      → HoldsDuePage programme f IsExcused new.page
 
 -- A robust transmission: wherever one starts and stops, whatever is got with at most one bit wrong
 -- in each byte, whatever old page a receiver holds that has not heard its page yet, and whatever

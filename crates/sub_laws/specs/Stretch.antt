@@ -1,7 +1,7 @@
 -- What may be trusted of a stretch of frames, and what is promised of a whole transmission.
 use Rattle.std.specs.Prelude.{ℕ}
 use Rattle.ttx_page.specs.Receiver.{ReceiverClass}
-use Rattle.ttx_page.specs.Receiver.ReceiverClass.{Dropping, Storing}
+use Rattle.ttx_page.specs.Receiver.ReceiverClass.{Storing}
 use Rattle.stl_rows.specs.Programme.{ProgrammeValue}
 use Rattle.sub_plan.specs.Options.{OptionsValue}
 use Rattle.sub_laws.specs.LostRows.{RobustToMarkedLoss}
@@ -22,39 +22,29 @@ pub record MayBeTrusted
       → (class : ReceiverClass)
       → ShownWithin class programme transmission options a b
 
--- The headline of a whole transmission, and what widens it: with lost rows too, and after whatever
--- a receiver held before.
-pub record HasHeadline
+-- What is promised of a whole transmission: the headline; with lost rows too; after whatever a
+-- receiver held before; and on the screens.
+pub record HasPromises
     (programme : ProgrammeValue) (transmission : Transmission) (options : OptionsValue)
     : Type 0 where
   pub robust : Robust programme transmission options
   pub to_loss : RobustToMarkedLoss programme transmission options
-  pub recovers : Recovers programme transmission options
+  pub recovers : (class : ReceiverClass) → Recovers class programme transmission options
+  pub shown :
+      Complete transmission options
+      → (class : ReceiverClass)
+      → Shown class programme transmission options
 
--- It follows from recovery in all its frames alone.
+-- The headline, with lost rows too, follows from recovery in all frames alone.
 -- So whoever shows recovery of a stretch has shown the headline there too.
 abbrev pub LawOfWholeRecovery : Type 0
 LawOfWholeRecovery =
     (programme : ProgrammeValue) (transmission : Transmission) (options : OptionsValue)
-    → RecoversWithin Storing programme transmission options (first_frame transmission)
-    (last_frame transmission)
-    → HasHeadline programme transmission options
+    → Recovers Storing programme transmission options
+    → Robust programme transmission options
+    × RobustToMarkedLoss programme transmission options
 
--- What is promised of a whole transmission.
-pub record HasPromises
-    (programme : ProgrammeValue) (transmission : Transmission) (options : OptionsValue)
-    : Type 0 where
-  pub headline : HasHeadline programme transmission options
-  pub dropping :
-      RecoversWithin Dropping programme transmission options (first_frame transmission)
-      (last_frame transmission)
-  pub shown : Complete transmission options → Shown programme transmission options
-  pub shown_dropping :
-      Complete transmission options
-      → ShownWithin Dropping programme transmission options (first_frame transmission)
-      (last_frame transmission)
-
--- It is what may be trusted of all its frames.
+-- All of it is what may be trusted of all frames.
 abbrev pub LawOfWholeStretch : Type 0
 LawOfWholeStretch =
     (programme : ProgrammeValue) (transmission : Transmission) (options : OptionsValue)

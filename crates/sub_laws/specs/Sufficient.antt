@@ -10,7 +10,7 @@ use Rattle.sub_plan.specs.Schedule.{due_in}
 use Rattle.sub_rules.specs.Transmission.{Transmission, IsRising, first_frame, last_frame, on_air}
 use Rattle.sub_rules.specs.Transmission.{on_air_until}
 use Rattle.sub_rules.specs.Good.{Good, HoldsHeader}
-use Rattle.sub_laws.specs.Stretch.{HasPromises, MayBeTrusted}
+use Rattle.sub_laws.specs.Stretch.{MayBeTrusted}
 
 -- What the headline needs of the frames from a to b. Nothing is asked of packets in frames before
 -- them, which may be as wrong as they like, but that frames rise.
@@ -49,22 +49,12 @@ LawOfStretch =
     → IsSufficient programme transmission options a b
     → MayBeTrusted programme transmission options a b
 
--- What is said of these parts of all frames: a good transmission has them, and they alone give all
--- that is promised of it.
-pub record LawOfParts
-    (programme : ProgrammeValue) (transmission : Transmission) (options : OptionsValue)
-    : Type 0 where
-  pub of_good :
-      Good programme transmission options
-      → IsSufficient programme transmission options (first_frame transmission)
-      (last_frame transmission)
-  pub promises :
-      IsSufficient programme transmission options (first_frame transmission)
-      (last_frame transmission)
-      → HasPromises programme transmission options
-
--- So the headline is true without the other parts of the rules.
+-- A good transmission has these parts in all frames.
+-- So the headline is true without the other parts of the rules: all that is promised of a good
+-- transmission is what may be trusted of a stretch that has these, where that is all frames.
 abbrev pub LawOfSufficientParts : Type 0
 LawOfSufficientParts =
     (programme : ProgrammeValue) (transmission : Transmission) (options : OptionsValue)
-    → LawOfParts programme transmission options
+    → Good programme transmission options
+    → IsSufficient programme transmission options (first_frame transmission)
+    (last_frame transmission)

@@ -3,7 +3,8 @@
 //! The functions do nothing: the contract of each is a law over the definitions of `specs/`.
 ghost use Rattle.sub_laws.specs.CleanStretch.{LawOfCleanStretch, LawOfUntoldStretch};
 ghost use Rattle.sub_laws.specs.FirstEvent.{LawOfFirstEvent};
-ghost use Rattle.sub_laws.specs.Laws.{LawOfAllKept, LawOfGood, LawOfGoodAndMarkedLoss, LawOfWindow};
+ghost use Rattle.sub_laws.specs.Laws.{LawOfAllKept, LawOfGood, LawOfWindow};
+ghost use Rattle.sub_laws.specs.OnScreen.{LawOfCompletePlan};
 ghost use Rattle.sub_rules.specs.PesReading.{LawOfPesFiles};
 ghost use Rattle.sub_laws.specs.Planned.{LawOfPlan, LawOfPlanRead};
 ghost use Rattle.sub_laws.specs.StepByStep.{LawOfCleanSpans, LawOfRepeats, LawOfSpansByPacket};
@@ -19,15 +20,19 @@ pub fn law_of_window()
 
 /// A good transmission is robust: for every start, every old page, every receiver, and at most one
 /// wrong bit in each byte, each cell holds the due page's code or, where its byte was hit, a space.
+/// So it is where packets are lost, any but page headers: a mark beside each says whether it is
+/// kept, and a cell of a lost row counts as hit. The same holds whatever a receiver held before, of
+/// those that drop rows too, where a byte of the cell's row was hit; and of the screens of those
+/// that show a page only when a later header has ended it, where pages are complete.
 #[tactic(auto, using(crate::proofs::RobustLemmas::law_of_good))]
 pub fn law_of_good()
     ensures { LawOfGood }
 {}
 
-/// Of the seven rules these parts suffice for it: frames rise; code words have no bit wrong;
-/// headers erase the page; rows are odd, and stay as they are; a header comes within the repeat
-/// bound; what is due is shown.
-#[tactic(auto, using(crate::proofs::RobustLemmas::law_of_sufficient_parts))]
+/// A good transmission has the parts of the rules that suffice for it: frames rise; code words have
+/// no bit wrong; headers erase the page; rows are odd, and stay as they are; a header comes within
+/// the repeat bound; what is due is shown.
+#[tactic(auto, using(crate::proofs::RobustLemmas::suffices))]
 pub fn law_of_sufficient_parts()
     ensures { LawOfSufficientParts }
 {}
@@ -60,8 +65,7 @@ pub fn law_of_told_stretch()
     ensures { LawOfToldStretch }
 {}
 
-/// Where receivers recover in all frames of a transmission it is robust, with lost rows too, and
-/// receivers recover by it from whatever they held before.
+/// Where receivers recover in all frames of a transmission it is robust, with lost rows too.
 pub fn law_of_whole_recovery()
     ensures { LawOfWholeRecovery }
 {}
@@ -69,13 +73,6 @@ pub fn law_of_whole_recovery()
 /// What may be trusted of all frames of a transmission is what is promised of it.
 pub fn law_of_whole_stretch()
     ensures { LawOfWholeStretch }
-{}
-
-/// A good transmission is robust where packets are lost too, any but page headers: a mark beside
-/// each packet says whether it is kept, and a cell of a lost row counts as hit.
-#[tactic(auto, using(crate::proofs::RobustLemmas::law_of_good_and_marked_loss))]
-pub fn law_of_good_and_marked_loss()
-    ensures { LawOfGoodAndMarkedLoss }
 {}
 
 /// With all packets marked as kept, robust to lost rows is robust.
@@ -104,6 +101,12 @@ pub fn law_of_repeats()
 /// for both national options.
 pub fn law_of_plan()
     ensures { LawOfPlan }
+{}
+
+/// It is one of complete pages, in both modes.
+#[tactic(auto, using(crate::proofs::PlanLemmas::law_of_complete_plan))]
+pub fn law_of_complete_plan()
+    ensures { LawOfCompletePlan }
 {}
 
 /// The bytes of a schedule are read to their end as that transmission, frame by frame.

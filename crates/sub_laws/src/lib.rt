@@ -6,21 +6,16 @@
 //! and each function is a law.
 //!
 //! ```text
-//! law_of_good: Good programme transmission options → Robust programme transmission options
+//! law_of_good: Good programme transmission options → HasPromises programme transmission options
 //! ```
 #![tactic(auto)]
 
 mod laws;
-mod on_screen;
-mod recovery;
 
 pub use laws::{
-    law_of_all_kept, law_of_clean_spans, law_of_clean_stretch, law_of_first_event, law_of_good,
-    law_of_good_and_marked_loss, law_of_pes_files, law_of_plan, law_of_plan_read, law_of_repeats,
-    law_of_spans_by_packet, law_of_stretch, law_of_sufficient_parts, law_of_told_stretch,
-    law_of_untold_stretch, law_of_whole_recovery, law_of_whole_stretch, law_of_window,
+    law_of_all_kept, law_of_clean_spans, law_of_clean_stretch, law_of_complete_plan,
+    law_of_first_event, law_of_good, law_of_pes_files, law_of_plan, law_of_plan_read,
+    law_of_repeats, law_of_spans_by_packet, law_of_stretch, law_of_sufficient_parts,
+    law_of_told_stretch, law_of_untold_stretch, law_of_whole_recovery, law_of_whole_stretch,
+    law_of_window,
 };
-pub use on_screen::{
-    law_of_complete_plan, law_of_good_and_complete, law_of_good_dropping_and_complete,
-};
-pub use recovery::{law_of_good_and_recovery, law_of_good_dropping_and_recovery};
