@@ -9,7 +9,7 @@ import time
 
 from ..pes import pes_packet, pts_in
 from ..teletext import packet
-from ..times import TICKS, frame_of
+from ..times import TICKS, frame_of, time_of
 from .bench import Case, Done, example, example_bytes, packets, tool_path
 from .streams import PAYLOAD, PID, extracted, of_the_pid, stream_of
 
@@ -194,7 +194,11 @@ def is_trusted_nowhere_around(case: Case) -> None:
         done = extracted(case, b"".join(each for at, (_, each) in enumerate(made) if at != place))
         status, lines = case.program("check", example("story.stl"), "--every", "25", "--all",
                                      case.write("lost.pes", done.out))
-        case.test(f"{place}: told", status == 1 and f"refused 38 UnitLength pes {number}" in lines,
+        line = f"refused 38 UnitLength pes {number}"
+        case.test(f"{place}: told", status == 1 and line in lines, lines)
+        after = lines[lines.index(line) + 1:-1] if line in lines else []
+        case.test(f"{place}: reads on", not after
+                  or after[-1].startswith("trusted ") and after[-1].endswith(time_of(frames[-1])),
                   lines)
         before = frames[number - 1] if number else frames[0]
         spans = [[frame_of(time) or 0 for time in line.split()[2:]] for line in lines
