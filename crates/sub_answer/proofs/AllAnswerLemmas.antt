@@ -3,7 +3,7 @@
 use Rattle.std.proofs.Common.{◌≡◌, ◌≢◌, ◌∙◌, ap, refl, sym, subst, arith, inl, inr, ℕ, ◌+◌, ◌==◌}
 use Rattle.std.proofs.Common.{List, [], ◌++◌, Bool, true, false, Option, Some, None, Result, Ok}
 use Rattle.std.proofs.Common.{Err}
-use Rattle.std.proofs.Common.{min}
+use Rattle.std.proofs.Common.{MatchResult, min}
 use Rattle.std.proofs.lemmas.Bool.{true≢false}
 use Rattle.std.proofs.lemmas.Bool.Decides.{nat_tests}
 use Rattle.std.specs.Prelude.{IfErr, IsOk, IsTrue, ◌<◌}
@@ -22,7 +22,7 @@ use Rattle.stl_rows.specs.declared.fault.LoadFaultKind.{LoadFaultKind}
 use Rattle.stl_rows.specs.declared.fault.LoadFaultKind.TheVariants as load
 use Rattle.stl_rows.specs.declared.national.National.{National}
 use Rattle.sub_plan.specs.Options.{OptionsValue}
-use Rattle.sub_check.specs.CheckedFiles.{IsChecked, first_answer}
+use Rattle.sub_check.specs.CheckedFiles.{IsChecked, events_of, first_answer}
 use Rattle.sub_rules.specs.Events as pes_events
 use Rattle.sub_rules.specs.FrameRules.{task_of}
 use Rattle.sub_rules.specs.Good.{Good}
@@ -30,13 +30,13 @@ use Rattle.sub_rules.specs.PesFrames.{Carries}
 use Rattle.sub_rules.specs.PesReading.{pes_file_of}
 use Rattle.sub_laws.specs.OnScreen.{Complete}
 use Rattle.sub_rules.specs.Transmission.{Transmission}
-use Rattle.sub_check.proofs.FirstToldLemmas.{first_of_pes, first_own, none_first}
+use Rattle.sub_check.specs.FirstTold.{IsRuleFault}
+use Rattle.sub_check.proofs.FirstToldLemmas.{first_decides}
 use Rattle.sub_rules.specs.declared.event.Event.TheVariants.{Ended, Told}
 use Rattle.sub_answer.specs.declared.told.Kind.{Kind}
 use Rattle.sub_answer.specs.declared.told.Kind.TheVariants as kind
 use Rattle.std.proofs.Common.{◌∷◌}
 use Rattle.sub_rules.specs.Fault.{is_failure, is_failure_kind, is_pes_read, is_stl_read}
-use Rattle.sub_rules.specs.Fault.{is_subtitle_fault}
 use Rattle.sub_checker.specs.declared.telling.Accepted.{Accepted}
 use Rattle.sub_rules.specs.declared.event.Event.{Event}
 use Rattle.sub_rules.specs.declared.fault.CheckFault.{CheckFault}
@@ -164,7 +164,7 @@ first-accepted : (events : List Event) (a : Accepted) → refusals events ≡ 0
     → first_answer events a ≡ Ok a
 first-accepted [] a none = refl
 first-accepted (Told f ∷ events) a none = absurd (omega (arith, none))
-first-accepted (Ended rule frame ∷ events) a none = refl
+first-accepted (Ended rule frame ∷ events) a none = first-accepted events a (omega (arith, none))
 
 -- What is accepted is good.
 accepted-is :
@@ -242,14 +242,20 @@ nothing-told :
     → events ≡ []
 nothing-told options bytes p frames events a are checked carries good complete =
     let file = pes_file_of options.origin bytes in
-    let g = task_of p options file.unread in
-    let of_pes : failed is_subtitle_fault (first_answer events a) ≡ false =
-    rw are (first_of_pes g options.origin bytes file.frames refl a) in
-    let no_source : failed is_pes_read (first_answer events a) ≡ false =
-    rw are (first_own g options.origin bytes file.frames refl a) in
-    let accepted : IsOk (first_answer events a) =
-    (checked.accepted of_pes no_source).1 (frames, carries, good, complete) in
-    are ∙ none_first g options.origin bytes file.frames refl a (rw are at accepted)
+    are
+    ∙ go (first_answer (events_of p options bytes) a)
+    (first_decides p options bytes file.frames file.unread refl a) (rw are at checked)
+  where
+    go : (r : Result Accepted CheckFault)
+        → MatchResult r (λ b. (b ≡ a) × (events_of p options bytes ≡ []))
+        (λ f. (pes_events.first_told (events_of p options bytes) ≡ Some f) × IsRuleFault f)
+        → IsChecked p options bytes r
+        → events_of p options bytes ≡ []
+    go (Ok b) decides checked = decides.1
+    go (Err f) (first, own) checked =
+        let accepted =
+        (checked.accepted own.no_subtitle own.no_source).1 (frames, carries, good, complete) in
+        cc
 
 -- Where the files are accepted and nothing failed, the last line says so.
 accepted-done :

@@ -6,7 +6,7 @@ use Rattle.std.proofs.Common.{zero, suc, List, [], ◌∷◌, take, length, Bool
 use Rattle.std.proofs.Common.{false, Option, Some, None, Result, Ok, Err, ◌-◌}
 use Rattle.std.proofs.lemmas.Bool.{true≢false}
 use Rattle.std.proofs.lemmas.Bool.Decides.{nat_tests}
-use Rattle.std.specs.Prelude.{◌⊎◌, IfOk, IfErr, is_none}
+use Rattle.std.specs.Prelude.{◌⊎◌, IfOk, IfErr, IfSome, is_none}
 use Rattle.std.specs.List.{filter}
 use Rattle.sub_io.specs.Device.{RisesIf, failed}
 use Rattle.sub_io.specs.Reading.{IfTold}
@@ -26,7 +26,7 @@ use Rattle.stl_rows.specs.declared.fault.LoadFaultKind.{LoadFaultKind}
 use Rattle.stl_rows.specs.declared.fault.LoadFaultKind.TheVariants as load
 use Rattle.stl_rows.specs.declared.national.National.{National}
 use Rattle.sub_plan.specs.Options.{OptionsValue}
-use Rattle.sub_check.specs.CheckedFiles.{IsChecked, TellsEvents, first_answer}
+use Rattle.sub_check.specs.CheckedFiles.{IsChecked, TellsEvents, events_of, first_answer}
 use Rattle.sub_checker.specs.Telling.{CountsRead}
 use Rattle.sub_rules.specs.Events as pes_events
 use Rattle.sub_rules.specs.Fault.{is_pes_read}
@@ -402,12 +402,14 @@ module _ {D N : Type 0} (IsTold : D → Event → D → Type 0) (name : D → N)
       → TellsSome IsTold old new
       → IfTold pes.told (λ bytes. TellsEvents programme options bytes IsTold old new
       (Ok (Some given)))
+      → IfTold pes.told (λ bytes. IsChecked programme options bytes
+      (first_answer (events_of programme options bytes) given))
       → RisesIf pes.old_count false pes.new_count
       → TellsBoth national options stl pes (value old) (value new) (Ok (Some given))
-  after_all None given is some told count =
+  after_all None given is some told first count =
       read_pes some.items given (Ok (Some given)) (put some.items some.told).1 (λ holds. refl) count
       (λ bytes heard. cc) (λ holds bytes heard. cc)
-  after_all (Some bytes) given is some told count =
+  after_all (Some bytes) given is some told first count =
       let file = pes_file_of options.origin bytes in
       let whole = pes_events.events (task_of programme options file.unread) file.frames in
       let here = told bytes is in
@@ -415,9 +417,7 @@ module _ {D N : Type 0} (IsTold : D → Event → D → Type 0) (name : D → N)
       (λ other heard.
       let same : bytes ≡ other = cc in
       rw (sym same) (refl, here.1))
-      (λ quiet other heard.
-      let same : bytes ≡ other = cc in
-      rw (sym same) here.2)
+      (λ quiet other heard. let same : bytes ≡ other = cc in rw (sym same) (first bytes is))
 
   -- The sink failed.
   after_stop : (o : Option (List ℕ))
@@ -453,6 +453,8 @@ module _ {D N : Type 0} (IsTold : D → Event → D → Type 0) (name : D → N)
       → ((value new).failed ≡ false → (value new).count ≡ (value old).count → stopped ≡ false)
       → TellsSome IsTold old new
       → IfTold pes.told (λ bytes. TellsEvents programme options bytes IsTold old new r)
+      → IfTold pes.told (λ bytes. IfOk r (λ counts. IfSome counts (λ a. IsChecked programme options
+      bytes (first_answer (events_of programme options bytes) a))))
       → IfOk r (λ counts. stopped ≡ is_none counts)
       → IfErr r (λ f. stopped ≡ false)
       → IfErr r (λ f. is_pes_read f ≡ true)
@@ -461,16 +463,16 @@ module _ {D N : Type 0} (IsTold : D → Event → D → Type 0) (name : D → N)
       → r ≡ Err (fault.Pes index pes_fault.Read)
       → FailsAtPacket index pes.told pes.left)
       → TellsBoth national options stl pes (value old) (value new) r
-  after_pes (Ok (Some a)) stopped stops quiet some told is goes_on only count fails =
-      after_all pes.told a refl some told count
-  after_pes (Ok None) stopped stops quiet some told is goes_on only count fails =
+  after_pes (Ok (Some a)) stopped stops quiet some told first is goes_on only count fails =
+      after_all pes.told a refl some told first count
+  after_pes (Ok None) stopped stops quiet some told first is goes_on only count fails =
       after_stop pes.told refl (failing (value new).failed refl) some told count
     where
       failing : (b : Bool) → (value new).failed ≡ b → (value new).failed ≡ true
       failing true e = e
       failing false e =
           absurd (true≢false (sym is ∙ quiet e ((put some.items some.told).1.put_count e)))
-  after_pes (Err f) stopped stops quiet some told is goes_on only count fails =
+  after_pes (Err f) stopped stops quiet some told first is goes_on only count fails =
       after_pes_error f only (calm (value new).failed refl) some told count fails
     where
       calm : (b : Bool) → (value new).failed ≡ b → (value new).failed ≡ false

@@ -1,48 +1,38 @@
--- What a device was told that stops at the first event decides the answer of `check`:
--- `nothing_told`, `fault_named`, `read_up_to`; and what any device was told, `tells_events`.
+-- What a device was told that keeps the first fault of a rule decides the answer of `check`:
+-- `nothing_kept`, `fault_kept`, `none_before`; and all events do, `first_decides`.
 use Rattle.std.proofs.lemmas.Bool.Decides.{nat_tests}
-use Rattle.std.proofs.Common.{◌≡◌, ℕ, ◌+◌, ◌<◌, List, [], ◌∷◌, ◌++◌, length, take}
-use Rattle.std.proofs.Common.{drop, Option, Some, None, is_some, Result, MatchResult, Ok, Err, refl}
-use Rattle.std.proofs.Common.{sym, ap, ◌∙◌, subst, arith, All, Bool, false, true}
+use Rattle.std.proofs.Common.{◌≡◌, ℕ, zero, suc, ◌≤◌, List, [], ◌∷◌, length, take, Option, Some}
+use Rattle.std.proofs.Common.{None, is_some, Result, Ok, Err, refl, sym, ap, ◌∙◌, subst}
+use Rattle.std.proofs.Common.{arith, All, MatchResult, false, true}
 use Rattle.std.specs.List.{AllByRecursion}
-use Rattle.std.proofs.lemmas.List.{take-append-drop}
+use Rattle.std.proofs.lemmas.Bool.{true≢false}
+use Rattle.std.proofs.lemmas.List.{take_all}
 use Rattle.std.proofs.lemmas.List.Elements.{All-from_recursion}
-use Rattle.sub_io.specs.Telling.{KeepsFirst}
-use Rattle.sub_io.proofs.TellingLemmas.{first_is}
+use Rattle.sub_io.specs.Telling.{Tells, TellsInTurn}
 use Rattle.ttx_packet.specs.PacketAddress.{IsPacket}
-use Rattle.ttx_pes.specs.declared.fault.PesFault.{PesFault}
 use Rattle.ttx_pes.specs.declared.fault.PesFault.TheVariants.{Read}
-use Rattle.sub_check.specs.FirstTold.{Accepts, IsRuleFault}
+use Rattle.stl_rows.specs.Programme.{ProgrammeValue}
+use Rattle.sub_plan.specs.Options.{OptionsValue}
+use Rattle.sub_check.specs.CheckedFiles.{answer_by, first_answer}
+use Rattle.sub_check.specs.FirstTold.{IsRuleFault, KeepsFirstFault, is_of_rule}
 use Rattle.sub_checker.specs.Telling.{IsRead, TellsAll}
-use Rattle.sub_rules.specs.Events.{events, events_of_first}
-use Rattle.sub_rules.specs.FirstBroken.{IsReadUpTo, NamesFirst, Place, fault_at, packet_fault}
-use Rattle.sub_rules.specs.FirstBroken.{unread_fault}
-use Rattle.sub_rules.specs.FirstBroken.Place.{AtOrder, AtUnread, AtNothing}
-use Rattle.sub_laws.proofs.FrameByFrame.{AreOk}
-use Rattle.stl_rows.specs.Programme.{IsProgramme, ProgrammeValue}
-use Rattle.sub_plan.specs.Options.{IsOptions, OptionsValue}
-use Rattle.std.specs.Prelude.{IsOk}
-use Rattle.sub_check.specs.CheckedFiles.{IsChecked, TellsEvents, first_answer}
-use Rattle.sub_rules.specs.FrameRules.{Task, Unread, task_of}
-use Rattle.sub_rules.specs.FrameRules.Unread.{BadPacket}
-use Rattle.sub_rules.specs.PesReading.{ReadsAs, pes_file_of}
-use Rattle.sub_rules.specs.Transmission.{EachPacket, SentFrame, Transmission}
 use Rattle.sub_checker.specs.declared.telling.Accepted.{Accepted}
+use Rattle.sub_rules.specs.Events.{events, events_of_first, first_told, unread_fault}
+use Rattle.sub_rules.specs.Fault.{is_pes_read}
+use Rattle.sub_rules.specs.FrameRules.{Task, Unread, task_of}
+use Rattle.sub_rules.specs.FrameRules.Unread.{BadPacket, NoFrame}
+use Rattle.sub_rules.specs.PesReading.{ReadsAs}
+use Rattle.sub_rules.specs.Transmission.{EachPacket, SentFrame, Transmission}
+use Rattle.sub_rules.specs.WrongContent.{IsWrongEverywhere}
 use Rattle.sub_rules.specs.declared.event.Event.{Event}
-use Rattle.sub_rules.specs.declared.event.Event.TheVariants.{Told}
+use Rattle.sub_rules.specs.declared.event.Event.TheVariants.{Ended, Told}
 use Rattle.sub_rules.specs.declared.fault.CheckFault.{CheckFault}
 use Rattle.sub_rules.specs.declared.fault.CheckFault.TheVariants as fault
-use Rattle.sub_rules.specs.declared.packet_rule.PacketRule.{PacketRule}
-use Rattle.sub_io.specs.Device.{failed}
-use Rattle.std.proofs.lemmas.Bool.{true≢false}
-use Rattle.sub_rules.specs.Fault.{is_pes_read, is_subtitle_fault}
-use Rattle.sub_check.proofs.VerdictLemmas.{checked_from}
-use Rattle.sub_laws.proofs.EventLemmas.{frames_told, law_of_first_event}
-use Rattle.sub_laws.proofs.OrderLemmas.{holds_before}
-use Rattle.sub_laws.proofs.RisingEndLemmas.{latest_at}
-use Rattle.sub_laws.proofs.ReadFileLemmas.{IsOfBytes, IsSoundFile, file_sound}
-
--- ---- what is read of any bytes
+use Rattle.sub_laws.proofs.ContentLemmas.{wrong_everywhere}
+use Rattle.sub_laws.proofs.EventLemmas.{FirstOf, all_told, frames_told, is_plain}
+use Rattle.sub_laws.specs.BrokenPlaces.{WrongFirst}
+use Rattle.sub_laws.proofs.FrameByFrame.{AllOk, AreOk, IsReadTo}
+use Rattle.sub_laws.proofs.ReadFileLemmas.{IsSoundFile, file_sound}
 
 -- Each packet that is read is whole.
 each_whole :
@@ -53,33 +43,15 @@ each_whole [] h = tt
 each_whole (s ∷ frames) h =
     (All-from_recursion IsPacket s.packets h.0, each_whole frames h.1)
 
-module _ (origin : ℕ) (bytes : List ℕ) (frames : Transmission) (unread : Option Unread)
-    (reads : ReadsAs origin 0 bytes frames unread)
-  where
-    sound : IsSoundFile (record { frames = frames; unread = unread })
-    sound = subst IsSoundFile reads (file_sound origin 0 bytes)
+-- A fault that is neither one of PES packets or the subtitle file nor a wrong cell is of a rule.
+plain_is : (f : CheckFault) → is_plain f ≡ true → is_of_rule f ≡ true
+plain_is f e = grind (arith, nat_tests)
 
-    packets_whole : EachPacket IsPacket frames
-    packets_whole = grind (arith, nat_tests, each_whole frames sound.whole, All-from_recursion)
+-- What the test says.
+pub of_rule : (f : CheckFault) → is_of_rule f ≡ true → IsRuleFault f
+of_rule f e = grind (arith, nat_tests)
 
-    no_device : (f : PesFault) → unread ≡ Some (BadPacket f) → IsOfBytes f
-    no_device f e = sound.fault f e
-
--- ---- the fault that is named is of a rule
-
-of_packet : (r : PacketRule) (frame packet : ℕ) → IsRuleFault (packet_fault r frame packet)
-of_packet r frame packet = grind (arith, nat_tests)
-
-of_unread : (pes : ℕ) (u : Option Unread) → ((f : PesFault) → u ≡ Some (BadPacket f) → IsOfBytes f)
-    → IsRuleFault (unread_fault pes u)
-of_unread pes u h = grind (arith, nat_tests)
-
-of_place : (g : Task) (frames : Transmission)
-    → ((f : PesFault) → g.unread ≡ Some (BadPacket f) → IsOfBytes f) → (x : Place)
-    → IsRuleFault (fault_at g frames x)
-of_place g frames h x = grind (arith, nat_tests, of_packet, of_unread)
-
--- A rule tells no failed read.
+-- A rule tells no failed read. For `check`.
 pub no_read : (f : CheckFault) (pes : ℕ)
     → IsRuleFault f
     → (let r : Result Accepted CheckFault = Err f in r) ≡ Err (fault.Pes pes Read)
@@ -88,162 +60,158 @@ no_read f pes own is =
     let same : f ≡ fault.Pes pes Read = cc in
     true≢false (sym (ap is_pes_read same) ∙ own.no_source)
 
--- ---- what is told
+-- ---- what is told of a file that is read
 
-module _ (g : Task) (origin : ℕ) (bytes : List ℕ) (frames : Transmission)
-    (reads : ReadsAs origin 0 bytes frames g.unread)
+module _ (programme : ProgrammeValue) (options : OptionsValue) (bytes : List ℕ)
+    (frames : Transmission) (unread : Option Unread)
+    (reads : ReadsAs options.origin 0 bytes frames unread)
   where
-    whole : EachPacket IsPacket frames
-    whole = packets_whole origin bytes frames g.unread reads
+    abbrev g : Task
+    g = task_of programme options unread
 
-    -- Nothing was told: all that is asked holds.
-    accepts : (a : Accepted) → IsRead g origin bytes frames a → events g frames ≡ []
-        → Accepts g origin bytes frames a
-    accepts a is none =
-        let holds = (law_of_first_event g frames whole).none.0 none in
-        let some : 0 < length frames = holds AtNothing tt in
-        let latest_is = latest_at frames (length frames) (λ i l m. holds (AtOrder i) (l, m)) some in
-        record {
-          few = is.few;
-          taken = is.taken (holds AtUnread tt);
-          holds = holds;
-          whole = is.whole;
-          frames_are = is.counts.frames_are some ∙ ap (λ x. x + 1) latest_is;
-          transmissions_are = is.counts.transmissions_are;
-        }
+    sound : IsSoundFile (record { frames = frames; unread = unread })
+    sound = subst IsSoundFile reads (file_sound options.origin 0 bytes)
 
-    -- This was told first.
-    named : (e : Event) (n : ℕ) → e ∷ [] ≡ take n (events g frames)
-        → (f : CheckFault) × (e ≡ Told f) × NamesFirst g frames f
-    named e n is =
-        (law_of_first_event g frames whole).first e (drop n (events g frames))
-        (sym (take-append-drop n (events g frames)) ∙ ap (λ xs. xs ++ drop n (events g frames))
-        (sym is))
+    pub packets_whole : EachPacket IsPacket frames
+    packets_whole = grind (arith, nat_tests, each_whole frames sound.whole, All-from_recursion)
 
-    own : (f : CheckFault) → NamesFirst g frames f → IsRuleFault f
-    own f (x, is, first) =
-        subst IsRuleFault (sym is)
-        (of_place g frames (no_device origin bytes frames g.unread reads) x)
+    -- What is told is of a rule; and where it is a wrong cell, every receiver shows another code
+    -- there than is due.
+    abbrev Named : CheckFault → Type 0
+    Named f =
+        (is_of_rule f ≡ true)
+        × ((frame row column : ℕ)
+        → f ≡ fault.Content frame row column
+        → IsWrongEverywhere programme options frames frame row column)
 
-    -- Nothing was told to a device that stops at the first event: all that is asked holds.
-    pub nothing_told : (none first : Option Event) (a : Accepted)
-        → none ≡ None
-        → is_some first ≡ false
-        → TellsAll g origin bytes frames KeepsFirst none first (Ok (Some a))
-        → Accepts g origin bytes frames a
-    nothing_told (Some x) first a e quiet told = cc
-    nothing_told None (Some x) a e quiet told = cc
-    nothing_told None None a e quiet (told, is) =
-        accepts a is (sym (first_is None (events g frames) told))
+    plain : (f : CheckFault) → is_plain f ≡ true → Named f
+    plain f e = (plain_is f e, λ frame row column is. absurd (grind (arith, nat_tests)))
 
-    -- Something was: the fault that `check` answers is named.
-    pub fault_named : (none first : Option Event) (answer : CheckFault)
-        → none ≡ None
-        → is_some first ≡ true
-        → TellsAll g origin bytes frames KeepsFirst none first (Ok None)
-        → ((f : CheckFault) → first ≡ Some (Told f) → IsRuleFault f → answer ≡ f)
-        → NamesFirst g frames answer
-    fault_named (Some x) first answer e some told refused = cc
-    fault_named None None answer e some told refused = cc
-    fault_named None (Some x) answer e some (n, l, told) refused =
-        let t = named x n (first_is (Some x) (take n (events g frames)) told) in
-        subst (NamesFirst g frames) (sym (refused t.0 (ap Some t.1) (own t.0 t.2))) t.2
+    of_unread : (u : Unread) → unread ≡ Some u → Named (unread_fault (length frames) (Some u))
+    of_unread (BadPacket f) e =
+        let own = sound.fault f e in
+        (grind (arith, nat_tests, own.no_source, own.no_sink), λ frame row column is. cc)
+    of_unread NoFrame e = plain _ refl
 
-    -- The source failed.
-    pub read_up_to : (none first : Option Event) (f : CheckFault) (pes : ℕ)
-        → none ≡ None
-        → is_some first ≡ false
-        → TellsAll g origin bytes frames KeepsFirst none first (Err f)
+    of_wrong : (n f row column : ℕ) → IsReadTo g frames n f → WrongFirst g frames n f row column
+        → Named (fault.Content f row column)
+    of_wrong n f row column read wrong = (
+      refl,
+      λ frame r k is.
+          let shown = wrong_everywhere programme options unread frames n f row column read wrong in
+          grind (arith, shown),
+    )
+
+    all_named : FirstOf Named (AllOk g frames) (events g frames)
+    all_named = all_told g frames Named plain of_unread of_wrong packets_whole
+
+    frames_named : (n : ℕ) → n ≤ length frames
+        → FirstOf Named (AreOk g frames n) (events_of_first g frames n)
+    frames_named = frames_told g frames Named plain of_unread of_wrong packets_whole
+
+    -- What is told first.
+    first_named : (f : CheckFault) → first_told (events g frames) ≡ Some f → Named f
+    first_named f e = go (events g frames) all_named e
+      where
+        go : (xs : List Event) → FirstOf Named (AllOk g frames) xs → first_told xs ≡ Some f
+            → Named f
+        go [] told e = cc
+        go (x ∷ xs) told e =
+            let (first, is, named) = told.first x xs refl in
+            let same : first ≡ f = let s = rw is at e in cc in
+            subst Named same named
+
+    -- Where the page is refused at a cell. For `check`.
+    pub wrong_of_first : (frame row column : ℕ)
+        → first_told (events g frames) ≡ Some (fault.Content frame row column)
+        → IsWrongEverywhere programme options frames frame row column
+    wrong_of_first frame row column e = (first_named _ e).1 frame row column refl
+
+    -- Where no fault is told first, nothing is told.
+    none_told : {Holds : Type 0} (xs : List Event) → FirstOf Named Holds xs → first_told xs ≡ None
+        → xs ≡ []
+    none_told [] told e = refl
+    none_told (x ∷ xs) told e =
+        let (first, is, named) = told.first x xs refl in let s = rw is at e in cc
+
+    -- ---- what the device keeps
+
+    -- Once it keeps one it is told no more.
+    kept_last : (f : CheckFault) (new : Option CheckFault) (xs : List Event)
+        → TellsInTurn KeepsFirstFault (Some f) new xs → new ≡ Some f
+    kept_last f new [] told = told
+    kept_last f new (x ∷ xs) (mid, keeps, rest) = let none = keeps.0 in cc
+
+    -- So of the first events it keeps the fault that is told first.
+    kept_is : {Holds : Type 0} (n : ℕ) (new : Option CheckFault) (xs : List Event)
+        → FirstOf Named Holds xs → Tells KeepsFirstFault None new (take n xs)
+        → first_told (take n xs) ≡ new
+    kept_is zero new xs told is = sym is.in_turn
+    kept_is (suc n) new [] told is = sym is.in_turn
+    kept_is (suc n) new (x ∷ xs) told is =
+        let (first, e, named) = told.first x xs refl in
+        let (mid, keeps, rest) = is.in_turn in
+        let kept : mid ≡ Some first = let k = rw e at keeps.1 in grind (arith, nat_tests) in
+        let last : new ≡ Some first = kept_last first new (take n xs) (rw kept at rest) in
+        rw e (sym last)
+
+    first_taken : (n : ℕ) (xs : List Event) (f : CheckFault) → first_told (take n xs) ≡ Some f
+        → first_told xs ≡ Some f
+    first_taken zero xs f e = cc
+    first_taken (suc n) [] f e = cc
+    first_taken (suc n) (Told first ∷ xs) f e = e
+    first_taken (suc n) (Ended rule frame ∷ xs) f e = first_taken n xs f e
+
+    -- It kept nothing: nothing was told.
+    pub nothing_kept : (none kept : Option CheckFault) (a : Accepted) → none ≡ None
+        → is_some kept ≡ false
+        → TellsAll g options.origin bytes frames KeepsFirstFault none kept (Ok (Some a))
+        → IsRead g options.origin bytes frames a × (events g frames ≡ [])
+    nothing_kept (Some x) kept a e quiet told = cc
+    nothing_kept None (Some x) a e quiet told = cc
+    nothing_kept None None a e quiet (told, read) =
+        let all = take_all (length (events g frames)) (events g frames) (omega arith) in
+        (read, none_told (events g frames) all_named
+        (ap first_told (sym all)
+        ∙ kept_is (length (events g frames)) None (events g frames) all_named (rw all told)))
+
+    -- It kept a fault: that was told first.
+    pub fault_kept : (none kept : Option CheckFault) (f : CheckFault) → none ≡ None
+        → kept ≡ Some f
+        → TellsAll g options.origin bytes frames KeepsFirstFault none kept (Ok None)
+        → first_told (events g frames) ≡ Some f
+    fault_kept (Some x) kept f e is told = cc
+    fault_kept None kept f e is (n, l, told) =
+        first_taken n (events g frames) f (kept_is n kept (events g frames) all_named told ∙ is)
+
+    -- The source failed, and it had kept nothing.
+    pub none_before : (none kept : Option CheckFault) (f : CheckFault) (pes : ℕ) → none ≡ None
+        → is_some kept ≡ false
+        → TellsAll g options.origin bytes frames KeepsFirstFault none kept (Err f)
         → f ≡ fault.Pes pes Read
-        → IsReadUpTo g frames pes
-    read_up_to (Some x) first f pes e quiet told failed = cc
-    read_up_to None (Some x) f pes e quiet told failed = cc
-    read_up_to None None f pes e quiet (n, l, is, told) failed =
+        → (pes ≤ length frames) × (events_of_first g frames pes ≡ [])
+    none_before (Some x) kept f pes e quiet told failed = cc
+    none_before None (Some x) f pes e quiet told failed = cc
+    none_before None None f pes e quiet (n, l, is, told) failed =
         let same : fault.Pes n Read ≡ fault.Pes pes Read = sym is ∙ failed in
         let at : n ≡ pes = cc in
-        let past : AreOk g frames n =
-        (frames_told g frames whole n l).none
-        (sym (first_is None (events_of_first g frames n) told)) in
-        subst (IsReadUpTo g frames) at
-        (record { within = l; holds = holds_before g frames n past })
+        let xs = events_of_first g frames n in
+        let all = take_all (length xs) xs (omega arith) in
+        let first = frames_named n l in
+        subst (λ m. (m ≤ length frames) × (events_of_first g frames m ≡ [])) at
+        (l, none_told xs first
+        (ap first_told (sym all) ∙ kept_is (length xs) None xs first (rw all told)))
 
-    -- What is so of the counts where nothing is told, and else of the fault that is named, is so of
-    -- the answer of `check`.
-    by_first : (a : Accepted) (P : Result Accepted CheckFault → Type 0)
-        → (events g frames ≡ [] → P (Ok a))
-        → ((f : CheckFault) → NamesFirst g frames f → P (Err f))
-        → P (first_answer (events g frames) a)
-    by_first a P none named = go (events g frames) refl
+    -- ---- the answer of `check` by all events
+
+    -- It accepts where nothing is told; else it is what is told first, a fault of a rule.
+    pub first_decides : (a : Accepted)
+        → MatchResult (first_answer (events g frames) a) (λ b. (b ≡ a) × (events g frames ≡ []))
+        (λ f. (first_told (events g frames) ≡ Some f) × IsRuleFault f)
+    first_decides a = go (first_told (events g frames)) refl
       where
-        go : (es : List Event) → events g frames ≡ es → P (first_answer es a)
-        go [] e = none e
-        go (x ∷ more) e =
-            let t = (law_of_first_event g frames whole).first x more e in rw t.1 (named t.0 t.2)
-
-    -- All that is told decides the answer of `check` by its first.
-    pub first_decides : (a : Accepted) → IsRead g origin bytes frames a
-        → MatchResult (first_answer (events g frames) a) (Accepts g origin bytes frames)
-        (NamesFirst g frames)
-    first_decides a is =
-        by_first a (λ r. MatchResult r (Accepts g origin bytes frames) (NamesFirst g frames))
-        (accepts a is) (λ f named. named)
-
-    -- And no failure of the source is told.
-    pub first_own : (a : Accepted) → failed is_pes_read (first_answer (events g frames) a) ≡ false
-    first_own a =
-        by_first a (λ r. failed is_pes_read r ≡ false) (λ e. refl)
-        (λ f named. (own f named).no_source)
-
-    -- Nor a refusal of the subtitle file.
-    pub first_of_pes : (a : Accepted)
-        → failed is_subtitle_fault (first_answer (events g frames) a) ≡ false
-    first_of_pes a =
-        by_first a (λ r. failed is_subtitle_fault r ≡ false) (λ e. refl)
-        (λ f named. (own f named).no_subtitle)
-
-    -- Where the first event refuses nothing, there is none.
-    pub none_first : (a : Accepted) → IsOk (first_answer (events g frames) a) → events g frames ≡ []
-    none_first a =
-        by_first a (λ r. IsOk r → events g frames ≡ []) (λ e accepted. e) (λ f named accepted. cc)
-
--- What is told first is what `check` refuses the bytes for, and it accepts them where nothing is.
-checked_first :
-    (programme : ProgrammeValue) (options : OptionsValue) (bytes : List ℕ) (a : Accepted)
-    → IsOptions options
-    → IsProgramme programme.national programme.records
-    → ((frames : Transmission) (unread : Option Unread)
-    → ReadsAs options.origin 0 bytes frames unread
-    → IsRead (task_of programme options unread) options.origin bytes frames a)
-    → IsChecked programme options bytes
-    (first_answer
-    (events (task_of programme options (pes_file_of options.origin bytes).unread)
-    (pes_file_of options.origin bytes).frames) a)
-checked_first programme options bytes a fine p is =
-    let file = pes_file_of options.origin bytes in
-    let g = task_of programme options file.unread in
-    let whole = is file.frames file.unread refl in
-    grind (arith, nat_tests, checked_from, first_decides, first_own, true≢false)
-
--- What was told of the file as one value. For `check_all`.
-pub tells_events :
-    (programme : ProgrammeValue) (options : OptionsValue) (bytes : List ℕ)
-    {D : Type 0} (IsTold : D → Event → D → Type 0) (old new : D)
-    (r : Result (Option Accepted) CheckFault)
-    → IsOptions options
-    → IsProgramme programme.national programme.records
-    → ((frames : Transmission) (unread : Option Unread)
-    → ReadsAs options.origin 0 bytes frames unread
-    → TellsAll (task_of programme options unread) options.origin bytes frames IsTold old new r)
-    → TellsEvents programme options bytes IsTold old new r
-tells_events programme options bytes IsTold old new (Ok (Some a)) fine p told =
-    let file = pes_file_of options.origin bytes in
-    let whole = told file.frames file.unread refl in (
-      whole.0,
-      whole.1.counts,
-      checked_first programme options bytes a fine p
-          (λ frames unread reads. (told frames unread reads).1),
-    )
-tells_events programme options bytes IsTold old new (Ok None) fine p told =
-    let file = pes_file_of options.origin bytes in told file.frames file.unread refl
-tells_events programme options bytes IsTold old new (Err f) fine p told =
-    let file = pes_file_of options.origin bytes in told file.frames file.unread refl
+        go : (o : Option CheckFault) → first_told (events g frames) ≡ o
+            → MatchResult (answer_by o a) (λ b. (b ≡ a) × (events g frames ≡ []))
+            (λ f. (first_told (events g frames) ≡ Some f) × IsRuleFault f)
+        go None e = (refl, none_told (events g frames) all_named e)
+        go (Some f) e = (e, of_rule f (first_named f e).0)

@@ -2,12 +2,11 @@
 -- told of both files that of `check_files`, `files_accepted`, `files_refused`.
 use Rattle.std.proofs.lemmas.Bool.Decides.{nat_tests}
 use Rattle.std.proofs.lemmas.Slice.Zip.{AllZip-long}
-use Rattle.std.proofs.Common.{◌≡◌, ◌≢◌, ◌↔◌, ℕ, List, [], Bool, Option, None, Result, Ok}
-use Rattle.std.proofs.Common.{Err, All, IsOk, IfOk, IsTrue, false, MatchResult, refl, sym, ap, ◌∙◌}
+use Rattle.std.proofs.Common.{◌≡◌, ◌≢◌, ◌↔◌, ℕ, ◌≤◌, List, [], Bool, Option, Some, None, Result}
+use Rattle.std.proofs.Common.{Ok, Err, IsOk, IfOk, IsTrue, false, MatchResult, refl, sym, ap, ◌∙◌}
 use Rattle.std.proofs.Common.{subst, arith, length, append-nil}
-use Rattle.std.proofs.lemmas.List.Elements.{All-from_recursion}
 use Rattle.std.specs.List.{concat}
-use Rattle.std.specs.Prelude.{IfErr}
+use Rattle.std.specs.Prelude.{IfErr, IfSome}
 use Rattle.sub_io.specs.Device.{failed}
 use Rattle.stl_file.specs.Reader.{outcome_of}
 use Rattle.stl_file.specs.Subtitle.{SubtitleValue}
@@ -20,8 +19,10 @@ use Rattle.ttx_pes.specs.PesPacket.{IsPesPacket}
 use Rattle.sub_plan.specs.Options.{OptionsValue, IsOptions}
 use Rattle.sub_plan.specs.Schedule.{plan}
 use Rattle.sub_check.specs.CheckedFiles.{AreAccepted, IsChecked, Mean, ServesReceivers, HasCounts}
-use Rattle.sub_check.specs.FirstTold.{Accepts}
-use Rattle.sub_rules.specs.FirstBroken.{IsReadUpTo, NamesFirst}
+use Rattle.sub_check.specs.CheckedFiles.{TellsEvents, events_of, first_answer}
+use Rattle.sub_check.specs.FirstTold.{IsRuleFault}
+use Rattle.sub_checker.specs.Telling.{IsRead, TellsAll}
+use Rattle.sub_rules.specs.Events.{events, events_of_first, first_told}
 use Rattle.sub_rules.specs.FrameRules.{Unread, task_of}
 use Rattle.sub_rules.specs.Good.{Good}
 use Rattle.sub_laws.specs.OnScreen.{Complete}
@@ -30,44 +31,60 @@ use Rattle.sub_rules.specs.PesReading.{ReadsAs, pes_file_of}
 use Rattle.sub_laws.specs.Planned.{planned}
 use Rattle.sub_rules.specs.Transmission.{Transmission}
 use Rattle.sub_checker.specs.declared.telling.Accepted.{Accepted}
+use Rattle.sub_rules.specs.declared.event.Event.{Event}
 use Rattle.sub_rules.specs.declared.fault.CheckFault.{CheckFault}
-use Rattle.sub_laws.proofs.ContentLemmas.{wrong_everywhere}
-use Rattle.sub_laws.proofs.GoodLemmas.{whole-is}
+use Rattle.sub_check.proofs.FirstToldLemmas.{first_decides, no_read, packets_whole}
+use Rattle.sub_check.proofs.FirstToldLemmas.{wrong_of_first}
+use Rattle.sub_laws.proofs.EventLemmas.{law_of_nothing_told}
+use Rattle.sub_laws.proofs.GoodLemmas.{rises_each, whole-is}
 use Rattle.sub_laws.proofs.PrefixLemmas.{first-same, last-same}
 use Rattle.sub_laws.proofs.PesFileLemmas.{carried_is_read}
-use Rattle.sub_laws.proofs.PlaceLemmas.{Complete-from_holds, Good-from_holds, refuted}
 use Rattle.sub_laws.proofs.PlanLemmas.{law_of_complete_plan, law_of_plan, law_of_plan_read}
+use Rattle.sub_laws.proofs.RisingEndLemmas.{latest_is}
 use Rattle.sub_laws.proofs.RobustLemmas.{law_of_good}
 use Rattle.sub_rules.specs.Fault.{is_failure, is_failure_kind, is_pes_read, is_subtitle_fault}
 use Rattle.ttx_pes.specs.declared.fault.PesFault.TheVariants as Pes
 use Rattle.sub_rules.specs.declared.fault.CheckFault.TheVariants as fault
 
--- What the steps show of a file that is read as frames, up to this.
+-- What the steps show of a file that is read as frames, up to this: nothing is told of what is
+-- accepted, and a refusal is told first.
 abbrev Decides : ProgrammeValue → OptionsValue → List ℕ → Result Accepted CheckFault → Type 0
 Decides programme options bytes result =
     (frames : Transmission) (unread : Option Unread)
     → ReadsAs options.origin 0 bytes frames unread
     → MatchResult result
-    (Accepts (task_of programme options unread) options.origin bytes frames)
-    (NamesFirst (task_of programme options unread) frames)
+    (λ a. IsRead (task_of programme options unread) options.origin bytes frames a
+    × (events (task_of programme options unread) frames ≡ []))
+    (λ f. first_told (events (task_of programme options unread) frames) ≡ Some f)
 
 module _ (programme : ProgrammeValue) (options : OptionsValue) (is : IsOptions options) where
-  -- What is accepted is good, of complete pages where these are asked for, and was read: its bytes
-  -- carry the frames.
-  module _ (bytes : List ℕ) (unread : Option Unread) (frames : Transmission) (a : Accepted)
-      (accepts : Accepts (task_of programme options unread) options.origin bytes frames a) where
-    good_from : Good programme frames options
-    good_from =
-        Good-from_holds programme options unread frames is.least accepts.holds
-        (grind (arith, nat_tests, All-from_recursion, All, length))
+  -- What is asked of a transmission.
+  abbrev IsAccepted : Transmission → Type 0
+  IsAccepted frames =
+      Good programme frames options × (IsTrue options.asks_complete → Complete frames options)
 
-    complete_pages : IsTrue options.asks_complete → Complete frames options
-    complete_pages = Complete-from_holds programme options unread frames is.least accepts.holds
+  module _ (bytes : List ℕ) (unread : Option Unread) (frames : Transmission)
+      (reads : ReadsAs options.origin 0 bytes frames unread) where
+    -- Nothing is told of the frames exactly where they are accepted.
+    told_none :
+        (events (task_of programme options unread) frames ≡ [])
+        ↔ (Good programme frames options
+        × (IsTrue options.asks_complete → Complete frames options)
+        × (unread ≡ None))
+    told_none =
+        law_of_nothing_told programme options unread frames is.least
+        (packets_whole programme options bytes frames unread reads)
 
-    carried_from : Carries options.origin bytes frames
-    carried_from =
-        let taken = accepts.taken in
-        let few = accepts.few in
+    -- The bytes carry them then.
+    carried_from :
+        (a : Accepted)
+        → IsRead (task_of programme options unread) options.origin bytes frames a
+        → Good programme frames options
+        → unread ≡ None
+        → Carries options.origin bytes frames
+    carried_from a read good none =
+        let taken = read.taken none in
+        let few = read.few in
         let sizes = AllZip-long IsPesPacket taken.values taken.packets taken.each in
         let sent = AllZip-long (IsSentAs options.origin) taken.values frames taken.sent in
         grind (
@@ -79,18 +96,19 @@ module _ (programme : ProgrammeValue) (options : OptionsValue) (is : IsOptions o
           taken.joined,
           append-nil (concat taken.packets),
           taken.sent,
-          good_from.rising,
+          good.rising,
         )
 
-  -- No refusal is told of what the bytes carry, where it is good.
+  -- What the bytes carry is accepted where it is good.
   not_refused :
       (bytes : List ℕ) (frames : Transmission) (f : CheckFault)
-      → NamesFirst (task_of programme options None) frames f
-      → Good programme frames options
-      → (IsTrue options.asks_complete → Complete frames options)
+      → ReadsAs options.origin 0 bytes frames None
+      → first_told (events (task_of programme options None) frames) ≡ Some f
+      → IsAccepted frames
       → ⊥
-  not_refused bytes frames f named good complete =
-      refuted programme options frames good complete f named
+  not_refused bytes frames f reads first (good, complete) =
+      let none = (told_none bytes None frames reads).1 (good, complete, refl) in
+      let e = rw none at first in cc
 
   -- Accepted exactly where the bytes carry a good transmission.
   accepted_from :
@@ -103,78 +121,63 @@ module _ (programme : ProgrammeValue) (options : OptionsValue) (is : IsOptions o
       × (IsTrue options.asks_complete → Complete transmission options))
   accepted_from bytes (Ok a) decides =
       let file = pes_file_of options.origin bytes in
-      let accepts = decides file.frames file.unread refl in
-      (grind (
-        arith,
-        nat_tests,
-        carried_from bytes file.unread file.frames a accepts,
-        good_from bytes file.unread file.frames a accepts,
-        complete_pages bytes file.unread file.frames a accepts,
-      ))
+      let (read, quiet) = decides file.frames file.unread refl in
+      let (good, complete, none) = (told_none bytes file.unread file.frames refl).0 quiet in (
+        λ ok.
+            (file.frames, carried_from bytes file.unread file.frames refl a read good none, good,
+            complete),
+        λ g. refl,
+      )
   accepted_from bytes (Err f) decides = (
     λ ok. cc,
     λ g.
-        absurd (not_refused bytes g.0 f
-        (decides g.0 None (carried_is_read options.origin bytes g.0 g.1)) g.2 g.3),
+        let reads = carried_is_read options.origin bytes g.0 g.1 in
+        absurd (not_refused bytes g.0 f reads (decides g.0 None reads) (g.2, g.3)),
   )
 
-  -- What is accepted keeps to what is told of it, whatever transmission the bytes carry.
-  accepts_carried :
-      (bytes : List ℕ) (transmission : Transmission) (result : Result Accepted CheckFault)
+  -- What is accepted is what is told of it, whatever transmission the bytes carry.
+  accepted_is :
+      (bytes : List ℕ) (frames : Transmission) (result : Result Accepted CheckFault)
       → (failed is_pes_read result ≡ false → Decides programme options bytes result)
-      → Carries options.origin bytes transmission
+      → Carries options.origin bytes frames
       → IsOk result
-      → (a : Accepted)
-      × Accepts (task_of programme options None) options.origin bytes transmission a
-  accepts_carried bytes transmission (Ok a) decides carries ok =
-      let read = carried_is_read options.origin bytes transmission carries in
-      (a, decides refl transmission None read)
-  accepts_carried bytes transmission (Err f) decides carries ok = cc
+      → IsAccepted frames
+  accepted_is bytes frames (Ok a) decides carries ok =
+      let reads = carried_is_read options.origin bytes frames carries in
+      let accepted = (told_none bytes None frames reads).0 (decides refl frames None reads).1 in
+      (accepted.0, accepted.1)
+  accepted_is bytes frames (Err f) decides carries ok = cc
 
   -- The counts of what is accepted.
   counts_from :
-      (bytes : List ℕ) (transmission : Transmission) (result : Result Accepted CheckFault)
+      (bytes : List ℕ) (frames : Transmission) (result : Result Accepted CheckFault)
       → (failed is_pes_read result ≡ false → Decides programme options bytes result)
-      → Carries options.origin bytes transmission
-      → IfOk result (HasCounts options.page transmission)
+      → Carries options.origin bytes frames
+      → IfOk result (HasCounts options.page frames)
   counts_from bytes frames (Ok a) decides carries =
-      let accepts =
-      decides refl frames None (carried_is_read options.origin bytes frames carries) in
+      let reads = carried_is_read options.origin bytes frames carries in
+      let (read, quiet) = decides refl frames None reads in
+      let (good, complete, none) = (told_none bytes None frames reads).0 quiet in
+      let some = good.not_empty in
+      let counts = read.counts in
       grind (
         arith,
         nat_tests,
         first-same frames,
         last-same frames,
-        accepts.frames_are,
-        accepts.transmissions_are,
-        options.page,
+        latest_is frames (rises_each frames good.rising) (length frames),
         whole-is frames,
       )
   counts_from bytes frames (Err f) decides carries = tt
 
-  -- A refusal names the first place.
+  -- A refusal is told first.
   first_from :
       (bytes : List ℕ) (result : Result Accepted CheckFault)
       → Decides programme options bytes result
-      → IfErr result
-      (NamesFirst (task_of programme options (pes_file_of options.origin bytes).unread)
-      (pes_file_of options.origin bytes).frames)
+      → IfErr result (λ f. first_told (events_of programme options bytes) ≡ Some f)
   first_from bytes (Ok a) decides = tt
   first_from bytes (Err f) decides =
       let file = pes_file_of options.origin bytes in decides file.frames file.unread refl
-
-  -- A refusal of a cell names the first place.
-  content_from :
-      (bytes : List ℕ) (frame row column : ℕ) (result : Result Accepted CheckFault)
-      → result ≡ Err (fault.Content frame row column)
-      → (failed is_pes_read result ≡ false → Decides programme options bytes result)
-      → NamesFirst (task_of programme options (pes_file_of options.origin bytes).unread)
-      (pes_file_of options.origin bytes).frames (fault.Content frame row column)
-  content_from bytes frame row column result e decides =
-      subst (λ r. IfErr r
-      (NamesFirst (task_of programme options (pes_file_of options.origin bytes).unread)
-      (pes_file_of options.origin bytes).frames)) e
-      (first_from bytes result (decides (ap (failed is_pes_read) e)))
 
   -- A schedule is accepted.
   plan_accepted :
@@ -186,10 +189,12 @@ module _ (programme : ProgrammeValue) (options : OptionsValue) (is : IsOptions o
   plan_accepted serial (Ok a) p some decides = refl
   plan_accepted serial (Err f) p some decides =
       let frames = planned programme options serial in
-      absurd (not_refused (plan programme options serial) frames f
-      (decides frames None (law_of_plan_read programme options serial p is))
-      (law_of_plan programme options serial p some is)
-      (λ asks. law_of_complete_plan programme options serial p some is))
+      let reads = law_of_plan_read programme options serial p is in
+      absurd
+      (not_refused (plan programme options serial) frames f reads (decides frames None reads) (
+        law_of_plan programme options serial p some is,
+        λ asks. law_of_complete_plan programme options serial p some is,
+      ))
 
   -- What is told of a PES file, from what the steps show. For `check`.
   pub checked_from :
@@ -199,34 +204,88 @@ module _ (programme : ProgrammeValue) (options : OptionsValue) (is : IsOptions o
       → ((frames : Transmission) (unread : Option Unread) (pes : ℕ)
       → ReadsAs options.origin 0 bytes frames unread
       → result ≡ Err (fault.Pes pes Pes.Read)
-      → IsReadUpTo (task_of programme options unread) frames pes)
+      → (pes ≤ length frames)
+      × (events_of_first (task_of programme options unread) frames pes ≡ []))
       → IsChecked programme options bytes result
-  checked_from bytes result p decides failed = record {
+  checked_from bytes result p decides so_far = record {
     accepted = λ looked fine. accepted_from bytes result (decides fine);
     serves = λ t carries ok.
-        let accepts = accepts_carried bytes t result decides carries ok in
-        let promises =
-        law_of_good programme t options (good_from bytes None t accepts.0 accepts.1) in
+        let (good, complete) = accepted_is bytes t result decides carries ok in
+        let promises = law_of_good programme t options good in
         record {
           robust = promises.robust;
           robust_to_loss = promises.to_loss;
           recovers = promises.recovers;
-          shown = λ asks.
-              promises.shown (complete_pages bytes None t accepts.0 accepts.1 asks);
+          shown = λ asks. promises.shown (complete asks);
         };
     counts = λ t carries. counts_from bytes t result decides carries;
     first = λ looked fine. first_from bytes result (decides fine);
     read = λ pes e.
-        failed (pes_file_of options.origin bytes).frames
+        so_far (pes_file_of options.origin bytes).frames
         (pes_file_of options.origin bytes).unread pes refl e;
     content = λ frame row column e.
-        wrong_everywhere programme options (pes_file_of options.origin bytes).unread
-        (pes_file_of options.origin bytes).frames frame row column
-        (content_from bytes frame row column result e decides);
+        wrong_of_first programme options bytes (pes_file_of options.origin bytes).frames
+        (pes_file_of options.origin bytes).unread refl frame row column
+        (subst (λ r. IfErr r (λ f. first_told (events_of programme options bytes) ≡ Some f)) e
+        (first_from bytes result (decides (ap (failed is_pes_read) e))));
     schedule = λ serial planned some looked fine.
         plan_accepted serial result p some
         (subst (λ b. Decides programme options b result) planned (decides fine));
   }
+
+-- ---- all events
+
+-- What is told first is what `check` refuses the bytes for, and it accepts them where nothing is.
+-- For `check_all`.
+pub checked_first :
+    (programme : ProgrammeValue) (options : OptionsValue) (bytes : List ℕ)
+    {D : Type 0} (IsTold : D → Event → D → Type 0) (old new : D)
+    (r : Result (Option Accepted) CheckFault)
+    → IsOptions options
+    → IsProgramme programme.national programme.records
+    → ((frames : Transmission) (unread : Option Unread)
+    → ReadsAs options.origin 0 bytes frames unread
+    → TellsAll (task_of programme options unread) options.origin bytes frames IsTold old new r)
+    → IfOk r (λ counts. IfSome counts (λ a. IsChecked programme options bytes
+    (first_answer (events_of programme options bytes) a)))
+checked_first programme options bytes IsTold old new (Ok (Some a)) fine p told =
+    let file = pes_file_of options.origin bytes in
+    let first = first_decides programme options bytes file.frames file.unread refl a in
+    let read = (told file.frames file.unread refl).1 in
+    by_first (first_answer (events_of programme options bytes) a) read first
+  where
+    by_first : (r : Result Accepted CheckFault)
+        → IsRead (task_of programme options (pes_file_of options.origin bytes).unread)
+        options.origin bytes (pes_file_of options.origin bytes).frames a
+        → MatchResult r (λ b. (b ≡ a) × (events_of programme options bytes ≡ []))
+        (λ f. (first_told (events_of programme options bytes) ≡ Some f) × IsRuleFault f)
+        → IsChecked programme options bytes r
+    by_first (Ok b) read (same, none) =
+        checked_from programme options fine bytes (Ok b) p
+        (λ own frames unread reads. grind (arith, nat_tests)) (λ frames unread pes reads is. cc)
+    by_first (Err f) read (first, own) =
+        checked_from programme options fine bytes (Err f) p
+        (λ fine frames unread reads. grind (arith, nat_tests))
+        (λ frames unread pes reads is. absurd (no_read f pes own is))
+checked_first programme options bytes IsTold old new (Ok None) fine p told = tt
+checked_first programme options bytes IsTold old new (Err f) fine p told = tt
+
+-- What was told of the file as one value. For `check_all`.
+pub tells_events :
+    (programme : ProgrammeValue) (options : OptionsValue) (bytes : List ℕ)
+    {D : Type 0} (IsTold : D → Event → D → Type 0) (old new : D)
+    (r : Result (Option Accepted) CheckFault)
+    → ((frames : Transmission) (unread : Option Unread)
+    → ReadsAs options.origin 0 bytes frames unread
+    → TellsAll (task_of programme options unread) options.origin bytes frames IsTold old new r)
+    → TellsEvents programme options bytes IsTold old new r
+tells_events programme options bytes IsTold old new (Ok (Some a)) told =
+    let file = pes_file_of options.origin bytes in
+    let whole = told file.frames file.unread refl in (whole.0, whole.1.counts)
+tells_events programme options bytes IsTold old new (Ok None) told =
+    let file = pes_file_of options.origin bytes in told file.frames file.unread refl
+tells_events programme options bytes IsTold old new (Err f) told =
+    let file = pes_file_of options.origin bytes in told file.frames file.unread refl
 
 -- ---- both files
 

@@ -1,5 +1,5 @@
 -- What the checker tells of the bytes of a subtitle file and a PES file.
-use Rattle.std.specs.Prelude.{◌≡◌, ◌≢◌, ◌↔◌, ℕ, ◌≤◌, length, List, [], ◌∷◌, Bool, false, true}
+use Rattle.std.specs.Prelude.{◌≡◌, ◌≢◌, ◌↔◌, ℕ, ◌≤◌, length, List, [], Bool, false, true}
 use Rattle.std.specs.Prelude.{Option, Some, None}
 use Rattle.std.specs.Prelude.{All, IsOk}
 use Rattle.std.specs.Prelude.{Result, Ok, Err, IfOk, IfErr, IsTrue}
@@ -22,14 +22,12 @@ use Rattle.ttx_packet.specs.PageId.{PageIdValue}
 use Rattle.ttx_page.specs.Receiver.{ReceiverClass}
 use Rattle.stl_file.specs.Reading.{Outcome}
 use Rattle.stl_rows.specs.Loading.{TellsFault}
-use Rattle.sub_rules.specs.Events.{events, events_of_first}
+use Rattle.sub_rules.specs.Events.{events, events_of_first, first_told}
 use Rattle.sub_rules.specs.FrameRules.{task_of}
 use Rattle.sub_rules.specs.PacketRules.{header_count}
 use Rattle.sub_rules.specs.Transmission.{SentFrame, first_frame, last_frame, Transmission}
 use Rattle.sub_rules.specs.declared.event.Event.{Event}
-use Rattle.sub_rules.specs.declared.event.Event.TheVariants.{Told}
 use Rattle.sub_rules.specs.Fault.{is_failure, is_pes_read, is_subtitle_fault}
-use Rattle.sub_rules.specs.FirstBroken.{IsReadUpTo, NamesFirst}
 use Rattle.sub_rules.specs.Good.{Good}
 use Rattle.sub_laws.specs.LostRows.{RobustToMarkedLoss}
 use Rattle.sub_laws.specs.OnScreen.{Complete, Shown}
@@ -120,6 +118,12 @@ pub record AreAccepted
 
 -- ---- a PES file, against a programme
 
+-- All that is told of the bytes of a PES file, checked against a programme.
+abbrev pub events_of : ProgrammeValue → OptionsValue → List ℕ → List Event
+events_of programme options bytes =
+    let file = pes_file_of options.origin bytes in
+    events (task_of programme options file.unread) file.frames
+
 -- What is told of the bytes of a PES file, checked against a programme. A refusal of the subtitle
 -- file, which is then want of memory or its failing source, tells nothing of them.
 pub record IsChecked
@@ -148,20 +152,20 @@ pub record IsChecked
       (transmission : Transmission)
       → Carries options.origin bytes transmission
       → IfOk answer (HasCounts options.page transmission)
-  -- A refusal names the first place at which what is asked is broken.
+  -- A refusal is what is told first.
   pub first :
       failed is_subtitle_fault answer ≡ false
       → failed is_pes_read answer ≡ false
-      → IfErr answer
-      (NamesFirst (task_of programme options (pes_file_of options.origin bytes).unread)
-      (pes_file_of options.origin bytes).frames)
+      → IfErr answer (λ f. first_told (events_of programme options bytes) ≡ Some f)
   -- That the source failed is told at the PES packet that could not be read: those before it were
-  -- read, and nothing that is asked of their frames is broken.
+  -- read, and nothing is told of their frames.
   pub read :
       (pes : ℕ)
       → answer ≡ Err (fault.Pes pes Read)
-      → IsReadUpTo (task_of programme options (pes_file_of options.origin bytes).unread)
+      → (pes ≤ length (pes_file_of options.origin bytes).frames)
+      × (events_of_first (task_of programme options (pes_file_of options.origin bytes).unread)
       (pes_file_of options.origin bytes).frames pes
+      ≡ [])
   -- Where the page is refused at a cell, every receiver that starts at the first packet, with no
   -- bit wrong, shows another code there than is due.
   pub content :
@@ -197,27 +201,24 @@ pub record AreChecked
       → loaded national (outcome_of file) ≡ Ok programme
       → IfTold pes (λ bytes. IsChecked programme options bytes answer)
 
--- The answer of `check` by all events: these counts where there is none, else the fault that is
--- told first.
+-- The answer of `check` by what is told first: these counts where it is nothing.
+abbrev pub answer_by : Option CheckFault → Accepted → Result Accepted CheckFault
+answer_by None a = Ok a
+answer_by (Some f) a = Err f
+
 abbrev pub first_answer : List Event → Accepted → Result Accepted CheckFault
-first_answer (Told f ∷ more) a = Err f
-first_answer _ a = Ok a
+first_answer events a = answer_by (first_told events) a
 
 -- What a device was told of the bytes of a PES file, checked against a programme: where it did not
--- say stop, all events, the answer counts what was read, and the first event is the one for which
--- `check` refuses the bytes, which it accepts where there is none; else the events up to there, and
+-- say stop, all events, and the answer counts what was read; else the events up to there, and
 -- nothing is counted. Where the source failed, the events of the PES packets that were read whole.
 abbrev pub TellsEvents : {D : Type 0} → ProgrammeValue → OptionsValue → List ℕ
     → (D → Event → D → Type 0) → D → D → Result (Option Accepted) CheckFault → Type 0
 TellsEvents programme options bytes IsTold old new (Ok (Some a)) =
-    let file = pes_file_of options.origin bytes in
-    let told = events (task_of programme options file.unread) file.frames in
-    Tells IsTold old new told
-    × CountsRead options.page file.frames a
-    × IsChecked programme options bytes (first_answer told a)
+    Tells IsTold old new (events_of programme options bytes)
+    × CountsRead options.page (pes_file_of options.origin bytes).frames a
 TellsEvents programme options bytes IsTold old new (Ok None) =
-    let file = pes_file_of options.origin bytes in
-    TellsPrefix IsTold old new (events (task_of programme options file.unread) file.frames)
+    TellsPrefix IsTold old new (events_of programme options bytes)
 TellsEvents programme options bytes IsTold old new (Err f) =
     let file = pes_file_of options.origin bytes in
     (n : ℕ)

@@ -1,29 +1,31 @@
--- What the first event that is told decides. Private functions alone cite this.
-use Rattle.std.specs.Prelude.{◌≡◌, ℕ, ◌+◌, ◌≤◌, false, List, [], length}
-use Rattle.ttx_pes.specs.Reading.{most_packets}
+-- What the device keeps that `check` tells all events to. Private functions alone cite this.
+use Rattle.std.specs.Prelude.{◌≡◌, ◌||◌, Bool, false, true, not, Option, Some, None}
+use Rattle.std.specs.Prelude.{if◌then◌else◌}
+use Rattle.ttx_pes.specs.Fault.{is_read, is_write}
 use Rattle.sub_rules.specs.Fault.{is_pes_read, is_pes_write, is_subtitle_fault}
-use Rattle.sub_rules.specs.FirstBroken.{HoldsEverywhere}
-use Rattle.sub_rules.specs.FrameRules.{Task, end_frame, frame_at, packets_before}
-use Rattle.sub_rules.specs.PacketRules.{header_count}
-use Rattle.sub_rules.specs.Transmission.{Transmission}
+use Rattle.sub_rules.specs.declared.event.Event.{Event}
+use Rattle.sub_rules.specs.declared.event.Event.TheVariants.{Ended, Told}
 use Rattle.sub_rules.specs.declared.fault.CheckFault.{CheckFault}
-use Rattle.sub_checker.specs.Telling.{AreTaken, AreWhole}
-use Rattle.sub_checker.specs.declared.telling.Accepted.{Accepted}
+use Rattle.sub_rules.specs.declared.fault.CheckFault.TheVariants as fault
 
--- The fault is told by a rule: it is none of the subtitle file, and not that the PES source failed.
+-- The fault is told by a rule: it is none of the subtitle file, and not that a PES source or sink
+-- failed.
 pub record IsRuleFault (f : CheckFault) : Type 0 where
   pub no_source : is_pes_read f ≡ false
   pub no_write : is_pes_write f ≡ false
   pub no_subtitle : is_subtitle_fault f ≡ false
 
--- A transmission is accepted: the bytes are a PES file of it, all that is asked holds, and the
--- answer counts its frames and headers.
-pub record Accepts (g : Task) (origin : ℕ) (bytes : List ℕ) (frames : Transmission) (a : Accepted)
-    : Type 0 where
-  pub few : length frames ≤ most_packets
-  pub taken : AreTaken origin bytes frames []
-  pub holds : HoldsEverywhere g frames
-  pub whole : AreWhole frames
-  pub frames_are : a.frames + frame_at frames 0 ≡ end_frame frames + 1
-  pub transmissions_are :
-      a.transmissions ≡ header_count g.watched.page (packets_before frames (length frames))
+-- The same as a test.
+abbrev pub is_of_rule : CheckFault → Bool
+is_of_rule (fault.Subtitles f) = false
+is_of_rule (fault.Pes index f) = not (is_read f || is_write f)
+is_of_rule _ = true
+
+-- The fault of an event that a rule tells.
+abbrev pub kept_of : Event → Option CheckFault
+kept_of (Told f) = if is_of_rule f then Some f else None
+kept_of (Ended rule frame) = None
+
+-- It keeps the first, and is told none after it.
+abbrev pub KeepsFirstFault : Option CheckFault → Event → Option CheckFault → Type 0
+KeepsFirstFault old event new = (old ≡ None) × (new ≡ kept_of event)

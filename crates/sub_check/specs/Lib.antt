@@ -7,7 +7,6 @@ pub use Rattle.sub_rules.specs.Good
 pub use Rattle.sub_rules.specs.PacketRules
 pub use Rattle.sub_rules.specs.PacketTests
 pub use Rattle.sub_rules.specs.FrameRules
-pub use Rattle.sub_rules.specs.FirstBroken
 pub use Rattle.sub_rules.specs.Events
 pub use Rattle.sub_rules.specs.Fault
 pub use Rattle.sub_rules.specs.WrongContent
@@ -22,6 +21,6 @@ pub use Rattle.sub_laws.specs.CleanStretch
 pub use Rattle.sub_laws.specs.ToldStretch
 pub use Rattle.sub_laws.specs.Laws
 pub use Rattle.sub_laws.specs.Planned
-pub use Rattle.sub_laws.specs.FirstEvent
+pub use Rattle.sub_laws.specs.BrokenPlaces
 pub use Rattle.sub_checker.specs.Telling
 pub use Rattle.sub_checker.specs.SentAgain

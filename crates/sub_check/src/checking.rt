@@ -1,23 +1,23 @@
 //! The exact checker: a PES file against a programme.
-ghost use Rattle.std.specs.Prelude.{◌≡◌, ℕ, Err, Some, IfErr, IfOk, false, is_none, true};
+ghost use Rattle.std.specs.Prelude.{◌≡◌, ℕ, Err, IfErr, IfOk, IfSome, false, is_none, true};
 ghost use Rattle.sub_io.specs.Device.{CanFail, CountsIf, failed};
 ghost use Rattle.sub_io.specs.Reading.{IfTold};
 ghost use Rattle.sub_io.specs.Telling.{TellsSome};
 ghost use Rattle.ttx_pes.specs.Reader.{FailsAtPacket};
 ghost use Rattle.sub_rules.specs.Fault.{is_pes_read, is_pes_write, is_subtitle_fault};
-ghost use Rattle.sub_check.specs.CheckedFiles.{IsChecked, TellsEvents};
-ghost use Rattle.sub_check.specs.FirstTold.{IsRuleFault};
+ghost use Rattle.sub_check.specs.CheckedFiles.{IsChecked, TellsEvents, events_of, first_answer};
 
+use crate::first_fault::FirstFault;
 use stl_rows::Programme;
 use sub_checker::{Accepted, tell_all};
-use sub_io::{Audience, FirstTold, Source};
+use sub_io::{Audience, Source};
 use sub_plan::Options;
 use sub_rules::{CheckFault, Event};
 use ttx_pes::PesFault;
 
 /// Checks a PES file against a programme: it is accepted exactly where it carries a good
-/// transmission of it, of complete pages if the options ask for them, and a refusal names the first
-/// place where what is asked is broken.
+/// transmission of it, of complete pages if the options ask for them, and a refusal is the first
+/// fault that `check_all` tells.
 ///
 /// It reads one PES packet at a time and takes no memory: beside numbers it keeps one PES packet,
 /// one page, the page that is due, and a mark for each row sent since the last header of the page.
@@ -52,11 +52,11 @@ pub fn check<S: Source>(
     ensures no_write { failed is_pes_write result ≡ false }
     ensures count { CountsIf S.failure_count source.old (failed is_pes_read result) source.new }
 {
-    let mut first = FirstTold::new();
+    let mut first = FirstFault::new();
     match tell_all(programme, source, options, &mut first) {
         Err(fault) => Err(fault),
         Ok(Some(counts)) => Ok(counts),
-        Ok(None) => Err(refusal(first.into_first())),
+        Ok(None) => Err(first.into_fault()),
     }
 }
 
@@ -85,6 +85,10 @@ pub fn check_all<S: Source, A: Audience<Event>>(
     // Where the source tells its bytes, these decide what the device is told.
     ensures told { IfTold (S.remaining source.old) (λ bytes.
         TellsEvents programme.now options.now bytes A.is_told audience.old audience.new result) }
+    // Where all was told, `check` answers by the first fault of it, or else with these counts.
+    ensures first { IfTold (S.remaining source.old) (λ bytes.
+        IfOk result (λ counts. IfSome counts (λ a. IsChecked programme.now options.now bytes
+        (first_answer (events_of programme.now options.now bytes) a)))) }
     // Nothing is counted exactly where the device said stop.
     ensures stopped { IfOk result (λ counts. A.has_stopped audience.new ≡ is_none counts) }
     // Whatever the source tells, the device was told some events, and did not say stop where the
@@ -99,31 +103,4 @@ pub fn check_all<S: Source, A: Audience<Event>>(
     ensures count { CountsIf S.failure_count source.old (failed is_pes_read result) source.new }
 {
     tell_all(programme, source, options, audience)
-}
-
-// The fault that is answered where this was told first.
-fn refusal(first: Option<Event>) -> CheckFault
-    ensures told { (f : CheckFault) → first ≡ Some (Event.Told f) → IsRuleFault f → result ≡ f }
-    ensures own { IsRuleFault result }
-{
-    match first {
-        Some(Event::Told(fault)) => of_rule(fault),
-        // Nothing ends before it is told.
-        _ => CheckFault::Empty,
-    }
-}
-
-// A fault that is told by a rule, as it is. No other is told of a PES file.
-fn of_rule(fault: CheckFault) -> CheckFault
-    ensures same { IsRuleFault fault → result ≡ fault }
-    ensures own { IsRuleFault result }
-{
-    match fault {
-        CheckFault::Subtitles(_)
-        | CheckFault::Pes {
-            fault: PesFault::Read | PesFault::Write,
-            ..
-        } => CheckFault::Empty,
-        _ => fault,
-    }
 }

@@ -3,8 +3,8 @@
 //!
 //! Joins `sub_checker`, which tells all that is broken, and `sub_laws`, whose laws say what that
 //! means, and gives their names and those of `sub_rules`. `check` accepts exactly the good
-//! transmissions (`Good` of `sub_rules`), and names the first place that is broken (`FirstBroken`)
-//! of any other:
+//! transmissions (`Good` of `sub_rules`), and answers for any other with the first fault that is
+//! told of it (`Events`):
 //!
 //! ```text
 //! check(&programme, &mut source, &options)?; // Accepted { frames: 51, transmissions: 2 }
@@ -15,15 +15,16 @@
 
 mod checking;
 mod files;
+mod first_fault;
 
 pub use checking::{check, check_all};
 pub use files::check_files;
 pub use sub_checker::{Accepted, law_of_sent_again};
 pub use sub_laws::{
-    law_of_all_kept, law_of_clean_spans, law_of_clean_stretch, law_of_complete_plan,
-    law_of_first_event, law_of_good, law_of_pes_files, law_of_plan, law_of_plan_read,
-    law_of_repeats, law_of_spans_by_packet, law_of_stretch, law_of_sufficient_parts,
-    law_of_told_stretch, law_of_untold_stretch, law_of_whole_recovery, law_of_whole_stretch,
-    law_of_window,
+    law_of_all_kept, law_of_broken_places, law_of_clean_spans, law_of_clean_stretch,
+    law_of_complete_plan, law_of_good, law_of_nothing_told, law_of_pes_files, law_of_plan,
+    law_of_plan_read, law_of_repeats, law_of_spans_by_packet, law_of_stretch,
+    law_of_sufficient_parts, law_of_told_stretch, law_of_untold_stretch, law_of_whole_recovery,
+    law_of_whole_stretch, law_of_window,
 };
 pub use sub_rules::{CheckFault, EndRule, Event, FaultPlace, PacketRule, Watched};

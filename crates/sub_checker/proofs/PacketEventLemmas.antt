@@ -9,8 +9,7 @@ use Rattle.sub_io.specs.Telling.{Tells, TellsPrefix}
 use Rattle.sub_io.proofs.TellingLemmas.{Tells-trans, TellsPrefix-first, TellsPrefix-second}
 use Rattle.sub_rules.proofs.GrowingLists.{grows_to}
 use Rattle.sub_checker.proofs.RuleSetLemmas.{no_rules}
-use Rattle.sub_rules.specs.Events.{packet_events, rules_told}
-use Rattle.sub_rules.specs.FirstBroken.{packet_fault}
+use Rattle.sub_rules.specs.Events.{packet_events, packet_fault, rules_told}
 use Rattle.sub_checker.specs.Listener.{BreakNone, rule_set}
 use Rattle.sub_rules.specs.PacketTests.{broken_rules, breaks, packet_rules}
 use Rattle.sub_rules.specs.declared.event.Event.{Event}

@@ -8,7 +8,7 @@ use Rattle.std.proofs.lemmas.Bool.Decides.{nat_tests}
 use Rattle.std.proofs.lemmas.List.{map-append, take_more, take-append-drop}
 use Rattle.std.proofs.lemmas.List.Elements.{filter-append}
 use Rattle.sub_rules.proofs.TestLemmas.{same_bit}
-use Rattle.sub_rules.specs.FirstBroken.{packet_fault}
+use Rattle.sub_rules.specs.Events.{packet_fault}
 use Rattle.sub_checker.specs.Listener.{bit_of, rule_set}
 use Rattle.sub_rules.specs.PacketTests.{is_same_bit, packet_rules}
 use Rattle.sub_rules.specs.declared.event.Event.{Event}

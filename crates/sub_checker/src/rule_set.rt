@@ -3,7 +3,7 @@ ghost use Rattle.std.specs.Prelude.{⊤, ◌≡◌, ◌==◌, ◌<◌, Bool, Lis
 ghost use Rattle.std.specs.Prelude.{bit_or, if◌then◌else◌, map, slice_index_or};
 ghost use Rattle.std.specs.List.{filter};
 ghost use Rattle.sub_io.specs.Telling.{TellsSome, TellsUntilStopped};
-ghost use Rattle.sub_rules.specs.FirstBroken.{packet_fault};
+ghost use Rattle.sub_rules.specs.Events.{packet_fault};
 ghost use Rattle.sub_checker.specs.Listener.{bit_of, rule_set};
 ghost use Rattle.sub_rules.specs.PacketTests.{packet_rules};
 

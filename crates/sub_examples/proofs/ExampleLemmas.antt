@@ -3,7 +3,7 @@ use Rattle.std.proofs.lemmas.Bool.Decides.{Decides-and, Decides-like, Decides-eq
 use Rattle.std.proofs.Common.{arith, ◌≡◌, ℕ, ◌<◌, inl, inr, ◌==◌, ◌&&◌, Bool, true}
 use Rattle.std.proofs.Common.{List, [], length, nat_lt, slice_index, None}
 use Rattle.std.specs.Bool.{Decides}
-use Rattle.std.proofs.lemmas.Bool.{and_parts, cases_lt}
+use Rattle.std.proofs.lemmas.Bool.{cases_lt}
 use Rattle.std.proofs.lemmas.List.{get_or_past}
 use Rattle.stl_rows.specs.Programme.{ProgrammeValue}
 use Rattle.sub_plan.specs.Options.{OptionsValue}
@@ -11,19 +11,14 @@ use Rattle.ttx_packet.specs.PacketAddress.{IsPacket}
 use Rattle.sub_rules.specs.Events.{events}
 use Rattle.sub_rules.specs.FrameRules.{task_of}
 use Rattle.sub_rules.specs.Good.{Good}
-use Rattle.sub_rules.specs.Transmission.{EachPacket, Transmission}
+use Rattle.sub_rules.specs.Transmission.{Transmission}
 use Rattle.sub_rules.proofs.TestLemmas.{all_below, below, each_packet, packets_decided}
-use Rattle.sub_laws.proofs.EventLemmas.{law_of_first_event}
-use Rattle.sub_laws.proofs.PlaceLemmas.{Good-from_holds}
+use Rattle.sub_laws.proofs.EventLemmas.{law_of_nothing_told}
 
 -- A packet has 42 bytes.
-abbrev has_size : List ℕ → Bool
-has_size packet = length packet == 42
-
--- They are bytes.
 abbrev is_packet : List ℕ → Bool
 is_packet packet =
-    has_size packet && all_below (λ place. nat_lt (slice_index packet place) 0x100) 42
+    length packet == 42 && all_below (λ place. nat_lt (slice_index packet place) 0x100) 42
 
 packet_decided : (packet : List ℕ) → Decides (is_packet packet) (IsPacket packet)
 packet_decided packet =
@@ -42,16 +37,7 @@ packet_decided packet =
 
 -- Each packet is one.
 abbrev pub are_packets : Transmission → Bool
-are_packets frames = each_packet is_packet frames && each_packet has_size frames
-
-packets_of_test : (frames : Transmission) → are_packets frames ≡ true
-    → EachPacket IsPacket frames × EachPacket (λ packet. length packet ≡ 42) frames
-packets_of_test frames e =
-    let parts = and_parts (each_packet is_packet frames) _ e in (
-      (packets_decided is_packet IsPacket packet_decided frames).0 parts.0,
-      (packets_decided has_size (λ packet. length packet ≡ 42)
-          (λ packet. Decides-eqb (length packet) 42) frames).0 parts.1,
-    )
+are_packets frames = each_packet is_packet frames
 
 -- A transmission of packets of which nothing is told is good.
 pub good_by_events :
@@ -61,6 +47,5 @@ pub good_by_events :
     → events (task_of programme o None) frames ≡ []
     → Good programme frames o
 good_by_events programme frames o some whole quiet =
-    let packets = packets_of_test frames whole in
-    Good-from_holds programme o None frames some
-    ((law_of_first_event (task_of programme o None) frames packets.0).none.0 quiet) packets.1
+    let packets = (packets_decided is_packet IsPacket packet_decided frames).0 whole in
+    ((law_of_nothing_told programme o None frames some packets).0 quiet).0

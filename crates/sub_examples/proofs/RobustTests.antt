@@ -38,7 +38,7 @@ use Rattle.sub_rules.specs.Transmission.{last_frame, on_air, packets_of}
 use Rattle.sub_laws.specs.Robust.{IsListening, Robust}
 use Rattle.sub_rules.specs.declared.packet_rule.PacketRule.{PacketRule}
 use Rattle.sub_rules.specs.declared.packet_rule.PacketRule.TheVariants as rule
-use Rattle.sub_laws.proofs.EventLemmas.{gap_decided}
+use Rattle.sub_laws.proofs.StandingLemmas.{gap_decided}
 use Rattle.sub_laws.proofs.StretchLemmas.{robust_of_recovers}
 use Rattle.sub_rules.proofs.TestLemmas.{all_below, at_most, below, each_below, each_of, fails}
 use Rattle.sub_rules.proofs.TestLemmas.{holds, implied}

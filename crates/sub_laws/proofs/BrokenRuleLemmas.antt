@@ -1,14 +1,17 @@
--- The first of the rules that a packet breaks, as tests tell it: `broken_first`.
-use Rattle.std.proofs.Common.{◌≡◌, ℕ, zero, suc, ◌<◌, inl, inr, Bool, true, false, not, ◌&&◌, List}
-use Rattle.std.proofs.Common.{[], ◌∷◌, Option, Some, None, option_map, refl, sym, ◌∙◌, arith}
-use Rattle.std.proofs.Common.{length, get_or, subst, is_some, All, IsTrue}
+-- The rules of a packet, as tests decide them: `rule_decided`; all of them: `keeps_all`,
+-- `breaks_none`.
+use Rattle.std.proofs.Common.{◌≡◌, ℕ, zero, suc, ◌+◌, ◌<◌, ◌≤◌, inl, inr, Bool, true, false, not}
+use Rattle.std.proofs.Common.{◌&&◌, List, [], ◌∷◌, Option, Some, None, option_map, refl, sym}
+use Rattle.std.proofs.Common.{◌∙◌, ◌↔◌, arith, length, get_or, subst, is_some, take, All, IsTrue}
+use Rattle.std.proofs.Common.{if◌then◌else◌}
 use Rattle.std.specs.Bool.{Decides}
-use Rattle.std.specs.List.{AllByRecursion, filter, list_any}
+use Rattle.std.specs.List.{AllByRecursion, list_any}
 use Rattle.std.proofs.lemmas.Bool.{cases_Bool, true≢false}
 use Rattle.std.proofs.lemmas.Bool.Decides.{nat_tests, Decides-and, Decides-eqb, Decides-like}
 use Rattle.std.proofs.lemmas.List.Elements.{recursion_from_All}
 use Rattle.std.proofs.lemmas.Option.{none-some, same_Some}
 use Rattle.std.proofs.lemmas.List.{get_or_default, same_lists, length-drop, length-map}
+use Rattle.std.proofs.lemmas.List.{take_all, take_more}
 use Rattle.ttx_packet.specs.OneBit.{first_below}
 use Rattle.ttx_packet.specs.PacketAddress.{HasExactAddress, IsPacket, PacketAddress, address}
 use Rattle.ttx_packet.specs.PageHeader.{HasExactHeader, c11, header}
@@ -21,23 +24,27 @@ use Rattle.ttx_page.specs.Differing.{columns_differing, row_differing}
 use Rattle.ttx_page.specs.Noise.{IsOddRow, IsSameRow}
 use Rattle.ttx_page.proofs.NoiseSteps.{row_from_test}
 use Rattle.ttx_page.proofs.SpanLists.{find_none}
-use Rattle.ttx_page.specs.PacketKind.{is_row, is_some_row, kind}
-use Rattle.ttx_page.specs.Span.{is_open_after, span}
+use Rattle.ttx_page.specs.PacketKind.{ends_page, is_row, is_some_row, is_this_page, kind}
+use Rattle.ttx_page.specs.Span.{after_last_header, before_end, holds_header, is_open_after, span}
 use Rattle.ttx_page.specs.declared.packet_kind.PacketKind.{PacketKind}
 use Rattle.ttx_page.specs.declared.packet_kind.PacketKind.TheVariants.{Row, ThisPage}
 use Rattle.stl_rows.specs.declared.national.National.{National}
 use Rattle.sub_rules.specs.Good.{IsCleanSpan, IsEnhancement, IsSubtitleHeader}
-use Rattle.sub_rules.specs.PacketRules.{KeepsRule, codes_of, first_header, rank}
-use Rattle.sub_rules.specs.PacketTests.{are_code_words, breaks, broken_rules, is_of_header}
+use Rattle.sub_rules.specs.PacketRules.{AreClean, IsClean, KeepsRule, codes_of, first_header}
+use Rattle.sub_rules.specs.PacketTests.{are_code_words, breaks, is_of_header}
 use Rattle.sub_rules.specs.PacketTests.{is_of_enhancement, is_other_mode, is_other_row}
 use Rattle.sub_rules.specs.PacketTests.{is_other_text, is_subtitle_header, first_of_row}
 use Rattle.sub_rules.specs.PacketTests.{is_wrong_header, packet_rules}
 use Rattle.sub_rules.specs.declared.packet_rule.PacketRule.{PacketRule}
 use Rattle.sub_rules.specs.declared.packet_rule.PacketRule.TheVariants as rule
 use Rattle.sub_rules.specs.declared.packet_rule.Watched.{Watched}
+use Rattle.sub_laws.specs.BrokenPlaces.{IsComparable}
+use Rattle.sub_laws.proofs.PlaceLemmas.{fair_step}
+use Rattle.sub_laws.proofs.StepByStepLemmas.{clean_nil}
 use Rattle.sub_rules.proofs.TestLemmas.{below_none, fails, holds, same_bit}
 use Rattle.sub_rules.proofs.CodesLemmas.{same_packet}
-use Rattle.sub_rules.proofs.PacketLists.{Each-find, Each-join, Each-map, Each-none, no_row}
+use Rattle.sub_rules.proofs.PacketLists.{Each-find, Each-join, Each-map, Each-none, Each-push}
+use Rattle.sub_rules.proofs.PacketLists.{no_row}
 use Rattle.sub_rules.proofs.CodeWordLemmas.{address_decided, header_decided}
 
 -- ---- each rule
@@ -45,6 +52,11 @@ use Rattle.sub_rules.proofs.CodeWordLemmas.{address_decided, header_decided}
 -- A test that fails where a fact holds.
 abbrev pub Refutes : Bool → Type 0 → Type 0
 Refutes b P = Decides (not b) P
+
+-- It fails exactly there.
+pub refuted : {P : Type 0} (b : Bool) → Refutes b P → (b ≡ false) ↔ P
+refuted true d = (λ e. absurd (true≢false e), λ p. let no = d.1 p in cc)
+refuted false d = (λ e. d.0 refl, λ p. refl)
 
 -- The coded bytes of a packet X/0.
 pub coded : (o : Option PacketAddress) (b : Bool) (P : Type 0) → Decides b P
@@ -211,70 +223,146 @@ module _ (w : Watched) (packets : List (List ℕ)) (s : IsSoundSpan w packets) (
         )
   ]
 
--- ---- the first rule that is broken
+-- ---- packets that keep all rules
 
--- Of no rule: all are kept. Of rules: the first is broken, and those of a lower rank are kept.
-abbrev pub FirstRule : (PacketRule → Type 0) → List PacketRule → Type 0
-FirstRule Keeps [] = (r : PacketRule) → Keeps r
-FirstRule Keeps (r ∷ rs) =
-    (Keeps r → ⊥) × ((other : PacketRule) → rank other < rank r → Keeps other)
+-- What holds of each packet holds of each packet of the span.
+module _ {A : Type 0} (kind_of : A → PacketKind) (P : A → Type 0) where
+  Each-before_end : (xs : List A) → AllByRecursion P xs → AllByRecursion P (before_end kind_of xs)
+  Each-before_end [] h = tt
+  Each-before_end (x ∷ xs) h = go (ends_page (kind_of x)) (Each-before_end xs h.1)
+    where
+      go : (b : Bool) → AllByRecursion P (before_end kind_of xs)
+          → AllByRecursion P (if b then [] else x ∷ before_end kind_of xs)
+      go true ih = tt
+      go false ih = (h.0, ih)
 
--- What is told first, by a test of each rule.
-module _ (test : PacketRule → Bool) (Keeps : PacketRule → Type 0)
-    (each : (r : PacketRule) → ((other : PacketRule) → rank other < rank r → Keeps other)
-    → Refutes (test r) (Keeps r)) where
-  -- One rule, and then the others.
-  one_rule : (r : PacketRule) → ((other : PacketRule) → rank other < rank r → Keeps other)
-      → (rest : List PacketRule) → (Keeps r → FirstRule Keeps (filter test rest))
-      → FirstRule Keeps (filter test (r ∷ rest))
-  one_rule r lower rest next = grind (arith, nat_tests)
+  Each-after : (xs : List A) → AllByRecursion P xs → AllByRecursion P (after_last_header kind_of xs)
+  Each-after [] h = tt
+  Each-after (x ∷ xs) h =
+      go (holds_header kind_of xs) (is_this_page (kind_of x)) (Each-after xs h.1)
+    where
+      go : (b c : Bool) → AllByRecursion P (after_last_header kind_of xs)
+          → AllByRecursion P
+          (if b then after_last_header kind_of xs else (if c then xs else []))
+      go true c ih = ih
+      go false true ih = h.1
+      go false false ih = tt
 
-  pub first_rule : FirstRule Keeps (filter test packet_rules)
+  pub Each-span : (xs : List A) → AllByRecursion P xs → AllByRecursion P (span kind_of xs)
+  Each-span xs h = Each-before_end (after_last_header kind_of xs) (Each-after xs h)
+
+-- What is kept of the first packets of a list that keep all rules: the span is clean, and each
+-- packet is whole, with an exact address.
+abbrev IsSoundList : Watched → List (List ℕ) → Type 0
+IsSoundList w xs =
+    IsCleanSpan w.page (span (kind w.page) xs)
+    × AllByRecursion (λ q. IsPacket q × HasExactAddress q) xs
+
+sound_list : (w : Watched) (packets : List (List ℕ)) → AreClean w packets → (n : ℕ)
+    → n ≤ length packets → IsSoundList w (take n packets)
+sound_list w packets clean zero l = (clean_nil w.page, tt)
+sound_list w packets clean (suc n) l =
+    let next : n + 1 ≡ suc n = omega arith in
+    let (fair, each) = sound_list w packets clean n (omega arith) in
+    let (whole, keeps) = clean n (omega arith) in
+    subst (λ k. IsSoundList w (take k packets)) next
+    (subst (IsSoundList w) (sym (take_more packets n [] (omega arith))) (
+      fair_step w (take n packets) (get_or packets n []) keeps fair,
+      Each-push (λ q. IsPacket q × HasExactAddress q) (take n packets) (get_or packets n []) each
+          (whole, keeps rule.Address),
+    ))
+
+-- So their span is sound.
+sound_span : (w : Watched) (packets : List (List ℕ)) → AreClean w packets
+    → IsSoundSpan w (span (kind w.page) packets)
+sound_span w packets clean =
+    let (fair, each) =
+    subst (IsSoundList w) (take_all (length packets) packets (omega arith))
+    (sound_list w packets clean (length packets) (omega arith)) in
+    record {
+      clean = fair;
+      whole = Each-span (kind w.page) (λ q. IsPacket q × HasExactAddress q) packets each;
+    }
+
+-- ---- a packet that is sent after these
+
+module _ (w : Watched) (before : List (List ℕ)) (p : List ℕ) where
+  -- A rule of the page while it is open.
+  opened : (b c : Bool) (P : Type 0) → (IsTrue b → Refutes c P) → Refutes (b && c) (IsTrue b → P)
+  opened true c P d = (λ e t. (d refl).0 e, λ h. (d refl).1 (h refl))
+  opened false c P d = (λ e t. absurd (true≢false (sym t)), λ h. refl)
+
+  same_row : (k : PacketKind) → kind w.page p ≡ k → IsComparable w before p
+      → IsTrue (is_open_after (kind w.page) before)
+      → Refutes (is_other_row w.page (span (kind w.page) before) p k)
+      ((row : ℕ) → k ≡ Row row
+      → AllByRecursion (λ q. kind w.page q ≡ Row row → q ≡ p) (span (kind w.page) before))
+  same_row k e is is_open =
+      grind (
+        arith,
+        nat_tests,
+        row_decided,
+        sound_span w before is.clean,
+        is.whole,
+        is.exact,
+        is.odd is_open,
+      )
+
+  -- Each rule.
+  pub rule_decided : (r : PacketRule) → (r ≡ rule.RowChanged → IsComparable w before p)
+      → Refutes (breaks r w before p) (KeepsRule r w before p)
+  unfolding breaks
+  rule_decided rule.Address comparable = grind (arith, nat_tests, address_decided)
+  rule_decided rule.HeaderCode comparable =
+      coded (address p) (are_code_words 2 8 p) (HasExactHeader p) (header_decided p)
+  rule_decided rule.Mode comparable = one_mode (header p) (first_header before)
+  rule_decided rule.Control comparable = controlled w.national (kind w.page p)
+  rule_decided rule.Parity comparable =
+      subst (λ b. Refutes b (KeepsRule rule.Parity w before p))
+      (grind (arith, nat_tests))
+      (opened (is_open_after (kind w.page) before)
+      (is_some_row (kind w.page p) && is_some (first_even_byte p))
+      ((row : ℕ) → kind w.page p ≡ Row row → HasOddText p) (λ t. odd_row p (kind w.page p)))
+  rule_decided rule.RowChanged comparable =
+      opened (is_open_after (kind w.page) before) _ _
+      (same_row (kind w.page p) refl (comparable refl))
+  rule_decided rule.Enhancement comparable =
+      opened (is_open_after (kind w.page) before) _ _
+      (λ t. no_enhancement w.page p (address p) refl)
+
+  -- After packets that keep all rules it keeps all where it breaks none.
+  abbrev Unbroken : List PacketRule → Type 0
+  Unbroken rs = AllByRecursion (λ r. breaks r w before p ≡ false) rs
+
+  pub keeps_all : AreClean w before → IsPacket p → Unbroken packet_rules → IsClean w before p
   unfolding packet_rules
-  first_rule = grind (arith, nat_tests, one_rule)
+  keeps_all clean whole fine r =
+      let exact = (refuted _ (rule_decided rule.Address (λ e. cc))).0 fine.0 in
+      let odd = (refuted _ (rule_decided rule.Parity (λ e. cc))).0 fine.1.1.1.1.0 in
+      let comparable : IsComparable w before p =
+      record { clean = clean; whole = whole; exact = exact; odd = odd } in
+      (refuted _ (rule_decided r (λ e. comparable))).0 (each r)
+    where
+      each : (r : PacketRule) → breaks r w before p ≡ false
+      each rule.Address = fine.0
+      each rule.HeaderCode = fine.1.0
+      each rule.Mode = fine.1.1.0
+      each rule.Control = fine.1.1.1.0
+      each rule.Parity = fine.1.1.1.1.0
+      each rule.RowChanged = fine.1.1.1.1.1.0
+      each rule.Enhancement = fine.1.1.1.1.1.1.0
 
--- What is told first of a packet that is sent after these, where their span is sound.
-module _ (w : Watched) (before : List (List ℕ)) (p : List ℕ) (whole : IsPacket p)
-    (s : IsTrue (is_open_after (kind w.page) before) → IsSoundSpan w (span (kind w.page) before))
-  where
-    -- A rule of the page while it is open.
-    opened : (b c : Bool) (P : Type 0) → (IsTrue b → Refutes c P) → Refutes (b && c) (IsTrue b → P)
-    opened true c P d = (λ e t. (d refl).0 e, λ h. (d refl).1 (h refl))
-    opened false c P d = (λ e t. absurd (true≢false (sym t)), λ h. refl)
-
-    same_row : (k : PacketKind) → kind w.page p ≡ k
-        → KeepsRule rule.Address w before p → KeepsRule rule.Parity w before p
-        → IsTrue (is_open_after (kind w.page) before)
-        → Refutes (is_other_row w.page (span (kind w.page) before) p k)
-        ((row : ℕ) → k ≡ Row row
-        → AllByRecursion (λ q. kind w.page q ≡ Row row → q ≡ p) (span (kind w.page) before))
-    same_row k e exact odd is_open = grind (arith, nat_tests, row_decided)
-
-    -- Each rule, where those of a lower rank are kept.
-    pub decided : (r : PacketRule)
-        → ((other : PacketRule) → rank other < rank r → KeepsRule other w before p)
-        → Refutes (breaks r w before p) (KeepsRule r w before p)
-    unfolding breaks
-    decided rule.Address lower = grind (arith, nat_tests, address_decided)
-    decided rule.HeaderCode lower =
-        coded (address p) (are_code_words 2 8 p) (HasExactHeader p) (header_decided p)
-    decided rule.Mode lower = one_mode (header p) (first_header before)
-    decided rule.Control lower = controlled w.national (kind w.page p)
-    decided rule.Parity lower =
-        subst (λ b. Refutes b (KeepsRule rule.Parity w before p))
-        (grind (arith, nat_tests))
-        (opened (is_open_after (kind w.page) before)
-        (is_some_row (kind w.page p) && is_some (first_even_byte p))
-        ((row : ℕ) → kind w.page p ≡ Row row → HasOddText p) (λ t. odd_row p (kind w.page p)))
-    decided rule.RowChanged lower =
-        opened (is_open_after (kind w.page) before) _ _
-        (same_row (kind w.page p) refl (lower rule.Address (omega arith))
-        (lower rule.Parity (omega arith)))
-    decided rule.Enhancement lower =
-        opened (is_open_after (kind w.page) before) _ _
-        (λ t. no_enhancement w.page p (address p) refl)
-
-    pub broken_first : FirstRule (λ r. KeepsRule r w before p)
-        (broken_rules w before p)
-    unfolding broken_rules
-    broken_first = first_rule (λ r. breaks r w before p) (λ r. KeepsRule r w before p) decided
+  -- And the other way round.
+  pub breaks_none : AreClean w before → IsPacket p → IsClean w before p → Unbroken packet_rules
+  unfolding packet_rules
+  breaks_none clean whole keeps =
+      let comparable : IsComparable w before p =
+      record {
+        clean = clean;
+        whole = whole;
+        exact = keeps rule.Address;
+        odd = keeps rule.Parity;
+      } in
+      let none : (r : PacketRule) → breaks r w before p ≡ false =
+      λ r. (refuted _ (rule_decided r (λ e. comparable))).1 (keeps r) in
+      (none _, (none _, (none _, (none _, (none _, (none _, (none _, tt)))))))

@@ -1,8 +1,7 @@
 -- Where content is refused, every receiver shows another code than is due: `wrong_everywhere`.
 use Rattle.std.proofs.lemmas.Bool.Decides.{nat_tests}
-use Rattle.std.proofs.Common.{All, slice_index, ◌≡◌, ℕ, ◌+◌, ◌-◌, ◌<◌, ◌≤◌, ◌⊎◌, inl, inr, true}
-use Rattle.std.proofs.Common.{List, [], ◌∷◌, Option, length, take, map, IsFalse, refl, sym, ap, ◌∙◌}
-use Rattle.std.proofs.Common.{arith, length-take}
+use Rattle.std.proofs.Common.{All, slice_index, ◌≡◌, ℕ, ◌-◌, ◌<◌, ◌≤◌, true, Option, length, take}
+use Rattle.std.proofs.Common.{map, IsFalse, sym, ap, ◌∙◌, arith, length-take}
 use Rattle.std.proofs.lemmas.List.Elements.{All-nil, All-push}
 use Rattle.std.proofs.lemmas.List.{get_or-take, take-map}
 use Rattle.ttx_packet.specs.PageHeader.{HasExactWords}
@@ -15,15 +14,15 @@ use Rattle.ttx_page.specs.Span.{holds_header, span}
 use Rattle.ttx_page.proofs.NoiseLaws.{AreNear-themselves, law_of_noise, law_of_quiet}
 use Rattle.stl_rows.specs.Programme.{ProgrammeValue}
 use Rattle.sub_plan.specs.Options.{OptionsValue}
-use Rattle.sub_rules.specs.FirstBroken.{IsFirst, NamesFirst, IsBefore}
-use Rattle.sub_rules.specs.FirstBroken.Place.{AtOrder, AtGapCell, AtPacket, AtFirst, AtCell}
-use Rattle.sub_rules.specs.FrameRules.{HasHeader, ShowsDue, Task, Unread, frame_at, packets_before}
-use Rattle.sub_rules.specs.FrameRules.{packets_of_frame, task_of}
-use Rattle.sub_rules.specs.PacketRules.{IsClean, rank}
+use Rattle.sub_rules.specs.FrameRules.{Task, Unread, frame_at, packets_before, packets_of_frame}
+use Rattle.sub_rules.specs.FrameRules.{task_of}
+use Rattle.sub_rules.specs.PacketRules.{IsClean}
 use Rattle.sub_rules.specs.Transmission.{IsRising, SentFrame, Transmission, last_frame}
 use Rattle.sub_rules.specs.Transmission.{on_air_until}
 use Rattle.sub_rules.specs.WrongContent.{IsWrongEverywhere}
 use Rattle.sub_rules.specs.declared.packet_rule.Watched.{Watched}
+use Rattle.sub_laws.specs.BrokenPlaces.{WrongFirst}
+use Rattle.sub_laws.proofs.FrameByFrame.{IsReadTo}
 use Rattle.sub_laws.proofs.GoodLemmas.{number_at, whole-is}
 use Rattle.sub_laws.proofs.PlaceLemmas.{fair_step}
 use Rattle.sub_laws.proofs.PrefixLemmas.{at_start, before, last-same, on_air_is, packet_at}
@@ -32,7 +31,6 @@ use Rattle.sub_laws.proofs.StepByStepLemmas.{clean_nil}
 use Rattle.sub_rules.specs.Good.{IsCleanSpan}
 use Rattle.ttx_page.proofs.LateStart.{codes_of_same}
 use Rattle.ttx_page.proofs.SpanLists.{holds-append_left}
-use Rattle.sub_rules.specs.declared.fault.CheckFault.TheVariants as fault
 use Rattle.sub_rules.specs.declared.packet_rule.PacketRule.TheVariants as rule
 
 -- ---- packets that keep the rules
@@ -140,75 +138,33 @@ module _ (programme : ProgrammeValue) (options : OptionsValue) (unread : Option 
   g = task_of programme options unread
 
   -- Where the first n frames are read and keep the rules, and do not show what is due.
-  wrong_from :
+  pub wrong_everywhere :
       (n f row column : ℕ)
-      → 0 < n
-      → n ≤ length frames
-      → ((i : ℕ) → 0 < i → i < n → frame_at frames (i - 1) < frame_at frames i)
-      → frame_at frames (n - 1) ≤ f
-      → (n < length frames → (frame_at frames (n - 1) ≡ f) ⊎ (f < frame_at frames n))
-      → ((i k : ℕ) → i < n → k < length (packets_of_frame frames i)
-      → IsClean g.watched (before frames i k) (packet_at frames i k))
-      → HasHeader g frames 0
-      → IsCell row column
-      → (ShowsDue g frames n f row column → ⊥)
+      → IsReadTo g frames n f
+      → WrongFirst g frames n f row column
       → IsWrongEverywhere programme options frames f row column
-  wrong_from n f row column some fits rising up_to next clean head is other =
-      let last = last_is frames n f some fits rising up_to in
+  wrong_everywhere n f row column r w =
+      let last = last_is frames n f r.some r.fits r.rises r.up_to in
       record {
         read = take n frames;
-        are_read = grind (arith, rises_read frames n f some fits rising up_to);
+        are_read =
+            grind (
+              arith,
+              rises_read frames n f r.some r.fits r.rises r.up_to,
+              r.some,
+              r.fits,
+              r.up_to,
+              r.next,
+            );
         wrong = λ old new unheard shut hears e.
-            other
-            (sym (all_show g.watched frames n fits clean
-            (first_header-packets_before g.watched frames n some fits head) old new unheard shut
-            (grind (arith, nat_tests, on_air_read frames n f some fits rising up_to)) row column is)
+            w.broken
+            (sym (all_show g.watched frames n r.fits (λ i k l. r.packets i l k)
+            (first_header-packets_before g.watched frames n r.some r.fits r.header) old new unheard
+            shut
+            (grind (
+              arith,
+              nat_tests,
+              on_air_read frames n f r.some r.fits r.rises r.up_to,
+            )) row column w.is_cell)
             ∙ e);
       }
-
-  -- At the end of frame i of the list.
-  wrong_cell :
-      (i row column : ℕ)
-      → IsFirst g frames (AtCell i row column)
-      → IsWrongEverywhere programme options frames (frame_at frames i) row column
-  wrong_cell i row column first =
-      let there = first.there in
-      let same : frame_at frames (i + 1 - 1) ≡ frame_at frames i =
-      ap (frame_at frames) (omega arith) in
-      wrong_from (i + 1) (frame_at frames i) row column (omega arith) (omega (arith, there.0))
-      (λ j a b. first.earlier (AtOrder j) (before_here j 0 (0 ∷ []) (omega arith) (omega arith))
-      (a, omega (arith, there.0)))
-      (omega arith) (λ more. inl same)
-      (λ j k l m r. first.earlier (AtPacket j k r)
-      (before_here j 2 (k ∷ rank r ∷ []) (omega arith) (omega arith))
-      (omega (arith, there.0), m))
-      (first.earlier AtFirst first_before (omega (arith, there.0))) there.1 first.broken
-    where
-      before_here : (j q : ℕ) (rest : List ℕ) → j ≤ i → q < 3
-          → IsBefore (0 ∷ j ∷ q ∷ rest) (0 ∷ i ∷ 3 ∷ 1 ∷ row ∷ column ∷ [])
-      before_here j q rest l m = grind arith
-
-      first_before : IsBefore (0 ∷ 0 ∷ 3 ∷ 0 ∷ []) (0 ∷ i ∷ 3 ∷ 1 ∷ row ∷ column ∷ [])
-      first_before = grind arith
-
-  -- At the end of a frame before frame i of the list.
-  wrong_gap_cell :
-      (i f row column : ℕ)
-      → IsFirst g frames (AtGapCell i f row column)
-      → IsWrongEverywhere programme options frames f row column
-  wrong_gap_cell i f row column first =
-      let gap = first.there.0 in
-      wrong_from i f row column gap.0 (omega (arith, gap.1))
-      (λ j a b. first.earlier (AtOrder j) (inr (refl, inl b)) (a, omega (arith, gap.1)))
-      (omega (arith, gap.2)) (λ more. inr gap.3)
-      (λ j k l m r. first.earlier (AtPacket j k r) (inr (refl, inl l)) (omega (arith, gap.1), m))
-      (first.earlier AtFirst (inr (refl, inl gap.0)) (omega (arith, gap.1))) first.there.1
-      first.broken
-
-  -- A refusal that names a cell.
-  pub wrong_everywhere :
-      (f row column : ℕ)
-      → NamesFirst g frames (fault.Content f row column)
-      → IsWrongEverywhere programme options frames f row column
-  wrong_everywhere f row column (x, e, first) =
-      grind (arith, wrong_gap_cell, wrong_cell)

@@ -1,52 +1,55 @@
--- What is asked of one frame of the list, place by place, and its first cell that is wrong.
-use Rattle.std.specs.Prelude.{◌≡◌, ℕ, ◌<◌}
+-- What is asked of a transmission, frame by frame of the list.
+use Rattle.std.proofs.Common.{◌≡◌, ℕ, ◌+◌, ◌-◌, ◌<◌, ◌≤◌, ◌⊎◌, length, Some, None}
 use Rattle.ttx_page.specs.Page.{IsCell}
-use Rattle.sub_rules.specs.FirstBroken.{Place, IsThere, HoldsThere}
-use Rattle.sub_rules.specs.FirstBroken.Place.{AtOrder, AtStart, AtGapCell, AtGap, AtPacket, AtFirst}
-use Rattle.sub_rules.specs.FirstBroken.Place.{AtCell, AtFrame, AtOpen}
-use Rattle.sub_rules.specs.FrameRules.{ShowsDue, Task}
+use Rattle.sub_rules.specs.FrameRules.{HasHeader, IsCovered, IsEnded, ShowsDue, Task, end_frame}
+use Rattle.sub_rules.specs.FrameRules.{frame_at, packets_of_frame}
+use Rattle.sub_rules.specs.PacketRules.{IsClean}
 use Rattle.sub_rules.specs.Transmission.{Transmission}
-use Rattle.sub_rules.specs.declared.packet_rule.PacketRule.{PacketRule}
+use Rattle.sub_laws.proofs.PrefixLemmas.{IsInGap, before, packet_at}
 
--- Where the transmission has the place, what is asked there holds.
-abbrev pub Keeps : Task → Transmission → Place → Type 0
-Keeps g frames y = IsThere frames y → HoldsThere g frames y
+-- Nothing stands broken after n frames of the list, at the end of frame f.
+pub record IsQuiet (g : Task) (frames : Transmission) (n f : ℕ) : Type 0 where
+  pub shows : (row column : ℕ) → IsCell row column → ShowsDue g frames n f row column
+  pub covered : IsCovered g frames n f
+  pub ended : IsEnded g frames n
 
--- The order of frame i of the list.
+-- The number of frame i of the list is as asked.
 pub record OrderOk (g : Task) (frames : Transmission) (i : ℕ) : Type 0 where
-  pub order : Keeps g frames (AtOrder i)
-  pub start : i ≡ 0 → Keeps g frames AtStart
+  pub start : i ≡ 0 → (first : ℕ) → g.first_in ≡ Some first → frame_at frames 0 ≤ first
+  pub rises : 0 < i → frame_at frames (i - 1) < frame_at frames i
 
--- The frames of the day before frame i of the list.
-pub record GapOk (g : Task) (frames : Transmission) (i : ℕ) : Type 0 where
-  pub cells : (f row column : ℕ) → Keeps g frames (AtGapCell i f row column)
-  pub covered : (f : ℕ) → Keeps g frames (AtGap i f)
+-- The first k packets of frame i of the list keep all rules.
+abbrev pub PacketsOk : Task → Transmission → ℕ → ℕ → Type 0
+PacketsOk g frames i k =
+    (j : ℕ) → j < k → IsClean g.watched (before frames i j) (packet_at frames i j)
 
--- The packets of frame i of the list.
-pub record PacketsOk (g : Task) (frames : Transmission) (i : ℕ) : Type 0 where
-  pub each : (k : ℕ) (rule : PacketRule) → Keeps g frames (AtPacket i k rule)
-
--- The end of frame i of the list.
-pub record EndOk (g : Task) (frames : Transmission) (i : ℕ) : Type 0 where
-  pub first : i ≡ 0 → Keeps g frames AtFirst
-  pub cells : (row column : ℕ) → Keeps g frames (AtCell i row column)
-  pub covered : Keeps g frames (AtFrame i)
-  pub ended : Keeps g frames (AtOpen i)
-
--- All that is asked of frame i of the list.
+-- All that is asked of frame i of the list: of its number, of the frames of the day before it, of
+-- its packets, of its header, and at its end.
 pub record FrameOk (g : Task) (frames : Transmission) (i : ℕ) : Type 0 where
   pub order : OrderOk g frames i
-  pub gap : GapOk g frames i
-  pub packets : PacketsOk g frames i
-  pub end : EndOk g frames i
+  pub gap : (f : ℕ) → IsInGap frames i f → IsQuiet g frames i f
+  pub packets : PacketsOk g frames i (length (packets_of_frame frames i))
+  pub header : i ≡ 0 → HasHeader g frames 0
+  pub end : IsQuiet g frames (i + 1) (frame_at frames i)
 
 -- All that is asked of the first n frames of the list holds.
 abbrev pub AreOk : Task → Transmission → ℕ → Type 0
 AreOk g frames n = (j : ℕ) → j < n → FrameOk g frames j
 
--- The first cell that does not show what is due.
-pub record WrongFirst (g : Task) (frames : Transmission) (n f row column : ℕ) : Type 0 where
-  pub is_cell : IsCell row column
-  pub broken : ShowsDue g frames n f row column → ⊥
-  pub above : (r k : ℕ) → IsCell r k → r < row → ShowsDue g frames n f r k
-  pub before : (k : ℕ) → k < column → ShowsDue g frames n f row k
+-- All that is asked holds.
+pub record AllOk (g : Task) (frames : Transmission) : Type 0 where
+  pub each : AreOk g frames (length frames)
+  pub unread : g.unread ≡ None
+  pub some : 0 < length frames
+  pub late : (last : ℕ) → g.last_out ≡ Some last → last ≤ end_frame frames
+
+-- The first n frames are read up to the end of frame f of the day: they rise up to it, their
+-- packets keep all rules, and the first has a header of the page.
+pub record IsReadTo (g : Task) (frames : Transmission) (n f : ℕ) : Type 0 where
+  pub some : 0 < n
+  pub fits : n ≤ length frames
+  pub rises : (i : ℕ) → 0 < i → i < n → frame_at frames (i - 1) < frame_at frames i
+  pub up_to : frame_at frames (n - 1) ≤ f
+  pub next : n < length frames → (frame_at frames (n - 1) ≡ f) ⊎ (f < frame_at frames n)
+  pub packets : (i : ℕ) → i < n → PacketsOk g frames i (length (packets_of_frame frames i))
+  pub header : HasHeader g frames 0

@@ -8,7 +8,6 @@ pub mod FrameByFrame
 pub mod FrameLemmas
 pub mod GoodLemmas
 pub mod NotedLemmas
-pub mod OrderLemmas
 pub mod PesFileLemmas
 pub mod PlaceLemmas
 pub mod PlanLemmas
@@ -16,6 +15,7 @@ pub mod PrefixLemmas
 pub mod ReadFileLemmas
 pub mod RisingEndLemmas
 pub mod RobustLemmas
+pub mod StandingLemmas
 pub mod StepByStepLemmas
 pub mod StretchLemmas
 pub mod ToldListLemmas

@@ -7,8 +7,7 @@ use Rattle.std.proofs.lemmas.Bool.Decides.{nat_tests}
 use Rattle.std.proofs.lemmas.List.Sums.{fold-append}
 use Rattle.sub_rules.specs.Events.{Standing, content_events, end_events, first_header_events}
 use Rattle.sub_rules.specs.Events.{order_events, packet_events, rest_events, rule_events}
-use Rattle.sub_rules.specs.Events.{rules_told}
-use Rattle.sub_rules.specs.FirstBroken.{packet_fault}
+use Rattle.sub_rules.specs.Events.{packet_fault, rules_told}
 use Rattle.sub_rules.specs.FrameRules.{Task, Unread}
 use Rattle.sub_rules.specs.PacketTests.{broken_rules}
 use Rattle.sub_laws.specs.ToldStretch.{Noted, is_same_rule, note, noted_ended, noted_told, stands}

@@ -1,5 +1,5 @@
--- A transmission is good, of complete pages where these are asked for, exactly where what is asked
--- holds at each place: `Good-from_holds`, `Complete-from_holds`, `Holds-from_good`.
+-- A transmission is good, of complete pages where these are asked for, exactly where all that is
+-- asked of it holds: `Good-from_holds`, `Complete-from_holds`, `holds-from_good`.
 use Rattle.std.proofs.lemmas.Bool.Decides.{nat_tests}
 use Rattle.std.proofs.Common.{◌≡◌, ℕ, ◌+◌, ◌-◌, ◌<◌, ◌≤◌, inl, inr, true, false, List, [], ◌∷◌}
 use Rattle.std.proofs.Common.{◌++◌, Option, Some, None, length, take, get_or, refl, sym, ap, ◌∙◌}
@@ -32,11 +32,8 @@ use Rattle.sub_laws.specs.OnScreen.{Complete}
 use Rattle.sub_laws.specs.StepByStep.{IsNeverLate, MayFollow}
 use Rattle.sub_rules.specs.FrameRules.{HasHeader, IsCovered, ShowsDue, Unread, end_frame, frame_at}
 use Rattle.sub_rules.specs.FrameRules.{packets_before, packets_of_frame, task_of, watched_of}
-use Rattle.sub_rules.specs.declared.fault.CheckFault.{CheckFault}
 use Rattle.sub_laws.specs.CleanStretch.{IsEnd}
-use Rattle.sub_rules.specs.FirstBroken.{HoldsEverywhere, IsInGap, NamesFirst}
-use Rattle.sub_rules.specs.FirstBroken.Place.{AtOrder, AtStart, AtGapCell, AtGap, AtPacket, AtFirst}
-use Rattle.sub_rules.specs.FirstBroken.Place.{AtCell, AtFrame, AtOpen, AtUnread, AtNothing, AtEnd}
+use Rattle.sub_laws.proofs.FrameByFrame.{AllOk, FrameOk, IsQuiet}
 use Rattle.sub_laws.proofs.CompleteLemmas.{complete_from, ended_at}
 use Rattle.sub_laws.proofs.GoodLemmas.{any_sent, each_packet, number_at, rises_each, sent_any}
 use Rattle.sub_laws.proofs.GoodLemmas.{whole}
@@ -123,24 +120,27 @@ first_pick P (x ∷ xs) f e h = go (header x) refl e (λ d. first_pick P xs f d 
 
 module _ (programme : ProgrammeValue) (options : OptionsValue) (unread : Option Unread)
     (t : Transmission) (some_frames : 0 < options.every)
-    (h : HoldsEverywhere (task_of programme options unread) t) where
+    (h : AllOk (task_of programme options unread) t) where
   -- There is a frame.
   some : 0 < length t
-  some = h AtNothing tt
+  some = h.some
 
   -- Each frame is after the one before.
   pub rising : (i : ℕ) → 0 < i → i < length t → frame_at t (i - 1) < frame_at t i
-  rising i a b = h (AtOrder i) (a, b)
+  rising i a b = (h.each i b).order.rises a
 
   -- The frames rise.
   rising_of : (i j : ℕ) (d : SentFrame) → i < j → j < length t
       → (get_or t i d).frame < (get_or t j d).frame
-  rising_of i j d l m = grind (arith, nat_tests, number_at, rises_strictly, rising)
+  rising_of i j d l m =
+      let r = rises_strictly t rising i j l m in
+      let one = number_at t i d (omega arith) in
+      let other = number_at t j d m in omega arith
 
   -- Each packet keeps the rules.
   clean_at : (i k : ℕ) → i < length t → k < length (packets_of_frame t i)
       → IsClean (watched_of programme options) (before t i k) (packet_at t i k)
-  clean_at i k l m f = h (AtPacket i k f) (l, m)
+  clean_at i k l m f = (h.each i l).packets k m f
 
   -- These packets, cut anywhere, leave a clean span.
   abbrev HasCleanCuts : List (List ℕ) → Type 0
@@ -182,22 +182,15 @@ module _ (programme : ProgrammeValue) (options : OptionsValue) (unread : Option 
           (at_start t (length t) (omega arith) HasCleanCuts
           (λ k. rw take-nil (clean_nil options.page)) cuts_more m le n)
 
-  -- What is asked at an end of its page and of the last header.
-  abbrev EndHolds : ℕ → ℕ → Type 0
-  EndHolds n f =
-      ((row column : ℕ) → IsCell row column
-      → ShowsDue (task_of programme options unread) t n f row column)
-      × IsCovered (task_of programme options unread) t n f
-
-  ends_hold : (n f : ℕ) → IsEnd t n f → EndHolds n f
-  ends_hold n f (above, le, inl own) =
+  -- At no end anything stands broken.
+  quiet_at : (n f : ℕ) → IsEnd t n f → IsQuiet (task_of programme options unread) t n f
+  quiet_at n f (above, le, inl own) =
       let one : n - 1 + 1 ≡ n = omega arith in
-      let l : n - 1 < length t = omega arith in
-      subst (λ m. EndHolds m f) one (subst (EndHolds (n - 1 + 1)) (sym own)
-      (λ row column is. h (AtCell (n - 1) row column) (l, is), h (AtFrame (n - 1)) l))
-  ends_hold n f (above, le, inr (l, later, earlier)) =
-      let gap : IsInGap t n f = (above, l, earlier (n - 1) (omega arith), later) in
-      (λ row column is. h (AtGapCell n f row column) (gap, is), h (AtGap n f) gap)
+      subst (λ m. IsQuiet (task_of programme options unread) t m f) one
+      (subst (IsQuiet (task_of programme options unread) t (n - 1 + 1)) (sym own)
+      (h.each (n - 1) (omega arith)).end)
+  quiet_at n f (above, le, inr (l, later, earlier)) =
+      (h.each n l).gap f (above, l, earlier (n - 1) (omega arith), later)
 
   -- At the end of each frame the due page is shown.
   shows_at : (f row column : ℕ) → first_frame t ≤ f → f ≤ last_frame t → IsCell row column
@@ -205,19 +198,19 @@ module _ (programme : ProgrammeValue) (options : OptionsValue) (unread : Option 
   shows_at f row column low high is =
       let (n, end, on, from) =
       end_at t rising f some (omega (arith, first-same t)) (omega (arith, last-same t)) in
-      ap (λ xs. shown options.page xs row column) on ∙ (ends_hold n f end).0 row column is
+      ap (λ xs. shown options.page xs row column) on ∙ (quiet_at n f end).shows row column is
 
   -- The first frame has a header of the page.
   opens : HoldsHeader options.page t (first_frame t)
   opens = any_sent (watched_of programme options) t 0 (first_frame t) some (sym (first-same t))
-      (h AtFirst some)
+      ((h.each 0 some).header refl)
 
   -- At the end of each frame the last one is not too long ago.
   never_late : IsNeverLate options.page options.every t
   never_late f low high =
       let first = first-same t in
       let (n, end, on, from) = end_at t rising f some (omega arith) (omega (arith, last-same t)) in
-      elim (ends_hold n f end).1 [
+      elim (quiet_at n f end).covered [
         | inl early ↦ (first_frame t, low, omega arith, opens)
         | inr (j, m, below, head) ↦
             let r = rises_to t rising j (n - 1) (omega arith) (omega (arith, end.0, end.1)) in
@@ -243,8 +236,8 @@ module _ (programme : ProgrammeValue) (options : OptionsValue) (unread : Option 
     not_empty = some;
     rising = rising_of;
     whole = sizes;
-    starts = let starts = h AtStart some in grind (arith, first-same t);
-    lasts = let lasts = h AtEnd some in grind (arith, last-same t);
+    starts = let starts = (h.each 0 some).order.start refl in grind (arith, first-same t);
+    lasts = let lasts = h.late in grind (arith, last-same t);
     exact = each_from HasExactWords t
         (λ i k l m. (clean_at i k l m rule.Address, clean_at i k l m rule.HeaderCode));
     serial = λ i d l k e m i' d' l' k' e' m' a b is too.
@@ -259,7 +252,8 @@ module _ (programme : ProgrammeValue) (options : OptionsValue) (unread : Option 
 
   -- And of complete pages, where these are asked for.
   pub Complete-from_holds : IsTrue options.asks_complete → Complete t options
-  Complete-from_holds asks = complete_from options t rising some (λ i l. h (AtOpen i) l asks)
+  Complete-from_holds asks =
+      complete_from options t rising some (λ i l. (h.each i l).end.ended asks)
 
 -- ---- the law, the other way
 
@@ -361,30 +355,48 @@ module _ (programme : ProgrammeValue) (options : OptionsValue) (t : Transmission
         (on_air_is t rises n f le (λ s. low) high))
         ∙ good.content f row column (omega (arith, first-same t)) (omega (arith, last-same t)) is
 
-    -- Where the transmission is good, all that is asked holds.
-    pub Holds-from_good : HoldsEverywhere (task_of programme options None) t
-    Holds-from_good (AtOrder i) there = rises i there.0 there.1
-    Holds-from_good AtStart there = let starts = good.starts in grind arith
-    Holds-from_good (AtGapCell i f row column) (gap, is) = let last = last_at_least i gap.1 in
-        shows_of i f row column gap.0 (omega (arith, gap.1)) (omega (arith, gap.2)) (λ m. gap.3)
-        (omega (arith, gap.3)) is
-    Holds-from_good (AtGap i f) gap = let last = last_at_least i gap.1 in
-        covered_at i f (omega (arith, gap.3))
-        (λ j a b. let r = rises_to t rises i j a b in omega (arith, gap.3))
-    Holds-from_good (AtPacket i k f) there = free_at i k there.0 there.1 f
-    Holds-from_good AtFirst there = starts
-    Holds-from_good (AtCell i row column) (l, is) =
-        let back : frame_at t (i + 1 - 1) ≡ frame_at t i = ap (frame_at t) (omega arith) in
-        shows_of (i + 1) (frame_at t i) row column (omega arith) (omega arith) (omega arith)
-        (λ m. rises_strictly t rises i (i + 1) (omega arith) m) (last_at_least i l) is
-    Holds-from_good (AtFrame i) l =
-        covered_at (i + 1) (frame_at t i) (last_at_least i l)
-        (λ j a b. rises_strictly t rises i j (omega arith) b)
-    Holds-from_good (AtOpen i) l = λ asks. ended_at options t rises (complete asks) i l
-    Holds-from_good AtUnread there = refl
-    Holds-from_good AtNothing there = good.not_empty
-    Holds-from_good AtEnd there = let lasts = good.lasts in grind (arith, last-same t)
+    -- What is asked at an end.
+    quiet_of : (n f : ℕ) → 0 < n → n ≤ length t → frame_at t (n - 1) ≤ f
+        → (n < length t → f < frame_at t n) → f ≤ end_frame t
+        → (IsTrue options.asks_complete
+        → is_open_after (kind options.page) (packets_before t n) ≡ false)
+        → IsQuiet (task_of programme options None) t n f
+    quiet_of n f some le low high last ended = record {
+      shows = λ row column is. shows_of n f row column some le low high last is;
+      covered = covered_at n f last
+          (λ j a b. let r = rises_to t rises n j a b in let s = high (omega arith) in omega arith);
+      ended = ended;
+    }
 
-    -- So no refusal is told of it.
-    pub refuted : (fault : CheckFault) → NamesFirst (task_of programme options None) t fault → ⊥
-    refuted fault (x, e, first) = first.broken (Holds-from_good x first.there)
+    -- Where the transmission is good, all that is asked of each frame holds.
+    frame_of : (i : ℕ) → i < length t → FrameOk (task_of programme options None) t i
+    frame_of i l = record {
+      order = record {
+        start = let starts = good.starts in grind (arith, first-same t);
+        rises = λ some. rises i some l;
+      };
+      gap = λ f gap.
+          let last = last_at_least i l in
+          let one : i - 1 + 1 ≡ i = omega (arith, gap.0) in
+          let shut :
+          IsTrue options.asks_complete
+          → is_open_after (kind options.page) (packets_before t (i - 1 + 1)) ≡ false =
+          λ asks. ended_at options t rises (complete asks) (i - 1) (omega (arith, gap.0)) in
+          quiet_of i f gap.0 (omega arith) (omega (arith, gap.2)) (λ m. gap.3)
+          (omega (arith, gap.3)) (rw one at shut);
+      packets = λ k m. free_at i k l m;
+      header = λ z. starts;
+      end =
+          let back : frame_at t (i + 1 - 1) ≡ frame_at t i = ap (frame_at t) (omega arith) in
+          quiet_of (i + 1) (frame_at t i) (omega arith) (omega arith) (omega arith)
+          (λ m. rises_strictly t rises i (i + 1) (omega arith) m) (last_at_least i l)
+          (λ asks. ended_at options t rises (complete asks) i l);
+    }
+
+    pub holds-from_good : AllOk (task_of programme options None) t
+    holds-from_good = record {
+      each = frame_of;
+      unread = refl;
+      some = good.not_empty;
+      late = let lasts = good.lasts in grind (arith, last-same t);
+    }

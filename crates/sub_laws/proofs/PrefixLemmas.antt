@@ -9,8 +9,12 @@ use Rattle.sub_rules.specs.Transmission.{EachPacket, SentFrame, Transmission, fi
 use Rattle.sub_rules.specs.Transmission.{last_frame, on_air_until, packets_between}
 use Rattle.sub_rules.specs.FrameRules.{end_frame, frame_at, packets_of_frame, packets_before}
 use Rattle.sub_laws.specs.CleanStretch.{IsEnd}
-use Rattle.sub_rules.specs.FirstBroken.{IsInGap}
 use Rattle.sub_rules.proofs.FrameLists.{joined_more}
+
+-- A frame of the day between frame i of the list and the one before.
+abbrev pub IsInGap : Transmission → ℕ → ℕ → Type 0
+IsInGap frames i f =
+    (0 < i) × (i < length frames) × (frame_at frames (i - 1) < f) × (f < frame_at frames i)
 
 -- The packets before packet k of frame i of the list, and that packet.
 abbrev pub before : Transmission → ℕ → ℕ → List (List ℕ)

@@ -10,8 +10,7 @@ use Rattle.std.proofs.lemmas.List.Elements.{Contains-append_left, Contains-appen
 use Rattle.sub_laws.specs.CleanStretch.{is_needed}
 use Rattle.sub_rules.specs.Events.{events, events_at_end, events_of_first, frame_events}
 use Rattle.sub_rules.specs.Events.{first_header_events, gap_events, gap_length, order_events}
-use Rattle.sub_rules.specs.Events.{packet_events, rules_told}
-use Rattle.sub_rules.specs.FirstBroken.{packet_fault}
+use Rattle.sub_rules.specs.Events.{packet_events, packet_fault, rules_told}
 use Rattle.sub_rules.specs.FrameRules.{Task, frame_at, packets_before, packets_of_frame}
 use Rattle.sub_rules.specs.PacketTests.{breaks, broken_rules, packet_rules}
 use Rattle.sub_laws.specs.ToldStretch.{TellsNothingOf, TellsRising}

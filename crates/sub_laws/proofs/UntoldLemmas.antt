@@ -15,7 +15,7 @@ use Rattle.sub_rules.specs.Transmission.{Transmission}
 use Rattle.sub_rules.specs.declared.packet_rule.PacketRule.TheVariants as rule
 use Rattle.sub_rules.specs.declared.packet_rule.Watched.{Watched}
 use Rattle.sub_laws.proofs.BrokenRuleLemmas.{coded, columns_zero, controlled, odd_text}
-use Rattle.sub_laws.proofs.EventLemmas.{gap_decided, incomplete_decided, none_wrong}
+use Rattle.sub_laws.proofs.StandingLemmas.{gap_decided, incomplete_decided, none_wrong}
 use Rattle.sub_rules.proofs.CodeWordLemmas.{address_decided, header_decided}
 
 -- ---- a packet

@@ -1,5 +1,5 @@
+pub mod BrokenPlaces
 pub mod CleanStretch
-pub mod FirstEvent
 pub mod Laws
 pub mod LostRows
 pub mod OnScreen

@@ -4,8 +4,7 @@
 use Rattle.std.specs.Prelude.{ℕ, ◌<◌, ◌≤◌, ◌⊎◌, Bool, true, false, List, [], ◌∷◌, Option, Some}
 use Rattle.std.specs.Prelude.{None, All, Contains, fold, if◌then◌else◌, is_some, IsFalse, IsTrue}
 use Rattle.sub_laws.specs.CleanStretch.{AtEnds, IsEnd, IsStretch, IsUntold, is_needed}
-use Rattle.sub_rules.specs.Events.{Standing, events, standing_at}
-use Rattle.sub_rules.specs.FirstBroken.{packet_fault}
+use Rattle.sub_rules.specs.Events.{Standing, events, packet_fault, standing_at}
 use Rattle.sub_rules.specs.FrameRules.{Task}
 use Rattle.sub_rules.specs.Transmission.{Transmission}
 use Rattle.sub_rules.specs.declared.event.EndRule.{EndRule}

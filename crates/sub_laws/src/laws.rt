@@ -1,8 +1,8 @@
 //! A good transmission is robust, and its rules packet by packet.
 //!
 //! The functions do nothing: the contract of each is a law over the definitions of `specs/`.
+ghost use Rattle.sub_laws.specs.BrokenPlaces.{LawOfBrokenPlaces, LawOfNothingTold};
 ghost use Rattle.sub_laws.specs.CleanStretch.{LawOfCleanStretch, LawOfUntoldStretch};
-ghost use Rattle.sub_laws.specs.FirstEvent.{LawOfFirstEvent};
 ghost use Rattle.sub_laws.specs.Laws.{LawOfAllKept, LawOfGood, LawOfWindow};
 ghost use Rattle.sub_laws.specs.OnScreen.{LawOfCompletePlan};
 ghost use Rattle.sub_rules.specs.PesReading.{LawOfPesFiles};
@@ -121,9 +121,14 @@ pub fn law_of_pes_files()
     ensures { LawOfPesFiles }
 {}
 
-/// The first event that is told of a transmission names the first place that is broken, and nothing
-/// is told exactly where all that is asked holds.
-#[tactic(auto, using(crate::proofs::EventLemmas::law_of_first_event))]
-pub fn law_of_first_event()
-    ensures { LawOfFirstEvent }
+/// Each broken place of a transmission is told, in the order of the list, and no other: so what is
+/// told first is the first place that is broken.
+pub fn law_of_broken_places()
+    ensures { LawOfBrokenPlaces }
+{}
+
+/// Nothing is told of a transmission exactly where it is good, of complete pages where these are
+/// asked for, and the PES file was read to its end.
+pub fn law_of_nothing_told()
+    ensures { LawOfNothingTold }
 {}

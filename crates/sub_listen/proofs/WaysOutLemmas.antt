@@ -16,7 +16,7 @@ use Rattle.ttx_pes.specs.Reader.{FailsWithin, TakesPackets}
 use Rattle.ttx_pes.specs.Reading.{most_packets, rest_after}
 use Rattle.sub_rules.specs.Sendings.{TellsFrame}
 use Rattle.sub_rules.specs.Fault.{is_pes_read}
-use Rattle.sub_rules.specs.FirstBroken.{unread_fault}
+use Rattle.sub_rules.specs.Events.{unread_fault}
 use Rattle.sub_rules.specs.FrameRules.{Unread, packets_before}
 use Rattle.sub_rules.specs.PacketRules.{packets_of_units}
 use Rattle.sub_rules.specs.PesReading.{ReadsAs}

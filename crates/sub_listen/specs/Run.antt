@@ -8,7 +8,7 @@ use Rattle.ttx_page.specs.Screen.{Display}
 use Rattle.ttx_pes.specs.Reader.{FailsAtPacket, TakesPackets}
 use Rattle.ttx_pes.specs.declared.fault.PesFault.TheVariants.{Read}
 use Rattle.sub_rules.specs.Fault.{is_pes_read, is_subtitle_fault}
-use Rattle.sub_rules.specs.FirstBroken.{unread_fault}
+use Rattle.sub_rules.specs.Events.{unread_fault}
 use Rattle.sub_rules.specs.FrameRules.{Unread, frame_at, packets_before, packets_of_frame}
 use Rattle.sub_rules.specs.PesReading.{ReadsAs}
 use Rattle.sub_rules.specs.Transmission.{Transmission}

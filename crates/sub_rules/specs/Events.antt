@@ -1,6 +1,7 @@
 -- What is told of a transmission, one event after another (own): each rule that is broken, at its
 -- place; and of the rules of a frame's end, which may stay broken from one frame to the next, where
--- they begin to be broken, and up to which frame they stood so.
+-- they begin to be broken, and up to which frame they stood so. This is the order in which all that
+-- is asked is looked at: a refusal is what is told first.
 --
 -- The ends are looked at in this order: for each PES packet first the frames of the day that lie
 -- after every PES packet before it, and before its own frame, and then its own frame. At an end the
@@ -16,9 +17,9 @@ use Rattle.ttx_page.specs.Page.{Rows, cell}
 use Rattle.ttx_page.specs.PacketKind.{kind}
 use Rattle.ttx_page.specs.Shown.{shown}
 use Rattle.ttx_page.specs.Span.{holds_header, is_open_after}
-use Rattle.sub_rules.specs.FirstBroken.{packet_fault, unread_fault}
 use Rattle.sub_rules.specs.FrameRules.{Task, Unread, end_frame, frame_at, packets_before}
 use Rattle.sub_rules.specs.FrameRules.{packets_of_frame}
+use Rattle.sub_rules.specs.FrameRules.Unread.{BadPacket, NoFrame}
 use Rattle.sub_rules.specs.PacketTests.{broken_rules}
 use Rattle.sub_rules.specs.Transmission.{SentFrame, Transmission}
 use Rattle.sub_rules.specs.declared.event.EndRule.{EndRule}
@@ -28,6 +29,7 @@ use Rattle.sub_rules.specs.declared.event.Event.TheVariants.{Ended, Told}
 use Rattle.sub_rules.specs.declared.fault.CheckFault.{CheckFault}
 use Rattle.sub_rules.specs.declared.fault.CheckFault.TheVariants as fault
 use Rattle.sub_rules.specs.declared.packet_rule.PacketRule.{PacketRule}
+use Rattle.sub_rules.specs.declared.packet_rule.PacketRule.TheVariants as rule
 use Rattle.sub_rules.specs.declared.packet_rule.Watched.{Watched}
 
 -- ---- what stands broken at an end
@@ -164,6 +166,16 @@ order_events g frames (suc i) =
     then []
     else Told (fault.Order (suc i)) ∷ []
 
+-- The refusal of a packet that breaks a rule.
+abbrev pub packet_fault : PacketRule → ℕ → ℕ → CheckFault
+packet_fault rule.Address frame packet = fault.Address frame packet
+packet_fault rule.HeaderCode frame packet = fault.HeaderCode frame packet
+packet_fault rule.Mode frame packet = fault.Mode frame packet
+packet_fault rule.Control frame packet = fault.Control frame packet
+packet_fault rule.Parity frame packet = fault.Parity frame packet
+packet_fault rule.RowChanged frame packet = fault.RowChanged frame packet
+packet_fault rule.Enhancement frame packet = fault.Enhancement frame packet
+
 -- What is told of packet k of a frame, sent after these packets: all rules that it breaks.
 unfoldable pub rules_told : Watched → ℕ → ℕ → List (List ℕ) → List ℕ → List Event
 rules_told w frame k before p =
@@ -206,6 +218,13 @@ events_of_first g frames (suc n) = events_of_first g frames n ++ frame_events g 
 abbrev pub endings : Standing → ℕ → List Event
 endings last frame = end_events last frame nothing_stands frame
 
+-- The refusal of what follows the frames that are read, as PES packet `pes`; of a file without one,
+-- that it has none.
+abbrev pub unread_fault : ℕ → Option Unread → CheckFault
+unread_fault pes (Some (BadPacket f)) = fault.Pes pes f
+unread_fault pes (Some NoFrame) = fault.OffFrame pes
+unread_fault pes None = fault.Empty
+
 -- What is told of what follows the list: of the bytes that are left; else that the last TCO is
 -- after the last frame.
 abbrev pub late_events : Option ℕ → ℕ → List Event
@@ -229,3 +248,9 @@ closing_events g frames (suc n) =
 unfoldable pub events : Task → Transmission → List Event
 events g frames =
     events_of_first g frames (length frames) ++ closing_events g frames (length frames)
+
+-- The fault that is told first.
+abbrev pub first_told : List Event → Option CheckFault
+first_told [] = None
+first_told (Told f ∷ more) = Some f
+first_told (Ended rule frame ∷ more) = first_told more

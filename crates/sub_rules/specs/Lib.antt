@@ -1,6 +1,5 @@
 pub mod Events
 pub mod Fault
-pub mod FirstBroken
 pub mod FrameRules
 pub mod Good
 pub mod PacketRules

@@ -1,10 +1,11 @@
 -- What is asked of a packet that is sent after others. Each rule looks back over the whole list of
 -- the packets before it, to the first packet of the transmission.
-use Rattle.std.specs.Prelude.{◌≡◌, ℕ, ◌<◌, List, [], ◌∷◌, ◌++◌, take, length, slice_index_or}
+use Rattle.std.specs.Prelude.{◌≡◌, ℕ, ◌<◌, List, [], ◌∷◌, take, length, slice_index_or}
 use Rattle.std.specs.Prelude.{Option, Some, None, IsTrue, filter, map, drop}
 use Rattle.std.specs.List.{AllByRecursion}
 use Rattle.std.specs.Option.{option_or}
 use Rattle.ttx_packet.specs.PacketAddress.{PacketAddress, address, HasExactAddress}
+use Rattle.ttx_packet.specs.PacketAddress.{IsPacket}
 use Rattle.ttx_packet.specs.PageHeader.{c11, header, HasExactHeader}
 use Rattle.ttx_packet.specs.Parity.{code_of}
 use Rattle.ttx_packet.specs.RowPacket.{HasOddText}
@@ -72,31 +73,10 @@ KeepsRule rule.Enhancement w before p =
 abbrev pub IsClean : Watched → List (List ℕ) → List ℕ → Type 0
 IsClean w before p = (f : PacketRule) → KeepsRule f w before p
 
--- The place of a rule in the order in which rules are told of one packet.
-abbrev pub rank : PacketRule → ℕ
-rank rule.Address = 0
-rank rule.HeaderCode = 1
-rank rule.Mode = 2
-rank rule.Control = 3
-rank rule.Parity = 4
-rank rule.RowChanged = 5
-rank rule.Enhancement = 6
-
--- It breaks this rule, and none of a lower rank.
-pub record BreaksFirst (w : Watched) (before : List (List ℕ)) (p : List ℕ) (f : PacketRule)
-    : Type 0 where
-  pub broken : KeepsRule f w before p → ⊥
-  pub earlier : (g : PacketRule) → rank g < rank f → KeepsRule g w before p
-
--- The first n packets of a frame keep all rules, sent after these.
-abbrev pub AreClean : Watched → List (List ℕ) → List (List ℕ) → ℕ → Type 0
-AreClean w before packets n =
-    (k : ℕ) → k < n → IsClean w (before ++ take k packets) (slice_index_or packets k [])
-
--- Packet k of a frame breaks the rule, none of a lower rank, and the packets before it keep all.
-pub record BreaksFirstAt
-    (w : Watched) (before packets : List (List ℕ)) (k : ℕ) (f : PacketRule)
-    : Type 0 where
-  pub exists : k < length packets
-  pub clean : AreClean w before packets k
-  pub first : BreaksFirst w (before ++ take k packets) (slice_index_or packets k []) f
+-- These packets are whole, and each keeps all seven, sent after those before it.
+abbrev pub AreClean : Watched → List (List ℕ) → Type 0
+AreClean w packets =
+    (k : ℕ)
+    → k < length packets
+    → IsPacket (slice_index_or packets k [])
+    × IsClean w (take k packets) (slice_index_or packets k [])

@@ -4,7 +4,7 @@ use Rattle.ttx_pes.specs.PesPacket.{PesValue}
 use Rattle.ttx_pes.specs.Reading.{answer_at}
 use Rattle.stl_file.specs.TimeCode.{day}
 use Rattle.sub_plan.specs.FrameTime.{pts_of}
-use Rattle.sub_rules.specs.FirstBroken.{unread_fault}
+use Rattle.sub_rules.specs.Events.{unread_fault}
 use Rattle.sub_rules.specs.FrameRules.{Unread, frame_at, packets_of_frame}
 use Rattle.sub_rules.specs.PesReading.{EndsReading}
 use Rattle.sub_rules.specs.Transmission.{Transmission}

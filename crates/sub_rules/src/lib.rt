@@ -2,9 +2,9 @@
 //!
 //! Stands on `ttx_page` for what packets show, on `stl_rows` for the due page, on `ttx_pes` for PES
 //! packets, and on `sub_plan` for the options. `specs/` says what a transmission is and how the
-//! bytes of a PES file are read as one, what a good one is, `Good`, which place is the first that
-//! is broken, `FirstBroken`, and all that is told of one that is not good, `Events`. The checker,
-//! the receiver that hears a file and the laws stand on it.
+//! bytes of a PES file are read as one, what a good one is, `Good`, and all that is told of one
+//! that is not good, in order, `Events`. The checker, the receiver that hears a file and the laws
+//! stand on it.
 //!
 //! ```text
 //! next_sending(&mut reader, &mut source, &options, 0)?; // Some(Sending { frame: 250, .. })

@@ -3,7 +3,7 @@ use Rattle.std.proofs.Common.{◌+◌, sym, ◌∙◌, arith, eqb-true}
 use Rattle.sub_io.proofs.TellingLemmas.{TellsSome-none, TellsSome-trans, Tells-trans, Tells-none}
 use Rattle.sub_io.proofs.TellingLemmas.{TellsPrefix-first, TellsPrefix-second}
 use Rattle.sub_checker.proofs.RuleSetLemmas.{no_rules, told_all, told_more, told_rest, stopped}
-use Rattle.sub_rules.specs.FirstBroken.{packet_fault}
+use Rattle.sub_rules.specs.Events.{packet_fault}
 use Rattle.sub_rules.specs.declared.event.Event.{Event}
 use Rattle.sub_rules.specs.declared.event.Event.TheVariants.{Told}
 use Rattle.sub_rules.specs.declared.packet_rule.PacketRule.{PacketRule}

@@ -2,7 +2,7 @@
 use Rattle.std.proofs.Common.{◌≡◌, Bool, false, map, take}
 use Rattle.std.specs.List.{filter}
 use Rattle.sub_io.specs.Telling.{Tells, TellsSome}
-use Rattle.sub_rules.specs.FirstBroken.{packet_fault}
+use Rattle.sub_rules.specs.Events.{packet_fault}
 use Rattle.sub_checker.specs.Listener.{rule_set}
 use Rattle.sub_rules.specs.PacketTests.{packet_rules}
 use Rattle.sub_rules.specs.declared.event.Event.TheVariants.{Told}

@@ -131,4 +131,4 @@ returns-in-Ok-Some-clause-told g c =
     (λ holds same. still_goes _ _ _
     (subst (λ (p : Printer g.row.K.Denot). g.K.Sink.failure_count p.out.now
     < 0xFFFF_FFFF_FFFF_FFFF) (sym kept) c.requires.out) holds same)
-    e.some e.told e.stopped e.goes_on e.only e.count e.read)
+    e.some e.told e.first e.stopped e.goes_on e.only e.count e.read)

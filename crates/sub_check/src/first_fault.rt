@@ -1,0 +1,79 @@
+//! The device that `check` tells all events to.
+ghost use Rattle.std.specs.Prelude.{◌≡◌, Option, None, Some, IfSome, is_some, true};
+ghost use Rattle.sub_check.specs.FirstTold.{IsRuleFault, KeepsFirstFault, is_of_rule};
+ghost use Rattle.sub_rules.specs.declared.fault.CheckFault.{CheckFault};
+
+use std::marker::Model;
+use sub_io::{Audience, Stopped};
+use sub_rules::{CheckFault, Event};
+use ttx_pes::PesFault;
+
+// Keeps the first fault that a rule tells, and says stop at it. All else passes.
+//
+// Contracts see it as what it keeps.
+#[derive(Drop)]
+pub struct FirstFault {
+    fault: Option<CheckFault>,
+}
+
+impl Model for FirstFault {
+    ghost Value = { Option CheckFault };
+
+    ghost view = { λ f. f.fault };
+
+    ghost invariant = { λ f. IfSome f.fault IsRuleFault };
+}
+
+impl FirstFault {
+    // One that was told nothing yet.
+    pub fn new() -> Self
+        ensures { result ≡ None }
+    {
+        FirstFault { fault: None }
+    }
+
+    // The fault that it keeps.
+    pub fn into_fault(self) -> CheckFault
+        requires { is_some self ≡ true }
+        ensures kept { self ≡ Some result }
+        ensures own { IsRuleFault result }
+    {
+        match self.fault {
+            Some(fault) => fault,
+            None => unreachable!(),
+        }
+    }
+}
+
+impl Audience<Event> for FirstFault {
+    ghost is_told = { KeepsFirstFault };
+
+    ghost has_stopped = { λ f. is_some f };
+
+    // Keeps it where it is a fault of a rule.
+    #[tactic(auto, using(sub_io::proofs::TellingLemmas::tellings))]
+    fn tell(&mut self, item: Event) -> Result<(), Stopped> {
+        match item {
+            Event::Told(fault) if is_of_rule(&fault) => {
+                self.fault = Some(fault);
+                Err(Stopped)
+            }
+            _ => Ok(()),
+        }
+    }
+}
+
+// Rules tell all faults but those of the subtitle file and of failed devices.
+fn is_of_rule(fault: &CheckFault) -> bool
+    ensures is { result ≡ is_of_rule fault.now }
+    ensures own { result ≡ true → IsRuleFault fault.now }
+{
+    match fault {
+        CheckFault::Subtitles(_)
+        | CheckFault::Pes {
+            fault: PesFault::Read | PesFault::Write,
+            ..
+        } => false,
+        _ => true,
+    }
+}

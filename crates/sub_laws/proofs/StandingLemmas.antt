@@ -1,0 +1,216 @@
+-- What stands broken at an end: its first wrong cell, `first_wrong`, `none_wrong`; whether the
+-- repeat bound has passed, `gap_decided`; whether the page is open, `incomplete_decided`; and
+-- whether anything stands broken, `quiet_decided`.
+use Rattle.std.proofs.Common.{◌≡◌, ◌↔◌, ℕ, zero, suc, ◌+◌, ◌-◌, ◌<◌, ◌≤◌, inl, inr, Bool, true}
+use Rattle.std.proofs.Common.{false, [], length, take, Option, Some, None, refl, sym, ap, ◌∙◌}
+use Rattle.std.proofs.Common.{subst, arith, not, ◌||◌, ◌==◌, get_or, is_some, option_map}
+use Rattle.std.specs.Prelude.{option_and_then}
+use Rattle.std.specs.List.{list_any}
+use Rattle.std.proofs.lemmas.Bool.{cases_lt, true≢false}
+use Rattle.std.proofs.lemmas.Bool.Decides.{nat_tests, Decides-and, Decides-at, Decides-like}
+use Rattle.std.proofs.lemmas.Bool.Decides.{Decides-ltb, Decides-or}
+use Rattle.std.proofs.lemmas.List.{get_or-map}
+use Rattle.std.proofs.lemmas.Option.{none-some, same_Some}
+use Rattle.std.specs.Bool.{Decides}
+use Rattle.std.proofs.lemmas.List.Folds.{list_any_more}
+use Rattle.ttx_packet.specs.OneBit.{first_below}
+use Rattle.ttx_packet.proofs.OneBitLemmas.{first_below_is}
+use Rattle.ttx_page.specs.Page.{IsCell, cell}
+use Rattle.ttx_page.specs.Shown.{shown}
+use Rattle.sub_rules.specs.Events.{covers, first_cell, is_gap, is_incomplete, nothing_stands}
+use Rattle.sub_rules.specs.Events.{standing_at, wrong_after, wrong_cell}
+use Rattle.sub_rules.specs.FrameRules.{HasHeader, IsCovered, IsEnded, ShowsDue, Task, frame_at}
+use Rattle.sub_rules.specs.FrameRules.{packets_before}
+use Rattle.sub_rules.specs.Transmission.{SentFrame, Transmission}
+use Rattle.sub_rules.proofs.TestLemmas.{below_before, below_none, holds}
+use Rattle.sub_laws.specs.BrokenPlaces.{StandsBroken, WrongFirst}
+use Rattle.sub_laws.proofs.FrameByFrame.{IsQuiet}
+
+-- ---- the first cell
+
+-- The first cell that passes a test: it does, and none before it.
+pub record IsFirstCell (test : ℕ → ℕ → Bool) (row column : ℕ) : Type 0 where
+  pub is_cell : IsCell row column
+  pub passes : test row column ≡ true
+  pub above : (r c : ℕ) → IsCell r c → r < row → test r c ≡ false
+  pub before : (c : ℕ) → c < column → test row c ≡ false
+
+module _ (test : ℕ → ℕ → Bool) where
+  -- A row has a cell that passes.
+  abbrev row_test : ℕ → Bool
+  row_test above = is_some (first_below 40 (test (above + 1)))
+
+  -- Its first cell.
+  abbrev in_row : ℕ → Option (ℕ × ℕ)
+  in_row above = option_map (λ column. (above + 1, column)) (first_below 40 (test (above + 1)))
+
+  -- A row that has none.
+  row_none : (above : ℕ) → row_test above ≡ false → (c : ℕ) → c < 40
+      → test (above + 1) c ≡ false
+  row_none above e = go (first_below 40 (test (above + 1))) refl e
+    where
+      go : (o : Option ℕ) → first_below 40 (test (above + 1)) ≡ o → is_some o ≡ false
+          → (c : ℕ) → c < 40 → test (above + 1) c ≡ false
+      go None is e = below_none 40 (test (above + 1)) is
+      go (Some k) is e = grind arith
+
+  -- What is told of a cell by its row, counted from 0.
+  by_row : (P : ℕ → Type 0) (r : ℕ) → 1 ≤ r → P (r - 1 + 1) → P r
+  by_row P r l p = let e : r - 1 + 1 ≡ r = omega arith in subst P e p
+
+  -- The first cell of a row that has one, where no row above has one.
+  at_row : (above : ℕ) → above < 24 → row_test above ≡ true
+      → ((k : ℕ) → k < above → row_test k ≡ false)
+      → (o : Option ℕ) → first_below 40 (test (above + 1)) ≡ o
+      → (x : ℕ × ℕ) → option_map (λ column. (above + 1, column)) o ≡ Some x
+      → IsFirstCell test x.0 x.1
+  at_row above l found none None is x e = absurd (none-some x e)
+  at_row above l found none (Some column) is x e =
+      let same : (above + 1, column) ≡ x = same_Some _ _ e in
+      let first = first_below_is 40 (test (above + 1)) column is in
+      subst (λ (y : ℕ × ℕ). IsFirstCell test y.0 y.1) same (record {
+        is_cell = (omega arith, omega arith, first.0);
+        passes = first.1;
+        above = λ r c of m.
+            by_row (λ k. test k c ≡ false) r of.0
+            (row_none (r - 1) (none (r - 1) (omega (arith, of.0))) c of.2);
+        before = below_before 40 (test (above + 1)) column is;
+      })
+
+  -- What `first_cell` finds.
+  pub cell_found : (x : ℕ × ℕ) → first_cell test ≡ Some x → IsFirstCell test x.0 x.1
+  unfolding first_cell
+  cell_found x e = go (first_below 24 row_test) refl e
+    where
+      go : (o : Option ℕ) → first_below 24 row_test ≡ o
+          → option_and_then in_row o
+          ≡ Some x
+          → IsFirstCell test x.0 x.1
+      go None is e = absurd (none-some x e)
+      go (Some above) is e =
+          let first = first_below_is 24 row_test above is in
+          at_row above first.0 first.1 (below_before 24 row_test above is)
+          (first_below 40 (test (above + 1))) refl x e
+
+  -- Where it finds none, no cell passes.
+  pub cell_none : first_cell test ≡ None → (r c : ℕ) → IsCell r c → test r c ≡ false
+  unfolding first_cell
+  cell_none e r c is_cell =
+      by_row (λ k. test k c ≡ false) r is_cell.0
+      (row_none (r - 1) (go (first_below 24 row_test) refl e) c is_cell.2)
+    where
+      go : (o : Option ℕ) → first_below 24 row_test ≡ o
+          → option_and_then in_row o
+          ≡ None
+          → row_test (r - 1) ≡ false
+      go None is e = below_none 24 row_test is (r - 1) (omega (arith, is_cell.0, is_cell.1))
+      go (Some above) is e =
+          let first = first_below_is 24 row_test above is in
+          absurd (some_in (first_below 40 (test (above + 1))) first.1 e)
+        where
+          some_in : (o : Option ℕ) → is_some o ≡ true
+              → (let pairs : Option (ℕ × ℕ) = option_map (λ column. (above + 1, column)) o in
+              pairs ≡ None) → ⊥
+          some_in None t n = grind arith
+          some_in (Some k) t n = grind arith
+
+-- ---- what stands broken at an end
+
+module _ (g : Task) (frames : Transmission) (n f : ℕ) where
+  -- A cell shows another code than is due.
+  abbrev is_wrong : ℕ → ℕ → Bool
+  is_wrong row column =
+      not (shown g.watched.page (packets_before frames n) row column == cell (g.due f) row column)
+
+  -- No cell is wrong.
+  pub none_wrong : wrong_cell g frames n f ≡ None → (row column : ℕ) → IsCell row column
+      → ShowsDue g frames n f row column
+  unfolding wrong_after
+  none_wrong e row column is =
+      let right = cell_none is_wrong e row column is in grind (arith, nat_tests)
+
+  -- The first that is.
+  pub first_wrong : (x : ℕ × ℕ) → wrong_cell g frames n f ≡ Some x → WrongFirst g frames n f x.0 x.1
+  unfolding wrong_after
+  first_wrong x e = grind (arith, nat_tests, cell_found)
+
+  -- Where all show what is due, none is wrong.
+  pub no_wrong : ((row column : ℕ) → IsCell row column → ShowsDue g frames n f row column)
+      → wrong_cell g frames n f ≡ None
+  no_wrong shows = go (wrong_cell g frames n f) refl
+    where
+      go : (o : Option (ℕ × ℕ)) → wrong_cell g frames n f ≡ o → o ≡ None
+      go None e = refl
+      go (Some x) e =
+          let w = first_wrong x e in absurd (w.broken (shows x.0 x.1 w.is_cell))
+
+  -- One of the first m frames of the list has a header of the page that is not too long ago.
+  abbrev IsHeaderNear : ℕ → Type 0
+  IsHeaderNear m =
+      (j : ℕ) × (j < m) × (f < frame_at frames j + g.every) × HasHeader g frames j
+
+  -- Whether frame i of the list does.
+  covers_at : (i : ℕ) (d : SentFrame) → i < length frames
+      → Decides (covers g f (get_or frames i d))
+      (HasHeader g frames i × (f < frame_at frames i + g.every))
+  covers_at i d l =
+      grind (arith, nat_tests, get_or-map, Decides-like, Decides-and, holds, Decides-ltb)
+
+  near_decided : (m : ℕ) → m ≤ length frames
+      → Decides (list_any (covers g f) (take m frames)) (IsHeaderNear m)
+  near_decided zero l = (λ e. absurd (true≢false (sym e)), λ h. absurd (omega (arith, h.1)))
+  near_decided (suc m) l =
+      let d : SentFrame = record { frame = 0; packets = [] } in
+      let next : suc m ≡ m + 1 = omega arith in
+      let more : list_any (covers g f) (take (suc m) frames)
+      ≡ (list_any (covers g f) (take m frames) || covers g f (get_or frames m d)) =
+      ap (λ k. list_any (covers g f) (take k frames)) next
+      ∙ list_any_more (covers g f) frames m d (omega arith) in
+      Decides-at _ _ more
+      (Decides-like _
+      (λ h. elim h [
+        | inl near ↦ (near.0, omega (arith, near.1), near.2, near.3)
+        | inr here ↦ (m, omega arith, here.1, here.0)
+      ])
+      (λ h. elim (cases_lt h.0 m) [
+        | inl near ↦ inl (h.0, near, h.2, h.3)
+        | inr here ↦ let e : h.0 ≡ m = omega (arith, h.1) in
+            inr
+            (subst (HasHeader g frames) e h.3, subst (λ j. f < frame_at frames j + g.every) e h.2)
+      ])
+      (Decides-or _ _ (near_decided m (omega arith)) (covers_at m d (omega arith))))
+
+  -- Whether the repeat bound has passed.
+  pub gap_decided : n ≤ length frames → Decides (not (is_gap g frames n f)) (IsCovered g frames n f)
+  unfolding is_gap
+  gap_decided l = let near = near_decided n l in grind (arith, nat_tests)
+
+  pub incomplete_decided : Decides (not (is_incomplete g frames n)) (IsEnded g frames n)
+  unfolding is_incomplete
+  incomplete_decided = grind (arith, nat_tests)
+
+  -- Nothing stands broken exactly where the end is quiet.
+  pub quiet_decided : n ≤ length frames
+      → (standing_at g frames n f ≡ nothing_stands) ↔ IsQuiet g frames n f
+  unfolding standing_at
+  quiet_decided l = (
+    λ e. grind (arith, nat_tests, none_wrong, gap_decided l, incomplete_decided),
+    λ quiet.
+        grind (
+          arith,
+          nat_tests,
+          gap_decided l,
+          incomplete_decided.1 quiet.ended,
+          no_wrong quiet.shows,
+        ),
+  )
+
+  -- Each of the three. For `law_of_broken_places`.
+  pub stands_broken : n ≤ length frames → StandsBroken g frames n f
+  unfolding standing_at
+  stands_broken l = record {
+    content = (none_wrong, no_wrong);
+    cell = first_wrong;
+    gap = grind (arith, nat_tests, gap_decided l);
+    incomplete = grind (arith, nat_tests, incomplete_decided);
+  }

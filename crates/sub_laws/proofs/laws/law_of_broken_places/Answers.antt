@@ -1,0 +1,6 @@
+-- The law: EventLemmas.
+use Rattle.sub_laws.proofs.EventLemmas.{law_of_broken_places}
+use Rattle.sub_laws.proofs.laws.law_of_broken_places.Goals as goal
+
+pub returns : goal.returns
+returns c = law_of_broken_places

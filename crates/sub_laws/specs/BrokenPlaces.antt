@@ -1,0 +1,98 @@
+-- What is told of a transmission, place by place: it is told exactly where what is asked is broken.
+-- The list `events` has the places in their order.
+use Rattle.std.specs.Prelude.{◌≡◌, ◌↔◌, ℕ, suc, ◌<◌, ◌≤◌, List, [], ◌∷◌, length, Option}
+use Rattle.std.specs.Prelude.{Some, None, IsTrue, IsFalse}
+use Rattle.ttx_packet.specs.PacketAddress.{IsPacket}
+use Rattle.ttx_page.specs.Page.{IsCell}
+use Rattle.stl_rows.specs.Programme.{ProgrammeValue}
+use Rattle.sub_plan.specs.Options.{OptionsValue}
+use Rattle.sub_rules.specs.Events.{events, first_header_events, late_events, order_events}
+use Rattle.sub_rules.specs.Events.{standing_at}
+use Rattle.sub_rules.specs.FrameRules.{HasHeader, IsCovered, IsEnded, ShowsDue, Task, Unread}
+use Rattle.sub_rules.specs.FrameRules.{end_frame, frame_at, task_of}
+use Rattle.sub_rules.specs.Good.{Good}
+use Rattle.sub_rules.specs.PacketRules.{AreClean, KeepsRule}
+use Rattle.sub_rules.specs.PacketTests.{breaks}
+use Rattle.sub_rules.specs.Transmission.{EachPacket, Transmission}
+use Rattle.sub_rules.specs.declared.event.Event.{Event}
+use Rattle.sub_rules.specs.declared.event.Event.TheVariants.{Told}
+use Rattle.sub_rules.specs.declared.fault.CheckFault.{CheckFault}
+use Rattle.sub_rules.specs.declared.packet_rule.PacketRule.{PacketRule}
+use Rattle.sub_rules.specs.declared.packet_rule.PacketRule.TheVariants as rule
+use Rattle.sub_rules.specs.declared.packet_rule.Watched.{Watched}
+use Rattle.sub_laws.specs.OnScreen.{Complete}
+
+-- The first cell that does not show what is due after n frames of the list, at the end of frame f.
+pub record WrongFirst (g : Task) (frames : Transmission) (n f row column : ℕ) : Type 0 where
+  pub is_cell : IsCell row column
+  pub broken : ShowsDue g frames n f row column → ⊥
+  pub above : (r k : ℕ) → IsCell r k → r < row → ShowsDue g frames n f r k
+  pub before : (k : ℕ) → k < column → ShowsDue g frames n f row k
+
+-- What stands broken at the end of frame f, after n frames of the list: content, at the first cell
+-- that is wrong, where one is; the repeat bound, and the page's end, exactly where they are broken.
+pub record StandsBroken (g : Task) (frames : Transmission) (n f : ℕ) : Type 0 where
+  pub content :
+      ((standing_at g frames n f).content ≡ None)
+      ↔ ((row column : ℕ) → IsCell row column → ShowsDue g frames n f row column)
+  pub cell :
+      (x : ℕ × ℕ)
+      → (standing_at g frames n f).content ≡ Some x
+      → WrongFirst g frames n f x.0 x.1
+  pub gap : IsFalse (standing_at g frames n f).gap ↔ IsCovered g frames n f
+  pub incomplete : IsFalse (standing_at g frames n f).incomplete ↔ IsEnded g frames n
+
+-- A packet after whole packets that keep all rules, whole itself, of a code word for an address,
+-- and of odd parity where it is a row of the open page. Two such packets of one row that have the
+-- same codes are equal.
+pub record IsComparable (w : Watched) (before : List (List ℕ)) (p : List ℕ) : Type 0 where
+  pub clean : AreClean w before
+  pub whole : IsPacket p
+  pub exact : KeepsRule rule.Address w before p
+  pub odd : KeepsRule rule.Parity w before p
+
+-- Each place of a transmission, and what is told of it.
+pub record TellsBroken (g : Task) (frames : Transmission) : Type 0 where
+  -- The first frame is not after the first TCI, and each later one is after the one before.
+  pub start :
+      (order_events g frames 0 ≡ [])
+      ↔ ((first : ℕ) → g.first_in ≡ Some first → frame_at frames 0 ≤ first)
+  pub order :
+      (i : ℕ) → (order_events g frames (suc i) ≡ []) ↔ (frame_at frames i < frame_at frames (suc i))
+  -- A packet's rule. Rows are compared by their codes, which tell the bytes of packets that keep
+  -- the rules before it.
+  pub rules :
+      (r : PacketRule) (before : List (List ℕ)) (p : List ℕ)
+      → (r ≡ rule.RowChanged → IsComparable g.watched before p)
+      → IsFalse (breaks r g.watched before p) ↔ KeepsRule r g.watched before p
+  -- The first frame has a header of the page.
+  pub header : (first_header_events g frames 0 ≡ []) ↔ HasHeader g frames 0
+  -- What stands broken at an end; it is told where it does not stand at the end before.
+  pub ends : (n f : ℕ) → n ≤ length frames → StandsBroken g frames n f
+  -- The last subtitle is over.
+  pub late :
+      (late_events g.last_out (end_frame frames) ≡ [])
+      ↔ ((last : ℕ) → g.last_out ≡ Some last → last ≤ end_frame frames)
+  -- Of whole packets what is told first is a refusal.
+  pub first :
+      (event : Event) (rest : List Event)
+      → EachPacket IsPacket frames
+      → events g frames ≡ event ∷ rest
+      → (f : CheckFault) × (event ≡ Told f)
+
+-- So what is told first is the first place that is broken.
+abbrev pub LawOfBrokenPlaces : Type 0
+LawOfBrokenPlaces = (g : Task) (frames : Transmission) → TellsBroken g frames
+
+-- Nothing is told of a transmission exactly where it is good, of complete pages where these are
+-- asked for, and the PES file was read to its end.
+abbrev pub LawOfNothingTold : Type 0
+LawOfNothingTold =
+    (programme : ProgrammeValue) (options : OptionsValue) (unread : Option Unread)
+    (frames : Transmission)
+    → 0 < options.every
+    → EachPacket IsPacket frames
+    → (events (task_of programme options unread) frames ≡ [])
+    ↔ (Good programme frames options
+    × (IsTrue options.asks_complete → Complete frames options)
+    × (unread ≡ None))
