@@ -56,7 +56,7 @@ module _ (page : PageIdValue) (a b : ℕ) where
       subst (λ ps. MayFollow page (ps ++ take k s.packets) (slice_index_or s.packets k []))
       (append-nil before) (fit 0 k (omega arith) l low high)
 
-  -- And those of the others may follow, after them.
+  -- The packets of the other frames may follow, after those of the first.
   fit_tail :
       (before : List (List ℕ)) (s : SentFrame) (frames : Transmission)
       → AreFit before (s ∷ frames)

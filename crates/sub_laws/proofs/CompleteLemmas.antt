@@ -31,7 +31,7 @@ module _ (options : OptionsValue) (t : Transmission)
       in
       grind arith
 
-  -- And the other way round.
+  -- Where pages are complete, the page is open after none of the frames.
   pub ended_at :
       Complete t options → (i : ℕ) → i < length t → is_open (packets_before t (i + 1)) ≡ false
   ended_at complete i l =

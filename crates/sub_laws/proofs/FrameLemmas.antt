@@ -17,7 +17,7 @@ module _ (made : ℕ → SentFrame) (numbered : (f : ℕ) → (made f).frame ≡
   abbrev pub frames : ℕ → ℕ → Transmission
   frames a n = map made (filter p (range_with_len a n))
 
-  -- The same from one on, of which it is known whether it passes.
+  -- Those from one on, of which it is known whether it passes.
   abbrev passing : Bool → ℕ → ℕ → Transmission
   passing t a n = map made
       (cond t (a ∷ filter p (range_with_len (a + 1) n)) (filter p (range_with_len (a + 1) n)))

@@ -299,7 +299,7 @@ law_of_plan programme o serial is some ok =
     (plan_between programme o serial (first_in programme.records)
     (last_out programme.records) refl refl is some ok).0
 
--- And one of complete pages.
+-- The schedule of a programme with a subtitle is one of complete pages.
 pub law_of_complete_plan : LawOfCompletePlan
 law_of_complete_plan programme o serial is some ok =
     (plan_between programme o serial (first_in programme.records)

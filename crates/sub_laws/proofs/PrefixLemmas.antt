@@ -63,7 +63,7 @@ module _ (t : Transmission) (m : ℕ) (fits : m ≤ length t) (Q : List (List �
       (within n (omega arith) (at_start n (omega arith)) (length (packets_of_frame t n))
       (omega arith)))
 
-  -- And at each of its packets.
+  -- At each packet of a frame.
   pub at_packet : (i k : ℕ) → i < m → k ≤ length (packets_of_frame t i) → Q (before t i k)
   at_packet i k l h = within i l (at_start i (omega arith)) k h
 
@@ -75,7 +75,7 @@ each_at P t i k each l m =
     let at = get_or-map (λ (s : SentFrame). s.packets) t i d [] l in
     subst (λ ps. P (get_or ps k [])) (sym at) (each i d l k [] (subst (λ ps. k < length ps) at m))
 
--- And back.
+-- What holds of each packet of each frame holds of all packets of the transmission.
 pub each_from : (P : List ℕ → Type 0) (t : Transmission)
     → ((i k : ℕ) → i < length t → k < length (packets_of_frame t i) → P (packet_at t i k))
     → EachPacket P t

@@ -38,7 +38,7 @@ push_clean page packets packet clean follows = record {
   plain = All-push (λ p. IsEnhancement page p → ⊥) packets packet clean.plain follows.plain;
 }
 
--- And the last packet of a clean span may follow those before it.
+-- The last packet of a clean span may follow those before it.
 pub last_clean :
     (page : PageIdValue) (packets : List (List ℕ)) (packet : List ℕ)
     → IsCleanSpan page (packets ++ packet ∷ [])
@@ -129,7 +129,7 @@ clean_cuts page packets each (suc n) =
           (take_all n packets past ∙ sym (take_all (suc n) packets (omega arith))) ih
     ]
 
--- And back, at each packet by the cut after it.
+-- Where the span of each cut is clean, each packet may follow: by the cut after it.
 each_follows :
     (page : PageIdValue) (packets : List (List ℕ))
     → ((n : ℕ) → IsCleanSpan page (span (kind page) (take n packets)))

@@ -210,7 +210,7 @@ module _ (programme : ProgrammeValue) (transmission : Transmission) (options : O
         cells = restored.cells;
       }
 
-  -- And so it is robust. Also for the examples.
+  -- So the transmission is robust. Also for the examples.
   pub robust_of_recovers : Robust programme transmission options
   robust_of_recovers =
       (law_of_all_kept programme transmission options).0 (λ g j f marks all. to_loss g j f marks)

@@ -40,7 +40,7 @@ pub rising-tail :
     (s : SentFrame) (frames : Transmission) → IsRising (s ∷ frames) → IsRising frames
 rising-tail s frames h i j d l m = h (suc i) (suc j) d (omega arith) (omega arith)
 
--- And are later than it.
+-- Frames that rise are, after the first, later than it.
 pub later_than :
     (s : SentFrame) (frames : Transmission) (b : ℕ)
     → IsRising (s ∷ frames)

@@ -73,13 +73,13 @@ pub data Part : Type 0 where
   FramesRise : Part
   -- Address bytes are code words with no bit wrong.
   ExactAddresses : Part
-  -- So are the coded bytes of packets X/0.
+  -- Coded bytes of packets X/0 are code words with no bit wrong.
   ExactHeaders : Part
   -- Headers of the page are a subtitle's.
   SubtitleHeaders : Part
   -- Rows of the open page have odd parity.
   OddRows : Part
-  -- And stay as they are.
+  -- Rows of the open page stay as they are.
   SameRows : Part
   -- At each end the page that is due is shown.
   DueContent : Part

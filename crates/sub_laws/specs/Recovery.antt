@@ -33,7 +33,7 @@ pub record IsRestored
   pub is_open :
       IsTrue (holds_header (kind options.page) sent)
       → new.is_open ≡ is_unended (kind options.page) sent
-  -- And each cell holds the due page's code, or it is an excused space.
+  -- Each cell then holds the due page's code, or it is an excused space.
   pub cells :
       IsTrue (holds_header (kind options.page) sent)
       → HoldsDuePage programme f IsExcused new.page

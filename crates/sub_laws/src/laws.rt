@@ -40,6 +40,7 @@ pub fn law_of_sufficient_parts()
 /// What these parts of the rules say of a stretch of frames suffices there, whatever was on air
 /// before it: every receiver that starts in it recovers, and where pages are complete in it, what
 /// is due is on its screen.
+#[tactic(auto, using(crate::proofs::StretchLemmas::law_of_stretch))]
 pub fn law_of_stretch()
     ensures { LawOfStretch }
 {}
@@ -71,6 +72,7 @@ pub fn law_of_whole_recovery()
 {}
 
 /// What may be trusted of all frames of a transmission is what is promised of it.
+#[tactic(auto, using(crate::proofs::StretchLemmas::law_of_whole_stretch))]
 pub fn law_of_whole_stretch()
     ensures { LawOfWholeStretch }
 {}
