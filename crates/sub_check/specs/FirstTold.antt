@@ -15,7 +15,7 @@ pub record IsRuleFault (f : CheckFault) : Type 0 where
   pub no_write : is_pes_write f ≡ false
   pub no_subtitle : is_subtitle_fault f ≡ false
 
--- The same as a test.
+-- Whether a fault is told by a rule.
 abbrev pub is_of_rule : CheckFault → Bool
 is_of_rule (fault.Subtitles f) = false
 is_of_rule (fault.Pes index f) = not (is_read f || is_write f)

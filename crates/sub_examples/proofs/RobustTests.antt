@@ -43,8 +43,7 @@ use Rattle.sub_laws.proofs.StretchLemmas.{robust_of_recovers}
 use Rattle.sub_rules.proofs.TestLemmas.{all_below, at_most, below, each_below, each_of, fails}
 use Rattle.sub_rules.proofs.TestLemmas.{holds, implied}
 use Rattle.sub_rules.proofs.TestLemmas.{same_bit}
-use Rattle.sub_laws.proofs.UntoldLemmas.{control_bits, exact_address, exact_codes, odd_row}
-use Rattle.sub_laws.proofs.UntoldLemmas.{same_row}
+use Rattle.sub_laws.proofs.UntoldLemmas.{packets_kept, rows_kept}
 
 -- It has heard nothing, and holds a page of question marks.
 abbrev before : State
@@ -280,16 +279,20 @@ kept_by_test :
     → keeps_part part g frames a b ≡ true
     → IsKeptWithin part g frames a b
 kept_by_test FramesRise g frames a b e = (rising_decided frames).0 e
-kept_by_test ExactAddresses g frames a b e = λ i k l m low high.
-    exact_address g.watched _ _ (none_breaks rule.Address g frames a b e i k l m low high)
-kept_by_test ExactHeaders g frames a b e = λ i k l m low high.
-    exact_codes g.watched _ _ (none_breaks rule.HeaderCode g frames a b e i k l m low high)
-kept_by_test SubtitleHeaders g frames a b e = λ i k l m low high.
-    control_bits g.watched _ _ (none_breaks rule.Control g frames a b e i k l m low high)
-kept_by_test OddRows g frames a b e = λ i k l m low high.
-    odd_row g.watched _ _ (none_breaks rule.Parity g frames a b e i k l m low high)
-kept_by_test SameRows g frames a b e = λ i k l m low high.
-    same_row g.watched _ _ (none_breaks rule.RowChanged g frames a b e i k l m low high)
+kept_by_test ExactAddresses g frames a b e =
+    packets_kept g.watched frames a b rule.Address (λ is. cc)
+    (none_breaks rule.Address g frames a b e)
+kept_by_test ExactHeaders g frames a b e =
+    packets_kept g.watched frames a b rule.HeaderCode (λ is. cc)
+    (none_breaks rule.HeaderCode g frames a b e)
+kept_by_test SubtitleHeaders g frames a b e =
+    packets_kept g.watched frames a b rule.Control (λ is. cc)
+    (none_breaks rule.Control g frames a b e)
+kept_by_test OddRows g frames a b e =
+    packets_kept g.watched frames a b rule.Parity (λ is. cc)
+    (none_breaks rule.Parity g frames a b e)
+kept_by_test SameRows g frames a b e =
+    rows_kept g.watched frames a b (none_breaks rule.RowChanged g frames a b e)
 kept_by_test DueContent g frames a b e = λ n f end low high.
     (shows_decided g.watched.page (packets_before frames n) (g.due f)).0
     (at_ends (shows_due g frames) frames a b e n f end low high)

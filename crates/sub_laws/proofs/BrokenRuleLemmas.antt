@@ -352,7 +352,7 @@ module _ (w : Watched) (before : List (List ℕ)) (p : List ℕ) where
       each rule.RowChanged = fine.1.1.1.1.1.0
       each rule.Enhancement = fine.1.1.1.1.1.1.0
 
-  -- And the other way round.
+  -- A packet that keeps all rules breaks none.
   pub breaks_none : AreClean w before → IsPacket p → IsClean w before p → Unbroken packet_rules
   unfolding packet_rules
   breaks_none clean whole keeps =

@@ -251,7 +251,7 @@ module _ (g : Task) (frames : Transmission) (Named : CheckFault → Type 0)
           header = (past 0 some).header refl;
         })))
 
-    -- And one after another.
+    -- The ends one after another.
     gap_told : (m : ℕ) → m ≤ gap_length frames n → Tells (QuietFor m) (gap_events g frames n m)
     unfolding gap_events
     gap_told zero l = nothing_told quiet_first

@@ -250,7 +250,7 @@ module _ (programme : ProgrammeValue) (options : OptionsValue) (unread : Option 
     content = shows_at;
   }
 
-  -- And of complete pages, where these are asked for.
+  -- Its pages are complete, where that is asked for.
   pub Complete-from_holds : IsTrue options.asks_complete → Complete t options
   Complete-from_holds asks =
       complete_from options t rising some (λ i l. (h.each i l).end.ended asks)

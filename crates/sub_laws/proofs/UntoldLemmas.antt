@@ -1,22 +1,20 @@
 -- A stretch of which nothing is told is clean: `law_of_untold_stretch`.
-use Rattle.std.proofs.Common.{arith, ◌≡◌, ℕ, Bool, true, false, not, ◌&&◌, List, refl, sym}
-use Rattle.std.proofs.Common.{ap, IsFalse}
+use Rattle.std.proofs.Common.{arith, ◌≡◌, ℕ, Bool, true, false, not, ◌&&◌, refl, sym, ap, IsFalse}
 use Rattle.std.proofs.lemmas.Bool.Decides.{nat_tests}
-use Rattle.ttx_page.specs.PacketKind.{kind}
-use Rattle.sub_laws.specs.CleanStretch.{IsKeptWithin, IsUntold, KeepsCodes, LawOfUntoldStretch}
-use Rattle.sub_laws.specs.CleanStretch.{Part}
+use Rattle.sub_laws.specs.CleanStretch.{AtPackets, IsKeptWithin, IsUntold, KeepsCodes}
+use Rattle.sub_laws.specs.CleanStretch.{LawOfUntoldStretch, Part, is_needed}
 use Rattle.sub_laws.specs.CleanStretch.Part.{DueContent, ExactAddresses, ExactHeaders, FramesRise}
 use Rattle.sub_laws.specs.CleanStretch.Part.{HeadersInTime, OddRows, SameRows, SubtitleHeaders}
 use Rattle.sub_rules.specs.Events.{standing_at}
 use Rattle.sub_rules.specs.FrameRules.{Task}
 use Rattle.sub_rules.specs.PacketRules.{KeepsRule}
-use Rattle.sub_rules.specs.PacketTests.{are_code_words, breaks}
+use Rattle.sub_rules.specs.PacketTests.{breaks}
 use Rattle.sub_rules.specs.Transmission.{Transmission}
+use Rattle.sub_rules.specs.declared.packet_rule.PacketRule.{PacketRule}
 use Rattle.sub_rules.specs.declared.packet_rule.PacketRule.TheVariants as rule
 use Rattle.sub_rules.specs.declared.packet_rule.Watched.{Watched}
-use Rattle.sub_laws.proofs.BrokenRuleLemmas.{coded, columns_zero, controlled, odd_text}
+use Rattle.sub_laws.proofs.BrokenRuleLemmas.{columns_zero, refuted, rule_decided}
 use Rattle.sub_laws.proofs.StandingLemmas.{gap_decided, incomplete_decided, none_wrong}
-use Rattle.sub_rules.proofs.CodeWordLemmas.{address_decided, header_decided}
 
 -- ---- a packet
 
@@ -30,50 +28,37 @@ last_of_two : (x y : Bool) → (x && y) ≡ false → x ≡ true → y ≡ false
 last_of_two true y e one = e
 last_of_two false y e one = cc
 
-last_of_three : (x y z : Bool) → (x && y && z) ≡ false → x ≡ true → y ≡ true → z ≡ false
-last_of_three true true z e one two = e
-last_of_three true false z e one two = cc
-last_of_three false y z e one two = cc
+module _ (w : Watched) (frames : Transmission) (a b : ℕ) where
+  -- Packets of which no test of the rule fails keep it.
+  pub packets_kept : (r : PacketRule) → (r ≡ rule.RowChanged → ⊥)
+      → AtPackets (λ before p. IsFalse (breaks r w before p)) frames a b
+      → AtPackets (KeepsRule r w) frames a b
+  packets_kept r other untold i k l m low high =
+      (refuted _ (rule_decided w _ _ r (λ e. absurd (other e)))).0 (untold i k l m low high)
 
-module _ (w : Watched) (before : List (List ℕ)) (p : List ℕ) where
-  pub exact_address : IsFalse (breaks rule.Address w before p) → KeepsRule rule.Address w before p
+  -- Rows are compared by their codes.
+  pub rows_kept : AtPackets (λ before p. IsFalse (breaks rule.RowChanged w before p)) frames a b
+      → AtPackets (KeepsCodes w) frames a b
   unfolding breaks
-  exact_address untold = (address_decided p).0 (not_false (are_code_words 0 2 p) untold)
-
-  pub exact_codes :
-      IsFalse (breaks rule.HeaderCode w before p) → KeepsRule rule.HeaderCode w before p
-  unfolding breaks
-  exact_codes untold = grind (arith, nat_tests, coded, header_decided)
-
-  pub control_bits : IsFalse (breaks rule.Control w before p) → KeepsRule rule.Control w before p
-  unfolding breaks
-  control_bits untold = (controlled w.national (kind w.page p)).0 (ap not untold)
-
-  pub odd_row : IsFalse (breaks rule.Parity w before p) → KeepsRule rule.Parity w before p
-  unfolding breaks
-  odd_row untold up row is = grind (arith, nat_tests, odd_text, last_of_three)
-
-  pub same_row : IsFalse (breaks rule.RowChanged w before p) → KeepsCodes w before p
-  unfolding breaks
-  same_row untold up row first is found column below =
+  rows_kept untold i k l m low high up row first is found column below =
+      let same = untold i k l m low high in
       grind (arith, nat_tests, last_of_two, columns_zero, not_false)
 
 -- ---- a stretch
 
 module _ (g : Task) (frames : Transmission) (a b : ℕ) (untold : IsUntold g frames a b) where
+  of : (r : PacketRule) → is_needed r ≡ true → (r ≡ rule.RowChanged → ⊥)
+      → AtPackets (KeepsRule r g.watched) frames a b
+  of r needed other = packets_kept g.watched frames a b r other (untold.packets r needed)
+
   kept : (part : Part) → IsKeptWithin part g frames a b
   unfolding standing_at
   kept FramesRise = untold.rising
-  kept ExactAddresses = λ i k l m low high.
-      exact_address g.watched _ _ (untold.packets rule.Address refl i k l m low high)
-  kept ExactHeaders = λ i k l m low high.
-      exact_codes g.watched _ _ (untold.packets rule.HeaderCode refl i k l m low high)
-  kept SubtitleHeaders = λ i k l m low high.
-      control_bits g.watched _ _ (untold.packets rule.Control refl i k l m low high)
-  kept OddRows = λ i k l m low high.
-      odd_row g.watched _ _ (untold.packets rule.Parity refl i k l m low high)
-  kept SameRows = λ i k l m low high.
-      same_row g.watched _ _ (untold.packets rule.RowChanged refl i k l m low high)
+  kept ExactAddresses = of rule.Address refl (λ e. cc)
+  kept ExactHeaders = of rule.HeaderCode refl (λ e. cc)
+  kept SubtitleHeaders = of rule.Control refl (λ e. cc)
+  kept OddRows = of rule.Parity refl (λ e. cc)
+  kept SameRows = rows_kept g.watched frames a b (untold.packets _ refl)
   kept DueContent = λ n f end low high. none_wrong g frames n f (untold.content n f end low high)
   kept HeadersInTime = λ n f end low high.
       (gap_decided g frames n f end.1).0 (ap not (untold.gap n f end low high))
