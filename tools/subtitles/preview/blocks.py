@@ -149,7 +149,7 @@ def end_of_reading(report: Report, blocks: Blocks) -> str:
     """Where reading ended."""
     last = verdict_of(report.faults.last_told, 1)
     if last.number not in ENDS:
-        return f"The file was read to its end, {blocks.count:,} blocks."
+        return f"The file was read to its end, {counted(blocks.count, 'block')}."
     return (f"<b>Reading ended at block {last.block}</b>, with {last.number} {last.name}: nothing "
             "is known of what comes after it.")
 

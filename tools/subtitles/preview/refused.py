@@ -27,6 +27,7 @@ MARKED = {
 }
 # Where reading ends.
 ENDS = {SEVERAL: "The file was read to its end, 3 blocks.",
+        "hello.stl 1038=04": "The file was read to its end, 1 block.",
         "story.stl 1155=F0": "Reading ended at block 2, with 15 Extension",
         "story.stl -c 1200": "Reading ended at block 2, with 10 Truncated"}
 TOLD = ["trusted frames 20:15:00:00 20:15:00:24",

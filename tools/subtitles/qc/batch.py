@@ -11,7 +11,7 @@ import time
 from typing import Any, Callable, Iterator, NamedTuple
 
 from ..files import whole_file
-from ..words import line_of
+from ..words import counted, line_of
 from . import junit, table
 from .asked import Asked
 from .checking import ACCEPTED_WORD, NOT_JUDGED
@@ -145,8 +145,8 @@ def progress_line(calls: list[concurrent.futures.Future[Result]], began: float) 
     """How many pairs are judged, and how many of them are accepted."""
     done = [call.result() for call in calls if call.done()]
     accepted = sum(one.status == 0 for one in done)
-    return (f"{len(done)} of {len(calls)} pairs, {accepted} accepted, "
-            f"{time.monotonic() - began:.0f} seconds")
+    return (f"{len(done)} of {counted(len(calls), 'pair')}, {accepted} accepted, "
+            f"{counted(round(time.monotonic() - began), 'second')}")
 
 
 def table_of(results: list[Result]) -> Iterator[str]:
@@ -160,7 +160,7 @@ def table_of(results: list[Result]) -> Iterator[str]:
                f"{first}").rstrip()
     counts = [f"{sum(one.verdict == verdict for one in results)} {verdict}"
               for verdict in dict.fromkeys(one.verdict for one in results)]
-    yield f"{len(results)} {'pair' if len(results) == 1 else 'pairs'}: {', '.join(counts)}"
+    yield f"{counted(len(results), 'pair')}: {', '.join(counts)}"
 
 
 def first_fault(result: Result) -> str:
