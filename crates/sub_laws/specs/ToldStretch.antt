@@ -10,7 +10,7 @@ use Rattle.sub_rules.specs.Transmission.{Transmission}
 use Rattle.sub_rules.specs.declared.event.EndRule.{EndRule}
 use Rattle.sub_rules.specs.declared.event.EndRule.TheVariants as end
 use Rattle.sub_rules.specs.declared.event.Event.{Event}
-use Rattle.sub_rules.specs.declared.event.Event.TheVariants.{Ended, Told}
+use Rattle.sub_rules.specs.declared.event.Event.TheVariants.{Ended, Told, Trusted}
 use Rattle.sub_rules.specs.declared.fault.CheckFault.{CheckFault}
 use Rattle.sub_rules.specs.declared.fault.CheckFault.TheVariants as fault
 use Rattle.sub_rules.specs.declared.packet_rule.PacketRule.{PacketRule}
@@ -64,6 +64,7 @@ note_told rule s (Some told) = if is_same_rule told.0 rule then noted_told told.
 abbrev pub note : EndRule → Noted → Event → Noted
 note rule s (Told refusal) = note_told rule s (rule_told refusal)
 note rule s (Ended ended frame) = if is_same_rule ended rule then noted_ended frame s else s
+note rule s (Trusted from to) = s
 
 -- The stretches of frames at whose ends the rule stood broken, by the list.
 abbrev pub told_stretches : EndRule → List Event → List (ℕ × ℕ)

@@ -7,3 +7,4 @@ pub mod PacketLists
 pub mod PesReadingLemmas
 pub mod PieceFileLemmas
 pub mod TestLemmas
+pub mod TrustedLemmas

@@ -9,4 +9,5 @@ pub mod PesReading
 pub mod Pieces
 pub mod Sendings
 pub mod Transmission
+pub mod Trusted
 pub mod WrongContent
