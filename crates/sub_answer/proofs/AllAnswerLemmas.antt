@@ -22,17 +22,19 @@ use Rattle.stl_rows.specs.declared.fault.LoadFaultKind.{LoadFaultKind}
 use Rattle.stl_rows.specs.declared.fault.LoadFaultKind.TheVariants as load
 use Rattle.stl_rows.specs.declared.national.National.{National}
 use Rattle.sub_plan.specs.Options.{OptionsValue}
-use Rattle.sub_check.specs.CheckedFiles.{IsChecked, events_of, first_answer}
-use Rattle.sub_rules.specs.Events as pes_events
+use Rattle.sub_check.specs.CheckedFiles.{IsChecked, answer_by, events_of, first_answer}
+use Rattle.sub_rules.specs.Events.{first_told}
 use Rattle.sub_rules.specs.FrameRules.{task_of}
 use Rattle.sub_rules.specs.Good.{Good}
 use Rattle.sub_rules.specs.PesFrames.{Carries}
 use Rattle.sub_rules.specs.PesReading.{pes_file_of}
 use Rattle.sub_laws.specs.OnScreen.{Complete}
 use Rattle.sub_rules.specs.Transmission.{Transmission}
+use Rattle.sub_rules.specs.Trusted.{all_events}
+use Rattle.sub_rules.proofs.TrustedLemmas.{all_none, first_told-all}
 use Rattle.sub_check.specs.FirstTold.{IsRuleFault}
 use Rattle.sub_check.proofs.FirstToldLemmas.{first_decides}
-use Rattle.sub_rules.specs.declared.event.Event.TheVariants.{Ended, Told}
+use Rattle.sub_rules.specs.declared.event.Event.TheVariants.{Ended, Told, Trusted}
 use Rattle.sub_answer.specs.declared.told.Kind.{Kind}
 use Rattle.sub_answer.specs.declared.told.Kind.TheVariants as kind
 use Rattle.std.proofs.Common.{◌∷◌}
@@ -165,6 +167,8 @@ first-accepted : (events : List Event) (a : Accepted) → refusals events ≡ 0
 first-accepted [] a none = refl
 first-accepted (Told f ∷ events) a none = absurd (omega (arith, none))
 first-accepted (Ended rule frame ∷ events) a none = first-accepted events a (omega (arith, none))
+first-accepted (Trusted from to ∷ events) a none =
+    first-accepted events a (omega (arith, none))
 
 -- What is accepted is good.
 accepted-is :
@@ -233,7 +237,7 @@ no-fault national file programme loads =
 nothing-told :
     (options : OptionsValue) (bytes : List ℕ) (p : ProgrammeValue) (frames : Transmission)
     (events : List Event) (a : Accepted)
-    → events ≡ pes_events.events (task_of p options (pes_file_of options.origin bytes).unread)
+    → events ≡ all_events (task_of p options (pes_file_of options.origin bytes).unread)
     (pes_file_of options.origin bytes).frames
     → IsChecked p options bytes (first_answer events a)
     → Carries options.origin bytes frames
@@ -242,13 +246,17 @@ nothing-told :
     → events ≡ []
 nothing-told options bytes p frames events a are checked carries good complete =
     let file = pes_file_of options.origin bytes in
+    let g = task_of p options file.unread in
     are
-    ∙ go (first_answer (events_of p options bytes) a)
-    (first_decides p options bytes file.frames file.unread refl a) (rw are at checked)
+    ∙ all_none g file.frames
+    (go (first_answer (events_of p options bytes) a)
+    (first_decides p options bytes file.frames file.unread refl a)
+    (subst (λ o. IsChecked p options bytes (answer_by o a))
+    (ap first_told are ∙ first_told-all g file.frames) checked))
   where
     go : (r : Result Accepted CheckFault)
         → MatchResult r (λ b. (b ≡ a) × (events_of p options bytes ≡ []))
-        (λ f. (pes_events.first_told (events_of p options bytes) ≡ Some f) × IsRuleFault f)
+        (λ f. (first_told (events_of p options bytes) ≡ Some f) × IsRuleFault f)
         → IsChecked p options bytes r
         → events_of p options bytes ≡ []
     go (Ok b) decides checked = decides.1

@@ -26,14 +26,15 @@ use Rattle.stl_rows.specs.declared.fault.LoadFaultKind.{LoadFaultKind}
 use Rattle.stl_rows.specs.declared.fault.LoadFaultKind.TheVariants as load
 use Rattle.stl_rows.specs.declared.national.National.{National}
 use Rattle.sub_plan.specs.Options.{OptionsValue}
-use Rattle.sub_check.specs.CheckedFiles.{IsChecked, TellsEvents, events_of, first_answer}
+use Rattle.sub_check.specs.CheckedFiles.{IsChecked, TellsEvents, all_events_of, first_answer}
 use Rattle.sub_checker.specs.Telling.{CountsRead}
-use Rattle.sub_rules.specs.Events as pes_events
+use Rattle.sub_rules.specs.Events.{latest}
 use Rattle.sub_rules.specs.Fault.{is_pes_read}
 use Rattle.sub_rules.specs.FrameRules.{frame_at, packets_before, task_of}
 use Rattle.sub_rules.specs.PacketRules.{header_count}
 use Rattle.sub_rules.specs.PesReading.{pes_file_of}
 use Rattle.sub_rules.specs.Transmission.{Transmission}
+use Rattle.sub_rules.specs.Trusted.{all_events, all_events_of_first}
 use Rattle.sub_checker.specs.declared.telling.Accepted.{Accepted}
 use Rattle.sub_rules.specs.declared.event.Event.{Event}
 use Rattle.sub_rules.specs.declared.fault.CheckFault.{CheckFault}
@@ -244,8 +245,8 @@ module _ {D N : Type 0} (IsTold : D → LoadFault → D → Type 0) (name : D �
 
 -- The frames that are counted are holds fewer than none.
 latest-first : (frames : Transmission) (n : ℕ)
-    → frame_at frames 0 ≤ pes_events.latest frames (suc n)
-unfolding pes_events.latest
+    → frame_at frames 0 ≤ latest frames (suc n)
+unfolding latest
 latest-first frames zero = grind (arith, nat_tests)
 latest-first frames (suc n) =
     let before = latest-first frames n in grind (arith, nat_tests)
@@ -267,7 +268,7 @@ some_counts page frames zero is = (
 some_counts page frames (suc n) is =
     let first = latest-first frames n in (
       record {
-        frames = (pes_events.latest frames (suc n) + 1) - frame_at frames 0;
+        frames = (latest frames (suc n) + 1) - frame_at frames 0;
         transmissions = header_count page (packets_before frames (length frames));
       },
       record {
@@ -300,7 +301,7 @@ module _ {D N : Type 0} (IsTold : D → Event → D → Type 0) (name : D → N)
       → RisesIf pes.old_count true pes.new_count
       → ((index : ℕ) → n ≡ index → FailsAtPacket index pes.told pes.left)
       → IfTold pes.told (λ bytes. (n ≤ length (pes_file_of options.origin bytes).frames)
-      × (items ≡ pes_events.events_of_first
+      × (items ≡ all_events_of_first
       (task_of programme options (pes_file_of options.origin bytes).unread)
       (pes_file_of options.origin bytes).frames n))
       → TellsBoth national options stl pes (value old) (value new)
@@ -338,9 +339,9 @@ module _ {D N : Type 0} (IsTold : D → Event → D → Type 0) (name : D → N)
       let file = pes_file_of options.origin bytes in
       let at : here.0 ≡ n = let e = here.2 in cc in
       failed_pes n
-      (pes_events.events_of_first (task_of programme options file.unread) file.frames n) quiet
+      (all_events_of_first (task_of programme options file.unread) file.frames n) quiet
       (subst (λ (m : ℕ). Tells IsTold old new
-      (pes_events.events_of_first (task_of programme options file.unread) file.frames m)) at
+      (all_events_of_first (task_of programme options file.unread) file.frames m)) at
       here.3) count fails
       (λ other heard.
       let same : bytes ≡ other = cc in
@@ -369,7 +370,7 @@ module _ {D N : Type 0} (IsTold : D → Event → D → Type 0) (name : D → N)
       → PrintsEvents (value old) items (value new)
       → ((value new).failed ≡ false → Ok (Some a) ≡ given)
       → RisesIf pes.old_count false pes.new_count
-      → IfTold pes.told (λ bytes. (items ≡ pes_events.events
+      → IfTold pes.told (λ bytes. (items ≡ all_events
       (task_of programme options (pes_file_of options.origin bytes).unread)
       (pes_file_of options.origin bytes).frames)
       × CountsRead options.page (pes_file_of options.origin bytes).frames a)
@@ -403,7 +404,7 @@ module _ {D N : Type 0} (IsTold : D → Event → D → Type 0) (name : D → N)
       → IfTold pes.told (λ bytes. TellsEvents programme options bytes IsTold old new
       (Ok (Some given)))
       → IfTold pes.told (λ bytes. IsChecked programme options bytes
-      (first_answer (events_of programme options bytes) given))
+      (first_answer (all_events_of programme options bytes) given))
       → RisesIf pes.old_count false pes.new_count
       → TellsBoth national options stl pes (value old) (value new) (Ok (Some given))
   after_all None given is some told first count =
@@ -411,7 +412,7 @@ module _ {D N : Type 0} (IsTold : D → Event → D → Type 0) (name : D → N)
       (λ bytes heard. cc) (λ holds bytes heard. cc)
   after_all (Some bytes) given is some told first count =
       let file = pes_file_of options.origin bytes in
-      let whole = pes_events.events (task_of programme options file.unread) file.frames in
+      let whole = all_events (task_of programme options file.unread) file.frames in
       let here = told bytes is in
       read_pes whole given (Ok (Some given)) (put whole here.0).1 (λ holds. refl) count
       (λ other heard.
@@ -433,7 +434,7 @@ module _ {D N : Type 0} (IsTold : D → Event → D → Type 0) (name : D → N)
       (λ bytes heard. cc) (λ holds bytes heard. cc)
   after_stop (Some bytes) is failing some told count =
       let file = pes_file_of options.origin bytes in
-      let whole = pes_events.events (task_of programme options file.unread) file.frames in
+      let whole = all_events (task_of programme options file.unread) file.frames in
       let counts = some_counts options.page file.frames (length file.frames) refl in
       let p = told bytes is in
       let part =
@@ -454,7 +455,7 @@ module _ {D N : Type 0} (IsTold : D → Event → D → Type 0) (name : D → N)
       → TellsSome IsTold old new
       → IfTold pes.told (λ bytes. TellsEvents programme options bytes IsTold old new r)
       → IfTold pes.told (λ bytes. IfOk r (λ counts. IfSome counts (λ a. IsChecked programme options
-      bytes (first_answer (events_of programme options bytes) a))))
+      bytes (first_answer (all_events_of programme options bytes) a))))
       → IfOk r (λ counts. stopped ≡ is_none counts)
       → IfErr r (λ f. stopped ≡ false)
       → IfErr r (λ f. is_pes_read f ≡ true)

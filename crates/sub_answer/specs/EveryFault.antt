@@ -20,7 +20,6 @@ use Rattle.stl_file.specs.declared.fault.StlFault.TheVariants as stl_fault
 use Rattle.sub_plan.specs.Options.{OptionsValue}
 use Rattle.sub_check.specs.CheckedFiles.{IsChecked, first_answer}
 use Rattle.sub_checker.specs.Telling.{CountsRead}
-use Rattle.sub_rules.specs.Events as pes_events
 use Rattle.sub_rules.specs.Fault.{is_pes_read, is_stl_read, is_subtitle_fault}
 use Rattle.sub_rules.specs.FrameRules.{task_of}
 use Rattle.sub_rules.specs.Good.{Good}
@@ -28,6 +27,7 @@ use Rattle.sub_laws.specs.OnScreen.{Complete}
 use Rattle.sub_rules.specs.PesFrames.{Carries}
 use Rattle.sub_rules.specs.PesReading.{pes_file_of}
 use Rattle.sub_rules.specs.Transmission.{Transmission}
+use Rattle.sub_rules.specs.Trusted.{all_events, all_events_of_first}
 use Rattle.sub_checker.specs.declared.telling.Accepted.{Accepted}
 use Rattle.sub_rules.specs.declared.event.Event.{Event}
 use Rattle.sub_rules.specs.declared.fault.CheckFault.{CheckFault}
@@ -62,12 +62,12 @@ abbrev pub AreListedOfPes :
     ProgrammeValue → OptionsValue → List ℕ → List Event → Result Accepted ℕ → Type 0
 AreListedOfPes programme options bytes events (Ok a) =
     let file = pes_file_of options.origin bytes in
-    (events ≡ pes_events.events (task_of programme options file.unread) file.frames)
+    (events ≡ all_events (task_of programme options file.unread) file.frames)
     × CountsRead options.page file.frames a
 AreListedOfPes programme options bytes events (Err n) =
     let file = pes_file_of options.origin bytes in
     (n ≤ length file.frames)
-    × (events ≡ pes_events.events_of_first (task_of programme options file.unread) file.frames n)
+    × (events ≡ all_events_of_first (task_of programme options file.unread) file.frames n)
 
 -- The same, where the subtitle file gives a programme.
 pub record IsListedOf

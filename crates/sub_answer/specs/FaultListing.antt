@@ -6,12 +6,12 @@ use Rattle.sub_rules.specs.Fault.{rule_code}
 use Rattle.sub_checker.specs.declared.telling.Accepted.{Accepted}
 use Rattle.sub_rules.specs.declared.event.EndRule.{EndRule}
 use Rattle.sub_rules.specs.declared.event.Event.{Event}
-use Rattle.sub_rules.specs.declared.event.Event.TheVariants.{Ended, Told}
+use Rattle.sub_rules.specs.declared.event.Event.TheVariants.{Ended, Told, Trusted}
 use Rattle.sub_rules.specs.declared.fault.CheckFault.{CheckFault}
 use Rattle.sub_rules.specs.declared.fault.CheckFault.TheVariants.{Subtitles}
 use Rattle.sub_answer.specs.Faults.{check_told}
 use Rattle.sub_answer.specs.Listing.{Listing, done, followed, told_listing}
-use Rattle.sub_answer.specs.Told.{code_text, frame_text, line_of}
+use Rattle.sub_answer.specs.Told.{clock_text, code_text, frame_text, line_of}
 use Rattle.sub_answer.specs.declared.status.Status.TheVariants.{Refused}
 
 -- ---- a line for each event
@@ -21,20 +21,27 @@ abbrev pub ended_line : EndRule → ℕ → List ℕ
 ended_line rule frame =
     codes "ended " ++ code_text (rule_code rule) ++ frame_text frame ++ codes "\n"
 
+-- These frames may be trusted, the first and the last one too.
+abbrev pub trusted_line : ℕ → ℕ → List ℕ
+trusted_line from to =
+    codes "trusted frames " ++ clock_text from ++ codes " " ++ clock_text to ++ codes "\n"
+
 -- The line of an event.
 abbrev pub event_line : Event → List ℕ
 event_line (Told f) = line_of (check_told f)
 event_line (Ended rule frame) = ended_line rule frame
+event_line (Trusted from to) = trusted_line from to
 
 -- The lines of events.
 abbrev pub event_lines : List Event → List ℕ
 event_lines [] = []
 event_lines (e ∷ events) = event_line e ++ event_lines events
 
--- Whether an event is a refusal: 1, or 0 where it is an end.
+-- Whether an event is a refusal: 1, or 0 where it is none.
 abbrev pub refusal : Event → ℕ
 refusal (Told f) = 1
 refusal (Ended rule frame) = 0
+refusal (Trusted from to) = 0
 
 -- How many of these are refusals.
 abbrev pub refusals : List Event → ℕ

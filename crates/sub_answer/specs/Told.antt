@@ -23,9 +23,14 @@ kind_text kind.Refused = codes "refused "
 kind_text kind.Fault = codes "fault "
 kind_text kind.Usage = codes "usage "
 
--- A frame of the day. Past a day the clock begins anew; no fault of a file names such a frame.
+-- The time of a frame of the day. Past a day the clock begins anew; no event of a file names such a
+-- frame.
+abbrev pub clock_text : ℕ → List ℕ
+clock_text frame = time_text (frame % day)
+
+-- A frame of the day.
 abbrev pub frame_text : ℕ → List ℕ
-frame_text frame = codes " frame " ++ time_text (frame % day)
+frame_text frame = codes " frame " ++ clock_text frame
 
 -- The place.
 abbrev pub place_text : FaultPlace → List ℕ

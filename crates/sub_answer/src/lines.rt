@@ -3,10 +3,11 @@
 //! A text is made in memory first and put into a device at once. Each maker appends to an
 //! `ArrayVec` that has room: the constants below say how much, and that it is enough is proved
 //! here.
-ghost use Rattle.std.specs.Prelude.{◌≡◌, ◌+◌, ◌≤◌, ◌<◌, ◌++◌, length, decimal};
+ghost use Rattle.std.specs.Prelude.{◌≡◌, ◌+◌, ◌%◌, ◌≤◌, ◌<◌, ◌++◌, length, decimal};
 ghost use Rattle.arrayvec.specs.ArrayVec.{array_vec_len};
 ghost use Rattle.hex.specs.Hex.{encode_lower};
-ghost use Rattle.sub_answer.specs.FaultListing.{ended_line, event_line};
+ghost use Rattle.stl_file.specs.TimeCode.{day};
+ghost use Rattle.sub_answer.specs.FaultListing.{ended_line, event_line, trusted_line};
 ghost use Rattle.sub_answer.specs.Lines.{glyph, text_digits, time_text, two_digits};
 ghost use Rattle.sub_answer.specs.Told.{code_text, frame_text, line_of, place_text};
 
@@ -149,8 +150,8 @@ pub fn push_told<const N: usize>(line: &mut ArrayVec<u8, N>, told: &Told)
     push_text(line, b"\n");
 }
 
-/// Appends the line of an event: of a fault that is told, or of a rule that stood broken up to a
-/// frame.
+/// Appends the line of an event: of a fault that is told, of a rule that stood broken up to a frame,
+/// or of frames that may be trusted.
 pub fn push_event<const N: usize>(line: &mut ArrayVec<u8, N>, event: Event)
     requires { array_vec_len line.old + LINE_ROOM ≤ N }
     ensures { line.new.items ≡ line.old.items ++ event_line event }
@@ -158,6 +159,7 @@ pub fn push_event<const N: usize>(line: &mut ArrayVec<u8, N>, event: Event)
     match event {
         Event::Told(fault) => push_told(line, &told_of_check(fault)),
         Event::Ended { rule, frame } => push_ended(line, rule, frame),
+        Event::Trusted { from, to } => push_trusted(line, from, to),
     }
 }
 
@@ -169,6 +171,18 @@ fn push_ended<const N: usize>(line: &mut ArrayVec<u8, N>, rule: EndRule, frame: 
     push_text(line, b"ended ");
     push_code(line, &rule.code());
     push_frame(line, frame);
+    push_text(line, b"\n");
+}
+
+// Appends the line of frames that may be trusted.
+fn push_trusted<const N: usize>(line: &mut ArrayVec<u8, N>, from: u32, to: u32)
+    requires { array_vec_len line.old + LINE_ROOM ≤ N }
+    ensures { line.new.items ≡ line.old.items ++ trusted_line from to }
+{
+    push_text(line, b"trusted frames ");
+    push_clock(line, from);
+    push_text(line, b" ");
+    push_clock(line, to);
     push_text(line, b"\n");
 }
 
@@ -217,6 +231,15 @@ fn push_frame<const N: usize>(line: &mut ArrayVec<u8, N>, frame: u32)
     ensures len { array_vec_len line.new ≡ array_vec_len line.old + 18 }
 {
     push_text(line, b" frame ");
+    push_clock(line, frame);
+}
+
+// Appends the time of a frame of the day.
+fn push_clock<const N: usize>(line: &mut ArrayVec<u8, N>, frame: u32)
+    requires { array_vec_len line.old + 11 ≤ N }
+    ensures items { line.new.items ≡ line.old.items ++ time_text (frame % day) }
+    ensures len { array_vec_len line.new ≡ array_vec_len line.old + 11 }
+{
     // Each frame of a day has one PES packet at most.
     push_time(line, TimeCode::of_frame(frame % MOST_PACKETS));
 }

@@ -59,13 +59,13 @@ impl<'a, K: Sink> Printer<'a, K> {
     }
 }
 
-// 1 for a refusal, and 0 for an end.
+// 1 for a refusal, and 0 for any other event.
 fn refusal(event: Event) -> u64
     ensures { result ≡ refusal event }
 {
     match event {
         Event::Told(_) => 1,
-        Event::Ended { .. } => 0,
+        Event::Ended { .. } | Event::Trusted { .. } => 0,
     }
 }
 

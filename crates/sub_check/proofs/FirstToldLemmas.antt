@@ -3,12 +3,12 @@
 use Rattle.std.proofs.lemmas.Bool.Decides.{nat_tests}
 use Rattle.std.proofs.Common.{◌≡◌, ℕ, zero, suc, ◌≤◌, List, [], ◌∷◌, length, take, Option, Some}
 use Rattle.std.proofs.Common.{None, is_some, Result, Ok, Err, refl, sym, ap, ◌∙◌, subst}
-use Rattle.std.proofs.Common.{arith, All, MatchResult, false, true}
+use Rattle.std.proofs.Common.{arith, All, MatchResult, cond, false, true}
 use Rattle.std.specs.List.{AllByRecursion}
 use Rattle.std.proofs.lemmas.Bool.{true≢false}
 use Rattle.std.proofs.lemmas.List.{take_all}
 use Rattle.std.proofs.lemmas.List.Elements.{All-from_recursion}
-use Rattle.sub_io.specs.Telling.{Tells, TellsInTurn}
+use Rattle.sub_io.specs.Telling.{TellsInTurn}
 use Rattle.ttx_packet.specs.PacketAddress.{IsPacket}
 use Rattle.ttx_pes.specs.declared.fault.PesFault.TheVariants.{Read}
 use Rattle.stl_rows.specs.Programme.{ProgrammeValue}
@@ -23,11 +23,14 @@ use Rattle.sub_rules.specs.FrameRules.{Task, Unread, task_of}
 use Rattle.sub_rules.specs.FrameRules.Unread.{BadPacket, NoFrame}
 use Rattle.sub_rules.specs.PesReading.{ReadsAs}
 use Rattle.sub_rules.specs.Transmission.{EachPacket, SentFrame, Transmission}
+use Rattle.sub_rules.specs.Trusted.{all_events, all_events_of_first}
 use Rattle.sub_rules.specs.WrongContent.{IsWrongEverywhere}
 use Rattle.sub_rules.specs.declared.event.Event.{Event}
-use Rattle.sub_rules.specs.declared.event.Event.TheVariants.{Ended, Told}
+use Rattle.sub_rules.specs.declared.event.Event.TheVariants.{Ended, Told, Trusted}
 use Rattle.sub_rules.specs.declared.fault.CheckFault.{CheckFault}
 use Rattle.sub_rules.specs.declared.fault.CheckFault.TheVariants as fault
+use Rattle.sub_rules.proofs.TrustedLemmas.{first_told-all, first_told-untrusted, untrusted}
+use Rattle.sub_rules.proofs.TrustedLemmas.{untrusted-all, untrusted-first}
 use Rattle.sub_laws.proofs.ContentLemmas.{wrong_everywhere}
 use Rattle.sub_laws.proofs.EventLemmas.{FirstOf, all_told, frames_told, is_plain}
 use Rattle.sub_laws.specs.BrokenPlaces.{WrongFirst}
@@ -144,16 +147,22 @@ module _ (programme : ProgrammeValue) (options : OptionsValue) (bytes : List ℕ
 
     -- So of the first events it keeps the fault that is told first.
     kept_is : {Holds : Type 0} (n : ℕ) (new : Option CheckFault) (xs : List Event)
-        → FirstOf Named Holds xs → Tells KeepsFirstFault None new (take n xs)
+        → FirstOf Named Holds (untrusted xs) → TellsInTurn KeepsFirstFault None new (take n xs)
         → first_told (take n xs) ≡ new
-    kept_is zero new xs told is = sym is.in_turn
-    kept_is (suc n) new [] told is = sym is.in_turn
-    kept_is (suc n) new (x ∷ xs) told is =
-        let (first, e, named) = told.first x xs refl in
-        let (mid, keeps, rest) = is.in_turn in
-        let kept : mid ≡ Some first = let k = rw e at keeps.1 in grind (arith, nat_tests) in
+    kept_is zero new xs told is = sym is
+    kept_is (suc n) new [] told is = sym is
+    kept_is (suc n) new (Trusted from to ∷ xs) told (mid, keeps, rest) =
+        kept_is n new xs told
+        (subst (λ m. TellsInTurn KeepsFirstFault m new (take n xs)) keeps.1 rest)
+    kept_is (suc n) new (Told f ∷ xs) told (mid, keeps, rest) =
+        let (first, e, named) = told.first (Told f) (untrusted xs) refl in
+        let same : f ≡ first = cc in
+        let kept : mid ≡ Some first =
+        rw same at keeps.1 ∙ ap (λ b. cond b (Some first) None) named.0 in
         let last : new ≡ Some first = kept_last first new (take n xs) (rw kept at rest) in
-        rw e (sym last)
+        ap (λ x. Some x) same ∙ sym last
+    kept_is (suc n) new (Ended rule f ∷ xs) told (mid, keeps, rest) =
+        let (first, e, named) = told.first (Ended rule f) (untrusted xs) refl in cc
 
     first_taken : (n : ℕ) (xs : List Event) (f : CheckFault) → first_told (take n xs) ≡ Some f
         → first_told xs ≡ Some f
@@ -161,6 +170,14 @@ module _ (programme : ProgrammeValue) (options : OptionsValue) (bytes : List ℕ
     first_taken (suc n) [] f e = cc
     first_taken (suc n) (Told first ∷ xs) f e = e
     first_taken (suc n) (Ended rule frame ∷ xs) f e = first_taken n xs f e
+    first_taken (suc n) (Trusted from to ∷ xs) f e = first_taken n xs f e
+
+    -- The same of all events and of some, without what is trusted.
+    all_kept : FirstOf Named (AllOk g frames) (untrusted (all_events g frames))
+    all_kept = subst (FirstOf Named (AllOk g frames)) (sym (untrusted-all g frames)) all_named
+
+    first_all : first_told (events g frames) ≡ first_told (all_events g frames)
+    first_all = sym (first_told-all g frames)
 
     -- It kept nothing: nothing was told.
     pub nothing_kept : (none kept : Option CheckFault) (a : Accepted) → none ≡ None
@@ -170,10 +187,11 @@ module _ (programme : ProgrammeValue) (options : OptionsValue) (bytes : List ℕ
     nothing_kept (Some x) kept a e quiet told = cc
     nothing_kept None (Some x) a e quiet told = cc
     nothing_kept None None a e quiet (told, read) =
-        let all = take_all (length (events g frames)) (events g frames) (omega arith) in
+        let xs = all_events g frames in
+        let all = take_all (length xs) xs (omega arith) in
         (read, none_told (events g frames) all_named
-        (ap first_told (sym all)
-        ∙ kept_is (length (events g frames)) None (events g frames) all_named (rw all told)))
+        (first_all ∙ ap first_told (sym all)
+        ∙ kept_is (length xs) None xs all_kept (rw all told.in_turn)))
 
     -- It kept a fault: that was told first.
     pub fault_kept : (none kept : Option CheckFault) (f : CheckFault) → none ≡ None
@@ -182,7 +200,9 @@ module _ (programme : ProgrammeValue) (options : OptionsValue) (bytes : List ℕ
         → first_told (events g frames) ≡ Some f
     fault_kept (Some x) kept f e is told = cc
     fault_kept None kept f e is (n, l, told) =
-        first_taken n (events g frames) f (kept_is n kept (events g frames) all_named told ∙ is)
+        first_all
+        ∙ first_taken n (all_events g frames) f
+        (kept_is n kept (all_events g frames) all_kept told.in_turn ∙ is)
 
     -- The source failed, and it had kept nothing.
     pub none_before : (none kept : Option CheckFault) (f : CheckFault) (pes : ℕ) → none ≡ None
@@ -195,12 +215,15 @@ module _ (programme : ProgrammeValue) (options : OptionsValue) (bytes : List ℕ
     none_before None None f pes e quiet (n, l, is, told) failed =
         let same : fault.Pes n Read ≡ fault.Pes pes Read = sym is ∙ failed in
         let at : n ≡ pes = cc in
-        let xs = events_of_first g frames n in
+        let xs = all_events_of_first g frames n in
         let all = take_all (length xs) xs (omega arith) in
+        let some = untrusted-first g frames n in
         let first = frames_named n l in
         subst (λ m. (m ≤ length frames) × (events_of_first g frames m ≡ [])) at
-        (l, none_told xs first
-        (ap first_told (sym all) ∙ kept_is (length xs) None xs first (rw all told)))
+        (l, none_told (events_of_first g frames n) first
+        (ap first_told (sym some) ∙ first_told-untrusted xs ∙ ap first_told (sym all)
+        ∙ kept_is (length xs) None xs
+        (subst (FirstOf Named (AreOk g frames n)) (sym some) first) (rw all told.in_turn)))
 
     -- ---- the answer of `check` by all events
 

@@ -19,7 +19,9 @@ use Rattle.ttx_pes.specs.PesPacket.{IsPesPacket}
 use Rattle.sub_plan.specs.Options.{OptionsValue, IsOptions}
 use Rattle.sub_plan.specs.Schedule.{plan}
 use Rattle.sub_check.specs.CheckedFiles.{AreAccepted, IsChecked, Mean, ServesReceivers, HasCounts}
-use Rattle.sub_check.specs.CheckedFiles.{TellsEvents, events_of, first_answer}
+use Rattle.sub_check.specs.CheckedFiles.{TellsEvents, all_events_of, answer_by, events_of}
+use Rattle.sub_check.specs.CheckedFiles.{first_answer}
+use Rattle.sub_rules.proofs.TrustedLemmas.{first_told-all}
 use Rattle.sub_check.specs.FirstTold.{IsRuleFault}
 use Rattle.sub_checker.specs.Telling.{IsRead, TellsAll}
 use Rattle.sub_rules.specs.Events.{events, events_of_first, first_told}
@@ -247,12 +249,14 @@ pub checked_first :
     → ReadsAs options.origin 0 bytes frames unread
     → TellsAll (task_of programme options unread) options.origin bytes frames IsTold old new r)
     → IfOk r (λ counts. IfSome counts (λ a. IsChecked programme options bytes
-    (first_answer (events_of programme options bytes) a)))
+    (first_answer (all_events_of programme options bytes) a)))
 checked_first programme options bytes IsTold old new (Ok (Some a)) fine p told =
     let file = pes_file_of options.origin bytes in
     let first = first_decides programme options bytes file.frames file.unread refl a in
     let read = (told file.frames file.unread refl).1 in
-    by_first (first_answer (events_of programme options bytes) a) read first
+    subst (λ o. IsChecked programme options bytes (answer_by o a))
+    (sym (first_told-all (task_of programme options file.unread) file.frames))
+    (by_first (first_answer (events_of programme options bytes) a) read first)
   where
     by_first : (r : Result Accepted CheckFault)
         → IsRead (task_of programme options (pes_file_of options.origin bytes).unread)

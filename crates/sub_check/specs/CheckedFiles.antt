@@ -35,6 +35,7 @@ use Rattle.sub_rules.specs.PesFrames.{AreSentAs, Carries, IsPesFile}
 use Rattle.sub_rules.specs.PesReading.{pes_file_of}
 use Rattle.sub_laws.specs.Recovery.{Recovers}
 use Rattle.sub_laws.specs.Robust.{Robust}
+use Rattle.sub_rules.specs.Trusted.{all_events, all_events_of_first}
 use Rattle.sub_rules.specs.WrongContent.{IsWrongEverywhere}
 use Rattle.sub_checker.specs.Telling.{CountsRead}
 use Rattle.sub_checker.specs.declared.telling.Accepted.{Accepted}
@@ -123,6 +124,12 @@ abbrev pub events_of : ProgrammeValue → OptionsValue → List ℕ → List Eve
 events_of programme options bytes =
     let file = pes_file_of options.origin bytes in
     events (task_of programme options file.unread) file.frames
+
+-- The same, and which frames may be trusted.
+abbrev pub all_events_of : ProgrammeValue → OptionsValue → List ℕ → List Event
+all_events_of programme options bytes =
+    let file = pes_file_of options.origin bytes in
+    all_events (task_of programme options file.unread) file.frames
 
 -- What is told of the bytes of a PES file, checked against a programme. A refusal of the subtitle
 -- file, which is then want of memory or its failing source, tells nothing of them.
@@ -215,13 +222,13 @@ first_answer events a = answer_by (first_told events) a
 abbrev pub TellsEvents : {D : Type 0} → ProgrammeValue → OptionsValue → List ℕ
     → (D → Event → D → Type 0) → D → D → Result (Option Accepted) CheckFault → Type 0
 TellsEvents programme options bytes IsTold old new (Ok (Some a)) =
-    Tells IsTold old new (events_of programme options bytes)
+    Tells IsTold old new (all_events_of programme options bytes)
     × CountsRead options.page (pes_file_of options.origin bytes).frames a
 TellsEvents programme options bytes IsTold old new (Ok None) =
-    TellsPrefix IsTold old new (events_of programme options bytes)
+    TellsPrefix IsTold old new (all_events_of programme options bytes)
 TellsEvents programme options bytes IsTold old new (Err f) =
     let file = pes_file_of options.origin bytes in
     (n : ℕ)
     × (n ≤ length file.frames)
     × (f ≡ fault.Pes n Read)
-    × Tells IsTold old new (events_of_first (task_of programme options file.unread) file.frames n)
+    × Tells IsTold old new (all_events_of_first (task_of programme options file.unread) file.frames n)

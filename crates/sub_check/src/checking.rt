@@ -5,7 +5,7 @@ ghost use Rattle.sub_io.specs.Reading.{IfTold};
 ghost use Rattle.sub_io.specs.Telling.{TellsSome};
 ghost use Rattle.ttx_pes.specs.Reader.{FailsAtPacket};
 ghost use Rattle.sub_rules.specs.Fault.{is_pes_read, is_pes_write, is_subtitle_fault};
-ghost use Rattle.sub_check.specs.CheckedFiles.{IsChecked, TellsEvents, events_of, first_answer};
+ghost use Rattle.sub_check.specs.CheckedFiles.{IsChecked, TellsEvents, all_events_of, first_answer};
 
 use crate::first_fault::FirstFault;
 use stl_rows::Programme;
@@ -65,7 +65,8 @@ pub fn check<S: Source>(
 ///
 /// The events are those of `check`'s list, each where it is broken: all rules that a packet breaks;
 /// of a rule that is asked at the end of each frame, where it begins to be broken and where it has
-/// ended. Where the bytes can't be read on, that is the last event. It counts what was read: the
+/// ended. Beside them it tells which frames may stay on air as they are, each run of them where it
+/// is over. Where the bytes can't be read on, that is the last event. It counts what was read: the
 /// frames of the day from the first PES packet's to the latest one's, and the headers of the page.
 /// `None` where the device said stop: the PES packet at which it did was read in part.
 ///
@@ -88,7 +89,7 @@ pub fn check_all<S: Source, A: Audience<Event>>(
     // Where all was told, `check` answers by the first fault of it, or else with these counts.
     ensures first { IfTold (S.remaining source.old) (λ bytes.
         IfOk result (λ counts. IfSome counts (λ a. IsChecked programme.now options.now bytes
-        (first_answer (events_of programme.now options.now bytes) a)))) }
+        (first_answer (all_events_of programme.now options.now bytes) a)))) }
     // Nothing is counted exactly where the device said stop.
     ensures stopped { IfOk result (λ counts. A.has_stopped audience.new ≡ is_none counts) }
     // Whatever the source tells, the device was told some events, and did not say stop where the

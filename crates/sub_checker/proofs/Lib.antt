@@ -8,3 +8,4 @@ pub mod SentAgainLemmas
 pub mod TellingLemmas
 pub mod WaysOutLemmas
 pub mod WrongCellLemmas
+pub mod TrustingLemmas

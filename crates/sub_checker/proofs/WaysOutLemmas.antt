@@ -21,18 +21,20 @@ use Rattle.sub_checker.specs.Checker.{CheckerValue}
 use Rattle.sub_checker.specs.Steps.{AreCounted, FinishesTelling}
 use Rattle.sub_checker.specs.Telling.{CountsRead, AreTaken, AreWhole, IsRead, TellsAll}
 use Rattle.sub_rules.specs.Sendings.{IsFrameOf, TellsFrame, IsSentFrame}
-use Rattle.sub_rules.specs.Events.{closing_events, events, events_of_first, frame_events}
+use Rattle.sub_rules.specs.Events.{closing_events}
 use Rattle.sub_checker.specs.Following.{Follows}
 use Rattle.sub_rules.specs.FrameRules.{Task, Unread, task_of, packets_of_frame}
 use Rattle.sub_rules.specs.PacketRules.{packets_of_units}
 use Rattle.sub_rules.specs.PesReading.{EndsReading, ReadsAs}
 use Rattle.sub_rules.specs.Transmission.{SentFrame, Transmission}
+use Rattle.sub_rules.specs.Trusted.{all_events, all_events_of_first, all_frame_events, last_trusted}
 use Rattle.sub_checker.specs.declared.telling.Accepted.{Accepted}
 use Rattle.sub_rules.specs.declared.event.Event.{Event}
 use Rattle.sub_rules.proofs.GrowingLists.{grows_to}
 use Rattle.sub_rules.proofs.PacketLists.{Each-push}
 use Rattle.ttx_pes.proofs.ReaderLemmas.{answers_say}
 use Rattle.sub_rules.proofs.PesReadingLemmas.{reads_next, reads_end, reads-below}
+use Rattle.sub_checker.proofs.TellingLemmas.{all_same, prefix_same}
 
 -- ---- what is told
 
@@ -40,20 +42,22 @@ use Rattle.sub_rules.proofs.PesReadingLemmas.{reads_next, reads_end, reads-below
 events_from :
     (g : Task) (frames : Transmission) (n : ℕ)
     → n ≤ length frames
-    → (rest : List Event) × (events g frames ≡ events_of_first g frames n ++ rest)
-unfolding events events_of_first
+    → (rest : List Event) × (all_events g frames ≡ all_events_of_first g frames n ++ rest)
+unfolding all_events all_events_of_first
 events_from g frames n l =
     let more =
-    grows_to (events_of_first g frames) (frame_events g frames) (λ k. refl) n (length frames) l in
+    grows_to (all_events_of_first g frames) (all_frame_events g frames) (λ k. refl) n (length frames) l in
+    let last : List Event = last_trusted g frames in
     let closing : List Event = closing_events g frames (length frames) in (
-      more.0 ++ closing,
-      ap (λ xs. xs ++ closing) more.1
-          ∙ append_assoc (events_of_first g frames n) more.0 closing,
+      more.0 ++ last ++ closing,
+      ap (λ xs. xs ++ last ++ closing) more.1
+          ∙ ap (λ xs. xs ++ closing) (append_assoc (all_events_of_first g frames n) more.0 last)
+          ∙ append_assoc (all_events_of_first g frames n) (more.0 ++ last) closing,
     )
 
 pub one_more : (g : Task) (frames : Transmission) (n : ℕ)
-    → events_of_first g frames (n + 1) ≡ events_of_first g frames n ++ frame_events g frames n
-unfolding events_of_first
+    → all_events_of_first g frames (n + 1) ≡ all_events_of_first g frames n ++ all_frame_events g frames n
+unfolding all_events_of_first
 one_more g frames n = rw add-one refl
 
 -- A device that said stop at a frame was told a part of the whole. For `tell_all`.
@@ -61,13 +65,23 @@ pub told_to_stop :
     (g : Task) (frames : Transmission) (n : ℕ)
     {D : Type 0} {IsTold : D → Event → D → Type 0} (a b c : D)
     → n < length frames
-    → Tells IsTold a b (events_of_first g frames n)
-    → TellsPrefix IsTold b c (frame_events g frames n)
-    → TellsPrefix IsTold a c (events g frames)
+    → Tells IsTold a b (all_events_of_first g frames n)
+    → TellsPrefix IsTold b c (all_frame_events g frames n)
+    → TellsPrefix IsTold a c (all_events g frames)
 told_to_stop g frames n a b c l before more =
     let whole = events_from g frames (n + 1) (omega arith) in
     rw (whole.1, one_more g frames n)
     (TellsPrefix-first a c _ whole.0 (TellsPrefix-second a b c _ _ before more))
+
+-- All that is told, in these parts.
+all_parts : (g : Task) (frames : Transmission) (n : ℕ) → length frames ≡ n
+    → all_events g frames
+    ≡ all_events_of_first g frames n ++ (last_trusted g frames ++ closing_events g frames n)
+unfolding all_events
+all_parts g frames n all =
+    ap (λ k. all_events_of_first g frames k ++ last_trusted g frames ++ closing_events g frames k) all
+    ∙ append_assoc (all_events_of_first g frames n) (last_trusted g frames)
+    (closing_events g frames n)
 
 -- A device that was told what follows the last frame was told the whole, and what was read is
 -- counted; or a part, where it said stop. For `tell_all`.
@@ -75,16 +89,16 @@ pub told_to_end :
     (g : Task) (origin : ℕ) (bytes : List ℕ) (frames : Transmission) (n : ℕ) (c : CheckerValue)
     {D : Type 0} {IsTold : D → Event → D → Type 0} (old mid new : D) (r : Option Accepted)
     → length frames ≡ n
-    → Tells IsTold old mid (events_of_first g frames n)
-    → FinishesTelling IsTold mid new (closing_events g frames n) r
+    → Tells IsTold old mid (all_events_of_first g frames n)
+    → FinishesTelling IsTold mid new (last_trusted g frames ++ closing_events g frames n) r
     → IfSome r (AreCounted c n)
     → ((a : Accepted) → AreCounted c n a → IsRead g origin bytes frames a)
     → TellsAll g origin bytes frames IsTold old new (Ok r)
-unfolding events
 told_to_end g origin bytes frames n c old mid new (Some a) all before more counts read =
-    (rw all (Tells-trans old mid new _ _ before more), read a counts)
+    (all_same _ _ _ _ (all_parts g frames n all) (Tells-trans old mid new _ _ before more),
+      read a counts)
 told_to_end g origin bytes frames n c old mid new None all before more counts read =
-    rw all (TellsPrefix-second old mid new _ _ before more)
+    prefix_same _ _ _ _ (all_parts g frames n all) (TellsPrefix-second old mid new _ _ before more)
 
 -- ---- packets of 42 bytes
 
@@ -282,6 +296,6 @@ module _
 -- ---- before the first PES packet
 
 -- Of no frame nothing is told.
-pub none_of_first : (g : Task) (frames : Transmission) → events_of_first g frames 0 ≡ []
-unfolding events_of_first
+pub none_of_first : (g : Task) (frames : Transmission) → all_events_of_first g frames 0 ≡ []
+unfolding all_events_of_first
 none_of_first g frames = refl

@@ -5,3 +5,4 @@ pub mod Listener
 pub mod SentAgain
 pub mod Steps
 pub mod Telling
+pub mod Trusting

@@ -7,12 +7,13 @@ use Rattle.ttx_packet.specs.PageId.{PageIdValue}
 use Rattle.ttx_pes.specs.PesPacket.{IsPesPacket, PesValue}
 use Rattle.ttx_pes.specs.Reading.{most_packets}
 use Rattle.ttx_pes.specs.declared.fault.PesFault.TheVariants.{Read}
-use Rattle.sub_rules.specs.Events.{events, events_of_first, latest}
+use Rattle.sub_rules.specs.Events.{latest}
 use Rattle.sub_rules.specs.declared.event.Event.{Event}
 use Rattle.sub_rules.specs.FrameRules.{Task, frame_at, packets_before}
 use Rattle.sub_rules.specs.PacketRules.{header_count}
 use Rattle.sub_rules.specs.PesFrames.{IsSentAs}
 use Rattle.sub_rules.specs.Transmission.{SentFrame, Transmission}
+use Rattle.sub_rules.specs.Trusted.{all_events, all_events_of_first}
 use Rattle.sub_rules.specs.declared.fault.CheckFault.{CheckFault}
 use Rattle.sub_rules.specs.declared.fault.CheckFault.TheVariants as fault
 use Rattle.sub_checker.specs.declared.telling.Accepted.{Accepted}
@@ -52,11 +53,11 @@ pub record IsRead (g : Task) (origin : ℕ) (bytes : List ℕ) (frames : Transmi
 abbrev pub TellsAll : {D : Type 0} → Task → ℕ → List ℕ → Transmission
     → (D → Event → D → Type 0) → D → D → Result (Option Accepted) CheckFault → Type 0
 TellsAll g origin bytes frames IsTold old new (Ok (Some a)) =
-    Tells IsTold old new (events g frames) × IsRead g origin bytes frames a
+    Tells IsTold old new (all_events g frames) × IsRead g origin bytes frames a
 TellsAll g origin bytes frames IsTold old new (Ok None) =
-    TellsPrefix IsTold old new (events g frames)
+    TellsPrefix IsTold old new (all_events g frames)
 TellsAll g origin bytes frames IsTold old new (Err f) =
     (n : ℕ)
     × (n ≤ length frames)
     × (f ≡ fault.Pes n Read)
-    × Tells IsTold old new (events_of_first g frames n)
+    × Tells IsTold old new (all_events_of_first g frames n)

@@ -2,7 +2,7 @@
 //! frame's end.
 ghost use Rattle.std.specs.Prelude.{◌≡◌, ℕ, ◌+◌, ◌-◌, ◌*◌, ◌<◌, ◌≤◌, ◌==◌, ◌&&◌, List, length};
 ghost use Rattle.std.specs.Prelude.{MatchOption, OnOk, IfErr, if◌then◌else◌, max, nat_le, nat_lt};
-ghost use Rattle.std.specs.Prelude.{IsTrue, Option, Some, None, true, false, is_err};
+ghost use Rattle.std.specs.Prelude.{IsTrue, Option, Some, None, true, false, is_err, is_some};
 ghost use Rattle.stl_file.specs.TimeCode.{day};
 ghost use Rattle.sub_io.specs.Telling.{TellsSome, TellsUntilStopped};
 ghost use Rattle.sub_checker.specs.Checker.{is_before, later_by};
@@ -11,7 +11,7 @@ ghost use Rattle.sub_rules.specs.Events.{closing_events, end_events, gap_events,
 ghost use Rattle.sub_rules.specs.Events.{is_early, latest};
 ghost use Rattle.sub_rules.specs.FrameRules.{Task, Unread, frame_at, packets_before};
 ghost use Rattle.sub_rules.specs.FrameRules.{packets_of_frame, task_of};
-ghost use Rattle.stl_rows.specs.Programme.{IsProgramme};
+ghost use Rattle.stl_rows.specs.Programme.{IsProgramme, last_out};
 ghost use Rattle.sub_plan.specs.Options.{IsOptions};
 ghost use Rattle.sub_plan.specs.Schedule.{due_in};
 ghost use Rattle.ttx_pes.specs.PesPacket.{most_units};
@@ -21,6 +21,7 @@ ghost use Rattle.sub_rules.specs.Transmission.{Transmission};
 use crate::listener::Listener;
 use crate::standing::{StandingRules, tell_if};
 use crate::telling::Accepted;
+use crate::trusting::Trusting;
 use std::marker::Model;
 use stl_rows::Programme;
 use sub_io::{Audience, Stopped};
@@ -82,7 +83,8 @@ impl<'a> Checker<'a> {
     ghost use Rattle.sub_rules.specs.Sendings.{IsSentFrame};
     ghost use Rattle.sub_checker.specs.Listener.{Knows, KnowsLast};
     ghost use Rattle.sub_checker.specs.Steps.{AreCounted};
-    ghost use Rattle.sub_rules.specs.Events.{frame_events};
+    ghost use Rattle.sub_checker.specs.Trusting.{Judges};
+    ghost use Rattle.sub_rules.specs.Trusted.{all_frame_events};
 
     /// Before the first PES packet: nothing was heard.
     pub fn new(programme: &'a Programme, options: &Options) -> Self
@@ -366,37 +368,45 @@ impl<'a> Checker<'a> {
         self.end_of_frame(audience)
     }
 
-    /// A PES packet: its number, what is sent, and its units.
+    /// A PES packet: its number, what is sent, and its units; and which frames are trusted where it
+    /// ends a run of them.
     ///
     /// # Errors
     ///
     /// `Stopped` where the audience said stop. What is kept is then of no use.
-    #[tactic(auto, using(sub_io::proofs::TellingLemmas::some))]
     pub fn go_on<A: Audience<Event>>(
         &mut self,
         pes: u32,
         sending: Sending,
         units: &[Unit],
-        audience: &mut A,
+        trusting: &mut Trusting<'_, A>,
     ) -> Result<(), Stopped>
-        requires goes_on { A.has_stopped audience.old ≡ false }
+        requires goes_on { A.has_stopped trusting.old.device.now ≡ false }
         requires few { length units.now ≤ most_units }
         requires room { self.old.headers ≤ 255 * pes }
         requires day { sending.frame < day }
-        ensures stopped { A.has_stopped audience.new ≡ is_err result }
-        ensures some { TellsSome A.is_told audience.old audience.new }
+        ensures same { trusting.new.device.ghost_name ≡ trusting.old.device.ghost_name }
+        ensures stopped { A.has_stopped trusting.new.device.now ≡ is_err result }
+        ensures some { TellsSome A.is_told trusting.old.device.now trusting.new.device.now }
         ensures headers { OnOk result (self.new.headers ≤ 255 * (pes + 1)) }
+        ensures day { OnOk result (trusting.new.trust.last < day) }
         ensures told { (g : Task) (frames : Transmission)
-            → Follows g frames pes self.old
+            → Follows g frames pes self.old → Judges g frames pes trusting.old.trust
             → IsSentFrame frames pes sending.frame (packets_of_units units.now)
             → (sending.again ≡ true
             → packets_of_frame frames (pes - 1) ≡ packets_of_units units.now)
-            → TellsUntilStopped A.is_told audience.old audience.new
-            (frame_events g frames pes) result
-            × OnOk result (Follows g frames (pes + 1) self.new) }
+            → TellsUntilStopped A.is_told trusting.old.device.now trusting.new.device.now
+            (all_frame_events g frames pes) result
+            × OnOk result (Follows g frames (pes + 1) self.new
+            × Judges g frames (pes + 1) trusting.new.trust) }
     {
-        self.reach(pes, sending.frame, audience)?;
-        self.take(pes, sending.again, units, audience)
+        let before = self.headers;
+        self.reach(pes, sending.frame, trusting)?;
+        trusting.arrive();
+        self.take(pes, sending.again, units, trusting)?;
+        let has_header = before < self.headers;
+        trusting.end_frame(sending.frame, has_header, self.standing.has_none());
+        Ok(())
     }
 
     /// What is told after the last PES packet, where this fault ended reading, if one did: what
@@ -429,6 +439,14 @@ impl<'a> Checker<'a> {
         self.standing
             .tell_change(self.last, &none, self.last, audience)?;
         tell_fault(last, audience)
+    }
+
+    /// Whether a fault is told after the last PES packet, where this one ended reading, if one did.
+    pub fn tells_last(&self, pes: u32, fault: Option<CheckFault>) -> bool
+        ensures { result
+            ≡ is_some (last_fault fault (last_out self.now.programme.records) pes self.now.last) }
+    {
+        last_fault(fault, self.programme.last_out(), pes, self.last).is_some()
     }
 
     /// What was read: the frames of the day from the first PES packet's to the latest one's, and

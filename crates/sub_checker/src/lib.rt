@@ -16,6 +16,7 @@ mod packet_rules;
 mod rule_set;
 mod standing;
 mod telling;
+mod trusting;
 
 pub use laws::law_of_sent_again;
 pub use telling::{Accepted, tell_all};

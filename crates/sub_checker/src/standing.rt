@@ -20,6 +20,7 @@ pub(crate) struct StandingRules {
 
 impl StandingRules {
     ghost use Rattle.sub_checker.specs.Checker.{as_standing, none_stands};
+    ghost use Rattle.sub_rules.specs.Trusted.{stands_none};
 
     /// Nothing stands broken.
     pub fn none() -> Self
@@ -35,7 +36,8 @@ impl StandingRules {
     /// Whether nothing stands broken.
     #[inline(always)]
     pub fn has_none(&self) -> bool
-        ensures { IsTrue result ↔ (self.now ≡ none_stands) }
+        ensures is_none { IsTrue result ↔ (self.now ≡ none_stands) }
+        ensures none { result ≡ stands_none (as_standing self.now) }
     {
         self.content.is_none() && !self.gap && !self.incomplete
     }
