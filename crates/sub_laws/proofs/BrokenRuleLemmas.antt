@@ -3,7 +3,7 @@
 use Rattle.std.proofs.Common.{◌≡◌, ℕ, zero, suc, ◌+◌, ◌<◌, ◌≤◌, inl, inr, Bool, true, false, not}
 use Rattle.std.proofs.Common.{◌&&◌, List, [], ◌∷◌, Option, Some, None, option_map, refl, sym}
 use Rattle.std.proofs.Common.{◌∙◌, ◌↔◌, arith, length, get_or, subst, is_some, take, All, IsTrue}
-use Rattle.std.proofs.Common.{if◌then◌else◌}
+use Rattle.std.proofs.Common.{◌++◌, cond}
 use Rattle.std.specs.Bool.{Decides}
 use Rattle.std.specs.List.{AllByRecursion, list_any}
 use Rattle.std.proofs.lemmas.Bool.{cases_Bool, true≢false}
@@ -24,8 +24,9 @@ use Rattle.ttx_page.specs.Differing.{columns_differing, row_differing}
 use Rattle.ttx_page.specs.Noise.{IsOddRow, IsSameRow}
 use Rattle.ttx_page.proofs.NoiseSteps.{row_from_test}
 use Rattle.ttx_page.proofs.SpanLists.{find_none}
+use Rattle.ttx_page.proofs.SpanPush.{span-push}
 use Rattle.ttx_page.specs.PacketKind.{ends_page, is_row, is_some_row, is_this_page, kind}
-use Rattle.ttx_page.specs.Span.{after_last_header, before_end, holds_header, is_open_after, span}
+use Rattle.ttx_page.specs.Span.{is_open_after, span}
 use Rattle.ttx_page.specs.declared.packet_kind.PacketKind.{PacketKind}
 use Rattle.ttx_page.specs.declared.packet_kind.PacketKind.TheVariants.{Row, ThisPage}
 use Rattle.stl_rows.specs.declared.national.National.{National}
@@ -225,64 +226,37 @@ module _ (w : Watched) (packets : List (List ℕ)) (s : IsSoundSpan w packets) (
 
 -- ---- packets that keep all rules
 
--- What holds of each packet holds of each packet of the span.
-module _ {A : Type 0} (kind_of : A → PacketKind) (P : A → Type 0) where
-  Each-before_end : (xs : List A) → AllByRecursion P xs → AllByRecursion P (before_end kind_of xs)
-  Each-before_end [] h = tt
-  Each-before_end (x ∷ xs) h = go (ends_page (kind_of x)) (Each-before_end xs h.1)
-    where
-      go : (b : Bool) → AllByRecursion P (before_end kind_of xs)
-          → AllByRecursion P (if b then [] else x ∷ before_end kind_of xs)
-      go true ih = tt
-      go false ih = (h.0, ih)
+-- What holds of each packet of the span, and of one more.
+Each-span_push : (page : PageIdValue) (P : List ℕ → Type 0) (xs : List (List ℕ)) (x : List ℕ)
+    → AllByRecursion P (span (kind page) xs) → P x
+    → AllByRecursion P (span (kind page) (xs ++ x ∷ []))
+Each-span_push page P xs x h holds =
+    subst (AllByRecursion P) (sym (span-push (kind page) xs x))
+    (go (is_this_page (kind page x))
+    (is_open_after (kind page) xs && not (ends_page (kind page x))))
+  where
+    go : (this more : Bool)
+        → AllByRecursion P
+        (cond this [] (cond more (span (kind page) xs ++ x ∷ []) (span (kind page) xs)))
+    go true more = tt
+    go false true = Each-push P (span (kind page) xs) x h holds
+    go false false = h
 
-  Each-after : (xs : List A) → AllByRecursion P xs → AllByRecursion P (after_last_header kind_of xs)
-  Each-after [] h = tt
-  Each-after (x ∷ xs) h =
-      go (holds_header kind_of xs) (is_this_page (kind_of x)) (Each-after xs h.1)
-    where
-      go : (b c : Bool) → AllByRecursion P (after_last_header kind_of xs)
-          → AllByRecursion P
-          (if b then after_last_header kind_of xs else (if c then xs else []))
-      go true c ih = ih
-      go false true ih = h.1
-      go false false ih = tt
-
-  pub Each-span : (xs : List A) → AllByRecursion P xs → AllByRecursion P (span kind_of xs)
-  Each-span xs h = Each-before_end (after_last_header kind_of xs) (Each-after xs h)
-
--- What is kept of the first packets of a list that keep all rules: the span is clean, and each
--- packet is whole, with an exact address.
-abbrev IsSoundList : Watched → List (List ℕ) → Type 0
-IsSoundList w xs =
-    IsCleanSpan w.page (span (kind w.page) xs)
-    × AllByRecursion (λ q. IsPacket q × HasExactAddress q) xs
-
-sound_list : (w : Watched) (packets : List (List ℕ)) → AreClean w packets → (n : ℕ)
-    → n ≤ length packets → IsSoundList w (take n packets)
-sound_list w packets clean zero l = (clean_nil w.page, tt)
-sound_list w packets clean (suc n) l =
+-- The span of the first of them is sound.
+sound_span : (w : Watched) (packets : List (List ℕ)) → AreClean w packets → (n : ℕ)
+    → n ≤ length packets → IsSoundSpan w (span (kind w.page) (take n packets))
+sound_span w packets clean zero l = record { clean = clean_nil w.page; whole = tt }
+sound_span w packets clean (suc n) l =
     let next : n + 1 ≡ suc n = omega arith in
-    let (fair, each) = sound_list w packets clean n (omega arith) in
+    let sound = sound_span w packets clean n (omega arith) in
     let (whole, keeps) = clean n (omega arith) in
-    subst (λ k. IsSoundList w (take k packets)) next
-    (subst (IsSoundList w) (sym (take_more packets n [] (omega arith))) (
-      fair_step w (take n packets) (get_or packets n []) keeps fair,
-      Each-push (λ q. IsPacket q × HasExactAddress q) (take n packets) (get_or packets n []) each
-          (whole, keeps rule.Address),
-    ))
-
--- So their span is sound.
-sound_span : (w : Watched) (packets : List (List ℕ)) → AreClean w packets
-    → IsSoundSpan w (span (kind w.page) packets)
-sound_span w packets clean =
-    let (fair, each) =
-    subst (IsSoundList w) (take_all (length packets) packets (omega arith))
-    (sound_list w packets clean (length packets) (omega arith)) in
-    record {
-      clean = fair;
-      whole = Each-span (kind w.page) (λ q. IsPacket q × HasExactAddress q) packets each;
-    }
+    subst (λ k. IsSoundSpan w (span (kind w.page) (take k packets))) next
+    (subst (λ xs. IsSoundSpan w (span (kind w.page) xs))
+    (sym (take_more packets n [] (omega arith))) (record {
+      clean = fair_step w (take n packets) (get_or packets n []) keeps sound.clean;
+      whole = Each-span_push w.page _ (take n packets) (get_or packets n []) sound.whole
+          (whole, keeps rule.Address);
+    }))
 
 -- ---- a packet that is sent after these
 
@@ -298,15 +272,11 @@ module _ (w : Watched) (before : List (List ℕ)) (p : List ℕ) where
       ((row : ℕ) → k ≡ Row row
       → AllByRecursion (λ q. kind w.page q ≡ Row row → q ≡ p) (span (kind w.page) before))
   same_row k e is is_open =
-      grind (
-        arith,
-        nat_tests,
-        row_decided,
-        sound_span w before is.clean,
-        is.whole,
-        is.exact,
-        is.odd is_open,
-      )
+      let sound =
+      subst (λ xs. IsSoundSpan w (span (kind w.page) xs))
+      (take_all (length before) before (omega arith))
+      (sound_span w before is.clean (length before) (omega arith)) in
+      grind (arith, nat_tests, row_decided, sound, is.whole, is.exact, is.odd is_open)
 
   -- Each rule.
   pub rule_decided : (r : PacketRule) → (r ≡ rule.RowChanged → IsComparable w before p)

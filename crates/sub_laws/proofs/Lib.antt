@@ -1,7 +1,6 @@
 pub mod AllKept
 pub mod BrokenRuleLemmas
 pub mod CleanStretchLemmas
-pub mod CompleteLemmas
 pub mod ContentLemmas
 pub mod EventLemmas
 pub mod FrameByFrame

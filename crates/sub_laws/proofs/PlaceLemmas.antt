@@ -30,11 +30,10 @@ use Rattle.sub_rules.specs.Good.{Good, HoldsHeader, IsCleanSpan, IsControlled, I
 use Rattle.sub_rules.specs.Good.{IsInOneMode}
 use Rattle.sub_laws.specs.OnScreen.{Complete}
 use Rattle.sub_laws.specs.StepByStep.{IsNeverLate, MayFollow}
-use Rattle.sub_rules.specs.FrameRules.{HasHeader, IsCovered, ShowsDue, Unread, end_frame, frame_at}
+use Rattle.sub_rules.specs.FrameRules.{HasHeader, IsCovered, Unread, end_frame, frame_at}
 use Rattle.sub_rules.specs.FrameRules.{packets_before, packets_of_frame, task_of, watched_of}
 use Rattle.sub_laws.specs.CleanStretch.{IsEnd}
 use Rattle.sub_laws.proofs.FrameByFrame.{AllOk, FrameOk, IsQuiet}
-use Rattle.sub_laws.proofs.CompleteLemmas.{complete_from, ended_at}
 use Rattle.sub_laws.proofs.GoodLemmas.{any_sent, each_packet, number_at, rises_each, sent_any}
 use Rattle.sub_laws.proofs.GoodLemmas.{whole}
 use Rattle.ttx_page.proofs.SpanPush.{span-push}
@@ -252,8 +251,11 @@ module _ (programme : ProgrammeValue) (options : OptionsValue) (unread : Option 
 
   -- Its pages are complete, where that is asked for.
   pub Complete-from_holds : IsTrue options.asks_complete → Complete t options
-  Complete-from_holds asks =
-      complete_from options t rising some (λ i l. (h.each i l).end.ended asks)
+  Complete-from_holds asks f low high holds =
+      let (n, end, on, from) =
+      end_at t rising f some (omega (arith, first-same t)) (omega (arith, last-same t)) in
+      let shut = (quiet_at n f end).ended asks in
+      grind arith
 
 -- ---- the law, the other way
 
@@ -345,28 +347,24 @@ module _ (programme : ProgrammeValue) (options : OptionsValue) (t : Transmission
           ]
     ]
 
-    -- After n frames the due page is shown.
-    shows_of : (n f row column : ℕ) → 0 < n → n ≤ length t → frame_at t (n - 1) ≤ f
-        → (n < length t → f < frame_at t n) → f ≤ end_frame t → IsCell row column
-        → ShowsDue (task_of programme options None) t n f row column
-    shows_of n f row column some le low high last is =
-        let first = rises_to t rises 0 (n - 1) (omega arith) (omega arith) in
-        sym (ap (λ xs. shown options.page xs row column)
-        (on_air_is t rises n f le (λ s. low) high))
-        ∙ good.content f row column (omega (arith, first-same t)) (omega (arith, last-same t)) is
-
     -- What is asked at an end.
     quiet_of : (n f : ℕ) → 0 < n → n ≤ length t → frame_at t (n - 1) ≤ f
         → (n < length t → f < frame_at t n) → f ≤ end_frame t
-        → (IsTrue options.asks_complete
-        → is_open_after (kind options.page) (packets_before t n) ≡ false)
         → IsQuiet (task_of programme options None) t n f
-    quiet_of n f some le low high last ended = record {
-      shows = λ row column is. shows_of n f row column some le low high last is;
-      covered = covered_at n f last
-          (λ j a b. let r = rises_to t rises n j a b in let s = high (omega arith) in omega arith);
-      ended = ended;
-    }
+    quiet_of n f some le low high last =
+        let first = rises_to t rises 0 (n - 1) (omega arith) (omega arith) in
+        let from : first_frame t ≤ f = omega (arith, first-same t) in
+        let to : f ≤ last_frame t = omega (arith, last-same t) in
+        let on = on_air_is t rises n f le (λ s. low) high in
+        record {
+          shows = λ row column is.
+              sym (ap (λ xs. shown options.page xs row column) on)
+              ∙ good.content f row column from to is;
+          covered = covered_at n f last
+              (λ j a b.
+              let r = rises_to t rises n j a b in let s = high (omega arith) in omega arith);
+          ended = λ asks. let shut = complete asks f from to in grind arith;
+        }
 
     -- Where the transmission is good, all that is asked of each frame holds.
     frame_of : (i : ℕ) → i < length t → FrameOk (task_of programme options None) t i
@@ -377,20 +375,14 @@ module _ (programme : ProgrammeValue) (options : OptionsValue) (t : Transmission
       };
       gap = λ f gap.
           let last = last_at_least i l in
-          let one : i - 1 + 1 ≡ i = omega (arith, gap.0) in
-          let shut :
-          IsTrue options.asks_complete
-          → is_open_after (kind options.page) (packets_before t (i - 1 + 1)) ≡ false =
-          λ asks. ended_at options t rises (complete asks) (i - 1) (omega (arith, gap.0)) in
           quiet_of i f gap.0 (omega arith) (omega (arith, gap.2)) (λ m. gap.3)
-          (omega (arith, gap.3)) (rw one at shut);
+          (omega (arith, gap.3));
       packets = λ k m. free_at i k l m;
       header = λ z. starts;
       end =
           let back : frame_at t (i + 1 - 1) ≡ frame_at t i = ap (frame_at t) (omega arith) in
           quiet_of (i + 1) (frame_at t i) (omega arith) (omega arith) (omega arith)
-          (λ m. rises_strictly t rises i (i + 1) (omega arith) m) (last_at_least i l)
-          (λ asks. ended_at options t rises (complete asks) i l);
+          (λ m. rises_strictly t rises i (i + 1) (omega arith) m) (last_at_least i l);
     }
 
     pub holds-from_good : AllOk (task_of programme options None) t
