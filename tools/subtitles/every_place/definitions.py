@@ -9,9 +9,9 @@ from typing import Iterator, NamedTuple, Sequence
 
 from ..teletext import CODE_WORDS, Page, address_of, is_odd
 from ..times import frame_at, time_of
-from .reading import (
-    Header, Listed, Record, StlFault, found_in, header_of, pes_packets_of, records_of)
+from .reading import Header, Record, StlFault, found_in, header_of, pes_packets_of, records_of
 from .rows import BLANK, COLUMNS, TextFault, drawn
+from .trust import Course, Event, Sent, lines_of
 
 NAMES = dict(
     (int(words[0]), words[1]) for words in map(str.split, """
@@ -203,17 +203,18 @@ class Ends:
             found[77] = NO_CELL
         return found
 
-    def at(self, frame: int, packets: Sequence[Packet], headers: list[int]) -> Iterator[str]:
-        """The lines of an end."""
+    def at(self, frame: int, packets: Sequence[Packet],
+           headers: list[int]) -> Iterator[tuple[int, str]]:
+        """The numbers and the lines of an end."""
         found = self.stands(frame, packets, headers)
         for number in (72, 73, 77):
             now, before = found.get(number), self.standing.get(number)
             if now == before:
                 continue
             if before is not None:
-                yield ended(number, self.frame)
+                yield number, ended(number, self.frame)
             if now is not None:
-                yield refused(number, self.place(number, frame, now))
+                yield number, refused(number, self.place(number, frame, now))
         self.standing, self.frame = found, frame
 
     @staticmethod
@@ -222,59 +223,88 @@ class Ends:
         return f"{words} row {cell // COLUMNS + 1} column {cell % COLUMNS}" if number == 72 \
             else words
 
-    def after_the_last(self) -> Iterator[str]:
-        """The lines for what still stands after the last end."""
+    def after_the_last(self) -> Iterator[tuple[int, str]]:
+        """The numbers and the lines of what still stands after the last end."""
         for number in sorted(self.standing):
-            yield ended(number, self.frame)
+            yield number, ended(number, self.frame)
 
 
-def pes_events(due: Due, data: bytes, options: Options) -> Iterator[str]:
-    """The lines for everything that is broken in a transmission."""
-    listed, broken = pes_packets_of(data)
-    ends, begin = Ends(due, options), due.first()
-    frames: list[int] = []
-    sent: list[Packet] = []
-    headers: list[int] = []
-    for index, (pts, teletext) in enumerate(listed):
-        frame = frame_at(pts, options.origin)
-        if frame is None:
-            break
-        if not frames:
-            ends.first = frame
+class Transmission:
+    """The PES packets that were read, one after another, and what is told of them."""
+
+    def __init__(self, due: Due, options: Options) -> None:
+        self.due, self.options = due, options
+        self.course, self.ends = Course(), Ends(due, options)
+        self.frames: list[int] = []
+        self.packets: list[Packet] = []
+        self.headers: list[int] = []  # the frames with a header of the page
+
+    def tell(self, number: int, place: str, pes: int | None) -> None:
+        self.course.events.append(Event(refused(number, place), number, pes))
+
+    def take(self, pes: int, frame: int, teletext: list[bytes]) -> None:
+        """The next PES packet."""
+        begin = self.due.first()
+        if not self.frames:
+            self.ends.first = frame
             if begin is not None and begin < frame:
-                yield refused(63, f"frame {time_of(frame)}")
+                self.tell(63, f"frame {time_of(frame)}", pes)
         else:
-            if frame <= frames[-1]:
-                yield refused(62, f"pes {index}")
-            for between in range(max(frames) + 1, frame):
-                yield from ends.at(between, sent, headers)
-        frames.append(frame)
+            if frame <= self.frames[-1]:
+                self.tell(62, f"pes {pes}", pes)
+            for between in range(max(self.frames) + 1, frame):
+                self.end(pes, between)
+        has_header = self.take_packets(pes, frame, teletext)
+        if not self.frames and not has_header:
+            self.tell(71, f"frame {time_of(frame)}", pes)
+        self.frames.append(frame)
+        self.course.sent.append(Sent(pes, frame, has_header))
+        self.end(pes, frame)
+
+    def take_packets(self, pes: int, frame: int, teletext: list[bytes]) -> bool:
+        """Its Teletext packets; answers whether one of them is a header of the page."""
+        page, count = self.options.page, len(self.headers)
         for number, one in enumerate(teletext):
             packet = Packet(one, address_of(one), header_of(one))
-            for fault in packet_faults(packet, sent, options):
-                yield refused(fault, f"frame {time_of(frame)} packet {number}")
-            sent.append(packet)
-            if packet.header and packet.header[0] == options.page:
-                headers.append(frame)
-        if index == 0 and not headers:
-            yield refused(71, f"frame {time_of(frame)}")
-        yield from ends.at(frame, sent, headers)
-    yield from ends.after_the_last()
-    yield from end_of_list(due, frames, listed, broken)
+            for fault in packet_faults(packet, self.packets, self.options):
+                self.tell(fault, f"frame {time_of(frame)} packet {number}", pes)
+            self.packets.append(packet)
+            if page_of(packet) == page:
+                self.headers.append(frame)
+        return len(self.headers) > count
+
+    def end(self, pes: int, frame: int) -> None:
+        """The end of a frame, which comes before a PES packet or with it."""
+        for number, line in self.ends.at(frame, self.packets, self.headers):
+            self.course.events.append(Event(line, number, pes, frame))
+        if self.ends.standing:
+            self.course.standing.append((pes, frame))
+
+    def close(self, broken: int | None, pes: int) -> Course:
+        """The end of the list, at what ended reading, if anything did."""
+        for number, line in self.ends.after_the_last():
+            self.course.events.append(Event(line, number, None))
+        end = self.due.last()
+        if broken is not None:
+            self.course.is_left = True
+            self.tell(broken, f"pes {pes}", None)
+        elif not self.frames:
+            self.tell(60, "", None)
+        elif end is not None and end > self.frames[-1]:
+            self.tell(74, f"frame {time_of(self.frames[-1])}", None)
+        return self.course
 
 
-def end_of_list(due: Due, frames: list[int], listed: list[Listed],
-                broken: int | None) -> Iterator[str]:
-    """The line for what ended reading; else that for an empty or an early end."""
-    end = due.last()
-    if len(frames) < len(listed):
-        yield refused(61, f"pes {len(frames)}")
-    elif broken:
-        yield refused(broken, f"pes {len(listed)}")
-    elif not frames:
-        yield refused(60)
-    elif end is not None and end > frames[-1]:
-        yield refused(74, f"frame {time_of(frames[-1])}")
+def course_of(due: Due, data: bytes, options: Options) -> Course:
+    """What is told of a transmission, and what was read of it."""
+    listed, broken = pes_packets_of(data)
+    transmission = Transmission(due, options)
+    for pes, (pts, teletext) in enumerate(listed):
+        frame = frame_at(pts, options.origin)
+        if frame is None:
+            return transmission.close(61, pes)
+        transmission.take(pes, frame, teletext)
+    return transmission.close(broken, len(listed))
 
 
 def transmissions(data: bytes, options: Options) -> tuple[int, int]:
@@ -295,7 +325,7 @@ def check_all(stl: bytes, pes: bytes, options: Options) -> Iterator[str]:
         yield line
     if not count:
         due = Due(records_of(stl), options.option)
-        for line in pes_events(due, pes, options):
+        for line in lines_of(course_of(due, pes, options)):
             count += line.startswith("refused")
             yield line
     if count:

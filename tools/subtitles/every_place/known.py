@@ -32,6 +32,7 @@ def poked(data: bytes, changes: dict[int, int]) -> bytes:
 
 # One subtitle from 10:00:00:00 to 10:00:02:00, sent at these two frames.
 HELLO, SENT = example("hello.stl"), example("hello.pes")
+SENT_25 = example("hello-25.pes")  # also at the frame between them
 EVEN_H = {117: 0x12}  # the row's H with even parity
 NO_ERASE = {55: 0xA8}  # C4 clear in the first header
 NO_END = {138: 0xFF}  # the first closing header a stuffing unit
@@ -74,11 +75,20 @@ def refused_between() -> bytes:
 OF_FIVE = ["refused 57 Overlap block 2", "refused 50 Character block 2 at 3",
            "refused 50 Character block 3 at 3", "refused 56 OutOfOrder block 5"]
 
+def trusted(first: str, last: str) -> str:
+    """The line of frames between 10:00:00:00 and 10:00:02:00, without hours and minutes."""
+    return f"trusted frames 10:00:{first} 10:00:{last}"
+
+
+LAST = trusted("02:00", "02:00")
+
 KNOWN = [
     Known("accepted", HELLO, SENT, "", ["accepted 51 frames 2 transmissions"]),
     Known("a gap", HELLO, SENT, "--every 25",
-          ["refused 73 Gap frame 10:00:01:00", "ended 73 Gap frame 10:00:01:24", "1 faults"]),
-    Known("the file twice", HELLO, SENT + SENT, "", ["refused 62 Order pes 2", "1 faults"]),
+          [trusted("00:00", "00:24"), "refused 73 Gap frame 10:00:01:00",
+           "ended 73 Gap frame 10:00:01:24", LAST, "1 faults"]),
+    Known("the file twice", HELLO, SENT + SENT, "",
+          [trusted("00:00", "01:24"), "refused 62 Order pes 2", "1 faults"]),
     Known("another page", HELLO, SENT, "--page 100",
           ["refused 71 NoFirstHeader frame 10:00:00:00",
            "refused 72 Content frame 10:00:00:00 row 22 column 16",
@@ -89,9 +99,9 @@ KNOWN = [
            "refused 72 Content frame 10:00:01:24 row 22 column 16",
            "ended 72 Content frame 10:00:01:24", "refused 74 Late frame 10:00:01:24", "3 faults"]),
     Known("a frame late", HELLO, SENT, "--origin 8589930992",
-          ["refused 63 Early frame 10:00:00:01",
+          ["refused 63 Early frame 10:00:00:01", trusted("00:01", "01:24"),
            "refused 72 Content frame 10:00:02:00 row 22 column 16",
-           "ended 72 Content frame 10:00:02:00", "2 faults"]),
+           "ended 72 Content frame 10:00:02:00", trusted("02:01", "02:01"), "2 faults"]),
     Known("no frame", HELLO, SENT, "--origin 1", ["refused 61 OffFrame pes 0", "1 faults"]),
     Known("no PES packet", HELLO, b"", "", ["refused 60 Empty", "1 faults"]),
     Known("no erase, an even byte, cut", HELLO, poked(SENT, {**EVEN_H, **NO_ERASE})[:-1], "",
@@ -99,13 +109,20 @@ KNOWN = [
            "refused 68 Parity frame 10:00:00:00 packet 1", "refused 30 Truncated pes 1",
            "3 faults"]),
     Known("an even byte", HELLO, poked(SENT, EVEN_H), "",
-          ["refused 68 Parity frame 10:00:00:00 packet 1", "1 faults"]),
+          ["refused 68 Parity frame 10:00:00:00 packet 1", LAST, "1 faults"]),
     Known("another letter", HELLO, poked(SENT, {117: 0x16}), "",
           ["refused 72 Content frame 10:00:00:00 row 22 column 19",
-           "ended 72 Content frame 10:00:01:24", "1 faults"]),
+           "ended 72 Content frame 10:00:01:24", LAST, "1 faults"]),
+    Known("less its last byte", HELLO, SENT[:-1], "", ["refused 30 Truncated pes 1", "1 faults"]),
+    Known("its first PES packet", HELLO, SENT[:184], "",
+          [trusted("00:00", "00:00"), "refused 74 Late frame 10:00:00:00", "1 faults"]),
+    Known("three sendings less their last byte", HELLO, SENT_25[:-1], "",
+          [trusted("00:00", "00:24"), "refused 30 Truncated pes 2", "1 faults"]),
     Known("no end of the page", HELLO, poked(SENT, NO_END), "--complete",
           ["refused 77 Incomplete frame 10:00:00:00", "ended 77 Incomplete frame 10:00:01:24",
-           "1 faults"]),
+           LAST, "1 faults"]),
+    Known("no end of the page, not asked for", HELLO, poked(SENT, NO_END), "",
+          ["accepted 51 frames 2 transmissions"]),
     Known("five subtitles", five_subtitles(), SENT, "", [*OF_FIVE, "4 faults"]),
     Known("five subtitles and a part of a block", five_subtitles() + b"\0" * 127, SENT, "",
           [*OF_FIVE, "refused 10 Truncated block 6", "5 faults"]),

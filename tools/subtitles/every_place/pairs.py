@@ -186,7 +186,7 @@ def random_packet(chance: Random) -> bytes:
     """A header, a row, or a packet of enhancement."""
     if chance.random() < 0.4:
         return random_header(chance)
-    number = chance.choice([1, 22, 23, 24, 25, 26, 28, 29, 30])
+    number = chance.choice([1, 22, 23, 24, 25, 26, 27, 28, 29, 30])
     return teletext_packet(chance.choice([0, 0, 0, 2]), number, [], chance.choices(LETTERS, k=40))
 
 
@@ -206,6 +206,13 @@ def change_code(chance: Random, packet: bytearray) -> None:
 
 def change_byte(chance: Random, packet: bytearray) -> None:
     packet[chance.randrange(len(packet))] = chance.randrange(256)
+
+
+def change_field(chance: Random, packet: bytearray) -> None:
+    """Another bit in a field: flags, header length, PTS, data_identifier, or those of a unit."""
+    unit = chance.choice(units_in(packet))
+    at = chance.choice([6, 7, 8, 9, DATA - 1, unit, unit + 1, unit + 2, unit + 3])
+    packet[at] ^= 1 << chance.randrange(8)
 
 
 def drop_unit(chance: Random, packet: bytearray) -> None:
@@ -228,6 +235,14 @@ def add_unit(chance: Random, packet: bytearray) -> None:
     packet[:] = pes_packet(pts_in(packet), teletext)
 
 
+def add_enhancement(chance: Random, packet: bytearray) -> None:
+    """One more packet X/25 to X/28 of magazine 8, at the second place."""
+    teletext = teletext_in(packet)
+    if len(teletext) < MOST_LINES:
+        made = teletext_packet(0, chance.randrange(25, 29), [], b" " * 40)
+        packet[:] = pes_packet(pts_in(packet), [*teletext[:1], made, *teletext[1:]])
+
+
 def swap_units(chance: Random, packet: bytearray) -> None:
     """Two packets change places: a row before its header, or rows after the closing header."""
     one, other = (chance.choice(units_in(packet)) + PACKET for _ in range(2))
@@ -244,7 +259,7 @@ def move_frame(chance: Random, packet: bytearray) -> None:
 
 WITHIN: list[Change] = [
     change_bit, change_bit, change_code, change_code, change_code, drop_unit, add_unit, add_unit,
-    swap_units, move_frame, change_byte]
+    add_enhancement, swap_units, move_frame, change_byte, change_field]
 
 
 def change_order(chance: Random, packets: list[bytearray]) -> None:
@@ -264,13 +279,14 @@ def change_order(chance: Random, packets: list[bytearray]) -> None:
 
 
 def change_some(chance: Random, packets: list[bytearray]) -> None:
-    """One PES packet is changed, or some after each other in the same way."""
-    way, seed = chance.choice(WITHIN), chance.random()
+    """One PES packet is changed, or some after each other in the same ways."""
+    ways = [(chance.choice(WITHIN), chance.random()) for _ in range(chance.choice([1, 1, 1, 2, 3]))]
     first = chance.randrange(len(packets))
     count = chance.choice([1, 1, 1, 2, 3, len(packets)])
     for packet in packets[first:first + count]:
-        if units_in(packet):
-            way(Random(seed), packet)
+        for way, seed in ways:
+            if units_in(packet):
+                way(Random(seed), packet)
 
 
 def break_pes(chance: Random, data: bytes) -> bytes:
