@@ -1,4 +1,5 @@
-//! `check --all`: all that is told of a transmission, one line after another.
+//! `check --all`: all that is told of a transmission, one line after another, and which frames may
+//! be trusted beside it.
 ghost use Rattle.std.specs.Prelude.{◌≡◌, length};
 
 use crate::answers::{ACCEPTED, CHECK, assert_all, assert_all_parts, assert_tells};
@@ -10,9 +11,9 @@ use std::alloc::Global;
 use std::process::Abort;
 use sub_io::MemSink;
 
-// Asserts what is printed of the subtitle file of `Hi` and these bytes, with these options of a
-// check.
-fn assert_told<'x>(
+/// Asserts what is printed of the subtitle file of `Hi` and these bytes, with these options of a
+/// check.
+pub fn assert_told<'x>(
     rt: &(impl Abort + Alloc<A = Global>),
     pes: &[u8],
     options: &[&'x str],
@@ -37,8 +38,10 @@ fn tells_all_of_a_schedule_by_other_bounds_and_pages(rt: HostRuntime) {
     assert_told_of_hi(&rt, &[], ACCEPTED);
     assert_told_of_hi(&rt, &["--complete"], ACCEPTED);
     assert_told_of_hi(&rt, &["--every", "25"],
-        "refused 73 Gap frame 10:00:01:00\n\
+        "trusted frames 10:00:00:00 10:00:00:24\n\
+        refused 73 Gap frame 10:00:01:00\n\
         ended 73 Gap frame 10:00:01:24\n\
+        trusted frames 10:00:02:00 10:00:02:00\n\
         1 faults\n");
     assert_told_of_hi(&rt, &["--page", "100"],
         "refused 71 NoFirstHeader frame 10:00:00:00\n\
@@ -63,8 +66,10 @@ fn tells_all_of_a_schedule_by_other_origins(rt: HostRuntime) {
         3 faults\n");
     assert_told_of_hi(&rt, &["--origin", "8589930992"],
         "refused 63 Early frame 10:00:00:01\n\
+        trusted frames 10:00:00:01 10:00:01:24\n\
         refused 72 Content frame 10:00:02:00 row 22 column 16\n\
         ended 72 Content frame 10:00:02:00\n\
+        trusted frames 10:00:02:01 10:00:02:01\n\
         2 faults\n");
     assert_told_of_hi(&rt, &["--origin", "1"], "refused 61 OffFrame pes 0\n1 faults\n");
 }
@@ -93,7 +98,8 @@ const EVEN_LINE: &str = "refused 68 Parity frame 10:00:00:00 packet 1\n";
 #[test]
 fn tells_all_of_a_schedule_with_an_even_byte(rt: HostRuntime) {
     let even = changed(&rt, EVEN, EVEN);
-    assert_all_parts(&rt, &CHECK, &file_of_hi(), &even, EVEN_LINE, "1 faults\n");
+    let end = "trusted frames 10:00:02:00 10:00:02:00\n1 faults\n";
+    assert_all_parts(&rt, &CHECK, &file_of_hi(), &even, EVEN_LINE, end);
     // The header after it is two seconds later: up to there the letter may be missing.
     let listen = ["subttx", "listen", "a", "--at", "10:00:01:24"];
     let shown = "heard yes\nopen no\nrow 22 |                ... i..                 |\n";
@@ -132,11 +138,13 @@ fn tells_all_of_a_schedule_with_bytes_changed(rt: HostRuntime) {
     assert_told(&rt, &changed(&rt, OTHER, OTHER), &[],
         "refused 72 Content frame 10:00:00:00 row 22 column 19\n\
         ended 72 Content frame 10:00:01:24\n\
+        trusted frames 10:00:02:00 10:00:02:00\n\
         1 faults\n");
     // The first closing header becomes a stuffing unit.
     assert_told(&rt, &changed(&rt, (138, 0xFF), (138, 0xFF)), &["--complete"],
         "refused 77 Incomplete frame 10:00:00:00\n\
         ended 77 Incomplete frame 10:00:01:24\n\
+        trusted frames 10:00:02:00 10:00:02:00\n\
         1 faults\n");
 }
 
@@ -146,7 +154,7 @@ fn tells_that_frames_do_not_rise_and_that_there_is_none(rt: HostRuntime) {
         &rt,
         &schedule_twice(),
         &[],
-        "refused 62 Order pes 2\n1 faults\n",
+        "trusted frames 10:00:00:00 10:00:01:24\nrefused 62 Order pes 2\n1 faults\n",
     );
     assert_told(&rt, &[], &[], "refused 60 Empty\n1 faults\n");
 }
@@ -262,7 +270,8 @@ fn goes_on_after_frames_that_do_not_rise(rt: HostRuntime) {
     push_pes(&mut pes, TEN + 24, &[HEADER, ROW, CLOSING]);
     push_pes(&mut pes, TEN + 10, &[CLOSING]);
     push_pes(&mut pes, TEN + 50, &[HEADER, CLOSING]);
-    let lines = "refused 73 Gap frame 10:00:00:20\n\
+    let lines = "trusted frames 10:00:00:00 10:00:00:19\n\
+        refused 73 Gap frame 10:00:00:20\n\
         ended 73 Gap frame 10:00:00:23\n\
         refused 62 Order pes 2\n\
         refused 73 Gap frame 10:00:01:19\n\

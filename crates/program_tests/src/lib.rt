@@ -40,6 +40,8 @@ mod show;
 #[cfg(test)]
 mod stopped;
 #[cfg(test)]
+mod trusted;
+#[cfg(test)]
 mod values;
 #[cfg(test)]
 mod words;

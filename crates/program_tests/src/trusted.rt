@@ -1,0 +1,103 @@
+//! `check --all`: frames that may be trusted beside what is broken, told where it is known.
+use crate::answers::{CHECK_ALL, assert_fills, assert_prints};
+use crate::every_place::assert_told;
+use fixtures::{
+    CLOSING, HEADER, ROW, TEN, every_second, file_of_hi, packet_of, push_pes, schedule_of_hi,
+};
+use std::alloc::Global;
+use std::process::Abort;
+use sub_io::{FailAt, MemSink, MemSource};
+
+// The words of a check by a bound of a second.
+const EVERY_25: [&str; 7] = ["subttx", "check", "--all", "a", "b", "--every", "25"];
+
+// What is told of the schedule of `Hi` then: at its second PES packet, and of all.
+const AT_BOTH: &str = "trusted frames 10:00:00:00 10:00:00:24\n\
+    refused 73 Gap frame 10:00:01:00\n\
+    ended 73 Gap frame 10:00:01:24\n";
+
+const ALL: &str = "trusted frames 10:00:00:00 10:00:00:24\n\
+    refused 73 Gap frame 10:00:01:00\n\
+    ended 73 Gap frame 10:00:01:24\n\
+    trusted frames 10:00:02:00 10:00:02:00\n\
+    1 faults\n";
+
+// Asserts what is told of the first bytes of a transmission.
+fn assert_told_cut(rt: &(impl Abort + Alloc<A = Global>), pes: &[u8], len: usize, lines: &str) {
+    assert!(rt; len <= pes.len());
+    assert_told(rt, &pes[..len], &[], lines);
+}
+
+// What is cut off may have been sent in the last frame that was read; where a file ends, nothing
+// is.
+#[rattlefmt::skip]
+#[test]
+fn doubts_the_last_frame_where_bytes_are_left(rt: HostRuntime) {
+    let cut = "refused 30 Truncated pes 1\n1 faults\n";
+    assert_told_cut(&rt, &schedule_of_hi(), 367, cut);
+    assert_told_cut(&rt, &schedule_of_hi(), 184,
+        "trusted frames 10:00:00:00 10:00:00:00\n\
+        refused 74 Late frame 10:00:00:00\n\
+        1 faults\n");
+    assert_told_cut(&rt, &every_second(), 551,
+        "trusted frames 10:00:00:00 10:00:00:24\n\
+        refused 30 Truncated pes 2\n\
+        1 faults\n");
+}
+
+// An even byte in the first row: the first header after it is a second later.
+#[rattlefmt::skip]
+#[test]
+fn trusts_from_the_first_header_on(rt: HostRuntime) {
+    let mut pes = every_second();
+    pes[117] = 0x12;
+    assert_told(&rt, &pes, &[],
+        "refused 68 Parity frame 10:00:00:00 packet 1\n\
+        trusted frames 10:00:01:00 10:00:02:00\n\
+        1 faults\n");
+}
+
+// In the second PES packet a packet 26 comes before a row with an even byte: the frames before are
+// trusted up to the row, on which receivers depend.
+#[rattlefmt::skip]
+#[test]
+fn tells_what_is_trusted_directly_before_what_ended_it(rt: HostRuntime) {
+    let mut row = ROW;
+    row[21] = 0x48;
+    let enhancement = packet_of(&[0x15, 0xB6]);
+    let mut room = [0; 736];
+    let mut pes = MemSink::new(&mut room);
+    push_pes(&mut pes, TEN, &[HEADER, ROW, CLOSING]);
+    push_pes(&mut pes, TEN + 25, &[HEADER, enhancement, row, CLOSING]);
+    push_pes(&mut pes, TEN + 50, &[HEADER, CLOSING]);
+    assert_told(&rt, pes.written(), &[],
+        "refused 70 Enhancement frame 10:00:01:00 packet 1\n\
+        trusted frames 10:00:00:00 10:00:00:24\n\
+        refused 68 Parity frame 10:00:01:00 packet 2\n\
+        trusted frames 10:00:02:00 10:00:02:00\n\
+        2 faults\n");
+}
+
+// Asserts what is told, with the words given, of the schedule of `Hi` where its source fails at a
+// call. A call gives a PES packet.
+fn assert_fails<'a>(
+    rt: &(impl Abort + Alloc<A = Global>),
+    words: &'a [&'a str],
+    call: u64,
+    lines: &str,
+    last: &[u8],
+) {
+    let (stl, pes) = (file_of_hi(), schedule_of_hi());
+    let mut stl = MemSource::new(&stl);
+    let mut pes = FailAt::new(MemSource::new(&pes), call);
+    assert_prints(rt, words, &mut stl, &mut pes, lines.as_bytes(), last);
+}
+
+#[test]
+fn trusts_nothing_more_once_a_device_failed(rt: HostRuntime) {
+    assert_fails(&rt, &CHECK_ALL, 1, "", b"fault 41 Read pes 1\n");
+    assert_fails(&rt, &EVERY_25, 1, "", b"fault 41 Read pes 1\n");
+    assert_fails(&rt, &EVERY_25, 2, AT_BOTH, b"fault 41 Read pes 2\n");
+    let (stl, pes) = (file_of_hi(), schedule_of_hi());
+    assert_fills(&rt, &EVERY_25, (&stl, &pes), &[], ALL.as_bytes());
+}
