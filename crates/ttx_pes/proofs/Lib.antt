@@ -14,3 +14,4 @@ pub mod SameBytesLemmas
 pub mod TakenPackets
 pub mod PieceLemmas
 pub mod PieceListLemmas
+pub mod SentUnitLemmas

@@ -10,3 +10,4 @@ pub mod Fault
 pub mod Taking
 pub mod Comparing
 pub mod Pieces
+pub mod SentUnits

@@ -7,16 +7,16 @@ ghost use Rattle.ttx_pes.specs.Fault.{is_of_piece, is_read};
 ghost use Rattle.ttx_pes.specs.Pieces.{TakesPiece};
 ghost use Rattle.ttx_pes.specs.declared.comparing_reader.Compared.TheVariants.{Same, Other};
 ghost use Rattle.ttx_pes.specs.declared.progress.Progress.TheVariants.{Reading, AtEnd, Broken};
-ghost use Rattle.ttx_pes.specs.PesPacket.{empty_value};
+ghost use Rattle.ttx_pes.specs.PesPacket.{IsPesValue, empty_value};
 ghost use Rattle.ttx_pes.specs.Reading.{most_packets};
 ghost use Rattle.ttx_pes.specs.Reader.{TellsPacket, given_frame, progress_after};
 
 use crate::fault::PesFault;
 use crate::kept_frame::KeptFrame;
 use crate::packet_bytes::{Room, body_of, take_packet};
-use crate::pes_frame::PesFrame;
 use crate::pes_header::LONGEST_PACKET;
 use crate::progress::Progress;
+use crate::sent_units::SentUnits;
 use std::marker::Model;
 use sub_io::Source;
 
@@ -26,14 +26,15 @@ pub enum Compared {
     /// No byte is left.
     End,
     /// A PES packet with the data field, bytes 45 to the end, of the one given before it: the units
-    /// of the frame are as they were, and the PTS may be another.
+    /// are as they were, and the PTS may be another.
     Same,
     /// A PES packet with another data field, or the first.
     Other,
 }
 
 /// Reads PES packets as `PesReader` does, and compares the data field of each with the one before.
-/// It keeps how far it has come, the bytes of the packet and the frame, which it lends.
+/// It keeps how far it has come, the bytes of the packet, and where its Teletext units stand in
+/// them: it lends the units as they are sent, and turns no byte round.
 ///
 /// A subtitle transmission sends the same page again and again: of a packet with the data field of
 /// the one before the header alone is read.
@@ -112,16 +113,26 @@ impl ComparingReader {
         }
     }
 
-    /// The frame of the PES packet given last: of PTS 0 and with no units before the first packet,
-    /// at the end and after a fault.
-    pub fn frame(&self) -> &PesFrame
-        ensures { result.now ≡ self.now.frame }
+    /// The PTS of the PES packet given last, in ticks of 90 kHz: 0 before the first packet, at the end
+    /// and after a fault.
+    pub fn pts(&self) -> u64
+        ensures { result ≡ self.now.frame.pts }
     {
-        self.kept.frame()
+        self.kept.pts()
+    }
+
+    /// The Teletext units of the PES packet given last, in the bytes that carry them: none before
+    /// the first packet, at the end and after a fault.
+    pub fn units(&self) -> SentUnits<'_>
+        ensures value { result ≡ self.now.frame.units }
+        // What each PES packet holds.
+        ensures frame { IsPesValue self.now.frame }
+    {
+        self.kept.units()
     }
 
     /// Reads the next PES packet, and tells whether its data field is that of the one before
-    /// (EN 300 472, PES data field). `frame` then lends its value.
+    /// (EN 300 472, PES data field). `pts` and `units` then give its value.
     ///
     /// `Same` and `Other` take exactly the packet's bytes, 184 to 1656 of them. `End` at the end of
     /// the source, and again at each later call.

@@ -1,9 +1,10 @@
 //! Data units, read and written (EN 300 472, data unit syntax).
 ghost use Rattle.std.specs.Prelude.{◌≡◌, ◌+◌, ◌*◌, ◌≤◌, ◌++◌, true, length, Ok, Err, OnOk};
-ghost use Rattle.std.specs.Prelude.{IfErr};
+ghost use Rattle.std.specs.Prelude.{IfErr, slice_index};
 ghost use Rattle.ttx_pes.specs.DataUnit.{data_unit_size, teletext_unit, stuffing_unit};
 ghost use Rattle.ttx_pes.specs.PesPacket.{longest_packet, most_units};
-ghost use Rattle.ttx_pes.specs.Reading.{teletext_at, unit_at, units_at, is_format_fault};
+ghost use Rattle.ttx_pes.specs.Reading.{teletext_at, unit_at, unit_of, units_at, is_format_fault};
+ghost use Rattle.ttx_pes.specs.SentUnits.{unit_where};
 
 use crate::fault::PesFault;
 use crate::pes_frame::PesFrame;
@@ -20,11 +21,14 @@ const LENGTH: u8 = 0x2C;
 // The framing code of a Teletext unit.
 const FRAMING: u8 = 0xE4;
 
-// The Teletext unit that a data unit is, if it is one.
+// Whether a data unit is a Teletext unit.
+#[inline(always)]
 #[tactic(auto, unfolding(crate::specs::Reading::teletext_at))]
-fn teletext_of(block: &[u8]) -> Result<Option<Unit>, PesFault>
+pub(crate) fn is_teletext(block: &[u8]) -> Result<bool, PesFault>
     requires { length block.now ≡ data_unit_size }
-    ensures exact { teletext_at block.now ≡ result }
+    ensures exact { teletext_at block.now ≡ unit_where block.now result }
+    ensures id { result ≡ Ok true
+        → (2 ≤ slice_index block.now 0) × (slice_index block.now 0 ≤ 3) }
     ensures kind { IfErr result (λ fault. is_format_fault fault ≡ true) }
 {
     if block[1] != LENGTH {
@@ -32,16 +36,38 @@ fn teletext_of(block: &[u8]) -> Result<Option<Unit>, PesFault>
     }
     let id = block[0];
     if id != 2 && id != 3 {
-        return Ok(None);
+        return Ok(false);
     }
     if block[3] != FRAMING {
         return Err(PesFault::Framing);
     }
+    Ok(true)
+}
+
+// The Teletext unit that a data unit is, if it is one.
+fn teletext_of(block: &[u8]) -> Result<Option<Unit>, PesFault>
+    requires { length block.now ≡ data_unit_size }
+    ensures exact { teletext_at block.now ≡ result }
+    ensures kind { IfErr result (λ fault. is_format_fault fault ≡ true) }
+{
+    if is_teletext(block)? {
+        Ok(Some(unit_in(block)))
+    } else {
+        Ok(None)
+    }
+}
+
+// The unit that a Teletext unit's data unit carries.
+pub(crate) fn unit_in(block: &[u8]) -> Unit
+    requires block { length block.now ≡ data_unit_size }
+    requires id { (2 ≤ slice_index block.now 0) × (slice_index block.now 0 ≤ 3) }
+    ensures { result ≡ unit_of block.now }
+{
     let field = if block[2] / 32 % 2 == 1 { 1 } else { 2 };
     let line = block[2] % 32;
     let (_, sent) = block.split_at(4);
     let packet = Packet::new(mirrored(sent.as_array().unwrap()));
-    Ok(Some(Unit::new(id, field, line, packet)))
+    Unit::new(block[0], field, line, packet)
 }
 
 // Adds the Teletext unit that a data unit is, if it is one.

@@ -1,41 +1,47 @@
-//! A frame with the data field that it was read from, so that one that is sent again is compared
-//! and not read again.
+//! The PES packet that was read last, so that one that is sent again is compared and not read
+//! again.
 ghost use Rattle.std.specs.Prelude.{◌≡◌, ◌+◌, ◌%◌, ◌≤◌, ◌↔◌, true, Ok, Err, OnOk, IfOk, IfErr};
-ghost use Rattle.std.specs.Prelude.{length};
-ghost use Rattle.std.specs.Prelude.{drop, []};
-ghost use Rattle.ttx_pes.specs.PesPacket.{empty_value, longest_packet, payload_size};
+ghost use Rattle.std.specs.Prelude.{length, drop, []};
+ghost use Rattle.ttx_pes.specs.PesPacket.{IsPesValue, empty_value, longest_packet, payload_size};
 ghost use Rattle.ttx_pes.specs.Reading.{value_at, is_format_fault};
 
-use crate::data_unit::{DATA_UNIT, take_units};
 use crate::fault::PesFault;
-use crate::pes_frame::PesFrame;
 use crate::pes_header::{LONGEST_PACKET, pts_of};
 use crate::same_bytes::is_same;
+use crate::sent_units::SentUnits;
+use crate::unit_places::{UnitPlaces, take_places};
 use std::marker::Model;
 
 // The bytes of the longest data field.
 const LONGEST_FIELD: usize = LONGEST_PACKET - 45;
 
-/// A frame, and the data field that it was read from: bytes 45 to the end of its packet.
+/// A PTS and a data field, bytes 45 to the end of a packet, with its Teletext units.
 #[derive(Drop)]
 pub(crate) struct KeptFrame {
-    frame: PesFrame,
+    pts: u64,
     // The first `count` bytes are kept.
     field: [u8; LONGEST_FIELD],
     count: usize,
+    places: UnitPlaces,
 }
 
 impl Model for KeptFrame {
     ghost use Rattle.std.specs.Prelude.{◌+◌, ◌≤◌, take};
-    ghost use Rattle.ttx_pes.specs.PesPacket.{longest_packet};
+    ghost use Rattle.ttx_pes.specs.PesPacket.{IsPesValue, longest_packet};
+    ghost use Rattle.ttx_pes.specs.SentUnits.{AreWithin, sent_units};
     ghost use Rattle.ttx_pes.specs.Taking.{HasUnits, KeptValue};
 
     ghost Value = { KeptValue };
 
-    ghost view = { λ k. record { frame = k.frame; data_field = take k.count k.field } };
+    ghost view = { λ k. record {
+      frame = record { pts = k.pts; units = sent_units (take k.count k.field) k.places };
+      data_field = take k.count k.field;
+    } };
 
     ghost invariant = { λ k. (k.count + 45 ≤ longest_packet)
-        × HasUnits (take k.count k.field) k.frame.units };
+        × AreWithin k.count k.places
+        × HasUnits (take k.count k.field) (sent_units (take k.count k.field) k.places)
+        × IsPesValue (record { pts = k.pts; units = sent_units (take k.count k.field) k.places }) };
 }
 
 impl KeptFrame {
@@ -44,25 +50,35 @@ impl KeptFrame {
         ensures { result ≡ record { frame = empty_value; data_field = [] } }
     {
         KeptFrame {
-            frame: PesFrame::new(0),
+            pts: 0,
             field: [0; LONGEST_FIELD],
             count: 0,
+            places: UnitPlaces::new(),
         }
     }
 
-    // The frame.
-    pub(crate) fn frame(&self) -> &PesFrame
-        ensures { result.now ≡ self.now.frame }
+    // The PTS.
+    pub(crate) fn pts(&self) -> u64
+        ensures { result ≡ self.now.frame.pts }
     {
-        &self.frame
+        self.pts
+    }
+
+    // The Teletext units.
+    pub(crate) fn units(&self) -> SentUnits<'_>
+        ensures value { result ≡ self.now.frame.units }
+        ensures frame { IsPesValue self.now.frame }
+    {
+        SentUnits::new(&self.field[..self.count], self.places.as_slice())
     }
 
     // Makes it as `new` does.
     pub(crate) fn clear(&mut self)
         ensures { self.new ≡ record { frame = empty_value; data_field = [] } }
     {
-        self.frame.restart(0);
+        self.pts = 0;
         self.count = 0;
+        self.places.clear();
     }
 
     // Whether a data field is the one that is kept.
@@ -91,13 +107,16 @@ impl KeptFrame {
         let pts = pts_of(body)?;
         let (_, field) = body.split_at(39);
         if self.is_kept(field) {
-            self.frame.set_pts(pts);
+            self.pts = pts;
             return Ok(true);
         }
         self.count = 0;
-        self.frame.restart(pts);
-        let (_, blocks) = body.split_at(40);
-        take_units(&mut self.frame, blocks.len() / DATA_UNIT, blocks)?;
+        self.places.clear();
+        if let Err(fault) = take_places(&mut self.places, field) {
+            self.places.clear();
+            return Err(fault);
+        }
+        self.pts = pts;
         self.field[..field.len()].copy_from_slice(field);
         self.count = field.len();
         Ok(false)

@@ -29,7 +29,9 @@ mod progress;
 mod reader;
 mod repeated_packet;
 mod same_bytes;
+mod sent_units;
 mod unit;
+mod unit_places;
 mod writer;
 
 pub use comparing_reader::{Compared, ComparingReader};
@@ -45,5 +47,6 @@ pub use pes_frame::{MOST_UNITS, PesFrame};
 pub use progress::Progress;
 pub use reader::PesReader;
 pub use repeated_packet::RepeatedPacket;
+pub use sent_units::SentUnits;
 pub use unit::Unit;
 pub use writer::PesWriter;

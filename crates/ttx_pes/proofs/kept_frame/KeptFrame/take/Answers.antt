@@ -1,9 +1,9 @@
 -- The value of a packet from its header and its data field: by KeptFrameLemmas.
-use Rattle.std.proofs.Common.{◌≡◌, ◌+◌, ◌/◌, ◌<◌, ◌≤◌, [], length, take, drop, Ok, ap, sym, ◌∙◌}
-use Rattle.std.proofs.Common.{arith, rules}
+use Rattle.std.proofs.Common.{◌≡◌, ◌+◌, ◌<◌, ◌≤◌, length, take, drop, ap, sym, ◌∙◌, arith, refl, rules}
 use Rattle.std.proofs.lemmas.List.{length-drop, take_at}
-use Rattle.ttx_pes.specs.Reading.{units_at}
-use Rattle.ttx_pes.proofs.KeptFrameLemmas.{units_kept, value_of_kept}
+use Rattle.ttx_pes.specs.SentUnits.{sent_units}
+use Rattle.ttx_pes.proofs.KeptFrameLemmas.{value_kept, value_of_kept, value_refused, value_taken}
+use Rattle.ttx_pes.proofs.PesHeaderLemmas.{value_with}
 use Rattle.ttx_pes.proofs.kept_frame.KeptFrame.take.Goals as goal
 
 pub returns-then-is_kept-clause-value : goal.returns-then-is_kept-clause-value
@@ -14,19 +14,42 @@ returns-then-is_kept-clause-value c =
     let long : 0 < length (take c.self.inside.count c.self.inside.field) =
     omega (arith, ap length (sym field ∙ kept), length-drop 39 c.args.body.now) in
     value_of_kept c.args.body.now (take c.self.inside.count c.self.inside.field) c.in_ok-pts.pts
-    c.self.inside.frame c.set_pts.new.self c.in_ok-pts.ensures.exact (sym field ∙ kept)
-    c.self.invariant.1 long c.set_pts.ensures
+    (value_with c.self.inside.pts
+    (sent_units (take c.self.inside.count c.self.inside.field) c.self.inside.places)) _
+    c.in_ok-pts.ensures.exact (sym field ∙ kept) c.self.invariant.2 long refl
+
+pub returns-in-Err-clause-err : goal.returns-in-Err-clause-err
+returns-in-Err-clause-err c =
+    value_refused c.args.body.now c.split_at.result.1.now c.in_ok-pts.pts _
+    c.in_ok-pts.ensures.exact (search rules) c.in-Err.ensures.err
+
+pub returns-clause-value : goal.returns-clause-value
+returns-clause-value c =
+    let body = c.args.body.now in
+    let field : c.split_at.result.1.now ≡ drop 39 body = search rules in
+    let long : 0 < length c.split_at.result.1.now =
+    omega (arith, ap length field, length-drop 39 body) in
+    let copied = c.copy_from_slice.ensures.after in
+    (value_taken body c.split_at.result.1.now _ c.in_ok-pts.pts c.take_places.new.places
+    c.in_ok-pts.ensures.exact field
+    (take_at c.copy_from_slice.new.self _ _ (ap length copied) ∙ copied) long
+    c.in_default.ensures.ok).0
 
 pub invariant_of-self-2 : goal.invariant_of-self-2
 invariant_of-self-2 c =
     let body = c.args.body.now in
-    let read : units_at (length (drop 40 body) / 46) [] (drop 40 body)
-    ≡ Ok c.take_units.new.frame.units = search rules in
     let field : c.split_at.result.1.now ≡ drop 39 body = search rules in
+    let long : 0 < length c.split_at.result.1.now =
+    omega (arith, ap length field, length-drop 39 body) in
     let copied = c.copy_from_slice.ensures.after in
-    let size : length c.split_at.result.1.now + 45 ≤ 1656 =
-    omega (arith, ap length field, length-drop 39 body) in (
-      size,
-      units_kept body _ c.take_units.new.frame.units
-          (take_at c.copy_from_slice.new.self _ _ (ap length copied) ∙ copied ∙ field) read,
+    let taken =
+    value_taken body c.split_at.result.1.now _ c.in_ok-pts.pts c.take_places.new.places
+    c.in_ok-pts.ensures.exact field
+    (take_at c.copy_from_slice.new.self _ _ (ap length copied) ∙ copied) long
+    c.in_default.ensures.ok in (
+      omega (arith, ap length field, length-drop 39 body),
+      c.in_default.ensures.within,
+      taken.1,
+      value_kept body _ c.requires.short c.requires.whole (omega arith)
+          (λ i. let fits = c.type_inv.body i in omega (arith, fits)) taken.0,
     )

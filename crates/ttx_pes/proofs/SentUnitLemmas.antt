@@ -1,0 +1,72 @@
+-- Units by the places of their data units: one more, `one_more`, those that are left,
+-- `places_left`, and one by its number, `unit_at_place`.
+use Rattle.std.proofs.Common.{◌≡◌, ℕ, suc, ◌+◌, ◌-◌, ◌*◌, ◌<◌, List, [], ◌∷◌, ◌++◌}
+use Rattle.std.proofs.Common.{length, take, drop, get_or, map, Ok, refl, sym, ap, subst, ◌∙◌, arith}
+use Rattle.std.specs.List.{AllByRecursion}
+use Rattle.std.proofs.lemmas.Bool.Decides.{nat_tests}
+use Rattle.std.proofs.lemmas.List.{drop-drop, map-append, get_or-map, length-map}
+use Rattle.std.proofs.lemmas.List.Elements.{All-from_recursion, All-push}
+use Rattle.ttx_packet.specs.BitOrder.{mirror}
+use Rattle.sub_io.specs.Reading.{◌>>=◌}
+use Rattle.ttx_pes.specs.DataUnit.{IsUnit, UnitValue}
+use Rattle.ttx_pes.specs.Reading.{unit_at, unit_of, units_at}
+use Rattle.ttx_pes.specs.SentUnits.{sent_units}
+use Rattle.ttx_pes.proofs.DataUnitLemmas.{units_next, units_none}
+use Rattle.ttx_pes.proofs.LineOrderLemmas.{last_place-push}
+
+-- One unit more.
+pub sent_units-push : (field places : List ℕ) (at : ℕ)
+    → sent_units field (places ++ at ∷ [])
+    ≡ sent_units field places ++ unit_of (take 46 (drop at field)) ∷ []
+sent_units-push field places at = map-append (λ k. unit_of (take 46 (drop k field))) places (at ∷ [])
+
+-- For `take_place`.
+pub ruleset one_more = (sent_units-push, last_place-push, All-push)
+
+-- The next data unit of those that are left.
+pub places_next : (count k : ℕ) (units : List UnitValue) (field : List ℕ)
+    → k < count
+    → units_at (count - k) units (drop (1 + 46 * k) field)
+    ≡ (unit_at units (take 46 (drop (1 + 46 * k) field)) >>= λ more.
+    units_at (count - (k + 1)) more (drop (1 + 46 * (k + 1)) field))
+places_next count k units field l =
+    let behind : drop 46 (drop (1 + 46 * k) field) ≡ drop (1 + 46 * (k + 1)) field =
+    drop-drop 46 (1 + 46 * k) field ∙ ap (λ n. drop n field) (omega arith) in
+    units_next count k units (drop (1 + 46 * k) field) l
+    ∙ ap (λ rest. unit_at units (take 46 (drop (1 + 46 * k) field)) >>= λ more.
+    units_at (count - (k + 1)) more rest) behind
+
+-- For the loop of `take_places`.
+pub ruleset places_left = (places_next, units_none)
+
+-- ---- a unit by its number
+
+module _ (field places : List ℕ) (k : ℕ) (l : k < length places) where
+  -- It is that of the data unit at its place.
+  pub unit_at_place : (other : UnitValue)
+      → get_or (sent_units field places) k other
+      ≡ unit_of (take 46 (drop (get_or places k 0) field))
+  unit_at_place other =
+      get_or-map (λ at. unit_of (take 46 (drop at field))) places k 0 other l
+
+  -- And its packet.
+  pub packet_at_place : (block : List ℕ)
+      → block ≡ drop 4 (take 46 (drop (get_or places k 0) field))
+      → map mirror block
+      ≡ get_or (map (λ (u : UnitValue). u.packet) (sent_units field places)) k []
+  packet_at_place block is =
+      let many : k < length (sent_units field places) =
+      omega (arith, length-map places (λ at. unit_of (take 46 (drop at field)))) in
+      ap (map mirror) is
+      ∙ ap (λ (u : UnitValue). u.packet) (sym (unit_at_place (unit_of [])))
+      ∙ sym (get_or-map (λ (u : UnitValue). u.packet) (sent_units field places) k (unit_of []) []
+      many)
+
+  -- Where all are units, it is one.
+  pub is_unit_at_place : AllByRecursion IsUnit (sent_units field places)
+      → IsUnit (unit_of (take 46 (drop (get_or places k 0) field)))
+  is_unit_at_place all =
+      let many : k < length (sent_units field places) =
+      omega (arith, length-map places (λ at. unit_of (take 46 (drop at field)))) in
+      subst IsUnit (unit_at_place (unit_of []))
+      (All-from_recursion IsUnit (sent_units field places) all k (unit_of []) many)

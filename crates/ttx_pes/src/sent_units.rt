@@ -1,0 +1,81 @@
+//! The Teletext units of a PES packet, lent in the bytes that carry them.
+ghost use Rattle.std.specs.Prelude.{◌≡◌, ◌<◌, ◌≤◌, [], length, slice_index_or};
+ghost use Rattle.std.specs.List.{AllByRecursion};
+ghost use Rattle.ttx_pes.specs.DataUnit.{IsUnit, UnitValue};
+ghost use Rattle.ttx_pes.specs.PesPacket.{most_units};
+ghost use Rattle.ttx_pes.specs.SentUnits.{AreWithin, packets_of, sent_units};
+
+use crate::data_unit::{DATA_UNIT, unit_in};
+use crate::unit::Unit;
+use std::marker::Model;
+use ttx_packet::SentPacket;
+
+/// The Teletext units of a PES packet, as they are sent: they stay in the data field, and its bytes
+/// are lent (EN 300 472, PES data field).
+///
+/// Contracts see it as the list of the units.
+#[derive(Drop)]
+pub struct SentUnits<'a> {
+    // Bytes 45 to the end of the PES packet.
+    field: &'a [u8],
+    // Where the data units of the units begin.
+    places: &'a [u16],
+}
+
+impl<'a> Model for SentUnits<'a> {
+    ghost use Rattle.std.specs.Prelude.{◌≤◌, List, length};
+    ghost use Rattle.std.specs.List.{AllByRecursion};
+    ghost use Rattle.ttx_pes.specs.DataUnit.{IsUnit, UnitValue};
+    ghost use Rattle.ttx_pes.specs.PesPacket.{most_units};
+    ghost use Rattle.ttx_pes.specs.SentUnits.{AreWithin, sent_units};
+
+    ghost Value = { List UnitValue };
+
+    ghost view = { λ u. sent_units u.field.now u.places.now };
+
+    ghost invariant = { λ u. (length u.places.now ≤ most_units)
+        × AreWithin (length u.field.now) u.places.now
+        × AllByRecursion IsUnit (sent_units u.field.now u.places.now) };
+}
+
+impl<'a> SentUnits<'a> {
+    // The units whose data units begin at these places of a data field.
+    pub(crate) fn new(field: &'a [u8], places: &'a [u16]) -> Self
+        requires few { length places.now ≤ most_units }
+        requires within { AreWithin (length field.now) places.now }
+        requires units { AllByRecursion IsUnit (sent_units field.now places.now) }
+        ensures { result ≡ sent_units field.now places.now }
+    {
+        SentUnits { field, places }
+    }
+
+    /// How many units there are, `MOST_UNITS` at most.
+    #[inline(always)]
+    pub fn len(&self) -> usize
+        ensures value { result ≡ length self.now }
+        ensures few { result ≤ most_units }
+    {
+        self.places.len()
+    }
+
+    /// The packet of a unit, by its number from 0.
+    #[inline(always)]
+    pub fn packet(&self, number: usize) -> SentPacket<'a>
+        requires { number < length self.now }
+        ensures { result ≡ slice_index_or (packets_of self.now) number [] }
+    {
+        let (_, from) = self.field.split_at(self.places[number] as usize);
+        let (block, _) = from.split_at(DATA_UNIT);
+        SentPacket::new(block.last_chunk().unwrap())
+    }
+
+    /// A unit, by its number from 0: its packet is turned round.
+    pub fn unit(&self, number: usize) -> Unit
+        requires { number < length self.now }
+        ensures { (other : UnitValue) → result ≡ slice_index_or self.now number other }
+    {
+        let (_, from) = self.field.split_at(self.places[number] as usize);
+        let (block, _) = from.split_at(DATA_UNIT);
+        unit_in(block)
+    }
+}

@@ -1,0 +1,141 @@
+//! Where the Teletext units of a data field stand, so that they stay in the bytes that carry them.
+ghost use Rattle.std.specs.Prelude.{◌≡◌, ◌+◌, ◌*◌, ◌/◌, ◌<◌, ◌≤◌, [], ◌∷◌, ◌++◌, length, take, drop};
+ghost use Rattle.std.specs.Prelude.{Err, IfErr, IfOk, MatchOption, Ok, OnOk, false, true};
+ghost use Rattle.ttx_pes.specs.DataUnit.{data_unit_size};
+ghost use Rattle.ttx_pes.specs.LineOrder.{last_place, stands_after};
+ghost use Rattle.ttx_pes.specs.PesPacket.{longest_packet, most_units};
+ghost use Rattle.ttx_pes.specs.Reading.{is_format_fault, unit_at, unit_of, units_at};
+ghost use Rattle.ttx_pes.specs.SentUnits.{AreWithin, sent_units};
+
+use crate::data_unit::{DATA_UNIT, is_teletext};
+use crate::fault::PesFault;
+use crate::pes_frame::MOST_UNITS;
+use std::marker::Model;
+
+/// The places in a data field at which the data units of its Teletext units begin, in order.
+#[derive(Drop)]
+pub(crate) struct UnitPlaces {
+    // The first `count` are kept.
+    places: [u16; MOST_UNITS],
+    count: usize,
+}
+
+impl Model for UnitPlaces {
+    ghost use Rattle.std.specs.Prelude.{ℕ, ◌≤◌, List, take};
+    ghost use Rattle.ttx_pes.specs.PesPacket.{most_units};
+
+    ghost Value = { List ℕ };
+
+    ghost view = { λ p. take p.count p.places };
+
+    ghost invariant = { λ p. p.count ≤ most_units };
+}
+
+impl UnitPlaces {
+    /// No place.
+    pub fn new() -> Self
+        ensures { result ≡ [] }
+    {
+        UnitPlaces {
+            places: [0; MOST_UNITS],
+            count: 0,
+        }
+    }
+
+    /// Makes it as `new` does.
+    pub fn clear(&mut self)
+        ensures { self.new ≡ [] }
+    {
+        self.count = 0;
+    }
+
+    /// The places, `MOST_UNITS` at most.
+    pub fn as_slice(&self) -> &[u16]
+        ensures value { result.now ≡ self.now }
+        ensures few { length self.now ≤ most_units }
+    {
+        &self.places[..self.count]
+    }
+
+    /// Adds a place.
+    fn push(&mut self, place: u16)
+        requires { length self.old < most_units }
+        ensures { self.new ≡ self.old ++ place ∷ [] }
+    {
+        self.places[self.count] = place;
+        self.count += 1;
+    }
+}
+
+// The place in the order of lines that the next unit's has to come after, after `last` and the unit
+// that a data unit is, if that may stand there.
+#[inline(always)]
+fn place_after(last: u8, block: &[u8]) -> Option<u8>
+    requires last { last < 64 }
+    requires block { length block.now ≡ data_unit_size }
+    ensures { MatchOption result (stands_after last (unit_of block.now) ≡ false) (λ next.
+        (stands_after last (unit_of block.now) ≡ true)
+        × (next ≡ last_place last (unit_of block.now ∷ []))
+        × (next < 64)) }
+{
+    let line = block[2] % 32;
+    if line == 0 {
+        return Some(last);
+    }
+    let place = 32 * (1 - block[2] / 32 % 2) + line;
+    if last < place { Some(place) } else { None }
+}
+
+// Adds the place of a data unit, if it is a Teletext unit. `last` is the place in the order of lines
+// that its own has to come after; answers that of the next one.
+#[inline(always)]
+#[tactic(auto, unfolding(crate::specs::Reading::unit_at), using(crate::proofs::SentUnitLemmas::one_more))]
+fn take_place(places: &mut UnitPlaces, last: u8, field: &[u8], place: u16) -> Result<u8, PesFault>
+    requires room { length places.old < most_units }
+    requires within { place + data_unit_size ≤ length field.now }
+    requires last { last ≡ last_place 0 (sent_units field.now places.old) }
+    requires small { last < 64 }
+    ensures room { length places.new ≤ length places.old + 1 }
+    ensures within { AreWithin (length field.now) places.old
+        → AreWithin (length field.now) places.new }
+    ensures ok { OnOk result (unit_at (sent_units field.now places.old)
+        (take data_unit_size (drop place field.now)) ≡ Ok (sent_units field.now places.new)) }
+    ensures last { IfOk result (λ next. next ≡ last_place 0 (sent_units field.now places.new)) }
+    ensures small { IfOk result (λ next. next < 64) }
+    ensures err { IfErr result (λ fault. unit_at (sent_units field.now places.old)
+        (take data_unit_size (drop place field.now)) ≡ Err fault) }
+    ensures kind { IfErr result (λ fault. is_format_fault fault ≡ true) }
+{
+    let (_, from) = field.split_at(place as usize);
+    let (block, _) = from.split_at(DATA_UNIT);
+    if !is_teletext(block)? {
+        return Ok(last);
+    }
+    let Some(next) = place_after(last, block) else {
+        return Err(PesFault::LineOrder);
+    };
+    places.push(place);
+    Ok(next)
+}
+
+/// Finds the Teletext units of a data field, up to the first fault. No byte of a packet is looked
+/// at.
+#[tactic(auto, using(crate::proofs::SentUnitLemmas::places_left))]
+pub(crate) fn take_places(places: &mut UnitPlaces, field: &[u8]) -> Result<(), PesFault>
+    requires none { places.old ≡ [] }
+    requires some { 1 ≤ length field.now }
+    requires short { length field.now + 45 ≤ longest_packet }
+    ensures within { AreWithin (length field.now) places.new }
+    ensures ok { OnOk result (units_at (length (drop 1 field.now) / data_unit_size) []
+        (drop 1 field.now) ≡ Ok (sent_units field.now places.new)) }
+    ensures err { IfErr result (λ fault. units_at (length (drop 1 field.now) / data_unit_size) []
+        (drop 1 field.now) ≡ Err fault) }
+    ensures kind { IfErr result (λ fault. is_format_fault fault ≡ true) }
+{
+    let count = (field.len() - 1) / DATA_UNIT;
+    let mut last = 0;
+    for k in 0..count {
+        last = take_place(places, last, field, (1 + DATA_UNIT * k) as u16)?;
+    }
+    Ok(())
+}
