@@ -4,7 +4,7 @@ ghost use Rattle.std.specs.Prelude.{None, Some, Ok, false, true};
 ghost use Rattle.sub_io.specs.Calls.{PullsSome};
 ghost use Rattle.sub_io.specs.Device.{CanFail, CountsIf, failed};
 ghost use Rattle.sub_io.specs.Reading.{IfTold};
-ghost use Rattle.ttx_pes.specs.PesPacket.{IsPesValue, most_units};
+ghost use Rattle.ttx_pes.specs.PesPacket.{IsPesValue, PesValue, most_units};
 ghost use Rattle.ttx_pes.specs.Reader.{FailsWithin, TakesPesPacket};
 ghost use Rattle.ttx_pes.specs.Reading.{answer_at, most_packets, rest_after};
 ghost use Rattle.ttx_pes.specs.declared.progress.Progress.TheVariants.{Reading};
@@ -15,7 +15,7 @@ ghost use Rattle.sub_rules.specs.Fault.{is_pes_read, is_pes_write, is_subtitle_f
 use crate::fault::CheckFault;
 use sub_io::Source;
 use sub_plan::Options;
-use ttx_pes::{Compared, ComparingReader, PesFault, PesFrame, Unit};
+use ttx_pes::{Compared, ComparingReader, PesFault, SentUnits};
 
 /// What is sent in a frame: the packets of one PES packet.
 #[derive(Clone, Copy, Debug, PartialEq, Eq)]
@@ -73,20 +73,20 @@ pub fn next_sending<S: Source>(
     match reader.next(source) {
         Err(fault) => Err(CheckFault::Pes { pes, fault }),
         Ok(Compared::End) => Ok(None),
-        Ok(Compared::Same) => sending_of(reader.frame(), options, pes, true),
-        Ok(Compared::Other) => sending_of(reader.frame(), options, pes, false),
+        Ok(Compared::Same) => sending_of(reader.pts(), options, pes, true),
+        Ok(Compared::Other) => sending_of(reader.pts(), options, pes, false),
     }
 }
 
-// The sending of a PES packet of this number.
+// The sending of the PES packet of this number, with this PTS.
 fn sending_of(
-    packet: &PesFrame,
+    pts: u64,
     options: &Options,
     pes: u32,
     again: bool,
 ) -> Result<Option<Sending>, CheckFault>
-    ensures exact { (bytes : List ℕ) → answer_at pes bytes ≡ Ok (Some packet.now)
-        → TellsFrame options.now.origin pes bytes packet.now (as_frame result) }
+    ensures exact { (bytes : List ℕ) (v : PesValue) → answer_at pes bytes ≡ Ok (Some v)
+        → v.pts ≡ pts → TellsFrame options.now.origin pes bytes v (as_frame result) }
     ensures again { (sending : Sending) → result ≡ Ok (Some sending) → sending.again ≡ again }
     ensures some { result ≢ Ok None }
     ensures own { failed is_subtitle_fault result ≡ false }
@@ -94,17 +94,17 @@ fn sending_of(
     ensures no_write { failed is_pes_write result ≡ false }
     ensures day { (sending : Sending) → result ≡ Ok (Some sending) → sending.frame < day }
 {
-    match options.frame_of(packet.pts()) {
+    match options.frame_of(pts) {
         Some(frame) => Ok(Some(Sending { frame, again })),
         None => Err(CheckFault::OffFrame { pes }),
     }
 }
 
-/// The Teletext units of the PES packet that was read last.
-pub fn units_of(reader: &ComparingReader) -> &[Unit]
-    ensures value { result.now ≡ reader.now.frame.units }
-    ensures few { length result.now ≤ most_units }
+/// The Teletext units of the PES packet that was read last, in the bytes that carry them.
+pub fn units_of(reader: &ComparingReader) -> SentUnits<'_>
+    ensures value { result ≡ reader.now.frame.units }
+    ensures few { length result ≤ most_units }
     ensures frame { IsPesValue reader.now.frame }
 {
-    reader.frame().units()
+    reader.units()
 }

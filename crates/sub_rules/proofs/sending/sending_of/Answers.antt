@@ -5,15 +5,15 @@ use Rattle.stl_file.specs.TimeCode.{day}
 use Rattle.sub_rules.proofs.sending.sending_of.Goals as goal
 
 pub returns-in-Some-clause-exact : goal.returns-in-Some-clause-exact
-returns-in-Some-clause-exact c = λ bytes read.
+returns-in-Some-clause-exact c = λ bytes v read pts.
     let is = (c.in-Some.ensures c.in-Some.frame).0 refl in (
       read,
       record {
         in_day = is.0;
-        is = is.1 ∙ c.pts.ensures.value;
+        is = is.1 ∙ sym pts;
         alone = λ other in_day e.
             sym (same_Some c.in-Some.frame other
-            ((c.in-Some.ensures other).1 (in_day, e ∙ sym c.pts.ensures.value)));
+            ((c.in-Some.ensures other).1 (in_day, e ∙ pts)));
       },
     )
 
