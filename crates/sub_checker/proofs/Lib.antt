@@ -9,3 +9,4 @@ pub mod TellingLemmas
 pub mod WaysOutLemmas
 pub mod WrongCellLemmas
 pub mod TrustingLemmas
+pub mod PassedLemmas

@@ -1,7 +1,8 @@
 -- What the checker keeps of the packets that it heard, tied to the packets, whatever rules they
 -- break. Private functions alone cite this.
-use Rattle.std.specs.Prelude.{◌≡◌, ℕ, ◌-◌, ◌<◌, ◌≤◌, Bool, false, List, [], ◌++◌, Option, None}
-use Rattle.std.specs.Prelude.{Some, bit_or, if◌then◌else◌, is_some, length, option_map}
+use Rattle.std.specs.Prelude.{◌≡◌, ℕ, ◌-◌, ◌<◌, ◌≤◌, Bool, false, List, [], ◌∷◌, ◌++◌, Option}
+use Rattle.std.specs.Prelude.{None, Some, bit_or, if◌then◌else◌, is_some, length, option_map, not}
+use Rattle.std.specs.Prelude.{◌&&◌, ◌==◌}
 use Rattle.std.specs.Prelude.{slice_index_or, take}
 use Rattle.ttx_packet.specs.PageHeader.{c11}
 use Rattle.ttx_packet.specs.declared.header.Header.{Header}
@@ -9,7 +10,7 @@ use Rattle.ttx_page.specs.Page.{blank_row, row_at}
 use Rattle.ttx_page.specs.PacketKind.{kind}
 use Rattle.ttx_page.specs.Span.{is_open_after, span}
 use Rattle.sub_rules.specs.PacketRules.{codes_of, first_header, header_count}
-use Rattle.sub_rules.specs.PacketTests.{broken_rules, first_of_row}
+use Rattle.sub_rules.specs.PacketTests.{breaks, broken_rules, first_of_row, is_same_bit}
 use Rattle.sub_checker.specs.SentAgain.{BeginsWithHeader}
 use Rattle.sub_checker.specs.declared.listener.Listener.{Listener}
 use Rattle.sub_rules.specs.declared.packet_rule.PacketRule.{PacketRule}
@@ -85,3 +86,23 @@ pub record WereJudged (w : Watched) (heard last : List (List ℕ)) (headers : �
 pub record KnowsLast (heard last : List (List ℕ)) (s : Listener) : Type 0 where
   pub knows : Knows heard s
   pub last_is : (headers : ℕ) → s.last ≡ Some headers → WereJudged s.watched heard last headers
+
+-- ---- packets that are passed
+
+-- A header with this C11 is of the mode of the first header, where there was one.
+abbrev pub is_of_mode : Option Bool → Bool → Bool
+is_of_mode None serial = false
+is_of_mode (Some first) serial = is_same_bit first serial
+
+-- A header of a magazine, in code words, is of the mode, is no header of the page, and does not end
+-- the page while it is open.
+abbrev pub is_passed_header : ℕ → Header → Listener → Bool
+is_passed_header magazine h s =
+    is_of_mode s.serial (c11 h)
+    && (if s.is_open then not (magazine == s.watched.page.magazine) && not (c11 h)
+    else not (magazine == s.watched.page.magazine && h.page == s.watched.page.page))
+
+-- A packet that comes now breaks no rule, and leaves what is kept as it is.
+pub record IsPassed (heard : List (List ℕ)) (p : List ℕ) (s : Listener) : Type 0 where
+  pub breaks_none : rule_set (λ r. breaks r s.watched heard p) ≡ 0
+  pub knows : Knows (heard ++ p ∷ []) s

@@ -27,7 +27,7 @@ use stl_rows::Programme;
 use sub_io::{Audience, Stopped};
 use sub_plan::Options;
 use sub_rules::{CheckFault, Event, Sending, Watched};
-use ttx_pes::Unit;
+use ttx_pes::SentUnits;
 
 /// How far the check has come.
 #[derive(Drop)]
@@ -342,7 +342,7 @@ impl<'a> Checker<'a> {
         &mut self,
         pes: u32,
         again: bool,
-        units: &[Unit],
+        units: &SentUnits<'_>,
         audience: &mut A,
     ) -> Result<(), Stopped>
         requires goes_on { A.has_stopped audience.old ≡ false }
@@ -378,7 +378,7 @@ impl<'a> Checker<'a> {
         &mut self,
         pes: u32,
         sending: Sending,
-        units: &[Unit],
+        units: &SentUnits<'_>,
         trusting: &mut Trusting<'_, A>,
     ) -> Result<(), Stopped>
         requires goes_on { A.has_stopped trusting.old.device.now ≡ false }

@@ -1,9 +1,10 @@
 //! What is kept of the packets that were heard, and the rules that the next packet breaks.
 ghost use Rattle.std.specs.Prelude.{◌≡◌, ℕ, ◌+◌, ◌-◌, ◌<◌, ◌≤◌, ◌++◌, List, [], ◌∷◌, MatchResult};
-ghost use Rattle.std.specs.Prelude.{length, IsTrue, true, false, is_err, replicate, slice_set};
+ghost use Rattle.std.specs.Prelude.{length, IfOk, IsTrue, OnOk, true, false, is_err, map, replicate};
 ghost use Rattle.std.specs.Prelude.{if◌then◌else◌, ◌&&◌, ◌==◌, not, Some, None, is_some};
-ghost use Rattle.std.specs.Prelude.{slice_index_or};
-ghost use Rattle.sub_io.specs.Telling.{Tells, TellsPrefix, TellsSome};
+ghost use Rattle.std.specs.Prelude.{slice_index_or, slice_set};
+ghost use Rattle.std.specs.List.{filter};
+ghost use Rattle.sub_io.specs.Telling.{Tells, TellsPrefix, TellsSome, TellsUntilStopped};
 ghost use Rattle.ttx_packet.specs.PacketAddress.{address};
 ghost use Rattle.ttx_packet.specs.PageHeader.{header};
 ghost use Rattle.ttx_packet.specs.RowPacket.{first_even_byte};
@@ -12,21 +13,23 @@ ghost use Rattle.ttx_page.specs.Page.{AreCodes, IsPage, IsRow, blank, row_at};
 ghost use Rattle.ttx_page.specs.PacketKind.{is_this_page, kind};
 ghost use Rattle.ttx_page.specs.Span.{is_open_after};
 ghost use Rattle.ttx_pes.specs.PesPacket.{most_units};
+ghost use Rattle.sub_checker.specs.Listener.{is_of_mode};
 ghost use Rattle.sub_rules.specs.Events.{packet_events, wrong_after};
 ghost use Rattle.sub_rules.specs.PacketRules.{codes_of, header_count, packets_of_units};
-ghost use Rattle.sub_rules.specs.PacketTests.{breaks, is_of_enhancement};
+ghost use Rattle.sub_rules.specs.FirstBroken.{packet_fault};
+ghost use Rattle.sub_rules.specs.PacketTests.{breaks, is_of_enhancement, packet_rules};
 
 use crate::comparison::Comparison;
 use crate::packet_rules::{
     first_serial, has_even_byte, has_wrong_address, has_wrong_codes, is_enhancement, is_other_mode,
-    is_subtitle_header, text_codes,
+    is_same_bit, is_serial, is_subtitle_header, text_codes,
 };
 use crate::rule_set::{RuleSet, tell_rules};
 use sub_io::{Audience, Stopped};
 use sub_rules::{Event, Watched};
-use ttx_packet::{Header, Packet};
+use ttx_packet::{Header, Packet, SentPacket};
 use ttx_page::{PacketKind, Page};
-use ttx_pes::Unit;
+use ttx_pes::SentUnits;
 
 /// What is kept of the packets that were heard.
 #[derive(Drop)]
@@ -43,8 +46,18 @@ pub(crate) struct Listener {
     last: Option<u8>,
 }
 
+// What a packet was that was heard.
+#[derive(Clone, Copy)]
+struct Heard {
+    // A header of the page.
+    is_header: bool,
+    // It breaks no rule.
+    is_clean: bool,
+}
+
 impl Listener {
-    ghost use Rattle.sub_checker.specs.Listener.{Knows, KnowsLast, later_set, rule_set};
+    ghost use Rattle.sub_checker.specs.Listener.{IsPassed, Knows, KnowsLast};
+    ghost use Rattle.sub_checker.specs.Listener.{is_passed_header, later_set, rule_set};
 
     /// Nothing was heard, and this page is due.
     pub fn new(watched: Watched, due: Page) -> Self
@@ -108,7 +121,7 @@ impl Listener {
     #[tactic(auto, using(sub_io::proofs::TellingLemmas::some))]
     pub fn hear_sending<A: Audience<Event>>(
         &mut self,
-        units: &[Unit],
+        units: &SentUnits<'_>,
         again: bool,
         frame: u32,
         audience: &mut A,
@@ -143,7 +156,7 @@ impl Listener {
     #[tactic(auto, using(sub_io::proofs::TellingLemmas::some))]
     fn hear_all<A: Audience<Event>>(
         &mut self,
-        units: &[Unit],
+        units: &SentUnits<'_>,
         frame: u32,
         audience: &mut A,
     ) -> Result<u8, Stopped>
@@ -168,17 +181,136 @@ impl Listener {
         let mut begins = false;
         let mut is_clean = true;
         for k in 0..units.len() {
-            let packet = units[k].packet();
-            let (found, page_header) = PacketKind::with_header(self.watched.page, packet);
-            let rules = self.broken_rules(packet, found, page_header);
-            tell_rules(rules, frame, k as u32, audience)?;
-            let is_header = self.hear(packet, found, page_header);
-            begins = begins_with(begins, k, is_header);
-            headers = counted(headers, is_header);
-            is_clean = stays_clean(is_clean, rules);
+            let heard = self.hear_packet(&units.packet(k), frame, k as u32, audience)?;
+            begins = begins_with(begins, k, heard.is_header);
+            headers = counted(headers, heard.is_header);
+            is_clean = stays_clean(is_clean, heard.is_clean);
         }
         self.last = last_headers(begins, is_clean, headers);
         Ok(headers)
+    }
+
+    // Hears a packet of a frame, tells which rules it breaks, and says what it was.
+    //
+    // What is passed is of another page: most packets of a service are.
+    #[inline(always)]
+    #[tactic(auto, using(sub_io::proofs::TellingLemmas::some))]
+    fn hear_packet<A: Audience<Event>>(
+        &mut self,
+        packet: &SentPacket<'_>,
+        frame: u32,
+        number: u32,
+        audience: &mut A,
+    ) -> Result<Heard, Stopped>
+        requires goes_on { A.has_stopped audience.old ≡ false }
+        ensures watched { self.new.watched ≡ self.old.watched }
+        ensures due { self.new.comparison.due ≡ self.old.comparison.due }
+        ensures stopped { A.has_stopped audience.new ≡ is_err result }
+        ensures some { TellsSome A.is_told audience.old audience.new }
+        ensures header { IfOk result (λ was. was.is_header
+            ≡ is_this_page (kind self.old.watched.page packet.now)) }
+        ensures clean { (heard : List (List ℕ)) → Knows heard self.old → IfOk result (λ was.
+            was.is_clean ≡ true
+            → rule_set (λ r. breaks r self.old.watched heard packet.now) ≡ 0) }
+        ensures told { (heard : List (List ℕ)) → Knows heard self.old
+            → TellsUntilStopped A.is_told audience.old audience.new
+            (map (λ r. Event.Told (packet_fault r frame number))
+            (filter (λ r. breaks r self.old.watched heard packet.now) packet_rules)) result }
+        ensures knows { (heard : List (List ℕ)) → Knows heard self.old
+            → OnOk result (Knows (heard ++ packet.now ∷ []) self.new) }
+    {
+        if self.is_passed(packet) {
+            return Ok(Heard {
+                is_header: false,
+                is_clean: true,
+            });
+        }
+        self.judge(&packet.packet(), frame, number, audience)
+    }
+
+    // Whether a packet breaks no rule and changes nothing of what is kept, as its first two bytes
+    // tell, or of a page header the first ten.
+    #[inline(always)]
+    fn is_passed(&self, packet: &SentPacket<'_>) -> bool
+        ensures no_header { IsTrue result
+            → is_this_page (kind self.now.watched.page packet.now) ≡ false }
+        ensures passed { (heard : List (List ℕ)) → Knows heard self.now → IsTrue result
+            → IsPassed heard packet.now self.now }
+    {
+        let Some((magazine, packet_number)) = packet.exact_address() else {
+            return false;
+        };
+        if packet_number != 0 {
+            return self.is_closed_to(magazine);
+        }
+        match packet.exact_header() {
+            Some(header) => self.is_passed_header(magazine, &header),
+            None => false,
+        }
+    }
+
+    // Whether the page is not open, or a packet is of another magazine.
+    #[inline(always)]
+    fn is_closed_to(&self, magazine: u8) -> bool
+        ensures { result ≡ not (self.now.is_open && magazine == self.now.watched.page.magazine) }
+    {
+        !(self.is_open && magazine == self.watched.page.magazine())
+    }
+
+    // Whether a page header of a magazine, in code words, breaks no rule and changes nothing of what
+    // is kept.
+    #[inline(always)]
+    fn is_passed_header(&self, magazine: u8, header: &Header) -> bool
+        ensures { result ≡ is_passed_header magazine header.now self.now }
+    {
+        let is_serial = is_serial(header);
+        if !is_of_mode(self.serial, is_serial) {
+            return false;
+        }
+        let is_magazine = magazine == self.watched.page.magazine();
+        if self.is_open {
+            !is_magazine && !is_serial
+        } else {
+            !(is_magazine && header.page == self.watched.page.page())
+        }
+    }
+
+    // Hears a packet that is not passed.
+    #[inline(never)]
+    #[tactic(auto, using(sub_io::proofs::TellingLemmas::some))]
+    fn judge<A: Audience<Event>>(
+        &mut self,
+        packet: &Packet,
+        frame: u32,
+        number: u32,
+        audience: &mut A,
+    ) -> Result<Heard, Stopped>
+        requires goes_on { A.has_stopped audience.old ≡ false }
+        ensures watched { self.new.watched ≡ self.old.watched }
+        ensures due { self.new.comparison.due ≡ self.old.comparison.due }
+        ensures stopped { A.has_stopped audience.new ≡ is_err result }
+        ensures some { TellsSome A.is_told audience.old audience.new }
+        ensures header { IfOk result (λ was. was.is_header
+            ≡ is_this_page (kind self.old.watched.page packet.now)) }
+        ensures clean { (heard : List (List ℕ)) → Knows heard self.old → IfOk result (λ was.
+            was.is_clean ≡ true
+            → rule_set (λ r. breaks r self.old.watched heard packet.now) ≡ 0) }
+        ensures told { (heard : List (List ℕ)) → Knows heard self.old
+            → TellsUntilStopped A.is_told audience.old audience.new
+            (map (λ r. Event.Told (packet_fault r frame number))
+            (filter (λ r. breaks r self.old.watched heard packet.now) packet_rules)) result }
+        ensures knows { (heard : List (List ℕ)) → Knows heard self.old
+            → OnOk result (Knows (heard ++ packet.now ∷ []) self.new) }
+    {
+        let (found, page_header) = PacketKind::with_header(self.watched.page, packet);
+        let rules = self.broken_rules(packet, found, page_header);
+        tell_rules(rules, frame, number, audience)?;
+        let is_header = self.hear(packet, found, page_header);
+        let is_clean = rules.has_none();
+        Ok(Heard {
+            is_header,
+            is_clean,
+        })
     }
 
     // The rules that a packet of this kind, with this page header, breaks which comes now.
@@ -332,11 +464,21 @@ fn begins_with(begins: bool, k: usize, is_header: bool) -> bool
     if k == 0 { is_header } else { begins }
 }
 
-// Whether no rule was broken, at a packet that breaks these.
-fn stays_clean(is_clean: bool, rules: RuleSet) -> bool
-    ensures { result ≡ (is_clean && rules.0 == 0) }
+// Whether no rule was broken, at a packet that breaks none or some.
+fn stays_clean(is_clean: bool, breaks_none: bool) -> bool
+    ensures { result ≡ (is_clean && breaks_none) }
 {
-    is_clean && rules.has_none()
+    is_clean && breaks_none
+}
+
+// Whether a header with this C11 is of the mode of the first header.
+fn is_of_mode(serial: Option<bool>, is_serial: bool) -> bool
+    ensures { result ≡ is_of_mode serial is_serial }
+{
+    match serial {
+        Some(first) => is_same_bit(first, is_serial),
+        None => false,
+    }
 }
 
 // How many headers there are, where the first packet is one and none breaks a rule.

@@ -53,7 +53,7 @@ fn has_wrong_word(packet: &Packet) -> bool
 }
 
 /// C11, magazine serial.
-fn is_serial(header: &Header) -> bool
+pub(crate) fn is_serial(header: &Header) -> bool
     ensures { result ≡ c11 header.now }
 {
     header.control.contains(Control::C11)
@@ -99,8 +99,8 @@ fn third_bit(national: National) -> bool
     }
 }
 
-// Whether two bits are the same.
-fn is_same_bit(one: bool, other: bool) -> bool
+/// Whether two bits are the same.
+pub(crate) fn is_same_bit(one: bool, other: bool) -> bool
     ensures { result ≡ is_same_bit one other }
 {
     one == other

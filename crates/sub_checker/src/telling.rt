@@ -121,7 +121,7 @@ fn tell_frames<S: Source, A: Audience<Event>>(
             return Ok(finish(&checker, pes, None, trusting));
         };
         let units = units_of(&reader);
-        match checker.go_on(pes, sending, units, trusting) {
+        match checker.go_on(pes, sending, &units, trusting) {
             Err(_) => return Ok(None),
             Ok(()) => pes += 1,
         }

@@ -3,17 +3,21 @@ use Rattle.std.proofs.lemmas.Bool.Decides.{nat_tests}
 use Rattle.std.proofs.Common.{◌≡◌, ℕ, ◌+◌, ◌<◌, ◌++◌, ◌&&◌, ◌==◌, List, [], ◌∷◌, length, take}
 use Rattle.std.proofs.Common.{get_or, cond, true, refl, sym, ap, ap₂, ◌∙◌, subst, rules}
 use Rattle.std.proofs.Common.{append_assoc, append-nil, arith}
-use Rattle.std.proofs.lemmas.List.{length-map, take_all}
+use Rattle.std.proofs.Common.{map}
+use Rattle.std.specs.List.{filter}
+use Rattle.std.proofs.lemmas.List.{length-map, take_all, take_more}
 use Rattle.ttx_pes.specs.DataUnit.{UnitValue}
 use Rattle.ttx_page.specs.PacketKind.{is_this_page, kind}
-use Rattle.sub_io.specs.Telling.{Tells}
+use Rattle.sub_io.specs.Telling.{Tells, TellsPrefix}
 use Rattle.sub_io.proofs.TellingLemmas.{TellsSome-none, TellsSome-trans, Tells-none}
 use Rattle.sub_rules.specs.Events.{packet_events}
 use Rattle.sub_checker.specs.Listener.{BreakNone, Knows, KnowsLast, rule_set}
 use Rattle.sub_rules.specs.PacketRules.{header_count, packets_of_units}
-use Rattle.sub_rules.specs.PacketTests.{breaks}
+use Rattle.sub_rules.specs.FirstBroken.{packet_fault}
+use Rattle.sub_rules.specs.PacketTests.{breaks, packet_rules}
+use Rattle.sub_rules.specs.declared.event.Event.TheVariants.{Told}
 use Rattle.sub_checker.proofs.PacketEventLemmas.{clean_one, told_one, told_part}
-use Rattle.sub_rules.proofs.PacketLists.{units_more, unit_at, header_count-push}
+use Rattle.sub_rules.proofs.PacketLists.{header_count-push}
 use Rattle.sub_checker.proofs.RuleSetLemmas.{stopped}
 use Rattle.sub_checker.proofs.SentAgainLemmas.{kept_last}
 use Rattle.sub_checker.proofs.listener.Listener.hear_all.Goals as goal
@@ -39,67 +43,67 @@ pub loop-k-preserved : goal.loop-k-preserved
 loop-k-preserved g c =
     let w = c.args.self.now.watched in
     let k : ℕ = c.loop-k.k in
-    let u = c.index-units-k.result in
-    let p : List ℕ = c.packet-packet.result.now in
-    let here : p ≡ u.packet = c.packet-packet.ensures.value in
+    let p : List ℕ = c.packet.result in
     let i = c.loop-k.invariant in
     let units = c.args.units.now in
     let ps = packets_of_units units in
+    let at : get_or ps k [] ≡ p = sym c.packet.ensures in
     let l : k < length units = search rules in
+    let long : length ps ≡ length units = length-map units (λ (u : UnitValue). u.packet) in
     let more : take (k + 1) ps ≡ take k ps ++ p ∷ [] =
-    units_more units k u l c.index-units-k.is ∙ ap (λ x. take k ps ++ x ∷ []) (sym here) in
-    let at : get_or ps k [] ≡ p = unit_at units k u l c.index-units-k.is ∙ sym here in
+    take_more ps k [] (omega (arith, l, long)) ∙ ap (λ x. take k ps ++ x ∷ []) at in
     let one = c.counted-headers.ensures in
-    let header = c.hear-is_header.ensures.header in
+    let heard_one = c.in_ok-heard.ensures in
     record {
       begins = grind arith;
-      same = c.hear-is_header.ensures.watched ∙ i.same;
-      due = c.hear-is_header.ensures.due ∙ i.due;
+      same = heard_one.watched ∙ i.same;
+      due = heard_one.due ∙ i.due;
       goes_on = grind arith;
-      some = TellsSome-trans _ _ _ i.some c.in_ok-tell_rules.ensures.some;
+      some = TellsSome-trans _ _ _ i.some heard_one.some;
       few = search rules;
       header =
           one
           ∙ ap₂ (λ n t. n + cond t 1 0) i.header
-          (header ∙ ap (λ v. is_this_page (kind v.page p)) i.same)
+          (heard_one.header ∙ ap (λ v. is_this_page (kind v.page p)) i.same)
           ∙ sym (ap (header_count w.page) more ∙ header_count-push w.page (take k ps) p);
       known = λ heard known.
           let before = i.known heard known in
-          let set =
-          subst
-          (λ v. c.broken_rules-rules.result.0 ≡ rule_set (λ r. breaks r v (heard ++ take k ps) p))
-          i.same (c.broken_rules-rules.ensures (heard ++ take k ps) before.0) in
-          let told = c.in_ok-tell_rules.ensures.told (λ r. breaks r w (heard ++ take k ps) p) set in
-          let new = c.hear-is_header.ensures.knows (heard ++ take k ps) before.0 in (
-            subst (λ xs. Knows xs c.hear-is_header.new.self)
+          let told =
+          subst (λ v. Tells g.A.Audience.is_told c.loop-k.audience c.hear_packet.new.audience
+          (map (λ r. Told (packet_fault r c.args.frame k))
+          (filter (λ r. breaks r v (heard ++ take k ps) p) packet_rules)))
+          i.same (heard_one.told (heard ++ take k ps) before.0) in
+          let new = heard_one.knows (heard ++ take k ps) before.0 in (
+            subst (λ xs. Knows xs c.hear_packet.new.self)
                 (append_assoc heard (take k ps) (p ∷ []) ∙ ap (λ xs. heard ++ xs) (sym more)) new,
             told_one w c.args.frame heard ps k p _ _ _ at before.1 told,
             λ e.
-                let parts : (c.loop-k.is_clean && c.broken_rules-rules.result.0 == 0) ≡ true =
+                let parts : (c.loop-k.is_clean && c.in_ok-heard.heard.is_clean) ≡ true =
                 sym c.stays_clean-is_clean.ensures ∙ e in
-                clean_one w c.args.frame heard ps k p at (before.2 (grind (arith, nat_tests)))
-                (sym set ∙ (grind (arith, nat_tests))),
+                let clean =
+                subst (λ v. rule_set (λ r. breaks r v (heard ++ take k ps) p) ≡ 0) i.same
+                (heard_one.clean (heard ++ take k ps) before.0 (grind (arith, nat_tests))) in
+                clean_one w c.args.frame heard ps k p at (before.2 (grind (arith, nat_tests))) clean,
           );
     }
 
-pub returns-in_err-tell_rules-clause-knows : goal.returns-in_err-tell_rules-clause-knows
-returns-in_err-tell_rules-clause-knows g c heard known =
+pub returns-in_err-heard-clause-knows : goal.returns-in_err-heard-clause-knows
+returns-in_err-heard-clause-knows g c heard known =
     let w = c.args.self.now.watched in
     let k : ℕ = c.loop-k.k in
-    let u = c.index-units-k.result in
-    let p : List ℕ = c.packet-packet.result.now in
+    let p : List ℕ = c.packet.result in
     let i = c.loop-k.invariant in
     let units = c.args.units.now in
     let ps = packets_of_units units in
     let l : k < length units = search rules in
     let long : length ps ≡ length units = length-map units (λ (u : UnitValue). u.packet) in
-    let at : get_or ps k [] ≡ p =
-    unit_at units k u l c.index-units-k.is ∙ sym c.packet-packet.ensures.value in
+    let at : get_or ps k [] ≡ p = sym c.packet.ensures in
     let before = i.known heard known in
-    let set =
-    subst (λ v. c.broken_rules-rules.result.0 ≡ rule_set (λ r. breaks r v (heard ++ take k ps) p))
-    i.same (c.broken_rules-rules.ensures (heard ++ take k ps) before.0) in
-    let told = c.in_err-tell_rules.ensures.told (λ r. breaks r w (heard ++ take k ps) p) set in
+    let told =
+    subst (λ v. TellsPrefix g.A.Audience.is_told c.loop-k.audience c.hear_packet.new.audience
+    (map (λ r. Told (packet_fault r c.args.frame k))
+    (filter (λ r. breaks r v (heard ++ take k ps) p) packet_rules)))
+    i.same (c.in_err-heard.ensures.told (heard ++ take k ps) before.0) in
     stopped c.from_residual.result _ _ c.from_residual.ensures.0
     (told_part w c.args.frame heard ps k p _ _ _ at before.1 (length ps) (omega (arith, l, long))
     told)
