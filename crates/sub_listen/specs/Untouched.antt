@@ -1,11 +1,13 @@
 -- What a receiver hears of packets that are neither passed over nor lost, and have no flip. Private
 -- functions alone cite this.
-use Rattle.std.specs.Prelude.{◌≡◌, ℕ, ◌+◌, ◌&&◌, Bool, IsTrue, not, List, ◌∷◌, nat_le, nat_lt}
+use Rattle.std.specs.Prelude.{◌≡◌, ℕ, ◌+◌, ◌&&◌, ◌==◌, Bool, IsTrue, not, List, ◌∷◌, nat_le, nat_lt}
+use Rattle.std.specs.Prelude.{if◌then◌else◌}
 use Rattle.std.specs.List.{filter, list_any}
 use Rattle.ttx_packet.specs.PageId.{PageIdValue}
-use Rattle.ttx_packet.specs.PageHeader.{c4}
+use Rattle.ttx_packet.specs.PageHeader.{c4, c11}
 use Rattle.ttx_packet.specs.declared.header.Header.{Header}
 use Rattle.ttx_page.specs.PacketKind.{kind}
+use Rattle.ttx_page.specs.Receiver.{LeavesCells, State, Step}
 use Rattle.ttx_page.specs.Screen.{Display}
 use Rattle.ttx_page.specs.declared.packet_kind.PacketKind.TheVariants.{ThisPage}
 use Rattle.sub_listen.specs.Reception.{Reception, RunsThrough, is_taken}
@@ -35,6 +37,20 @@ pub record BeginsErased (w : PageIdValue) (packets : List (List ℕ)) : Type 0 w
   pub others : List (List ℕ)
   pub packets_are : packets ≡ first ∷ others
   pub erases : ErasesPageAt w first
+
+-- A header of a magazine is none of page w, and does not end the page while it is open.
+abbrev pub is_passed_header : PageIdValue → Bool → ℕ → Header → Bool
+is_passed_header w is_open magazine h =
+    if is_open then not (magazine == w.magazine) && not (c11 h)
+    else not (magazine == w.magazine && h.page == w.page)
+
+-- A receiver of page w stays as it is at the packet, where its page is open or is not.
+pub record LeavesAll (w : PageIdValue) (is_open : Bool) (packet : List ℕ) : Type 0 where
+  pub step : (held : State) → held.is_open ≡ is_open → Step w held packet held
+  pub cells :
+      (leaves : ℕ → ℕ) (held : State)
+      → held.is_open ≡ is_open
+      → LeavesCells leaves w held packet held
 
 -- The receiver is as it is after these packets, untouched, of which the first erases the page.
 pub record HeardLast

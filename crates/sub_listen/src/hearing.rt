@@ -14,7 +14,7 @@ use bitflags::Flags;
 use sub_request::{Flip, Listening};
 use ttx_packet::{Control, Header, Packet, PageId};
 use ttx_page::{PacketKind, Page, Receiver};
-use ttx_pes::Unit;
+use ttx_pes::SentUnits;
 
 /// Lets a receiver hear what it hears of the packets of a PES packet, with its screen where
 /// complete pages are asked for. `number` is that of the first, and `again` says that they are
@@ -28,7 +28,7 @@ pub fn hear_sending<R: Receiver>(
     screen: &mut Option<Page>,
     listening: &Listening,
     number: u64,
-    units: &[Unit],
+    units: &SentUnits<'_>,
     again: bool,
     kept: bool,
 ) -> bool
@@ -112,13 +112,10 @@ fn is_within(first: u64, end: u64, number: u64) -> bool
 }
 
 // Whether the first of the packets erases the page.
-fn begins_erased(page: PageId, units: &[Unit]) -> bool
+fn begins_erased(page: PageId, units: &SentUnits<'_>) -> bool
     ensures { (result ≡ true) ↔ BeginsErased page (packets_of_units units.now) }
 {
-    match units.first() {
-        Some(unit) => erases(page, unit.packet()),
-        None => false,
-    }
+    units.len() > 0 && erases(page, &units.packet(0).packet())
 }
 
 // Whether a packet is a header of the page that erases it.

@@ -105,13 +105,12 @@ pub fn listen<R: Receiver, S: Source>(
         if frame > listening.at {
             return Ok(());
         }
-        let packet = reader.frame();
-        let units = packet.units();
-        if let Some(packet) = first_lost_header(listening, number, units) {
+        let units = reader.units();
+        if let Some(packet) = first_lost_header(listening, number, &units) {
             return Err(ListenFault::LostHeader { frame, packet });
         }
         let again = sending.again;
-        kept = hear_sending(receiver, screen, listening, number, units, again, kept);
+        kept = hear_sending(receiver, screen, listening, number, &units, again, kept);
         number += units.len() as u64;
         least = frame + 1;
         index += 1;

@@ -1,24 +1,27 @@
 //! What a receiver gets of the packets of a file, and hears: packets passed over, lost packets,
 //! flips, dropped rows.
 ghost use Rattle.std.specs.Prelude.{◌≡◌, ℕ, ◌+◌, ◌-◌, ◌^◌, ◌<◌, ◌≤◌, ◌&&◌, ◌∷◌, List, length};
-ghost use Rattle.std.specs.Prelude.{not};
+ghost use Rattle.std.specs.Prelude.{◌==◌, not, true};
 ghost use Rattle.std.specs.List.{filter};
 ghost use Rattle.ttx_packet.specs.PacketAddress.{address};
+ghost use Rattle.ttx_packet.specs.PageHeader.{c11};
 ghost use Rattle.ttx_page.specs.Screen.{Display, display};
 ghost use Rattle.ttx_pes.specs.PesPacket.{most_units};
 ghost use Rattle.sub_rules.specs.PacketRules.{packets_of_units};
 ghost use Rattle.sub_listen.specs.Reception.{RunsThrough, as_heard, first_lost_header, is_heard};
 ghost use Rattle.sub_listen.specs.Reception.{is_lost, is_taken, may_be_lost_at, reception_of};
+ghost use Rattle.sub_listen.specs.Untouched.{LeavesAll, is_passed_header};
 ghost use Rattle.sub_request.specs.Flips.{with_flip, with_flips};
 
+use bitflags::Flags;
 use sub_request::{Flip, Listening, ReceiverKind};
-use ttx_packet::Packet;
+use ttx_packet::{Control, Header, Packet, PageId, SentPacket};
 use ttx_page::{Page, Receiver, is_dropped, show};
-use ttx_pes::Unit;
+use ttx_pes::SentUnits;
 
 /// The first of the packets of a PES packet that is lost and may not be, since it is a page header
 /// or has no address. `number` is that of the first packet.
-pub fn first_lost_header(listening: &Listening, number: u64, units: &[Unit]) -> Option<u32>
+pub fn first_lost_header(listening: &Listening, number: u64, units: &SentUnits<'_>) -> Option<u32>
     requires few { length units.now ≤ most_units }
     requires number { number + most_units < u64.MAX }
     ensures { result ≡ first_lost_header (reception_of listening.now) number
@@ -28,7 +31,7 @@ pub fn first_lost_header(listening: &Listening, number: u64, units: &[Unit]) -> 
         return None;
     }
     for k in 0..units.len() {
-        if is_lost_header(listening, number + k as u64, units[k].packet()) {
+        if is_lost_header(listening, number + k as u64, &units.packet(k)) {
             return Some(k as u32);
         }
     }
@@ -42,7 +45,7 @@ pub fn hear_units<R: Receiver>(
     screen: &mut Option<Page>,
     listening: &Listening,
     number: u64,
-    units: &[Unit],
+    units: &SentUnits<'_>,
 )
     requires few { length units.now ≤ most_units }
     requires number { number + most_units < u64.MAX }
@@ -53,18 +56,18 @@ pub fn hear_units<R: Receiver>(
     ensures tuned { R.tuned_to receiver.new ≡ R.tuned_to receiver.old }
 {
     for k in 0..units.len() {
-        let packet = units[k].packet();
-        hear_packet(receiver, screen, listening, number + k as u64, packet);
+        let packet = units.packet(k).packet();
+        hear_packet(receiver, screen, listening, number + k as u64, &packet);
     }
 }
 
 /// Lets a receiver hear the packets of a PES packet of which none is passed over or lost or has a
-/// flip: as they are, but for the rows that it drops. So no packet is copied.
+/// flip: as they are, but for the rows that it drops.
 pub fn hear_untouched<R: Receiver>(
     receiver: &mut R,
     screen: &mut Option<Page>,
     listening: &Listening,
-    units: &[Unit],
+    units: &SentUnits<'_>,
 )
     ensures run { RunsThrough listening.now.options.asks_complete R.leaves
         (R.tuned_to receiver.old) (display (R.state receiver.old) screen.old)
@@ -74,7 +77,70 @@ pub fn hear_untouched<R: Receiver>(
     ensures tuned { R.tuned_to receiver.new ≡ R.tuned_to receiver.old }
 {
     for k in 0..units.len() {
-        take(receiver, screen, listening, units[k].packet());
+        hear_sent(receiver, screen, listening, &units.packet(k));
+    }
+}
+
+// Lets a receiver hear a packet that it gets as it was sent, if it takes it. A packet that leaves
+// it as it is, as most of a service do, is not turned round.
+#[inline(always)]
+fn hear_sent<R: Receiver>(
+    receiver: &mut R,
+    screen: &mut Option<Page>,
+    listening: &Listening,
+    packet: &SentPacket<'_>,
+)
+    ensures run { (packets : List (List ℕ)) (end : Display)
+        → RunsThrough listening.now.options.asks_complete R.leaves
+        (R.tuned_to receiver.old) (display (R.state receiver.new) screen.new)
+        (filter (is_taken listening.now.receiver listening.now.options.page) packets) end
+        → RunsThrough listening.now.options.asks_complete R.leaves
+        (R.tuned_to receiver.old) (display (R.state receiver.old) screen.old)
+        (filter (is_taken listening.now.receiver listening.now.options.page)
+        (packet.now ∷ packets)) end }
+    ensures tuned { R.tuned_to receiver.new ≡ R.tuned_to receiver.old }
+{
+    if !is_passed(receiver.watched(), receiver.open(), packet) {
+        take(receiver, screen, listening, &packet.packet());
+    }
+}
+
+// Whether a packet leaves a receiver of a page as it is, as its first two bytes tell, or of a page
+// header the first ten.
+#[inline(always)]
+fn is_passed(page: PageId, is_open: bool, packet: &SentPacket<'_>) -> bool
+    ensures { result ≡ true → LeavesAll page is_open packet.now }
+{
+    let Some((magazine, packet_number)) = packet.exact_address() else {
+        return false;
+    };
+    if packet_number != 0 {
+        return is_closed_to(page, is_open, magazine);
+    }
+    match packet.exact_header() {
+        Some(header) => is_passed_header(page, is_open, magazine, &header),
+        None => false,
+    }
+}
+
+// Whether the page is not open, or a packet is of another magazine.
+#[inline(always)]
+fn is_closed_to(page: PageId, is_open: bool, magazine: u8) -> bool
+    ensures { result ≡ not (is_open && magazine == page.magazine) }
+{
+    !(is_open && magazine == page.magazine())
+}
+
+// Whether a page header of a magazine is none of the page, and does not end it while it is open.
+#[inline(always)]
+fn is_passed_header(page: PageId, is_open: bool, magazine: u8, header: &Header) -> bool
+    ensures { result ≡ is_passed_header page is_open magazine header.now }
+{
+    let is_magazine = magazine == page.magazine();
+    if is_open {
+        !is_magazine && !is_serial(header)
+    } else {
+        !(is_magazine && header.page == page.page())
     }
 }
 
@@ -142,12 +208,12 @@ fn is_taken(listening: &Listening, packet: &Packet) -> bool
 }
 
 // Whether a packet is lost that may not be.
-fn is_lost_header(listening: &Listening, number: u64, packet: &Packet) -> bool
+fn is_lost_header(listening: &Listening, number: u64, packet: &SentPacket<'_>) -> bool
     ensures { result
         ≡ (is_lost (reception_of listening.now) number
         && not (may_be_lost_at (address packet.now))) }
 {
-    is_lost(listening, number) && !may_be_lost(packet)
+    is_lost(listening, number) && !may_be_lost(&packet.packet())
 }
 
 // Whether a packet is lost.
@@ -183,6 +249,13 @@ fn flipped(flips: &[Flip], number: u64, packet: &Packet) -> Packet
         flip_bit(flip, number, &mut bytes);
     }
     Packet::new(bytes)
+}
+
+// C11, magazine serial.
+fn is_serial(header: &Header) -> bool
+    ensures { result ≡ c11 header.now }
+{
+    header.control.contains(Control::C11)
 }
 
 // Changes the bit of a flip, where it is one of this packet.

@@ -5,7 +5,7 @@ use std::process::Abort;
 use std::test::Fail;
 use sub_io::{FailAt, MemSink, MemSource};
 use ttx_packet::Packet;
-use ttx_pes::{Compared, ComparingReader, PesFault, put_frame};
+use ttx_pes::{Compared, ComparingReader, PesFault, Unit, put_frame};
 
 /// Two PES packets of one payload with the same row packet: PTS 0 and 3600.
 fn twice() -> Result<[u8; 368], PesFault> {
@@ -26,8 +26,7 @@ fn assert_compares(
     pts_and_units: (u64, usize),
 ) {
     assert_same(rt, &reader.next(source), &Ok(want));
-    let frame = reader.frame();
-    assert_same(rt, &(frame.pts(), frame.units().len()), &pts_and_units);
+    assert_same(rt, &(reader.pts(), reader.units().len()), &pts_and_units);
 }
 
 #[test]
@@ -37,9 +36,10 @@ fn tells_a_data_field_that_is_sent_again(rt: HostRuntime) -> Result<(), Fail> {
     let mut reader = ComparingReader::new();
     assert_compares(&rt, &mut reader, &mut source, Compared::Other, (0, 1));
     assert_compares(&rt, &mut reader, &mut source, Compared::Same, (3600, 1));
-    assert!(rt; reader.frame().units().len() == 1);
+    assert!(rt; reader.units().len() == 1);
     let spaces = Packet::new([0x20; 42]);
-    assert_same(&rt, reader.frame().units()[0].packet(), &spaces);
+    assert_same(&rt, &reader.units().packet(0).packet(), &spaces);
+    assert_same(&rt, &reader.units().unit(0), &Unit::new(3, 1, 7, spaces));
     assert_compares(&rt, &mut reader, &mut source, Compared::End, (0, 0));
     assert_compares(&rt, &mut reader, &mut source, Compared::End, (0, 0));
     Ok(())

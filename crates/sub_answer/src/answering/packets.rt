@@ -14,7 +14,7 @@ use crate::listing::{Lister, PIECE, Text, end_at, end_with};
 use crate::status::Status;
 use sub_check::CheckFault;
 use sub_io::Source;
-use ttx_pes::{Compared, ComparingReader, MOST_UNITS, PesFrame, Unit};
+use ttx_pes::{Compared, ComparingReader, MOST_UNITS, Unit};
 
 /// Lists the PES packets of a file (EN 300 472).
 #[derive(Drop)]
@@ -44,7 +44,7 @@ impl PacketLister {
         ensures reader { self.new.reader ≡ self.old.reader }
         ensures more { result ≡ None }
     {
-        push_frame(text, self.index, self.reader.frame());
+        push_frame(text, self.index, &self.reader);
         self.index += 1;
         None
     }
@@ -80,16 +80,16 @@ const UNIT_LINE: usize = 192;
 const _: () = prove!(PES_LINE + MOST_UNITS * UNIT_LINE <= PIECE);
 
 // Appends the lines of a PES packet and of its Teletext units.
-fn push_frame(text: &mut Text, index: u32, frame: &PesFrame)
+fn push_frame(text: &mut Text, index: u32, reader: &ComparingReader)
     requires { text.old.items ≡ [] }
-    ensures { text.new.items ≡ frame_lines index frame.now }
+    ensures { text.new.items ≡ frame_lines index reader.now.frame }
 {
     push_number(text, b"pes ", u64::from(index));
-    push_number(text, b" pts ", frame.pts());
+    push_number(text, b" pts ", reader.pts());
     push_text(text, b"\n");
-    let units = frame.units();
+    let units = reader.units();
     for number in 0..units.len() {
-        push_unit(text, number, &units[number]);
+        push_unit(text, number, &units.unit(number));
     }
 }
 

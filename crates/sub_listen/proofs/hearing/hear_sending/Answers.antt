@@ -16,7 +16,7 @@ returns-then-kept-clause-run g c = λ last kept again.
     (g.R.Receiver.tuned_to c.args.receiver.now) c.args.number _
     (packets_of_units c.args.units.now)
     (sym c.is_untouched.ensures ∙ c.if-not-is_untouched.false)
-    (length-map c.args.units.now (λ (u : UnitValue). u.packet)) _
+    (length-map c.args.units.now (λ (u : UnitValue). u.packet) ∙ sym c.len.ensures.value) _
     (subst (λ (ps : List (List ℕ)). HeardLast g.R.Receiver.leaves c.args.listening.now
     (g.R.Receiver.tuned_to c.args.receiver.now) ps
     (display (g.R.Receiver.state c.args.receiver.now) c.args.screen.now))

@@ -5,7 +5,7 @@ use Rattle.std.proofs.lemmas.Result.{err_from_is_err_and}
 use Rattle.ttx_packet.specs.PageId.{PageIdValue}
 use Rattle.ttx_page.specs.Screen.{display}
 use Rattle.ttx_pes.specs.DataUnit.{UnitValue}
-use Rattle.ttx_pes.specs.PesPacket.{PesValue, most_units}
+use Rattle.ttx_pes.specs.PesPacket.{most_units}
 use Rattle.ttx_pes.proofs.TakenPackets.{takes-more}
 use Rattle.sub_rules.specs.PacketRules.{packets_of_units}
 use Rattle.sub_rules.specs.declared.fault.CheckFault.{CheckFault}
@@ -82,7 +82,7 @@ returns-in-Some-first_lost_header-clause-exact g c = λ frames unread bytes told
     (omega (arith, rises)) (omega (arith, in_time))
     (ap (λ (us : List UnitValue). first_lost_header (reception_of l) c.packets.number
     (packets_of_units us))
-    (sym (c.units-units.ensures.value ∙ ap (λ (v : PesValue). v.units) c.frame-packet.ensures))
+    (sym c.units-units.ensures.value)
     ∙ sym c.first_lost_header.ensures
     ∙ c.in-Some-first_lost_header.is)
 
@@ -91,8 +91,7 @@ packets-preserved g c =
     let counted = c.in_ok-next.ensures.count in
     let before = c.packets.invariant.failures in
     let few = c.packets.invariant.few in
-    let value = c.units-units.ensures.value
-    ∙ ap (λ (v : PesValue). v.units) c.frame-packet.ensures in
+    let value = c.units-units.ensures.value in
     let units =
     subst (λ (us : List UnitValue). length us ≤ most_units) (sym c.units-units.ensures.value)
     c.units-units.ensures.frame.few in
@@ -110,7 +109,7 @@ packets-preserved g c =
     ∙ sym c.first_lost_header.ensures
     ∙ c.in_default-first_lost_header.is in
     let last = packets_of_units c.packets.reader.frame.units in
-    let again : c.in-Some.sending.again ≡ true → last ≡ packets_of_units c.units-units.result.now =
+    let again : c.in-Some.sending.again ≡ true → last ≡ packets_of_units c.units-units.result =
     λ e. ap packets_of_units
     (sym (c.in_ok-next.ensures.again c.in-Some.sending given e) ∙ sym value) in
     let run =
@@ -127,7 +126,7 @@ packets-preserved g c =
       taken = taken;
       failures = omega (arith, counted, before);
       tuned = c.hear_sending-kept.ensures.tuned ∙ c.packets.invariant.tuned;
-      few = omega (arith, few, units);
+      few = omega (arith, few, units, c.len.ensures.value);
       kept = λ e.
           subst (λ (us : List UnitValue). HeardLast g.R.Receiver.leaves l
           (g.R.Receiver.tuned_to c.hear_sending-kept.new.receiver) (packets_of_units us)
@@ -137,7 +136,8 @@ packets-preserved g c =
       day = omega (arith, day);
       told = λ frames unread bytes told reads.
           let i = c.packets.invariant.told frames unread bytes told reads in
-          subst (λ (us : List UnitValue). Reaches g.R.Receiver.leaves l frames unread
+          rw c.len.ensures.value
+          (subst (λ (us : List UnitValue). Reaches g.R.Receiver.leaves l frames unread
           (g.R.Receiver.tuned_to c.args.receiver.now)
           (display (g.R.Receiver.state c.args.receiver.now) c.args.screen.now)
           (g.S.Source.remaining c.next_sending.new.source) (c.packets.index + 1)
@@ -156,5 +156,5 @@ packets-preserved g c =
           (as_heard l c.packets.number (packets_of_units c.next_sending.new.reader.frame.units))
           (display (g.R.Receiver.state c.hear_sending-kept.new.receiver)
           c.hear_sending-kept.new.screen))
-          c.packets.invariant.tuned run));
+          c.packets.invariant.tuned run)));
     }

@@ -9,4 +9,4 @@ invariant-loop-k l =
     first_lost_header (reception_of l.listening) l.number (packets_of_units l.units)
     ≡ option_map (λ place. place + l.k)
     (first_lost_header (reception_of l.listening) (l.number + l.k)
-    (packets_of_units (drop l.k l.units)))
+    (drop l.k (packets_of_units l.units)))

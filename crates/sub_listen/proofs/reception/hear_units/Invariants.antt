@@ -13,7 +13,7 @@ invariant-loop-k g l = record {
       → RunsThrough l.listening.options.asks_complete g.R.Receiver.leaves
       (g.R.Receiver.tuned_to l.fn.receiver)
       (display (g.R.Receiver.state l.receiver) l.screen)
-      (as_heard l.listening (l.fn.number + l.k) (packets_of_units (drop l.k l.units))) end
+      (as_heard l.listening (l.fn.number + l.k) (drop l.k (packets_of_units l.units))) end
       → RunsThrough l.listening.options.asks_complete g.R.Receiver.leaves
       (g.R.Receiver.tuned_to l.fn.receiver)
       (display (g.R.Receiver.state l.fn.receiver) l.fn.screen)

@@ -14,7 +14,7 @@ invariant-loop-k g l = record {
       (g.R.Receiver.tuned_to l.fn.receiver)
       (display (g.R.Receiver.state l.receiver) l.screen)
       (filter (is_taken l.listening.receiver l.listening.options.page)
-      (packets_of_units (drop l.k l.units))) end
+      (drop l.k (packets_of_units l.units))) end
       → RunsThrough l.listening.options.asks_complete g.R.Receiver.leaves
       (g.R.Receiver.tuned_to l.fn.receiver)
       (display (g.R.Receiver.state l.fn.receiver) l.fn.screen)
