@@ -16,7 +16,7 @@ ghost use Rattle.ttx_pes.specs.PesPacket.{most_units};
 ghost use Rattle.sub_checker.specs.Listener.{is_of_mode};
 ghost use Rattle.sub_rules.specs.Events.{packet_events, wrong_after};
 ghost use Rattle.sub_rules.specs.PacketRules.{codes_of, header_count, packets_of_units};
-ghost use Rattle.sub_rules.specs.FirstBroken.{packet_fault};
+ghost use Rattle.sub_rules.specs.Events.{packet_fault};
 ghost use Rattle.sub_rules.specs.PacketTests.{breaks, is_of_enhancement, packet_rules};
 
 use crate::comparison::Comparison;

@@ -84,8 +84,8 @@ pub fn next_piece<S: Source>(
             Ok(Some(NextPiece::Passed(CheckFault::Pes { pes, fault })))
         }
         Ok(Compared::End) => Ok(None),
-        Ok(Compared::Same) => Ok(Some(piece_of(reader.frame().pts(), options, pes, true))),
-        Ok(Compared::Other) => Ok(Some(piece_of(reader.frame().pts(), options, pes, false))),
+        Ok(Compared::Same) => Ok(Some(piece_of(reader.pts(), options, pes, true))),
+        Ok(Compared::Other) => Ok(Some(piece_of(reader.pts(), options, pes, false))),
     }
 }
 

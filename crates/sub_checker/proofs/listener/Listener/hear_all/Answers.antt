@@ -13,7 +13,7 @@ use Rattle.sub_io.proofs.TellingLemmas.{TellsSome-none, TellsSome-trans, Tells-n
 use Rattle.sub_rules.specs.Events.{packet_events}
 use Rattle.sub_checker.specs.Listener.{BreakNone, Knows, KnowsLast, rule_set}
 use Rattle.sub_rules.specs.PacketRules.{header_count, packets_of_units}
-use Rattle.sub_rules.specs.FirstBroken.{packet_fault}
+use Rattle.sub_rules.specs.Events.{packet_fault}
 use Rattle.sub_rules.specs.PacketTests.{breaks, packet_rules}
 use Rattle.sub_rules.specs.declared.event.Event.TheVariants.{Told}
 use Rattle.sub_checker.proofs.PacketEventLemmas.{clean_one, told_one, told_part}
