@@ -207,7 +207,7 @@ def text_of_read(trial: Trial, command: Command, name: str, offset: int) -> byte
     starts = [at for at, line in enumerate(lines) if line.startswith(b"pes ")] + [len(lines) - 1]
     before = lines[:starts[index]] if command.words[0] == "packets" else []
     if "--all" in command.words:
-        # Of each PES packet with rows two faults are told, and at the end alone what may be trusted.
+        # Of each PES packet with rows two faults are told; what may be trusted is at the end.
         before = [line for line in lines if line.startswith(b"refused ")][:2 * index]
     return b"".join(before) + b"fault 41 Read pes %d\n" % index
 
