@@ -1,7 +1,7 @@
 -- What the checker tells of the bytes of a subtitle file and a PES file.
 use Rattle.std.specs.Prelude.{◌≡◌, ◌≢◌, ◌↔◌, ℕ, ◌≤◌, length, List, [], Bool, false, true}
 use Rattle.std.specs.Prelude.{Option, Some, None}
-use Rattle.std.specs.Prelude.{All, IsOk}
+use Rattle.std.specs.Prelude.{All, Contains, IsOk}
 use Rattle.std.specs.Prelude.{Result, Ok, Err, IfOk, IfErr, IsTrue}
 use Rattle.sub_io.specs.Device.{failed}
 use Rattle.sub_io.specs.Reading.{IfTold}
@@ -27,6 +27,8 @@ use Rattle.sub_rules.specs.FrameRules.{task_of}
 use Rattle.sub_rules.specs.PacketRules.{header_count}
 use Rattle.sub_rules.specs.Transmission.{SentFrame, first_frame, last_frame, Transmission}
 use Rattle.sub_rules.specs.declared.event.Event.{Event}
+use Rattle.sub_rules.specs.declared.event.Event.TheVariants.{Trusted}
+use Rattle.sub_laws.specs.TrustedFrames.{MayStay, rising_part}
 use Rattle.sub_rules.specs.Fault.{is_failure, is_pes_read, is_subtitle_fault}
 use Rattle.sub_rules.specs.Good.{Good}
 use Rattle.sub_laws.specs.LostRows.{RobustToMarkedLoss}
@@ -215,6 +217,14 @@ answer_by (Some f) a = Err f
 
 abbrev pub first_answer : List Event → Accepted → Result Accepted CheckFault
 first_answer events a = answer_by (first_told events) a
+
+-- Frames that are told as trusted may stay on air as they are: in the part of the transmission in
+-- which frames rise, receivers recover there.
+abbrev pub TellsWhatMayStay : ProgrammeValue → OptionsValue → List ℕ → Type 0
+TellsWhatMayStay programme options bytes =
+    (from to : ℕ)
+    → Contains (all_events_of programme options bytes) (Trusted from to)
+    → MayStay programme (rising_part (pes_file_of options.origin bytes).frames) options from to
 
 -- What a device was told of the bytes of a PES file, checked against a programme: where it did not
 -- say stop, all events, and the answer counts what was read; else the events up to there, and

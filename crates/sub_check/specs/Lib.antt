@@ -8,6 +8,7 @@ pub use Rattle.sub_rules.specs.PacketRules
 pub use Rattle.sub_rules.specs.PacketTests
 pub use Rattle.sub_rules.specs.FrameRules
 pub use Rattle.sub_rules.specs.Events
+pub use Rattle.sub_rules.specs.Trusted
 pub use Rattle.sub_rules.specs.Fault
 pub use Rattle.sub_rules.specs.WrongContent
 pub use Rattle.sub_laws.specs.StepByStep
@@ -19,6 +20,7 @@ pub use Rattle.sub_laws.specs.Stretch
 pub use Rattle.sub_laws.specs.Sufficient
 pub use Rattle.sub_laws.specs.CleanStretch
 pub use Rattle.sub_laws.specs.ToldStretch
+pub use Rattle.sub_laws.specs.TrustedFrames
 pub use Rattle.sub_laws.specs.Laws
 pub use Rattle.sub_laws.specs.Planned
 pub use Rattle.sub_laws.specs.BrokenPlaces

@@ -5,7 +5,8 @@ ghost use Rattle.sub_io.specs.Reading.{IfTold};
 ghost use Rattle.sub_io.specs.Telling.{TellsSome};
 ghost use Rattle.ttx_pes.specs.Reader.{FailsAtPacket};
 ghost use Rattle.sub_rules.specs.Fault.{is_pes_read, is_pes_write, is_subtitle_fault};
-ghost use Rattle.sub_check.specs.CheckedFiles.{IsChecked, TellsEvents, all_events_of, first_answer};
+ghost use Rattle.sub_check.specs.CheckedFiles.{IsChecked, TellsEvents, TellsWhatMayStay};
+ghost use Rattle.sub_check.specs.CheckedFiles.{all_events_of, first_answer};
 
 use crate::first_fault::FirstFault;
 use stl_rows::Programme;
@@ -90,6 +91,9 @@ pub fn check_all<S: Source, A: Audience<Event>>(
     ensures first { IfTold (S.remaining source.old) (λ bytes.
         IfOk result (λ counts. IfSome counts (λ a. IsChecked programme.now options.now bytes
         (first_answer (all_events_of programme.now options.now bytes) a)))) }
+    // What it is told as trusted may stay on air as it is.
+    ensures trusted { IfTold (S.remaining source.old) (λ bytes.
+        TellsWhatMayStay programme.now options.now bytes) }
     // Nothing is counted exactly where the device said stop.
     ensures stopped { IfOk result (λ counts. A.has_stopped audience.new ≡ is_none counts) }
     // Whatever the source tells, the device was told some events, and did not say stop where the

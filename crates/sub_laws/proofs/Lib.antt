@@ -2,8 +2,10 @@ pub mod AllKept
 pub mod BrokenRuleLemmas
 pub mod CleanStretchLemmas
 pub mod ContentLemmas
+pub mod DoubtLemmas
 pub mod EventLemmas
 pub mod FrameByFrame
+pub mod FrameDoubtLemmas
 pub mod FrameLemmas
 pub mod GoodLemmas
 pub mod NotedLemmas
@@ -20,4 +22,6 @@ pub mod StretchLemmas
 pub mod ToldListLemmas
 pub mod ToldStretchLemmas
 pub mod TransmissionLemmas
+pub mod TrustedFrameLemmas
+pub mod TrustedRunLemmas
 pub mod UntoldLemmas

@@ -10,3 +10,4 @@ pub mod StepByStep
 pub mod Stretch
 pub mod Sufficient
 pub mod ToldStretch
+pub mod TrustedFrames

@@ -11,6 +11,7 @@ ghost use Rattle.sub_laws.specs.StepByStep.{LawOfCleanSpans, LawOfRepeats, LawOf
 ghost use Rattle.sub_laws.specs.Stretch.{LawOfWholeRecovery, LawOfWholeStretch};
 ghost use Rattle.sub_laws.specs.Sufficient.{LawOfStretch, LawOfSufficientParts};
 ghost use Rattle.sub_laws.specs.ToldStretch.{LawOfToldStretch};
+ghost use Rattle.sub_laws.specs.TrustedFrames.{LawOfTrusted};
 
 /// A start at any packet of a good transmission meets a header of the page within the repeat bound.
 #[tactic(auto, using(crate::proofs::RobustLemmas::law_of_window))]
@@ -64,6 +65,12 @@ pub fn law_of_untold_stretch()
 #[tactic(auto, using(crate::proofs::ToldStretchLemmas::law_of_told_stretch))]
 pub fn law_of_told_stretch()
     ensures { LawOfToldStretch }
+{}
+
+/// Frames that are told as trusted may stay on air as they are, whatever is broken elsewhere: the
+/// first one holds a header of the page, and from it on receivers recover there.
+pub fn law_of_trusted()
+    ensures { LawOfTrusted }
 {}
 
 /// Where receivers recover in all frames of a transmission it is robust, with lost rows too.

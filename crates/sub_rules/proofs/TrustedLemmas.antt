@@ -164,7 +164,7 @@ module _ (g : Task) (frames : Transmission) where
   plain_rest None = plain_late g.last_out (end_frame frames)
   plain_rest (Some u) = refl
 
-  plain_closing : (n : ℕ) → IsPlain (closing_events g frames n)
+  pub plain_closing : (n : ℕ) → IsPlain (closing_events g frames n)
   unfolding closing_events
   plain_closing zero = refl
   plain_closing (suc n) = plain-append _ _ (plain_end _ _ _ _) (plain_rest g.unread)

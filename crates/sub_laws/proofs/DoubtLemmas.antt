@@ -1,0 +1,151 @@
+-- Which frame is quiet no more by a list of events: `first_doubt`; what is trusted before that,
+-- `trusted_in_run`, and what is left of a run, `over-some`.
+use Rattle.std.proofs.lemmas.Bool.Decides.{nat_tests}
+use Rattle.std.proofs.Common.{◌≡◌, ℕ, zero, suc, ◌-◌, ◌<◌, Bool, true, false, nat_lt, List, [], ◌∷◌}
+use Rattle.std.proofs.Common.{◌++◌, Contains, Option, Some, None, is_some, refl, sym, ap, ◌∙◌, subst}
+use Rattle.std.proofs.Common.{arith, cond}
+use Rattle.std.proofs.lemmas.Bool.{ltb-true}
+use Rattle.std.specs.List.{list_any}
+use Rattle.std.specs.Prelude.{⊤}
+use Rattle.sub_rules.specs.Trusted.{doubted, kept, run_over, trusted, trusted_before, with_run}
+use Rattle.sub_rules.specs.declared.event.Event.{Event}
+use Rattle.sub_rules.specs.declared.event.Event.TheVariants.{Ended, Told, Trusted}
+use Rattle.sub_rules.proofs.TrustedLemmas.{IsPlain, untrusted, with_run-none}
+
+-- The one, or else the other.
+abbrev pub or_else : Option ℕ → Option ℕ → Option ℕ
+or_else (Some x) o = Some x
+or_else None o = o
+
+-- The frame that is quiet no more by the first of these that says so.
+abbrev pub first_doubt : ℕ → List Event → Option ℕ
+first_doubt last [] = None
+first_doubt last (e ∷ es) = or_else (doubted last e) (first_doubt last es)
+
+or_else-assoc : (a b c : Option ℕ) → or_else (or_else a b) c ≡ or_else a (or_else b c)
+or_else-assoc (Some x) b c = refl
+or_else-assoc None b c = refl
+
+pub doubt-append : (last : ℕ) (xs ys : List Event)
+    → first_doubt last (xs ++ ys) ≡ or_else (first_doubt last xs) (first_doubt last ys)
+doubt-append last [] ys = refl
+doubt-append last (x ∷ xs) ys =
+    ap (or_else (doubted last x)) (doubt-append last xs ys)
+    ∙ sym (or_else-assoc (doubted last x) (first_doubt last xs) (first_doubt last ys))
+
+-- Where none says so.
+pub doubt-none : (last : ℕ) (es : List Event)
+    → list_any (λ e. is_some (doubted last e)) es ≡ false
+    → first_doubt last es ≡ None
+doubt-none last [] none = refl
+doubt-none last (e ∷ es) none =
+    let rest = doubt-none last es in grind (arith, nat_tests)
+
+-- A run that is left was there, and none of these says so.
+pub over-some : (last : ℕ) (run : Option ℕ) (es : List Event) (from : ℕ)
+    → run_over last run es ≡ Some from
+    → (run ≡ Some from) × (first_doubt last es ≡ None)
+unfolding run_over
+over-some last run [] from e = (e, refl)
+over-some last run (x ∷ xs) from e =
+    go (doubted last x) (over-some last (kept run (doubted last x)) xs from e)
+  where
+    go : (d : Option ℕ) → (kept run d ≡ Some from) × (first_doubt last xs ≡ None)
+        → (run ≡ Some from) × (or_else d (first_doubt last xs) ≡ None)
+    go None h = h
+    go (Some f) h = let none = h.0 in cc
+
+-- ---- each of the events that tell what is trusted
+
+-- A fact of the frames from which and up to which is trusted.
+abbrev pub EachTrusted : (ℕ → ℕ → Type 0) → List Event → Type 0
+EachTrusted P [] = ⊤
+EachTrusted P (Told f ∷ es) = EachTrusted P es
+EachTrusted P (Ended rule f ∷ es) = EachTrusted P es
+EachTrusted P (Trusted from to ∷ es) = P from to × EachTrusted P es
+
+pub each-append : (P : ℕ → ℕ → Type 0) (xs ys : List Event)
+    → EachTrusted P xs → EachTrusted P ys → EachTrusted P (xs ++ ys)
+each-append P [] ys p q = q
+each-append P (Told f ∷ xs) ys p q = each-append P xs ys p q
+each-append P (Ended rule f ∷ xs) ys p q = each-append P xs ys p q
+each-append P (Trusted from to ∷ xs) ys p q = (p.0, each-append P xs ys p.1 q)
+
+pub each-contains : (P : ℕ → ℕ → Type 0) (xs : List Event) (from to : ℕ)
+    → EachTrusted P xs → Contains xs (Trusted from to) → P from to
+each-contains P [] from to p (k, l, e) = absurd (omega arith)
+each-contains P (Trusted a b ∷ xs) from to p (zero, l, e) = grind (arith, nat_tests)
+each-contains P (Trusted a b ∷ xs) from to p (suc k, l, e) =
+    each-contains P xs from to p.1 (k, omega arith, e)
+each-contains P (Told f ∷ xs) from to p (zero, l, e) = cc
+each-contains P (Told f ∷ xs) from to p (suc k, l, e) =
+    each-contains P xs from to p (k, omega arith, e)
+each-contains P (Ended rule f ∷ xs) from to p (zero, l, e) = cc
+each-contains P (Ended rule f ∷ xs) from to p (suc k, l, e) =
+    each-contains P xs from to p (k, omega arith, e)
+
+-- Events without what is trusted begin with none of these.
+no_head : (es ys : List Event) (from to : ℕ) → untrusted es ≡ Trusted from to ∷ ys → ⊥
+no_head [] ys from to e = cc
+no_head (Trusted a b ∷ es) ys from to e = no_head es ys from to e
+no_head (Told f ∷ es) ys from to e = cc
+no_head (Ended rule f ∷ es) ys from to e = cc
+
+-- Where there are none, it holds of each.
+pub each-plain : (P : ℕ → ℕ → Type 0) (es : List Event) → IsPlain es → EachTrusted P es
+each-plain P [] plain = tt
+each-plain P (Trusted from to ∷ es) plain = absurd (no_head es es from to plain)
+each-plain P (Told f ∷ es) plain = let rest : untrusted es ≡ es = cc in each-plain P es rest
+each-plain P (Ended rule f ∷ es) plain = let rest : untrusted es ≡ es = cc in each-plain P es rest
+
+-- What is trusted before a frame.
+pub each-put : (P : ℕ → ℕ → Type 0) (run : Option ℕ) (x : ℕ)
+    → ((from : ℕ) → run ≡ Some from → from < x → P from (x - 1))
+    → EachTrusted P (trusted run x)
+each-put P None x h = tt
+each-put P (Some from) x h = below (nat_lt from x) refl
+  where
+    below : (b : Bool) → nat_lt from x ≡ b
+        → EachTrusted P (cond b (Trusted from (x - 1) ∷ []) [])
+    below true is = (h from refl (ltb-true from x is), tt)
+    below false is = tt
+
+module _ (P : ℕ → ℕ → Type 0) (last : ℕ) (run : Option ℕ) where
+  -- An event that may end the run, and then others.
+  with_event : (d : Option ℕ) (e : Event) (es : List Event)
+      → IsPlain es
+      → ((l : List Event) → EachTrusted P l → EachTrusted P (e ∷ l))
+      → (d ≡ None → EachTrusted P (with_run last run es))
+      → ((x from : ℕ) → d ≡ Some x → run ≡ Some from → from < x → P from (x - 1))
+      → EachTrusted P (trusted_before run d ++ e ∷ with_run last (kept run d) es)
+  with_event None e es plain one rest h = one _ (rest refl)
+  with_event (Some x) e es plain one rest h =
+      each-append P (trusted run x) (e ∷ with_run last None es)
+      (each-put P run x (λ from is l. h x from refl is l))
+      (one _ (subst (EachTrusted P) (sym (with_run-none last es)) (each-plain P es plain)))
+
+  -- Of events with a run put into them it holds where it does of the run, up to the frame that is
+  -- quiet no more.
+  pub trusted_in_run : (es : List Event)
+      → IsPlain es
+      → ((x from : ℕ)
+      → first_doubt last es ≡ Some x
+      → run ≡ Some from
+      → from < x
+      → P from (x - 1))
+      → EachTrusted P (with_run last run es)
+  unfolding with_run
+  trusted_in_run [] plain h = tt
+  trusted_in_run (Trusted from to ∷ es) plain h = absurd (no_head es es from to plain)
+  trusted_in_run (Told f ∷ es) plain h =
+      let rest : untrusted es ≡ es = cc in
+      with_event (doubted last (Told f)) (Told f) es rest (λ l p. p)
+      (λ none. trusted_in_run es rest
+      (λ x from is. h x from (ap (λ d. or_else d (first_doubt last es)) none ∙ is)))
+      (λ x from is. h x from (ap (λ d. or_else d (first_doubt last es)) is))
+  trusted_in_run (Ended rule f ∷ es) plain h =
+      let rest : untrusted es ≡ es = cc in
+      with_event (doubted last (Ended rule f)) (Ended rule f) es rest (λ l p. p)
+      (λ none. trusted_in_run es rest
+      (λ x from is. h x from (ap (λ d. or_else d (first_doubt last es)) none ∙ is)))
+      (λ x from is. h x from (ap (λ d. or_else d (first_doubt last es)) is))

@@ -1,0 +1,517 @@
+-- What a run of quiet frames holds, `run_is`, and what is so of each that is told as trusted where
+-- it is over: `all_stay`.
+use Rattle.std.proofs.lemmas.Bool.Decides.{nat_tests}
+use Rattle.std.proofs.Common.{◌≡◌, ℕ, zero, suc, ◌+◌, ◌-◌, ◌<◌, ◌≤◌, ◌⊎◌, inl, inr, ◌&&◌, ◌==◌, Bool}
+use Rattle.std.proofs.Common.{true, false, not, nat_lt, List, [], ◌∷◌, ◌++◌, length, take, get_or, map}
+use Rattle.std.proofs.Common.{Option, Some, None, is_none, IsTrue, IsFalse, refl, sym, ap, ◌∙◌, subst}
+use Rattle.std.proofs.Common.{arith, slice_index_or, cond}
+use Rattle.std.specs.List.{list_any}
+use Rattle.std.proofs.lemmas.Bool.{cases_lt, cases_eq, lt-ltb, ltb-true}
+use Rattle.std.proofs.lemmas.List.{length-take-le, take-take}
+use Rattle.std.proofs.lemmas.List.Folds.{list_any-append}
+use Rattle.ttx_page.specs.PacketKind.{kind}
+use Rattle.ttx_page.specs.Span.{holds_header}
+use Rattle.sub_rules.specs.Events.{Standing, end_before, events, events_at_end, events_of_first}
+use Rattle.sub_rules.specs.Events.{is_gap, is_incomplete}
+use Rattle.sub_rules.specs.Events.{first_header_events, frame_events, gap_events, gap_length, latest}
+use Rattle.sub_rules.specs.Events.{order_events, packet_events, standing_at, standing_before}
+use Rattle.sub_rules.specs.FrameRules.{HasHeader, Task, end_frame, frame_at, packets_before}
+use Rattle.sub_rules.specs.FrameRules.{IsEnded, Unread, packets_of_frame, task_of}
+use Rattle.sub_rules.specs.PacketTests.{breaks}
+use Rattle.sub_rules.specs.Transmission.{IsRising, SentFrame, Transmission, packets_of}
+use Rattle.sub_rules.specs.Trusted.{all_events, all_events_of_first, begun, doubted, frame_before}
+use Rattle.sub_rules.specs.Trusted.{is_order, is_quiet, last_trusted, own_events, run_after, run_over}
+use Rattle.sub_rules.specs.Trusted.{stands_none, tells_none, trust_end, trusted}
+use Rattle.sub_rules.specs.declared.event.Event.{Event}
+use Rattle.sub_rules.specs.declared.packet_rule.PacketRule.{PacketRule}
+use Rattle.sub_rules.proofs.EndLemmas.{gap_length-is}
+use Rattle.sub_rules.proofs.TrustedLemmas.{plain_closing, plain_frame}
+use Rattle.sub_laws.specs.CleanStretch.{AtEnds, IsClean, IsEnd, IsStretch, IsUntold, is_needed}
+use Rattle.sub_laws.specs.TrustedFrames.{LawOfTrusted, rises_at, rising_count, rising_part}
+use Rattle.sub_laws.proofs.CleanStretchLemmas.{law_of_clean_stretch}
+use Rattle.sub_laws.proofs.GoodLemmas.{any_sent, number_at}
+use Rattle.sub_laws.proofs.UntoldLemmas.{law_of_untold_stretch}
+use Rattle.sub_laws.proofs.DoubtLemmas.{EachTrusted, doubt-append, doubt-none, each-append}
+use Rattle.sub_laws.proofs.DoubtLemmas.{each-contains, each-plain, each-put, first_doubt, or_else}
+use Rattle.sub_laws.proofs.DoubtLemmas.{over-some, trusted_in_run}
+use Rattle.sub_laws.proofs.FrameDoubtLemmas.{AreQuiet, end_doubt, gap_doubt, header_doubt}
+use Rattle.sub_laws.proofs.FrameDoubtLemmas.{or_none, order_doubt, packets_doubt, rises_of}
+use Rattle.sub_laws.proofs.PrefixLemmas.{before, first-same, last-same, packet_at, rises_strictly}
+use Rattle.sub_laws.proofs.RisingEndLemmas.{latest_at}
+
+module _ (g : Task) (frames : Transmission) where
+  -- The first n frames of the list rise.
+  abbrev pub RiseTo : ℕ → Type 0
+  RiseTo n = (i : ℕ) → 0 < i → i < n → frame_at frames (i - 1) < frame_at frames i
+
+  -- Then no frame is after a later one.
+  pub up_to : (n : ℕ) → RiseTo n → (i j : ℕ) → i ≤ j → j < n → frame_at frames i ≤ frame_at frames j
+  up_to n rises i zero l m = let same : i ≡ 0 = omega arith in
+      let e = ap (frame_at frames) same in omega arith
+  up_to n rises i (suc j) l m = elim (cases_eq i (suc j)) [
+    | inl same ↦ let e = ap (frame_at frames) same in omega arith
+    | inr other ↦
+        let back : suc j - 1 ≡ j = omega arith in
+        let one = rises (suc j) (omega arith) m in
+        let e = ap (frame_at frames) back in
+        let rest = up_to n rises i j (omega arith) (omega arith) in
+        omega arith
+  ]
+
+  -- No end of a frame from one up to another, that one left out, up to which n frames of the list
+  -- count at the most, finds anything broken.
+  abbrev pub EndsQuiet : ℕ → ℕ → ℕ → Type 0
+  EndsQuiet n from x =
+      (m f : ℕ)
+      → IsEnd frames m f
+      → m ≤ n
+      → from ≤ f
+      → f < x
+      → stands_none (standing_at g frames m f) ≡ true
+
+  -- The frames from j on, of the first n of the list, break no rule on which a receiver depends.
+  abbrev pub PacketsQuiet : ℕ → ℕ → Type 0
+  PacketsQuiet n j =
+      (r : PacketRule) (i k : ℕ)
+      → is_needed r ≡ true
+      → j ≤ i
+      → i < n
+      → k < length (packets_of_frame frames i)
+      → breaks r g.watched (before frames i k) (packet_at frames i k) ≡ false
+
+  -- A run of quiet frames up to the last of the first n frames of the list, and the frame of its
+  -- first header of the page.
+  pub record Run (n from : ℕ) : Type 0 where
+    pub j : ℕ
+    pub below : j < n
+    pub at : frame_at frames j ≡ from
+    pub header : HasHeader g frames j
+    pub rises : RiseTo n
+    pub packets : PacketsQuiet n j
+    pub ends : EndsQuiet n from (frame_at frames (n - 1) + 1)
+
+  -- ---- one frame more
+
+  -- An end up to which fewer than n frames count is not after the last of these.
+  end_low : (n : ℕ) → RiseTo n → (m f : ℕ) → IsEnd frames m f → m < n
+      → f ≤ frame_at frames (n - 1)
+  end_low n rises m f (some, within, inl is) l =
+      let up = up_to n rises (m - 1) (n - 1) (omega arith) (omega arith) in omega arith
+  end_low n rises m f (some, within, inr (there, high, low)) l =
+      let up = up_to n rises m (n - 1) (omega arith) (omega arith) in omega arith
+
+  module _ (n : ℕ) (quiet : is_quiet g frames n ≡ true) where
+    parts_quiet : (list_any is_order (events_of_first g frames (suc n)) ≡ false)
+        × (first_doubt (frame_before frames n) (own_events g frames n) ≡ None)
+        × (stands_none (standing_at g frames (suc n) (frame_at frames n)) ≡ true)
+    unfolding is_quiet
+    parts_quiet =
+        let none = doubt-none (frame_before frames n) (own_events g frames n) in
+        grind (arith, nat_tests)
+
+    rises_on : RiseTo (suc n)
+    rises_on = rises_of g frames (suc n) parts_quiet.0
+
+    -- Its packets.
+    own_packets : (r : PacketRule) (k : ℕ) → is_needed r ≡ true
+        → k < length (packets_of_frame frames n)
+        → breaks r g.watched (before frames n k) (packet_at frames n k) ≡ false
+    own_packets r k needed l =
+        let last : ℕ = frame_before frames n in
+        let packets : List Event = packet_events g.watched (frame_at frames n)
+        (packets_before frames n) (packets_of_frame frames n)
+        (length (packets_of_frame frames n)) in
+        let header : List Event = first_header_events g frames n in
+        let end : List Event = events_at_end g frames n (suc n) (frame_at frames n) in
+        let one = or_none _ _ (sym (doubt-append last (packets ++ header) end) ∙ parts_quiet.1) in
+        let two = or_none _ _ (sym (doubt-append last packets header) ∙ one.0) in
+        (packets_doubt last g.watched (frame_at frames n) (packets_before frames n)
+        (packets_of_frame frames n) (length (packets_of_frame frames n))).quiet two.0 r k needed l
+
+    -- An end of the frame, up to which one frame more counts.
+    own_end : (m f : ℕ) → IsEnd frames m f → m ≤ suc n → n < m → f ≤ frame_at frames n
+        → stands_none (standing_at g frames m f) ≡ true
+    own_end m f (some, within, inl is) l more high =
+        let same : suc n ≡ m = omega arith in
+        let back : n ≡ m - 1 = omega arith in
+        let at : frame_at frames n ≡ f = ap (frame_at frames) back ∙ sym is in
+        subst (λ k. stands_none (standing_at g frames m k) ≡ true) at
+        (subst (λ k. stands_none (standing_at g frames k (frame_at frames n)) ≡ true) same
+        parts_quiet.2)
+    own_end m f (some, within, inr (there, below, later)) l more high =
+        let after = later n more in absurd (omega arith)
+
+    -- A run that begins here.
+    run_begins : holds_header (kind g.watched.page) (packets_of_frame frames n) ≡ true
+        → Run (suc n) (frame_at frames n)
+    run_begins header = record {
+      j = n;
+      below = omega arith;
+      at = refl;
+      header = header;
+      rises = rises_on;
+      packets = λ r i k needed low high l.
+          let same : n ≡ i = omega arith in
+          subst (λ (i : ℕ). k < length (packets_of_frame frames i)
+          → breaks r g.watched (before frames i k) (packet_at frames i k) ≡ false) same
+          (own_packets r k needed) l;
+      ends = λ m f end within low high. elim (cases_lt n m) [
+        | inl more ↦
+            own_end m f end within more
+            (let e = ap (frame_at frames) (let b : suc n - 1 ≡ n = omega arith in b) in omega arith)
+        | inr fewer ↦ absurd (early m f end (omega arith) low)
+      ];
+    }
+      where
+        early : (m f : ℕ) → IsEnd frames m f → m ≤ n → frame_at frames n ≤ f → ⊥
+        early m f (some, within, inl is) l low =
+            let up = up_to (suc n) rises_on (m - 1) (n - 1) (omega arith) (omega arith) in
+            let one = rises_on n (omega arith) (omega arith) in
+            omega arith
+        early m f (some, within, inr (there, below, later)) l low =
+            let up = up_to (suc n) rises_on m n l (omega arith) in omega arith
+
+    -- A run that goes on.
+    run_goes_on : (from : ℕ) → 0 < n → n < length frames → Run n from
+        → ((m f : ℕ) → IsEnd frames m f → m ≡ n → frame_at frames (n - 1) < f → f < frame_at frames n
+        → stands_none (standing_at g frames m f) ≡ true)
+        → Run (suc n) from
+    run_goes_on from some there run gap = record {
+      j = run.j;
+      below = let l = run.below in omega arith;
+      at = run.at;
+      header = run.header;
+      rises = rises_on;
+      packets = λ r i k needed low high l. elim (cases_lt i n) [
+        | inl earlier ↦ run.packets r i k needed low earlier l
+        | inr no_less ↦
+            let same : n ≡ i = omega arith in
+            subst (λ (i : ℕ). k < length (packets_of_frame frames i)
+            → breaks r g.watched (before frames i k) (packet_at frames i k) ≡ false) same
+            (own_packets r k needed) l
+      ];
+      ends = λ m f end within low high. elim (cases_lt n m) [
+        | inl more ↦
+            own_end m f end within more
+            (let e = ap (frame_at frames) (let b : suc n - 1 ≡ n = omega arith in b) in omega arith)
+        | inr fewer ↦ elim (cases_lt (frame_at frames (n - 1)) f) [
+          | inr no_later ↦ run.ends m f end (omega arith) low (omega arith)
+          | inl later ↦ elim (cases_lt m n) [
+            | inl before ↦ let early = end_low n run.rises m f end before in absurd (omega arith)
+            | inr all ↦
+                let same : m ≡ n = omega arith in
+                gap m f end same later (in_gap m f end same later)
+          ]
+        ]
+      ];
+    }
+      where
+        in_gap : (m f : ℕ) → IsEnd frames m f → m ≡ n → frame_at frames (n - 1) < f
+            → f < frame_at frames n
+        in_gap m f (some, within, inl is) same later =
+            let e = ap (λ k. frame_at frames (k - 1)) same in absurd (omega arith)
+        in_gap m f (some, within, inr (there, below, low)) same later =
+            let e = ap (frame_at frames) same in omega arith
+
+  -- ---- what is told of the next frame
+
+  module _ (i : ℕ) (there : suc i < length frames) (from : ℕ) (run : Run (suc i) from) where
+    abbrev n : ℕ
+    n = suc i
+
+    some : 0 < suc i
+    some = omega arith
+
+    last_is : frame_at frames (suc i - 1) ≡ frame_at frames i
+    last_is = ap (frame_at frames) (omega arith)
+
+    latest_is : latest frames n ≡ frame_at frames (n - 1)
+    latest_is = latest_at frames n run.rises some
+
+    from_low : from ≤ frame_at frames (n - 1)
+    from_low =
+        let at = run.at in
+        let below = run.below in
+        let up = up_to n run.rises run.j (n - 1) (omega arith) (omega arith) in
+        omega arith
+
+    stood : stands_none (standing_at g frames n (frame_at frames (n - 1))) ≡ true
+    stood =
+        run.ends n (frame_at frames (n - 1)) (some, omega arith, inl refl) (omega arith) from_low
+        (omega arith)
+
+    abbrev Quiet : ℕ → Type 0
+    Quiet k = AreQuiet g frames n some latest_is stood k
+
+    -- The ends of the frames of the day before it, where they are quiet.
+    gap_ends : (k : ℕ) → Quiet k → EndsQuiet n from (latest frames n + suc k)
+    gap_ends k quiet m f end within low high = elim (cases_lt (frame_at frames (n - 1)) f) [
+      | inr no_later ↦ run.ends m f end within low (omega arith)
+      | inl later ↦ elim (cases_lt m n) [
+        | inl before ↦ let early = end_low n run.rises m f end before in absurd (omega arith)
+        | inr all ↦
+            let same : n ≡ m = omega arith in
+            let place : latest frames n + suc (f - (latest frames n + 1)) ≡ f =
+            let l = latest_is in omega arith in
+            subst (λ k. stands_none (standing_at g frames k f) ≡ true) same
+            (subst (λ x. stands_none (standing_at g frames n x) ≡ true) place
+            (quiet (f - (latest frames n + 1)) (let l = latest_is in omega arith)))
+      ]
+    ]
+
+    -- What is told of it, part by part.
+    abbrev last : ℕ
+    last = frame_before frames n
+
+    abbrev order : List Event
+    order = order_events g frames n
+
+    abbrev gap : List Event
+    gap = gap_events g frames n (gap_length frames n)
+
+    abbrev packets : List Event
+    packets = packet_events g.watched (frame_at frames n) (packets_before frames n)
+        (packets_of_frame frames n) (length (packets_of_frame frames n))
+
+    abbrev header : List Event
+    header = first_header_events g frames n
+
+    abbrev end : List Event
+    end = events_at_end g frames n (suc n) (frame_at frames n)
+
+    frame_doubt : first_doubt last (frame_events g frames n)
+        ≡ or_else (or_else (or_else (or_else (first_doubt last order) (first_doubt last gap))
+        (first_doubt last packets)) (first_doubt last header)) (first_doubt last end)
+    unfolding frame_events
+    frame_doubt =
+        doubt-append last (order ++ gap ++ packets ++ header) end
+        ∙ ap (λ d. or_else d (first_doubt last end))
+        (doubt-append last (order ++ gap ++ packets) header
+        ∙ ap (λ d. or_else d (first_doubt last header))
+        (doubt-append last (order ++ gap) packets
+        ∙ ap (λ d. or_else d (first_doubt last packets)) (doubt-append last order gap)))
+
+    long : frame_at frames i < frame_at frames n
+        → latest frames n + suc (gap_length frames n) ≡ frame_at frames n
+    long up =
+        let l = latest_is in
+        let e = last_is in
+        let length_is = gap_length-is frames n some in
+        omega arith
+
+    -- No frame is quiet no more: so are the ends before it.
+    gap_quiet : first_doubt last (frame_events g frames n) ≡ None
+        → (m f : ℕ) → IsEnd frames m f → m ≡ n → frame_at frames (n - 1) < f → f < frame_at frames n
+        → stands_none (standing_at g frames m f) ≡ true
+    gap_quiet none m f at same later high =
+        let all = or_none _ _ (sym frame_doubt ∙ none) in
+        let three = or_none _ _ all.0 in
+        let two = or_none _ _ three.0 in
+        let one = or_none _ _ two.0 in
+        let up = (order_doubt g frames last i).1 one.0 in
+        let whole = long up in
+        let low = from_low in
+        gap_ends (gap_length frames n)
+        ((gap_doubt g frames n some latest_is stood last (gap_length frames n)).quiet one.1)
+        m f at (omega arith) (omega arith) (omega arith)
+
+    -- One is: what is so of those before it.
+    pub record Ended (x : ℕ) : Type 0 where
+      pub ends : EndsQuiet n from x
+      pub high :
+          ((frame_at frames (n - 1) < frame_at frames n) × (x ≤ frame_at frames n))
+          ⊎ (x ≤ frame_at frames (n - 1))
+
+    ended_in_gap : frame_at frames i < frame_at frames n → (k x : ℕ) → k ≤ gap_length frames n
+        → x ≡ latest frames n + suc k → Quiet k → Ended x
+    ended_in_gap up k x l is quiet =
+        let whole = long up in
+        let e = last_is in
+        record {
+          ends = subst (EndsQuiet n from) (sym is) (gap_ends k quiet);
+          high = inl (omega arith, omega arith);
+        }
+
+    pub ended : (x : ℕ) → first_doubt last (frame_events g frames n) ≡ Some x → Ended x
+    unfolding frame_before
+    ended x e = by_order (first_doubt last order) refl
+      where
+        packets_at : (x : ℕ) → first_doubt last packets ≡ Some x → x ≡ frame_at frames n
+        packets_at =
+            (packets_doubt last g.watched (frame_at frames n) (packets_before frames n)
+            (packets_of_frame frames n) (length (packets_of_frame frames n))).at
+        end_at : (x : ℕ) → first_doubt last end ≡ Some x → x ≡ frame_at frames n
+        end_at =
+            (end_doubt last (standing_before g frames n (frame_at frames n))
+            (end_before frames n (frame_at frames n))
+            (standing_at g frames (suc n) (frame_at frames n)) (frame_at frames n)).at
+        own : (p h q : Option ℕ) → first_doubt last packets ≡ p → first_doubt last header ≡ h
+            → first_doubt last end ≡ q
+            → or_else (or_else p h) q ≡ Some x
+            → x ≡ frame_at frames n
+        own (Some y) h q is none at e = packets_at x (is ∙ e)
+        own None (Some y) q is none at e =
+            let clash = header_doubt g frames last n in cc
+        own None None q is none at e = end_at x (at ∙ e)
+        by_gap : frame_at frames i < frame_at frames n → first_doubt last order ≡ None
+            → (d : Option ℕ) → first_doubt last gap ≡ d → Ended x
+        by_gap up none (Some y) is =
+            let same : Some y ≡ Some x = rw (frame_doubt, none, is) at e in
+            let found =
+            (gap_doubt g frames n some latest_is stood last (gap_length frames n)).at x
+            (is ∙ same) in
+            ended_in_gap up found.0 x (let l = found.1 in omega arith) found.2 found.3
+        by_gap up none None is =
+            let whole = long up in
+            let at = own (first_doubt last packets) (first_doubt last header)
+            (first_doubt last end) refl refl refl (rw (frame_doubt, none, is) at e) in
+            ended_in_gap up (gap_length frames n) x (omega arith) (omega arith)
+            ((gap_doubt g frames n some latest_is stood last (gap_length frames n)).quiet is)
+        by_order : (d : Option ℕ) → first_doubt last order ≡ d → Ended x
+        by_order None is =
+            by_gap ((order_doubt g frames last i).1 is) is (first_doubt last gap) refl
+        by_order (Some y) is =
+            let same : Some y ≡ Some x = rw (frame_doubt, is) at e in
+            let at : x ≡ frame_at frames i = (order_doubt g frames last i).0 x (is ∙ same) in
+            let back = last_is in
+            record {
+              ends = λ m f end within low high.
+                  run.ends m f end within low (omega arith);
+              high = inr (omega arith);
+            }
+
+  -- ---- the run after each frame
+
+  -- A run that goes on, by what is told of the frame.
+  goes_on : (n from : ℕ) → n < length frames
+      → is_quiet g frames n ≡ true
+      → run_after g frames n ≡ Some from
+      → Run n from
+      → first_doubt (frame_before frames n) (frame_events g frames n) ≡ None
+      → Run (suc n) from
+  unfolding run_after
+  goes_on zero from there quiet kept run none = cc
+  goes_on (suc i) from there quiet kept run none =
+      run_goes_on (suc i) quiet from (omega arith) there run (gap_quiet i there from run none)
+
+  -- A run that is kept is one.
+  pub run_is : (n from : ℕ) → n ≤ length frames → run_after g frames n ≡ Some from → Run n from
+  unfolding run_after
+  run_is zero from l e = cc
+  run_is (suc k) from l e =
+      by_quiet (λ kept. run_is k from (omega arith) kept) (is_quiet g frames k) refl
+    where
+      by_run : (run_after g frames k ≡ Some from → Run k from)
+          → is_quiet g frames k ≡ true → (o : Option ℕ)
+          → run_over (frame_before frames k) (run_after g frames k) (frame_events g frames k) ≡ o
+          → (h : Bool) → holds_header (kind g.watched.page) (packets_of_frame frames k) ≡ h
+          → begun o h (frame_at frames k) ≡ Some from
+          → Run (suc k) from
+      by_run before quiet None is true holds e =
+          let same : frame_at frames k ≡ from = cc in
+          subst (Run (suc k)) same (run_begins k quiet holds)
+      by_run before quiet None is false holds e = cc
+      by_run before quiet (Some f) is h holds e =
+          let same : f ≡ from = cc in
+          let left = over-some (frame_before frames k) (run_after g frames k)
+          (frame_events g frames k) from (is ∙ ap (λ x. Some x) same) in
+          goes_on k from (omega arith) quiet left.0 (before left.0) left.1
+      by_quiet : (run_after g frames k ≡ Some from → Run k from)
+          → (b : Bool) → is_quiet g frames k ≡ b → Run (suc k) from
+      by_quiet before true quiet =
+          by_run before quiet
+          (run_over (frame_before frames k) (run_after g frames k) (frame_events g frames k)) refl
+          (holds_header (kind g.watched.page) (packets_of_frame frames k)) refl
+          (rw quiet at e)
+      by_quiet before false other = let none = rw other at e in cc
+
+  -- ---- what is told as trusted
+
+  -- The frames from one up to another, that one left out, are those of a run.
+  pub record Stays (from x : ℕ) : Type 0 where
+    pub n : ℕ
+    pub within : n ≤ length frames
+    pub run : Run n from
+    pub before : from < x
+    pub ends : EndsQuiet n from x
+    pub next :
+        n < length frames
+        → ((frame_at frames (n - 1) < frame_at frames n) × (x ≤ frame_at frames n))
+        ⊎ (x ≤ frame_at frames (n - 1))
+    pub last : n ≡ length frames → x ≤ end_frame frames + 1
+
+  abbrev pub StaysTo : ℕ → ℕ → Type 0
+  StaysTo from to = Stays from (to + 1)
+
+  frame_stays : (n : ℕ) → n < length frames → (x from : ℕ)
+      → first_doubt (frame_before frames n) (frame_events g frames n) ≡ Some x
+      → run_after g frames n ≡ Some from
+      → from < x
+      → StaysTo from (x - 1)
+  unfolding run_after
+  frame_stays zero there x from e run l = cc
+  frame_stays (suc i) there x from e run l =
+      let before = run_is (suc i) from (omega arith) run in
+      let over = ended i there from before x e in
+      let same : x ≡ x - 1 + 1 = omega arith in
+      subst (Stays from) same (record {
+        n = suc i;
+        within = omega arith;
+        run = before;
+        before = l;
+        ends = over.ends;
+        next = λ there. over.high;
+        last = λ all. absurd (omega arith);
+      })
+
+  first_stay : (n : ℕ) → n ≤ length frames
+      → EachTrusted StaysTo (all_events_of_first g frames n)
+  unfolding all_events_of_first
+  first_stay zero l = tt
+  first_stay (suc n) l =
+      each-append StaysTo (all_events_of_first g frames n) _ (first_stay n (omega arith))
+      (trusted_in_run StaysTo (frame_before frames n) (run_after g frames n)
+      (frame_events g frames n) (plain_frame g frames n)
+      (λ x from e run below. frame_stays n (omega arith) x from e run below))
+
+  end_low-trusted : (u : Option Unread) (f : ℕ) → trust_end u f ≤ f + 1
+  end_low-trusted None f = omega arith
+  end_low-trusted (Some u) f = omega arith
+
+  last_run : (from : ℕ)
+      → run_after g frames (length frames) ≡ Some from
+      → from < trust_end g.unread (end_frame frames)
+      → StaysTo from (trust_end g.unread (end_frame frames) - 1)
+  last_run from e l =
+      let x : ℕ = trust_end g.unread (end_frame frames) in
+      let same : x ≡ x - 1 + 1 = omega arith in
+      let run = run_is (length frames) from (omega arith) e in
+      let low = end_low-trusted g.unread (end_frame frames) in
+      subst (Stays from) same (record {
+        n = length frames;
+        within = omega arith;
+        run = run;
+        before = l;
+        ends = λ m f end within from_low high. run.ends m f end within from_low (omega arith);
+        next = λ there. absurd (omega arith);
+        last = λ all. low;
+      })
+
+  last_stays : EachTrusted StaysTo (last_trusted g frames)
+  unfolding last_trusted
+  last_stays = go (tells_none (events g frames))
+    where
+      go : (b : Bool)
+          → EachTrusted StaysTo (cond b [] (trusted (run_after g frames (length frames))
+          (trust_end g.unread (end_frame frames))))
+      go true = tt
+      go false = each-put StaysTo _ _ last_run
+
+  pub all_stay : EachTrusted StaysTo (all_events g frames)
+  unfolding all_events
+  all_stay =
+      each-append StaysTo
+      (all_events_of_first g frames (length frames) ++ last_trusted g frames) _
+      (each-append StaysTo (all_events_of_first g frames (length frames)) (last_trusted g frames)
+      (first_stay (length frames) (omega arith)) last_stays)
+      (each-plain StaysTo _ (plain_closing g frames (length frames)))
