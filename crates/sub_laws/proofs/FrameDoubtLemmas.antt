@@ -1,9 +1,9 @@
 -- What is told of a frame of the list, part by part: which frame is quiet no more by it, and what
 -- is quiet where none is. Main lemmas: rises_of, gap_doubt, packets_doubt, end_doubt.
 use Rattle.std.proofs.lemmas.Bool.Decides.{nat_tests}
-use Rattle.std.proofs.Common.{◌≡◌, ℕ, zero, suc, ◌+◌, ◌-◌, ◌<◌, ◌≤◌, ◌&&◌, ◌||◌, inl, inr, Bool, true, false}
-use Rattle.std.proofs.Common.{nat_lt, cond, not, List, [], ◌∷◌, ◌++◌, length, map, take, get_or}
-use Rattle.std.proofs.Common.{Option, Some, None, is_some, is_none, IsTrue, refl, sym, ap, ◌∙◌}
+use Rattle.std.proofs.Common.{◌≡◌, ℕ, zero, suc, ◌+◌, ◌-◌, ◌<◌, inl, inr, Bool, true, false}
+use Rattle.std.proofs.Common.{nat_lt, cond, List, [], ◌∷◌, ◌++◌, map, take, get_or}
+use Rattle.std.proofs.Common.{Option, Some, None, is_none, refl, sym, ap, ◌∙◌}
 use Rattle.std.proofs.Common.{subst, arith}
 use Rattle.std.specs.List.{filter, list_any}
 use Rattle.std.specs.Prelude.{⊤}
@@ -17,7 +17,7 @@ use Rattle.sub_rules.specs.Events.{rules_told, standing_at, standing_before}
 use Rattle.sub_rules.specs.FrameRules.{Task, frame_at}
 use Rattle.sub_rules.specs.PacketTests.{breaks, broken_rules, packet_rules}
 use Rattle.sub_rules.specs.Transmission.{Transmission}
-use Rattle.sub_rules.specs.Trusted.{doubted, frame_before, is_order, stands_none}
+use Rattle.sub_rules.specs.Trusted.{doubted, is_order, stands_none}
 use Rattle.sub_rules.specs.declared.event.EndRule.TheVariants as end
 use Rattle.sub_rules.specs.declared.event.Event.{Event}
 use Rattle.sub_rules.specs.declared.event.Event.TheVariants.{Told}

@@ -1,42 +1,35 @@
 -- What a run of quiet frames holds, `run_is`, and what is so of each that is told as trusted where
 -- it is over: `all_stay`.
 use Rattle.std.proofs.lemmas.Bool.Decides.{nat_tests}
-use Rattle.std.proofs.Common.{◌≡◌, ℕ, zero, suc, ◌+◌, ◌-◌, ◌<◌, ◌≤◌, ◌⊎◌, inl, inr, ◌&&◌, ◌==◌, Bool}
-use Rattle.std.proofs.Common.{true, false, not, nat_lt, List, [], ◌∷◌, ◌++◌, length, take, get_or, map}
-use Rattle.std.proofs.Common.{Option, Some, None, is_none, IsTrue, IsFalse, refl, sym, ap, ◌∙◌, subst}
-use Rattle.std.proofs.Common.{arith, slice_index_or, cond}
+use Rattle.std.proofs.Common.{◌≡◌, ℕ, zero, suc, ◌+◌, ◌-◌, ◌<◌, ◌≤◌, ◌⊎◌, inl, inr, Bool}
+use Rattle.std.proofs.Common.{true, false, List, [], ◌++◌, length}
+use Rattle.std.proofs.Common.{Option, Some, None, refl, sym, ap, ◌∙◌, subst}
+use Rattle.std.proofs.Common.{arith, cond}
 use Rattle.std.specs.List.{list_any}
-use Rattle.std.proofs.lemmas.Bool.{cases_lt, cases_eq, lt-ltb, ltb-true}
-use Rattle.std.proofs.lemmas.List.{length-take-le, take-take}
-use Rattle.std.proofs.lemmas.List.Folds.{list_any-append}
+use Rattle.std.proofs.lemmas.Bool.{cases_lt, cases_eq}
 use Rattle.ttx_page.specs.PacketKind.{kind}
 use Rattle.ttx_page.specs.Span.{holds_header}
-use Rattle.sub_rules.specs.Events.{Standing, end_before, events, events_at_end, events_of_first}
-use Rattle.sub_rules.specs.Events.{is_gap, is_incomplete}
+use Rattle.sub_rules.specs.Events.{end_before, events, events_at_end, events_of_first}
 use Rattle.sub_rules.specs.Events.{first_header_events, frame_events, gap_events, gap_length, latest}
 use Rattle.sub_rules.specs.Events.{order_events, packet_events, standing_at, standing_before}
 use Rattle.sub_rules.specs.FrameRules.{HasHeader, Task, end_frame, frame_at, packets_before}
-use Rattle.sub_rules.specs.FrameRules.{IsEnded, Unread, packets_of_frame, task_of}
+use Rattle.sub_rules.specs.FrameRules.{Unread, packets_of_frame}
 use Rattle.sub_rules.specs.PacketTests.{breaks}
-use Rattle.sub_rules.specs.Transmission.{IsRising, SentFrame, Transmission, packets_of}
-use Rattle.sub_rules.specs.Trusted.{all_events, all_events_of_first, begun, doubted, frame_before}
+use Rattle.sub_rules.specs.Transmission.{Transmission}
+use Rattle.sub_rules.specs.Trusted.{all_events, all_events_of_first, begun, frame_before}
 use Rattle.sub_rules.specs.Trusted.{is_order, is_quiet, last_trusted, own_events, run_after, run_over}
 use Rattle.sub_rules.specs.Trusted.{stands_none, tells_none, trust_end, trusted}
 use Rattle.sub_rules.specs.declared.event.Event.{Event}
 use Rattle.sub_rules.specs.declared.packet_rule.PacketRule.{PacketRule}
 use Rattle.sub_rules.proofs.EndLemmas.{gap_length-is}
 use Rattle.sub_rules.proofs.TrustedLemmas.{plain_closing, plain_frame}
-use Rattle.sub_laws.specs.CleanStretch.{AtEnds, IsClean, IsEnd, IsStretch, IsUntold, is_needed}
-use Rattle.sub_laws.specs.TrustedFrames.{LawOfTrusted, rises_at, rising_count, rising_part}
-use Rattle.sub_laws.proofs.CleanStretchLemmas.{law_of_clean_stretch}
-use Rattle.sub_laws.proofs.GoodLemmas.{any_sent, number_at}
-use Rattle.sub_laws.proofs.UntoldLemmas.{law_of_untold_stretch}
+use Rattle.sub_laws.specs.CleanStretch.{IsEnd, is_needed}
 use Rattle.sub_laws.proofs.DoubtLemmas.{EachTrusted, doubt-append, doubt-none, each-append}
-use Rattle.sub_laws.proofs.DoubtLemmas.{each-contains, each-plain, each-put, first_doubt, or_else}
+use Rattle.sub_laws.proofs.DoubtLemmas.{each-plain, each-put, first_doubt, or_else}
 use Rattle.sub_laws.proofs.DoubtLemmas.{over-some, trusted_in_run}
 use Rattle.sub_laws.proofs.FrameDoubtLemmas.{AreQuiet, end_doubt, gap_doubt, header_doubt}
 use Rattle.sub_laws.proofs.FrameDoubtLemmas.{or_none, order_doubt, packets_doubt, rises_of}
-use Rattle.sub_laws.proofs.PrefixLemmas.{before, first-same, last-same, packet_at, rises_strictly}
+use Rattle.sub_laws.proofs.PrefixLemmas.{before, packet_at}
 use Rattle.sub_laws.proofs.RisingEndLemmas.{latest_at}
 
 module _ (g : Task) (frames : Transmission) where

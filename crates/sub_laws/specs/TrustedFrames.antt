@@ -1,5 +1,5 @@
 -- What is promised of the frames that are told as trusted, whatever is broken elsewhere.
-use Rattle.std.specs.Prelude.{ℕ, zero, suc, ◌==◌, ◌&&◌, nat_lt, Bool, true, List, Contains, length}
+use Rattle.std.specs.Prelude.{ℕ, zero, suc, ◌==◌, ◌&&◌, nat_lt, Bool, true, Contains, length}
 use Rattle.std.specs.Prelude.{take, Option, IsTrue, if◌then◌else◌}
 use Rattle.ttx_page.specs.Receiver.{ReceiverClass}
 use Rattle.stl_rows.specs.Programme.{ProgrammeValue}
