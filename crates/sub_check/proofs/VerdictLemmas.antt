@@ -42,7 +42,7 @@ use Rattle.sub_laws.proofs.GoodLemmas.{rises_each, whole-is}
 use Rattle.sub_laws.proofs.PrefixLemmas.{first-same, last-same}
 use Rattle.sub_laws.proofs.PesFileLemmas.{carried_is_read}
 use Rattle.sub_laws.proofs.PlanLemmas.{law_of_complete_plan, law_of_plan, law_of_plan_read}
-use Rattle.sub_laws.proofs.RisingEndLemmas.{latest_is}
+use Rattle.sub_laws.proofs.RisingEndLemmas.{latest_at}
 use Rattle.sub_laws.proofs.RobustLemmas.{law_of_good}
 use Rattle.sub_rules.specs.Fault.{is_failure, is_failure_kind, is_pes_read, is_subtitle_fault}
 use Rattle.ttx_pes.specs.declared.fault.PesFault.TheVariants as Pes
@@ -167,7 +167,7 @@ module _ (programme : ProgrammeValue) (options : OptionsValue) (is : IsOptions o
         nat_tests,
         first-same frames,
         last-same frames,
-        latest_is frames (rises_each frames good.rising) (length frames),
+        latest_at frames (length frames) (rises_each frames good.rising),
         whole-is frames,
       )
   counts_from bytes frames (Err f) decides carries = tt

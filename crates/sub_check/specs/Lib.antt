@@ -19,7 +19,6 @@ pub use Rattle.sub_laws.specs.OnScreen
 pub use Rattle.sub_laws.specs.Stretch
 pub use Rattle.sub_laws.specs.Sufficient
 pub use Rattle.sub_laws.specs.CleanStretch
-pub use Rattle.sub_laws.specs.ToldStretch
 pub use Rattle.sub_laws.specs.TrustedFrames
 pub use Rattle.sub_laws.specs.Laws
 pub use Rattle.sub_laws.specs.Planned

@@ -8,7 +8,6 @@ pub mod FrameByFrame
 pub mod FrameDoubtLemmas
 pub mod FrameLemmas
 pub mod GoodLemmas
-pub mod NotedLemmas
 pub mod PesFileLemmas
 pub mod PlaceLemmas
 pub mod PlanLemmas
@@ -19,8 +18,6 @@ pub mod RobustLemmas
 pub mod StandingLemmas
 pub mod StepByStepLemmas
 pub mod StretchLemmas
-pub mod ToldListLemmas
-pub mod ToldStretchLemmas
 pub mod TransmissionLemmas
 pub mod TrustedFrameLemmas
 pub mod TrustedRunLemmas

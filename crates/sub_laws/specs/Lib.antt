@@ -9,5 +9,4 @@ pub mod Robust
 pub mod StepByStep
 pub mod Stretch
 pub mod Sufficient
-pub mod ToldStretch
 pub mod TrustedFrames

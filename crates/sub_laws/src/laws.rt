@@ -10,7 +10,6 @@ ghost use Rattle.sub_laws.specs.Planned.{LawOfPlan, LawOfPlanRead};
 ghost use Rattle.sub_laws.specs.StepByStep.{LawOfCleanSpans, LawOfRepeats, LawOfSpansByPacket};
 ghost use Rattle.sub_laws.specs.Stretch.{LawOfWholeRecovery, LawOfWholeStretch};
 ghost use Rattle.sub_laws.specs.Sufficient.{LawOfStretch, LawOfSufficientParts};
-ghost use Rattle.sub_laws.specs.ToldStretch.{LawOfToldStretch};
 ghost use Rattle.sub_laws.specs.TrustedFrames.{LawOfTrusted};
 
 /// A start at any packet of a good transmission meets a header of the page within the repeat bound.
@@ -57,14 +56,6 @@ pub fn law_of_clean_stretch()
 #[tactic(auto, using(crate::proofs::UntoldLemmas::law_of_untold_stretch))]
 pub fn law_of_untold_stretch()
     ensures { LawOfUntoldStretch }
-{}
-
-/// The list of all that is told is enough to find such stretches: it tells of no frame that is not
-/// after the one before, of no packet of the stretch that breaks a rule that a receiver depends on,
-/// and of wrong content and gaps only at frames outside it.
-#[tactic(auto, using(crate::proofs::ToldStretchLemmas::law_of_told_stretch))]
-pub fn law_of_told_stretch()
-    ensures { LawOfToldStretch }
 {}
 
 /// Frames that are told as trusted may stay on air as they are, whatever is broken elsewhere: the
