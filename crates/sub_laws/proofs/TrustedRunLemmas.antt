@@ -10,14 +10,16 @@ use Rattle.std.proofs.lemmas.Bool.{cases_lt, cases_eq}
 use Rattle.ttx_page.specs.PacketKind.{kind}
 use Rattle.ttx_page.specs.Span.{holds_header}
 use Rattle.sub_rules.specs.Events.{end_before, events, events_at_end, events_of_first}
-use Rattle.sub_rules.specs.Events.{first_header_events, frame_events, gap_events, gap_length, latest}
+use Rattle.sub_rules.specs.Events.{first_header_events, frame_events, gap_events, gap_length}
+use Rattle.sub_rules.specs.Events.{latest}
 use Rattle.sub_rules.specs.Events.{order_events, packet_events, standing_at, standing_before}
 use Rattle.sub_rules.specs.FrameRules.{HasHeader, Task, end_frame, frame_at, packets_before}
 use Rattle.sub_rules.specs.FrameRules.{Unread, packets_of_frame}
 use Rattle.sub_rules.specs.PacketTests.{breaks}
 use Rattle.sub_rules.specs.Transmission.{Transmission}
 use Rattle.sub_rules.specs.Trusted.{all_events, all_events_of_first, begun, frame_before}
-use Rattle.sub_rules.specs.Trusted.{is_order, is_quiet, last_trusted, own_events, run_after, run_over}
+use Rattle.sub_rules.specs.Trusted.{is_order, is_quiet, last_trusted, own_events, run_after}
+use Rattle.sub_rules.specs.Trusted.{run_over}
 use Rattle.sub_rules.specs.Trusted.{stands_none, tells_none, trust_end, trusted}
 use Rattle.sub_rules.specs.declared.event.Event.{Event}
 use Rattle.sub_rules.specs.declared.packet_rule.PacketRule.{PacketRule}

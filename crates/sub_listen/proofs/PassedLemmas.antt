@@ -1,7 +1,8 @@
 -- Packets that are passed leave a receiver as it is, `passed_packet`, `passed_header`, and what is
 -- run through then, `run_passed`. The packets that are left, one on: `next_packet`.
 use Rattle.std.proofs.Common.{◌≡◌, ◌≢◌, ℕ, ◌+◌, ◌<◌, ◌&&◌, ◌==◌, Bool, true, false, cond, not, List}
-use Rattle.std.proofs.Common.{◌∷◌, [], Option, Some, None, option_map, length, get_or, drop, refl, sym}
+use Rattle.std.proofs.Common.{◌∷◌, [], Option, Some, None, option_map, length, get_or, drop, refl}
+use Rattle.std.proofs.Common.{sym}
 use Rattle.std.proofs.Common.{ap, ◌∙◌, arith}
 use Rattle.std.proofs.lemmas.Bool.Decides.{nat_tests}
 use Rattle.std.proofs.lemmas.List.{drop_more}

@@ -1,5 +1,6 @@
 -- The table of code words in the order of transmission: word_from_sent, no_word_from_sent.
-use Rattle.std.proofs.Common.{◌≡◌, ℕ, ◌<◌, Bool, ◌||◌, ◌&&◌, true, not, nat_eq, nat_lt, get_or, Some}
+use Rattle.std.proofs.Common.{◌≡◌, ℕ, ◌<◌, Bool, ◌||◌, ◌&&◌, true, not, nat_eq, nat_lt, get_or}
+use Rattle.std.proofs.Common.{Some}
 use Rattle.std.proofs.Common.{◌+◌, ◌*◌, ◌/◌, ◌%◌, inl, inr, zero, suc, List, map, length}
 use Rattle.std.proofs.Common.{slice_index, refl, sym, ap, ◌∙◌, arith, eqb-true}
 use Rattle.std.proofs.lemmas.List.{get_or-map}
@@ -87,7 +88,9 @@ exact_coded_words p b2 b3 b4 b5 b6 b7 b8 b9 k low high =
     ]
 
 -- What the address bytes say.
-pub address_of : (p : List ℕ) (low high : ℕ) → decoded_at p 0 ≡ Some low → decoded_at p 1 ≡ Some high
+pub address_of : (p : List ℕ) (low high : ℕ)
+    → decoded_at p 0 ≡ Some low
+    → decoded_at p 1 ≡ Some high
     → address p
     ≡ Some (record {
       magazine = (low + 0x10 * high) % 8;
@@ -106,5 +109,6 @@ pub coded_header_of : (p : List ℕ) (units tens s1 s2_c4 s3 s4_c6 c7_c10 c11_c1
     → h.control.0 ≡ s2_c4 / 8 + 2 * (s4_c6 / 4) + 8 * c7_c10 + 0x80 * c11_c14
     → coded_header p ≡ Some h
 unfolding coded_header
-coded_header_of p units tens s1 s2_c4 s3 s4_c6 c7_c10 c11_c14 h a b c d e f g i page subcode control =
+coded_header_of p units tens s1 s2_c4 s3 s4_c6 c7_c10 c11_c14 h
+    a b c d e f g i page subcode control =
     rw (a, b, c, d, e, f, g, i, ← page, ← subcode, ← control) refl

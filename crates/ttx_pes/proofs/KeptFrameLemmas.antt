@@ -1,5 +1,6 @@
 -- The units of a data field that is kept, and the value of a packet by them.
-use Rattle.std.proofs.Common.{◌≡◌, ℕ, ◌/◌, ◌<◌, List, ◌+◌, ◌*◌, ◌%◌, ◌≤◌, ◌++◌, [], length, drop, Ok}
+use Rattle.std.proofs.Common.{◌≡◌, ℕ, ◌/◌, ◌<◌, List, ◌+◌, ◌*◌, ◌%◌, ◌≤◌, ◌++◌, [], length, drop}
+use Rattle.std.proofs.Common.{Ok}
 use Rattle.std.proofs.Common.{Err, refl, sym, arith}
 use Rattle.std.proofs.lemmas.List.{drop-drop}
 use Rattle.sub_io.specs.Reading.{AreBytes}

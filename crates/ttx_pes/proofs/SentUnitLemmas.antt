@@ -18,7 +18,8 @@ use Rattle.ttx_pes.proofs.LineOrderLemmas.{last_place-push}
 pub sent_units-push : (field places : List ℕ) (at : ℕ)
     → sent_units field (places ++ at ∷ [])
     ≡ sent_units field places ++ unit_of (take 46 (drop at field)) ∷ []
-sent_units-push field places at = map-append (λ k. unit_of (take 46 (drop k field))) places (at ∷ [])
+sent_units-push field places at =
+    map-append (λ k. unit_of (take 46 (drop k field))) places (at ∷ [])
 
 -- For `take_place`.
 pub ruleset one_more = (sent_units-push, last_place-push, All-push)

@@ -113,8 +113,8 @@ impl ComparingReader {
         }
     }
 
-    /// The PTS of the PES packet given last, in ticks of 90 kHz: 0 before the first packet, at the end
-    /// and after a fault.
+    /// The PTS of the PES packet given last, in ticks of 90 kHz: 0 before the first packet, at the
+    /// end and after a fault.
     pub fn pts(&self) -> u64
         ensures { result ≡ self.now.frame.pts }
     {

@@ -1,5 +1,6 @@
 //! Where the Teletext units of a data field stand, so that they stay in the bytes that carry them.
-ghost use Rattle.std.specs.Prelude.{◌≡◌, ◌+◌, ◌*◌, ◌/◌, ◌<◌, ◌≤◌, [], ◌∷◌, ◌++◌, length, take, drop};
+ghost use Rattle.std.specs.Prelude.{◌≡◌, ◌+◌, ◌*◌, ◌/◌, ◌<◌, ◌≤◌, [], ◌∷◌, ◌++◌, length, take};
+ghost use Rattle.std.specs.Prelude.{drop};
 ghost use Rattle.std.specs.Prelude.{Err, IfErr, IfOk, MatchOption, Ok, OnOk, false, true};
 ghost use Rattle.ttx_pes.specs.DataUnit.{data_unit_size};
 ghost use Rattle.ttx_pes.specs.LineOrder.{last_place, stands_after};
@@ -86,8 +87,8 @@ fn place_after(last: u8, block: &[u8]) -> Option<u8>
     if last < place { Some(place) } else { None }
 }
 
-// Adds the place of a data unit, if it is a Teletext unit. `last` is the place in the order of lines
-// that its own has to come after; answers that of the next one.
+// Adds the place of a data unit, if it is a Teletext unit. `last` is the place in the order of
+// lines that its own has to come after; answers that of the next one.
 #[inline(always)]
 #[tactic(auto, unfolding(crate::specs::Reading::unit_at), using(crate::proofs::SentUnitLemmas::one_more))]
 fn take_place(places: &mut UnitPlaces, last: u8, field: &[u8], place: u16) -> Result<u8, PesFault>

@@ -1,6 +1,7 @@
 -- Each byte is the code word of its number, or none: SentWordLemmas.
 use Rattle.std.proofs.Common.{arith}
-use Rattle.ttx_packet.proofs.SentWordLemmas.{coded_header_of, exact_coded_words, no_word_at, word_at}
+use Rattle.ttx_packet.proofs.SentWordLemmas.{coded_header_of, exact_coded_words, no_word_at}
+use Rattle.ttx_packet.proofs.SentWordLemmas.{word_at}
 use Rattle.ttx_packet.proofs.sent_packet.SentPacket.exact_header.Goals as goal
 
 pub returns-in_err-units : goal.returns-in_err-units

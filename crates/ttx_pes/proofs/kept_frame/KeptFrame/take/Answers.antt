@@ -1,5 +1,6 @@
 -- The value of a packet from its header and its data field: by KeptFrameLemmas.
-use Rattle.std.proofs.Common.{◌≡◌, ◌+◌, ◌<◌, ◌≤◌, length, take, drop, ap, sym, ◌∙◌, arith, refl, rules}
+use Rattle.std.proofs.Common.{◌≡◌, ◌+◌, ◌<◌, ◌≤◌, length, take, drop, ap, sym, ◌∙◌, arith, refl}
+use Rattle.std.proofs.Common.{rules}
 use Rattle.std.proofs.lemmas.List.{length-drop, take_at}
 use Rattle.ttx_pes.specs.SentUnits.{sent_units}
 use Rattle.ttx_pes.proofs.KeptFrameLemmas.{value_kept, value_of_kept, value_refused, value_taken}
