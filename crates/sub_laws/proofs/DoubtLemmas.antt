@@ -5,7 +5,8 @@ use Rattle.std.proofs.Common.{◌≡◌, ℕ, zero, suc, ◌-◌, ◌<◌, Bool,
 use Rattle.std.proofs.Common.{◌++◌, Contains, Option, Some, None, is_some, refl, sym, ap, ◌∙◌}
 use Rattle.std.proofs.Common.{subst}
 use Rattle.std.proofs.Common.{arith, cond}
-use Rattle.std.proofs.lemmas.Bool.{ltb-true}
+use Rattle.std.proofs.lemmas.Bool.{lt-ltb, ltb-true}
+use Rattle.std.proofs.lemmas.List.Elements.{Contains-append_left, Contains-append_right}
 use Rattle.std.specs.List.{list_any}
 use Rattle.std.specs.Prelude.{⊤}
 use Rattle.sub_rules.specs.Trusted.{doubted, kept, run_over, trusted, trusted_before, with_run}
@@ -41,6 +42,28 @@ pub doubt-none : (last : ℕ) (es : List Event)
 doubt-none last [] none = refl
 doubt-none last (e ∷ es) none =
     let rest = doubt-none last es in grind (arith, nat_tests)
+
+-- Of two that say nothing neither does.
+pub or_none : (a b : Option ℕ) → or_else a b ≡ None → (a ≡ None) × (b ≡ None)
+or_none None b e = (refl, e)
+or_none (Some x) b e = cc
+
+-- And back.
+pub none-doubt : (last : ℕ) (es : List Event) → first_doubt last es ≡ None
+    → list_any (λ e. is_some (doubted last e)) es ≡ false
+none-doubt last [] none = refl
+none-doubt last (e ∷ es) none =
+    let parts = or_none (doubted last e) (first_doubt last es) none in
+    rw (parts.0, none-doubt last es parts.1) refl
+
+-- A run stays where none of these says so.
+pub over-none : (last : ℕ) (run : Option ℕ) (es : List Event) → first_doubt last es ≡ None
+    → run_over last run es ≡ run
+unfolding run_over
+over-none last run [] none = refl
+over-none last run (e ∷ es) none =
+    let parts = or_none (doubted last e) (first_doubt last es) none in
+    ap (λ d. run_over last (kept run d) es) parts.0 ∙ over-none last run es parts.1
 
 -- A run that is left was there, and none of these says so.
 pub over-some : (last : ℕ) (run : Option ℕ) (es : List Event) (from : ℕ)
@@ -150,3 +173,22 @@ module _ (P : ℕ → ℕ → Type 0) (last : ℕ) (run : Option ℕ) where
       (λ none. trusted_in_run es rest
       (λ x from is. h x from (ap (λ d. or_else d (first_doubt last es)) none ∙ is)))
       (λ x from is. h x from (ap (λ d. or_else d (first_doubt last es)) is))
+
+-- What is trusted of a run is told where the first of these says that a frame is quiet no more.
+pub told_in_run : (last from x : ℕ) (es : List Event) → first_doubt last es ≡ Some x → from < x
+    → Contains (with_run last (Some from) es) (Trusted from (x - 1))
+unfolding with_run
+told_in_run last from x [] e l = cc
+told_in_run last from x (y ∷ es) e l = go (told_in_run last from x es) (doubted last y) e
+  where
+    go : (first_doubt last es ≡ Some x → from < x
+        → Contains (with_run last (Some from) es) (Trusted from (x - 1)))
+        → (d : Option ℕ) → or_else d (first_doubt last es) ≡ Some x
+        → Contains (trusted_before (Some from) d ++ y ∷ with_run last (kept (Some from) d) es)
+        (Trusted from (x - 1))
+    go rest None e = Contains-append_right (y ∷ []) _ _ (rest e l)
+    go rest (Some z) e =
+        let same : z ≡ x = cc in
+        Contains-append_left _ _ _
+        (subst (λ w. Contains (trusted (Some from) w) (Trusted from (x - 1))) (sym same)
+        (rw (lt-ltb from x l) (0, omega arith, refl)))

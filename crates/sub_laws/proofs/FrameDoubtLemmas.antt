@@ -7,7 +7,7 @@ use Rattle.std.proofs.Common.{Option, Some, None, is_none, refl, sym, ap, ◌∙
 use Rattle.std.proofs.Common.{subst, arith}
 use Rattle.std.specs.List.{filter, list_any}
 use Rattle.std.specs.Prelude.{⊤}
-use Rattle.std.proofs.lemmas.Bool.{cases_lt, ltb-true}
+use Rattle.std.proofs.lemmas.Bool.{cases_lt, lt-ltb, ltb-true}
 use Rattle.std.proofs.lemmas.List.Folds.{list_any-append}
 use Rattle.sub_rules.specs.Events.{Standing, content_events, end_before, end_events}
 use Rattle.sub_rules.specs.Events.{events_at_end, events_of_first}
@@ -18,24 +18,27 @@ use Rattle.sub_rules.specs.FrameRules.{Task, frame_at}
 use Rattle.sub_rules.specs.PacketTests.{breaks, broken_rules, packet_rules}
 use Rattle.sub_rules.specs.Transmission.{Transmission}
 use Rattle.sub_rules.specs.Trusted.{doubted, is_order, stands_none}
+use Rattle.sub_rules.specs.declared.event.EndRule.{EndRule}
 use Rattle.sub_rules.specs.declared.event.EndRule.TheVariants as end
 use Rattle.sub_rules.specs.declared.event.Event.{Event}
 use Rattle.sub_rules.specs.declared.event.Event.TheVariants.{Told}
+use Rattle.sub_rules.specs.declared.fault.CheckFault.{CheckFault}
 use Rattle.sub_rules.specs.declared.fault.CheckFault.TheVariants as fault
 use Rattle.sub_rules.specs.declared.packet_rule.PacketRule.{PacketRule}
 use Rattle.sub_rules.specs.declared.packet_rule.PacketRule.TheVariants as rule
 use Rattle.sub_rules.specs.declared.packet_rule.Watched.{Watched}
 use Rattle.sub_rules.proofs.EndLemmas.{standing_before_is}
 use Rattle.sub_laws.specs.CleanStretch.{is_needed}
-use Rattle.sub_laws.proofs.DoubtLemmas.{doubt-append, first_doubt, or_else}
+use Rattle.sub_laws.proofs.DoubtLemmas.{doubt-append, first_doubt, or_else, or_none}
 
 -- ---- an end
 
 -- What is told at an end makes its own frame quiet no more; where it does not, nothing stands that
--- did not stand before.
+-- did not stand before. Where nothing stands it does not.
 pub record EndDoubt (last : ℕ) (old new : Standing) (f : ℕ) (es : List Event) : Type 0 where
   pub at : (x : ℕ) → first_doubt last es ≡ Some x → x ≡ f
   pub quiet : stands_none old ≡ true → first_doubt last es ≡ None → stands_none new ≡ true
+  pub calm : stands_none new ≡ true → first_doubt last es ≡ None
 
 content_at : (last before f x : ℕ) (old new : Option (ℕ × ℕ))
     → first_doubt last (content_events old before new f) ≡ Some x → x ≡ f
@@ -69,12 +72,23 @@ open_quiet : (last before f : ℕ) (old new : Bool) → old ≡ false
 unfolding doubted
 open_quiet last before f old new none e = grind (arith, nat_tests)
 
--- Of two that say nothing neither does; one that says something is said by one of them.
-pub or_none : (a b : Option ℕ) → or_else a b ≡ None → (a ≡ None) × (b ≡ None)
-or_none None b e = (refl, e)
-or_none (Some x) b e = cc
+content_calm : (last before f : ℕ) (old new : Option (ℕ × ℕ)) → is_none new ≡ true
+    → first_doubt last (content_events old before new f) ≡ None
+unfolding doubted
+content_calm last before f old new now = grind (arith, nat_tests)
 
-or_some : (a b : Option ℕ) (x y : ℕ) → ((z : ℕ) → a ≡ Some z → z ≡ y)
+rule_calm : (last : ℕ) (r : EndRule) (told : CheckFault) (before : ℕ) (old new : Bool)
+    → new ≡ false
+    → first_doubt last (rule_events r told old before new) ≡ None
+unfolding doubted
+rule_calm last r told before old new now = grind (arith, nat_tests)
+
+-- Nothing is not something.
+pub none_some : {x : ℕ} → (let o : Option ℕ = None in o) ≡ Some x → ⊥
+none_some e = cc
+
+-- What one of two says is said by one of them.
+pub or_some : (a b : Option ℕ) (x y : ℕ) → ((z : ℕ) → a ≡ Some z → z ≡ y)
     → ((z : ℕ) → b ≡ Some z → z ≡ y)
     → or_else a b ≡ Some x → x ≡ y
 or_some None b x y p q e = q x e
@@ -118,6 +132,15 @@ end_doubt last old before new f =
           of_three new (content_quiet last before f old.content new.content stood.0 one.0)
           (gap_quiet last before f old.gap new.gap stood.1 one.1)
           (open_quiet last before f old.incomplete new.incomplete stood.2 two.1);
+      calm = λ now.
+          let stands = three_of new now in
+          parts
+          ∙ ap (λ d. or_else (or_else d (first_doubt last g)) (first_doubt last o))
+          (content_calm last before f old.content new.content stands.0)
+          ∙ ap (λ d. or_else d (first_doubt last o))
+          (rule_calm last end.Gap (fault.Gap f) before old.gap new.gap stands.1)
+          ∙ rule_calm last end.Incomplete (fault.Incomplete f) before old.incomplete new.incomplete
+          stands.2;
     }
 
 -- ---- packets
@@ -157,6 +180,25 @@ module _ (last frame k : ℕ) (test : PacketRule → Bool) where
             λ x e. let first = rest.0 x in grind (arith, nat_tests),
             λ e. let other = rest.1 in grind (arith, nat_tests),
           )
+
+  -- Where none of these passes none is told that makes it so.
+  pass_none : ((r : PacketRule) → is_needed r ≡ true → test r ≡ false) → (rs : List PacketRule)
+      → NonePass rs
+  pass_none h [] = tt
+  pass_none h (r ∷ rs) = (h r, pass_none h rs)
+
+  rules_calm : (rs : List PacketRule) → NonePass rs → first_doubt last (told_of rs) ≡ None
+  rules_calm [] none = refl
+  rules_calm (r ∷ rs) none = go (rules_calm rs none.1) (test r) refl
+    where
+      go : first_doubt last (told_of rs) ≡ None → (b : Bool) → test r ≡ b
+          → first_doubt last (map (λ (q : PacketRule). Told (packet_fault q frame k))
+          (cond b (r ∷ filter test rs) (filter test rs))) ≡ None
+      go rest false is = rest
+      go rest true is =
+          let here = rule_doubt last frame k r in
+          let not_needed = none.0 in
+          grind (arith, nat_tests)
 
   -- So no needed one does.
   none_passes : NonePass packet_rules → (r : PacketRule) → is_needed r ≡ true → test r ≡ false
@@ -206,6 +248,25 @@ module _ (last : ℕ) (w : Watched) (frame : ℕ) (before packets : List (List �
                   same (none_passes last frame n test (rules.1 two.1) r needed)
             ];
       }
+
+  -- Where none of them breaks one this frame stays quiet.
+  pub packets_calm : (n : ℕ)
+      → ((r : PacketRule) (k : ℕ)
+      → is_needed r ≡ true
+      → k < n
+      → breaks r w (before ++ take k packets) (get_or packets k []) ≡ false)
+      → first_doubt last (packet_events w frame before packets n) ≡ None
+  unfolding packet_events rules_told broken_rules
+  packets_calm zero h = refl
+  packets_calm (suc n) h =
+      let earlier : List Event = packet_events w frame before packets n in
+      let test : PacketRule → Bool =
+      λ r. breaks r w (before ++ take n packets) (get_or packets n []) in
+      doubt-append last earlier (told_of last frame n test packet_rules)
+      ∙ ap (λ d. or_else d (first_doubt last (told_of last frame n test packet_rules)))
+      (packets_calm n (λ r k needed l. h r k needed (omega arith)))
+      ∙ rules_calm last frame n test packet_rules
+      (pass_none last frame n test (λ r needed. h r n needed (omega arith)) packet_rules)
 
 -- ---- the order
 
@@ -284,7 +345,7 @@ module _ (g : Task) (frames : Transmission) (n : ℕ) (some : 0 < n)
         (i : ℕ) → i < k → stands_none (standing_at g frames n (latest frames n + suc i)) ≡ true
 
     -- Nor before the next one.
-    stood_before : (k : ℕ) → AreQuiet k
+    pub stood_before : (k : ℕ) → AreQuiet k
         → stands_none (standing_before g frames n (latest frames n + suc k)) ≡ true
     stood_before zero quiet =
         let at : end_before frames n (latest frames n + suc zero) ≡ frame_at frames (n - 1) =
@@ -300,6 +361,7 @@ module _ (g : Task) (frames : Transmission) (n : ℕ) (some : 0 < n)
     pub record GapDoubt (last k : ℕ) : Type 0 where
       pub at : (x : ℕ) → first_doubt last (gap_events g frames n k) ≡ Some x
           → (i : ℕ) × (i < k) × (x ≡ latest frames n + suc i) × AreQuiet i
+          × (stands_none (standing_at g frames n x) ≡ true → ⊥)
       pub quiet : first_doubt last (gap_events g frames n k) ≡ None → AreQuiet k
 
     pub gap_doubt : (last k : ℕ) → GapDoubt last k
@@ -316,7 +378,8 @@ module _ (g : Task) (frames : Transmission) (n : ℕ) (some : 0 < n)
         (standing_at g frames n f) f in
         let parts = doubt-append last earlier here in
         record {
-          at = λ x e. at so_far end (first_doubt last earlier) refl x (sym parts ∙ e);
+          at = λ x e.
+              at so_far end (first_doubt last earlier) refl x (sym parts ∙ e);
           quiet = λ e.
               let two = or_none _ _ (sym parts ∙ e) in
               more (so_far.quiet two.0)
@@ -340,7 +403,85 @@ module _ (g : Task) (frames : Transmission) (n : ℕ) (some : 0 < n)
             → or_else d (first_doubt last (events_at_end g frames n n (latest frames n + suc k)))
             ≡ Some x
             → (i : ℕ) × (i < suc k) × (x ≡ latest frames n + suc i) × AreQuiet i
-        at so_far end None is x e = (k, omega arith, end.at x e, so_far.quiet is)
+            × (stands_none (standing_at g frames n x) ≡ true → ⊥)
+        at so_far end None is x e =
+            let here = end.at x e in (
+              k,
+              omega arith,
+              here,
+              so_far.quiet is,
+              λ quiet.
+                  let now =
+                  subst (λ z. stands_none (standing_at g frames n z) ≡ true) here quiet in
+                  none_some (sym (end.calm now) ∙ e),
+            )
         at so_far end (Some y) is x e =
             let found = so_far.at x (is ∙ e) in
-            (found.0, let l = found.1 in omega arith, found.2, found.3)
+            (found.0, let l = found.1 in omega arith, found.2, found.3, found.4)
+
+-- ---- nothing else is told of the order
+
+module _ (g : Task) (frames : Transmission) where
+  -- None of these tells of it.
+  abbrev NoOrder : List Event → Type 0
+  NoOrder es = list_any is_order es ≡ false
+
+  no_append : (xs ys : List Event) → NoOrder xs → NoOrder ys → NoOrder (xs ++ ys)
+  no_append xs ys p q = let both = list_any-append is_order xs ys in grind (arith, nat_tests)
+
+  no_end : (old : Standing) (before : ℕ) (new : Standing) (f : ℕ)
+      → NoOrder (end_events old before new f)
+  unfolding end_events is_order
+  no_end old before new f = grind (arith, nat_tests)
+
+  no_gap : (n k : ℕ) → NoOrder (gap_events g frames n k)
+  unfolding gap_events
+  no_gap n zero = refl
+  no_gap n (suc k) = no_append _ _ (no_gap n k) (no_end _ _ _ _)
+
+  no_rule : (r : PacketRule) (f k : ℕ) → is_order (Told (packet_fault r f k)) ≡ false
+  unfolding is_order
+  no_rule r f k = grind (arith, nat_tests)
+
+  no_rules : (f k : ℕ) (rs : List PacketRule)
+      → NoOrder (map (λ (r : PacketRule). Told (packet_fault r f k)) rs)
+  no_rules f k [] = refl
+  no_rules f k (r ∷ rs) =
+      let here = no_rule r f k in
+      let rest = no_rules f k rs in
+      grind (arith, nat_tests)
+
+  no_packets : (w : Watched) (f : ℕ) (before packets : List (List ℕ)) (n : ℕ)
+      → NoOrder (packet_events w f before packets n)
+  unfolding packet_events rules_told
+  no_packets w f before packets zero = refl
+  no_packets w f before packets (suc n) =
+      no_append _ _ (no_packets w f before packets n) (no_rules _ _ _)
+
+  no_header : (i : ℕ) → NoOrder (first_header_events g frames i)
+  unfolding first_header_events is_order
+  no_header zero = grind (arith, nat_tests)
+  no_header (suc i) = refl
+
+  no_order : (i : ℕ) → (0 < i → frame_at frames (i - 1) < frame_at frames i)
+      → NoOrder (order_events g frames i)
+  unfolding order_events is_order
+  no_order zero rise = grind (arith, nat_tests)
+  no_order (suc i) rise =
+      let back : suc i - 1 ≡ i = omega arith in
+      let up : nat_lt (frame_at frames i) (frame_at frames (suc i)) ≡ true =
+      lt-ltb _ _ (subst (λ k. frame_at frames k < frame_at frames (suc i)) back
+      (rise (omega arith))) in
+      rw up refl
+
+  -- Where the first frames rise none tells of it.
+  pub rises_untold : (n : ℕ)
+      → ((i : ℕ) → 0 < i → i < n → frame_at frames (i - 1) < frame_at frames i)
+      → NoOrder (events_of_first g frames n)
+  unfolding events_of_first frame_events
+  rises_untold zero rises = refl
+  rises_untold (suc n) rises =
+      no_append _ _ (rises_untold n (λ i a l. rises i a (omega arith)))
+      (no_append _ _ (no_append _ _ (no_append _ _ (no_append _ _
+      (no_order n (λ a. rises n a (omega arith))) (no_gap n _)) (no_packets _ _ _ _ _))
+      (no_header n)) (no_end _ _ _ _))

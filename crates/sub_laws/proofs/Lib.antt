@@ -1,4 +1,5 @@
 pub mod AllKept
+pub mod AllTrustedLemmas
 pub mod BrokenRuleLemmas
 pub mod CleanStretchLemmas
 pub mod ContentLemmas

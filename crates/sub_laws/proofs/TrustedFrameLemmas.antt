@@ -36,7 +36,7 @@ last_true false y e = cc
 
 module _ (frames : Transmission) where
   -- The first n frames rise.
-  count_low : (n : ℕ) → rising_count frames n ≤ n
+  pub count_low : (n : ℕ) → rising_count frames n ≤ n
   unfolding rising_count
   count_low zero = omega arith
   count_low (suc n) = let rest = count_low n in grind (arith, nat_tests)
@@ -45,11 +45,11 @@ module _ (frames : Transmission) where
   unfolding rises_at
   rises_is i e = ltb-true _ _ e
 
-  is_rise : (i : ℕ) → frame_at frames i < frame_at frames (suc i) → rises_at frames (suc i) ≡ true
+  pub is_rise : (i : ℕ) → frame_at frames i < frame_at frames (suc i) → rises_at frames (suc i) ≡ true
   unfolding rises_at
   is_rise i l = lt-ltb _ _ l
 
-  count_rises : (n i : ℕ) → suc i < rising_count frames n
+  pub count_rises : (n i : ℕ) → suc i < rising_count frames n
       → frame_at frames i < frame_at frames (suc i)
   unfolding rising_count
   count_rises zero i l = absurd (omega arith)
@@ -71,7 +71,7 @@ module _ (frames : Transmission) where
           rises_is i (subst (λ k. rises_at frames k ≡ true) (sym e) (last_true _ _ is))
       go rest e false is l = rest l
 
-  count_most : (n k : ℕ) → k ≤ n
+  pub count_most : (n k : ℕ) → k ≤ n
       → ((i : ℕ) → 0 < i → i < k → frame_at frames (i - 1) < frame_at frames i)
       → k ≤ rising_count frames n
   unfolding rising_count rises_at
@@ -100,14 +100,14 @@ module _ (frames : Transmission) where
           (rises (suc i) (omega arith) l))
 
 -- The first frames of a list.
-frame_at-take : (frames : Transmission) (m i : ℕ) → i < m
+pub frame_at-take : (frames : Transmission) (m i : ℕ) → i < m
     → frame_at (take m frames) i ≡ frame_at frames i
 frame_at-take frames zero i l = absurd (omega arith)
 frame_at-take [] (suc m) i l = refl
 frame_at-take (s ∷ ss) (suc m) zero l = refl
 frame_at-take (s ∷ ss) (suc m) (suc i) l = frame_at-take ss m i (omega arith)
 
-packets-take : (frames : Transmission) (m i : ℕ) → i < m
+pub packets-take : (frames : Transmission) (m i : ℕ) → i < m
     → packets_of_frame (take m frames) i ≡ packets_of_frame frames i
 packets-take frames zero i l = absurd (omega arith)
 packets-take [] (suc m) i l = refl
@@ -115,7 +115,7 @@ packets-take (s ∷ ss) (suc m) zero l = refl
 packets-take (s ∷ ss) (suc m) (suc i) l = packets-take ss m i (omega arith)
 
 -- What stands broken at an end depends on the frames that count alone.
-standing-take : (g : Task) (frames : Transmission) (m n f : ℕ) → 0 < m → n ≤ m
+pub standing-take : (g : Task) (frames : Transmission) (m n f : ℕ) → 0 < m → n ≤ m
     → standing_at g (take m frames) n f ≡ standing_at g frames n f
 unfolding standing_at is_gap is_incomplete
 standing-take g frames m n f some l =
@@ -124,7 +124,7 @@ standing-take g frames m n f some l =
     rw (first, same) refl
 
 -- Where nothing stands none of the three does.
-none_of_three : (s : Standing) → stands_none s ≡ true
+pub none_of_three : (s : Standing) → stands_none s ≡ true
     → (s.content ≡ None) × (s.gap ≡ false) × (s.incomplete ≡ false)
 none_of_three s e = grind (arith, nat_tests)
 

@@ -28,9 +28,9 @@ use Rattle.sub_rules.proofs.TrustedLemmas.{plain_closing, plain_frame}
 use Rattle.sub_laws.specs.CleanStretch.{IsEnd, is_needed}
 use Rattle.sub_laws.proofs.DoubtLemmas.{EachTrusted, doubt-append, doubt-none, each-append}
 use Rattle.sub_laws.proofs.DoubtLemmas.{each-plain, each-put, first_doubt, or_else}
-use Rattle.sub_laws.proofs.DoubtLemmas.{over-some, trusted_in_run}
+use Rattle.sub_laws.proofs.DoubtLemmas.{or_none, over-some, trusted_in_run}
 use Rattle.sub_laws.proofs.FrameDoubtLemmas.{AreQuiet, end_doubt, gap_doubt, header_doubt}
-use Rattle.sub_laws.proofs.FrameDoubtLemmas.{or_none, order_doubt, packets_doubt, rises_of}
+use Rattle.sub_laws.proofs.FrameDoubtLemmas.{order_doubt, packets_doubt, rises_of}
 use Rattle.sub_laws.proofs.PrefixLemmas.{before, packet_at}
 use Rattle.sub_laws.proofs.RisingEndLemmas.{latest_at}
 
@@ -137,7 +137,7 @@ module _ (g : Task) (frames : Transmission) where
         let after = later n more in absurd (omega arith)
 
     -- A run that begins here.
-    run_begins : holds_header (kind g.watched.page) (packets_of_frame frames n) ≡ true
+    pub run_begins : holds_header (kind g.watched.page) (packets_of_frame frames n) ≡ true
         → Run (suc n) (frame_at frames n)
     run_begins header = record {
       j = n;
@@ -220,17 +220,17 @@ module _ (g : Task) (frames : Transmission) where
     last_is : frame_at frames (suc i - 1) ≡ frame_at frames i
     last_is = ap (frame_at frames) (omega arith)
 
-    latest_is : latest frames n ≡ frame_at frames (n - 1)
+    pub latest_is : latest frames n ≡ frame_at frames (n - 1)
     latest_is = latest_at frames n run.rises some
 
-    from_low : from ≤ frame_at frames (n - 1)
+    pub from_low : from ≤ frame_at frames (n - 1)
     from_low =
         let at = run.at in
         let below = run.below in
         let up = up_to n run.rises run.j (n - 1) (omega arith) (omega arith) in
         omega arith
 
-    stood : stands_none (standing_at g frames n (frame_at frames (n - 1))) ≡ true
+    pub stood : stands_none (standing_at g frames n (frame_at frames (n - 1))) ≡ true
     stood =
         run.ends n (frame_at frames (n - 1)) (some, omega arith, inl refl) (omega arith) from_low
         (omega arith)
@@ -274,7 +274,7 @@ module _ (g : Task) (frames : Transmission) where
     abbrev end : List Event
     end = events_at_end g frames n (suc n) (frame_at frames n)
 
-    frame_doubt : first_doubt last (frame_events g frames n)
+    pub frame_doubt : first_doubt last (frame_events g frames n)
         ≡ or_else (or_else (or_else (or_else (first_doubt last order) (first_doubt last gap))
         (first_doubt last packets)) (first_doubt last header)) (first_doubt last end)
     unfolding frame_events
@@ -286,7 +286,7 @@ module _ (g : Task) (frames : Transmission) where
         (doubt-append last (order ++ gap) packets
         ∙ ap (λ d. or_else d (first_doubt last packets)) (doubt-append last order gap)))
 
-    long : frame_at frames i < frame_at frames n
+    pub long : frame_at frames i < frame_at frames n
         → latest frames n + suc (gap_length frames n) ≡ frame_at frames n
     long up =
         let l = latest_is in

@@ -1,14 +1,18 @@
--- What is promised of the frames that are told as trusted, whatever is broken elsewhere.
-use Rattle.std.specs.Prelude.{ℕ, zero, suc, ◌==◌, ◌&&◌, nat_lt, Bool, true, Contains, length}
-use Rattle.std.specs.Prelude.{take, Option, IsTrue, if◌then◌else◌}
+-- What is promised of the frames that are told as trusted, whatever is broken elsewhere; and that no
+-- others may be.
+use Rattle.std.specs.Prelude.{◌≡◌, ◌≢◌, ℕ, zero, suc, ◌<◌, ◌≤◌, ◌==◌, ◌&&◌, nat_lt, Bool, true}
+use Rattle.std.specs.Prelude.{[], Contains, length, take, Option, Some, IsFalse, IsTrue}
+use Rattle.std.specs.Prelude.{if◌then◌else◌}
 use Rattle.ttx_page.specs.Receiver.{ReceiverClass}
 use Rattle.stl_rows.specs.Programme.{ProgrammeValue}
 use Rattle.sub_plan.specs.Options.{OptionsValue}
-use Rattle.sub_rules.specs.FrameRules.{Unread, frame_at, task_of}
+use Rattle.sub_rules.specs.Events.{events, standing_at}
+use Rattle.sub_rules.specs.FrameRules.{HasHeader, Task, Unread, frame_at, task_of}
 use Rattle.sub_rules.specs.Good.{HoldsHeader}
-use Rattle.sub_rules.specs.Transmission.{Transmission}
+use Rattle.sub_rules.specs.Transmission.{Transmission, last_frame}
 use Rattle.sub_rules.specs.Trusted.{all_events}
 use Rattle.sub_rules.specs.declared.event.Event.TheVariants.{Trusted}
+use Rattle.sub_laws.specs.CleanStretch.{AtEnds, IsUntold}
 use Rattle.sub_laws.specs.OnScreen.{ShownWithin}
 use Rattle.sub_laws.specs.Stretch.{MayBeTrusted}
 
@@ -53,3 +57,36 @@ LawOfTrusted =
     → (unread : Option Unread) (from to : ℕ)
     → Contains (all_events (task_of programme options unread) transmission) (Trusted from to)
     → MayStay programme (rising_part transmission) options from to
+
+-- ---- nothing is left out
+
+-- A stretch of frames of the rising part may be trusted: nothing of which a receiver depends is
+-- told of it, the page is open at no end of it where complete pages are asked for; and it ends
+-- before the last of these frames where that is doubted, since a frame that is not after it follows,
+-- or bytes that can't be read on.
+pub record CanStay (g : Task) (frames : Transmission) (a b : ℕ) : Type 0 where
+  pub untold : IsUntold g (rising_part frames) a b
+  pub closed :
+      AtEnds (λ n f. IsFalse (standing_at g (rising_part frames) n f).incomplete)
+      (rising_part frames) a b
+  pub before_fall :
+      length (rising_part frames) < length frames → b < last_frame (rising_part frames)
+  pub before_unread : (u : Unread) → g.unread ≡ Some u → b < last_frame (rising_part frames)
+
+-- Where anything is told, the frames of such a stretch from one with a header of the page on are
+-- told as trusted, all in one.
+-- So no frame that may stay is left out.
+abbrev pub LawOfAllTrusted : Type 0
+LawOfAllTrusted =
+    (g : Task) (frames : Transmission) (a b i : ℕ)
+    → CanStay g frames a b
+    → i < length (rising_part frames)
+    → a ≤ frame_at (rising_part frames) i
+    → frame_at (rising_part frames) i ≤ b
+    → HasHeader g (rising_part frames) i
+    → events g frames ≢ []
+    → (from : ℕ)
+    × (to : ℕ)
+    × (from ≤ frame_at (rising_part frames) i)
+    × (b ≤ to)
+    × Contains (all_events g frames) (Trusted from to)

@@ -10,7 +10,7 @@ ghost use Rattle.sub_laws.specs.Planned.{LawOfPlan, LawOfPlanRead};
 ghost use Rattle.sub_laws.specs.StepByStep.{LawOfCleanSpans, LawOfRepeats, LawOfSpansByPacket};
 ghost use Rattle.sub_laws.specs.Stretch.{LawOfWholeRecovery, LawOfWholeStretch};
 ghost use Rattle.sub_laws.specs.Sufficient.{LawOfStretch, LawOfSufficientParts};
-ghost use Rattle.sub_laws.specs.TrustedFrames.{LawOfTrusted};
+ghost use Rattle.sub_laws.specs.TrustedFrames.{LawOfAllTrusted, LawOfTrusted};
 
 /// A start at any packet of a good transmission meets a header of the page within the repeat bound.
 #[tactic(auto, using(crate::proofs::RobustLemmas::law_of_window))]
@@ -62,6 +62,12 @@ pub fn law_of_untold_stretch()
 /// first one holds a header of the page, and from it on receivers recover there.
 pub fn law_of_trusted()
     ensures { LawOfTrusted }
+{}
+
+/// No frame that may stay is left out: where anything is told, each stretch of which nothing is told
+/// that a receiver depends on is told as trusted, from its first header of the page on.
+pub fn law_of_all_trusted()
+    ensures { LawOfAllTrusted }
 {}
 
 /// Where receivers recover in all frames of a transmission it is robust, with lost rows too.
