@@ -150,8 +150,8 @@ pub fn push_told<const N: usize>(line: &mut ArrayVec<u8, N>, told: &Told)
     push_text(line, b"\n");
 }
 
-/// Appends the line of an event: of a fault that is told, of a rule that stood broken up to a frame,
-/// or of frames that may be trusted.
+/// Appends the line of an event: of a fault that is told, of a rule that stood broken up to a
+/// frame, or of frames that may be trusted.
 pub fn push_event<const N: usize>(line: &mut ArrayVec<u8, N>, event: Event)
     requires { array_vec_len line.old + LINE_ROOM ≤ N }
     ensures { line.new.items ≡ line.old.items ++ event_line event }

@@ -258,8 +258,8 @@ impl Listener {
         !(self.is_open && magazine == self.watched.page.magazine())
     }
 
-    // Whether a page header of a magazine, in code words, breaks no rule and changes nothing of what
-    // is kept.
+    // Whether a page header of a magazine, in code words, breaks no rule and changes nothing of
+    // what is kept.
     #[inline(always)]
     fn is_passed_header(&self, magazine: u8, header: &Header) -> bool
         ensures { result ≡ is_passed_header magazine header.now self.now }

@@ -18,7 +18,8 @@ use Rattle.sub_rules.specs.PacketTests.{breaks}
 use Rattle.sub_rules.specs.Transmission.{Transmission, last_frame}
 use Rattle.sub_rules.specs.Trusted.{all_events, all_events_of_first, all_frame_events, begun}
 use Rattle.sub_rules.specs.Trusted.{frame_before, is_quiet, last_trusted, own_events}
-use Rattle.sub_rules.specs.Trusted.{run_after, run_over, stands_none, tells_none, trust_end, trusted}
+use Rattle.sub_rules.specs.Trusted.{run_after, run_over, stands_none, tells_none, trust_end}
+use Rattle.sub_rules.specs.Trusted.{trusted}
 use Rattle.sub_rules.specs.Trusted.{with_run}
 use Rattle.sub_rules.specs.declared.event.Event.{Event}
 use Rattle.sub_rules.specs.declared.event.Event.TheVariants.{Trusted}
@@ -34,7 +35,8 @@ use Rattle.sub_laws.proofs.FrameDoubtLemmas.{or_some, stood_before}
 use Rattle.sub_laws.proofs.PrefixLemmas.{before, last-same, packet_at}
 use Rattle.sub_laws.proofs.TrustedFrameLemmas.{count_low, count_most, count_rises, frame_at-take}
 use Rattle.sub_laws.proofs.TrustedFrameLemmas.{packets-take, standing-take}
-use Rattle.sub_laws.proofs.TrustedRunLemmas.{Run, frame_doubt, latest_is, long, run_is, stood, up_to}
+use Rattle.sub_laws.proofs.TrustedRunLemmas.{Run, frame_doubt, latest_is, long, run_is, stood}
+use Rattle.sub_laws.proofs.TrustedRunLemmas.{up_to}
 
 -- A frame whose number is told to fall does so.
 order_falls : (g : Task) (frames : Transmission) (last i x : ℕ)
@@ -163,7 +165,8 @@ module _ (g : Task) (frames : Transmission) (a b : ℕ) (can : CanStay g frames 
       unfolding run_after
       first_run =
           let quiet = quiet_if i there (own_calm i there low high) (own_end i there low high) in
-          at (run_over (frame_before frames i) (run_after g frames i) (frame_events g frames i)) refl
+          at (run_over (frame_before frames i) (run_after g frames i) (frame_events g frames i))
+          refl
           (rw (quiet, header) refl)
         where
           at : (o : Option ℕ)

@@ -168,7 +168,11 @@ module _ (g : Task) (frames : Transmission) where
 
     -- A run that goes on.
     run_goes_on : (from : ℕ) → 0 < n → n < length frames → Run n from
-        → ((m f : ℕ) → IsEnd frames m f → m ≡ n → frame_at frames (n - 1) < f → f < frame_at frames n
+        → ((m f : ℕ)
+        → IsEnd frames m f
+        → m ≡ n
+        → frame_at frames (n - 1) < f
+        → f < frame_at frames n
         → stands_none (standing_at g frames m f) ≡ true)
         → Run (suc n) from
     run_goes_on from some there run gap = record {

@@ -1,5 +1,5 @@
--- What is promised of the frames that are told as trusted, whatever is broken elsewhere; and that no
--- others may be.
+-- What is promised of the frames that are told as trusted, whatever is broken elsewhere; and that
+-- no others may be.
 use Rattle.std.specs.Prelude.{◌≡◌, ◌≢◌, ℕ, zero, suc, ◌<◌, ◌≤◌, ◌==◌, ◌&&◌, nat_lt, Bool, true}
 use Rattle.std.specs.Prelude.{[], Contains, length, take, Option, Some, IsFalse, IsTrue}
 use Rattle.std.specs.Prelude.{if◌then◌else◌}
@@ -60,10 +60,10 @@ LawOfTrusted =
 
 -- ---- nothing is left out
 
--- A stretch of frames of the rising part may be trusted: nothing of which a receiver depends is
--- told of it, the page is open at no end of it where complete pages are asked for; and it ends
--- before the last of these frames where that is doubted, since a frame that is not after it follows,
--- or bytes that can't be read on.
+-- A stretch of frames of the rising part may be trusted: nothing is told of it that a receiver
+-- depends on, and the page is open at no end of it where complete pages are asked for; and it ends
+-- before the last of these frames where that is doubted, since a frame that is not after it
+-- follows, or bytes that can't be read on.
 pub record CanStay (g : Task) (frames : Transmission) (a b : ℕ) : Type 0 where
   pub untold : IsUntold g (rising_part frames) a b
   pub closed :

@@ -64,8 +64,8 @@ pub fn law_of_trusted()
     ensures { LawOfTrusted }
 {}
 
-/// No frame that may stay is left out: where anything is told, each stretch of which nothing is told
-/// that a receiver depends on is told as trusted, from its first header of the page on.
+/// No frame that may stay is left out: where anything is told, each stretch of which nothing is
+/// told that a receiver depends on is told as trusted, from its first header of the page on.
 pub fn law_of_all_trusted()
     ensures { LawOfAllTrusted }
 {}

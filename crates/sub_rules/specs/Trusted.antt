@@ -113,9 +113,9 @@ abbrev pub begun : Option ℕ → Bool → ℕ → Option ℕ
 begun (Some from) has_header f = Some from
 begun None has_header f = if has_header then Some f else None
 
--- The run of quiet frames at the end of the last of the first n frames of the list: the frame of its
--- first header of the page. There is none where that frame is not quiet, or no frame of the run has
--- a header.
+-- The run of quiet frames at the end of the last of the first n frames of the list: the frame of
+-- its first header of the page. There is none where that frame is not quiet, or no frame of the run
+-- has a header.
 unfoldable pub run_after : Task → Transmission → ℕ → Option ℕ
 run_after g frames zero = None
 run_after g frames (suc i) =

@@ -30,8 +30,8 @@ impl EndRule {
     }
 }
 
-/// What is told of a PES file that is checked: a rule that is broken, or one that is so no more; and
-/// frames that may stay on air as they are.
+/// What is told of a PES file that is checked: a rule that is broken, or one that is so no more;
+/// and frames that may stay on air as they are.
 #[derive(Clone, Copy, Debug, PartialEq, Eq)]
 pub enum Event {
     /// What is asked is broken here. A rule of a frame's end is told where it was not broken at the
@@ -44,8 +44,8 @@ pub enum Event {
         /// The last frame at whose end it stood broken.
         frame: u32,
     },
-    /// These frames may stay as they are, whatever is broken elsewhere: in them nothing is told that
-    /// a receiver depends on, and the first one holds a header of the page.
+    /// These frames may stay as they are, whatever is broken elsewhere: in them nothing is told
+    /// that a receiver depends on, and the first one holds a header of the page.
     Trusted {
         /// The first of them.
         from: u32,
