@@ -11,6 +11,7 @@
 mod checker;
 mod comparison;
 mod laws;
+mod lending;
 mod listener;
 mod packet_rules;
 mod rule_set;

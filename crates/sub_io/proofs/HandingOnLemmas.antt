@@ -1,8 +1,11 @@
 -- What some pulls of a source that hands on leave: main lemma: lent_for.
-use Rattle.std.proofs.Common.{◌≡◌, ◌≢◌, ◌∙◌, ℕ, ◌+◌, ◌≤◌, Bool, true, false, Option}
+use Rattle.std.proofs.Common.{◌≡◌, ◌≢◌, ◌∙◌, ℕ, ◌+◌, ◌<◌, ◌≤◌, Bool, true, false, Option}
 use Rattle.std.proofs.Common.{◌⊎◌, inl, inr, zero, suc, refl, arith, le_refl, le_trans}
+use Rattle.std.proofs.lemmas.Bool.Decides.{nat_tests}
 use Rattle.sub_io.proofs.CallLemmas.{PullsSome-keep}
+use Rattle.sub_io.specs.Buffered.{failures_and_refused}
 use Rattle.sub_io.specs.Calls.{PullsSome}
+use Rattle.sub_io.specs.Device.{RisesIf}
 use Rattle.sub_io.specs.HandingOn.{HandsOnFirst, IsLent, IsPassedOn, IsRefused, Lent, StaysTold}
 
 zero_or_not : (n : ℕ) → (n ≡ 0) ⊎ (n ≢ 0)
@@ -138,3 +141,14 @@ module _
             most = omega (arith, few, none);
           },
         )
+
+-- The count of failures of the source inside, by that of the source that hands on: it rises as that
+-- does while no pull was refused, and stays where one was.
+pub count_inside : (old new refused : ℕ) (fails : Bool)
+    → old < 0xFFFF_FFFF_FFFF_FFFF
+    → old ≤ new
+    → new + refused ≤ 0xFFFF_FFFF_FFFF_FFFF
+    → RisesIf (failures_and_refused old 0) fails (failures_and_refused new refused)
+    → (refused ≡ 0 → RisesIf old fails new) × (refused ≢ 0 → new ≡ old)
+count_inside old new refused true few grew most risen = grind (arith, nat_tests)
+count_inside old new refused false few grew most risen = grind (arith, nat_tests)
