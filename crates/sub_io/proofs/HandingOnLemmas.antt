@@ -1,11 +1,13 @@
 -- What some pulls of a source that hands on leave: main lemma: lent_for.
 use Rattle.std.proofs.Common.{◌≡◌, ◌≢◌, ◌∙◌, ℕ, ◌+◌, ◌<◌, ◌≤◌, Bool, true, false, Option}
-use Rattle.std.proofs.Common.{◌⊎◌, inl, inr, zero, suc, refl, arith, le_refl, le_trans}
+use Rattle.std.proofs.Common.{List, [], ◌∷◌, ◌∙◌}
+use Rattle.std.proofs.Common.{◌⊎◌, inl, inr, zero, suc, refl, sym, subst, arith, le_refl, le_trans}
 use Rattle.std.proofs.lemmas.Bool.Decides.{nat_tests}
 use Rattle.sub_io.proofs.CallLemmas.{PullsSome-keep}
 use Rattle.sub_io.specs.Buffered.{failures_and_refused}
 use Rattle.sub_io.specs.Calls.{PullsSome}
 use Rattle.sub_io.specs.Device.{RisesIf}
+use Rattle.sub_io.specs.Telling.{Tells, TellsInTurn}
 use Rattle.sub_io.specs.HandingOn.{HandsOnFirst, IsLent, IsPassedOn, IsRefused, Lent, StaysTold}
 
 zero_or_not : (n : ℕ) → (n ≡ 0) ⊎ (n ≢ 0)
@@ -152,3 +154,24 @@ pub count_inside : (old new refused : ℕ) (fails : Bool)
     → (refused ≡ 0 → RisesIf old fails new) × (refused ≢ 0 → new ≡ old)
 count_inside old new refused true few grew most risen = grind (arith, nat_tests)
 count_inside old new refused false few grew most risen = grind (arith, nat_tests)
+
+-- What was told to a device last stays told where it hands on, and where nothing was told it stays
+-- as it is: so all stays told.
+stays_in_turn : {A D : Type 0} (IsTold : D → A → D → Type 0) (a b c : D) (x : A) (items : List A)
+    → ((d : D) (x : A) → IsTold d x b → IsTold d x c)
+    → TellsInTurn IsTold a b (x ∷ items)
+    → TellsInTurn IsTold a c (x ∷ items)
+stays_in_turn IsTold a b c x [] last (mid, first, same) =
+    (c, last a x (subst (λ d. IsTold a x d) (sym same) first), refl)
+stays_in_turn IsTold a b c x (y ∷ items) last (mid, first, rest) =
+    (mid, first, stays_in_turn IsTold mid b c y items last rest)
+
+pub Tells-stays : {A D : Type 0} (IsTold : D → A → D → Type 0) (a b c : D) (items : List A)
+    → (b ≡ a → c ≡ b)
+    → ((d : D) (x : A) → IsTold d x b → IsTold d x c)
+    → Tells IsTold a b items
+    → Tells IsTold a c items
+Tells-stays IsTold a b c [] none last told =
+    record { in_turn = none told.in_turn ∙ told.in_turn }
+Tells-stays IsTold a b c (x ∷ items) none last told =
+    record { in_turn = stays_in_turn IsTold a b c x items last told.in_turn }
