@@ -175,3 +175,44 @@ Tells-stays IsTold a b c [] none last told =
     record { in_turn = none told.in_turn ∙ told.in_turn }
 Tells-stays IsTold a b c (x ∷ items) none last told =
     record { in_turn = stays_in_turn IsTold a b c x items last told.in_turn }
+
+module _
+    {A S : Type 0} (failure_count : S → ℕ) (must_ask : S → Bool)
+    (IsPull : S → ℕ → Option ℕ → S → Type 0)
+    (is_settled : A → Bool) (IsHandedOn : A → Bool → A → Type 0)
+    (R : A → Type 0) (keeps : (x y : A) (ok : Bool) → R x → IsHandedOn x ok y → R y) where
+  -- What the device beside the source keeps where it hands on, it keeps at a pull.
+  beside_more : (a b : Lent S A) (room : ℕ) (answer : Option ℕ) (asks : Bool)
+      → must_ask a.source ≡ asks
+      → R a.beside
+      → HandsOnFirst failure_count must_ask IsPull is_settled IsHandedOn a room answer b
+      → R b.beside
+  beside_more a b room answer true is was pull =
+      elim (zero_or_not a.refused) [
+        | inl none ↦
+            let first = pull.first none is in keeps a.beside b.beside first.0 was first.1
+        | inr some ↦ rw (pull.after some).0 was
+      ]
+  beside_more a b room answer false is was pull =
+      elim (zero_or_not a.refused) [
+        | inl none ↦ rw (pull.still none is).0 was
+        | inr some ↦ rw (pull.after some).0 was
+      ]
+
+  -- And at some pulls.
+  pub beside_keeps :
+      {D : Type 0} (value : D → Lent S A) (IsCall : D → ℕ → Option ℕ → D → Type 0)
+      → ((s t : D) (room : ℕ) (answer : Option ℕ)
+      → IsCall s room answer t
+      → HandsOnFirst failure_count must_ask IsPull is_settled IsHandedOn
+      (value s) room answer (value t))
+      → (a b : D)
+      → R (value a).beside
+      → PullsSome IsCall a b
+      → R (value b).beside
+  beside_keeps value IsCall each a b was some =
+      PullsSome-keep (λ d. R (value d).beside)
+      (λ s t room answer here call.
+      beside_more (value s) (value t) room answer (must_ask (value s).source) refl here
+      (each s t room answer call))
+      a b was some
