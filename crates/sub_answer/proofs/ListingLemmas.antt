@@ -3,11 +3,12 @@
 use Rattle.std.proofs.Common.{◌≡◌, ◌∙◌, ap, refl, sym, subst, arith, ℕ, ◌+◌, ◌<◌}
 use Rattle.std.proofs.Common.{◌≤◌, List, [], ◌∷◌, ◌++◌, append_assoc, drop, length, inl, inr, Bool}
 use Rattle.std.proofs.Common.{false, true, Option, Some, None, Ok, Err}
-use Rattle.std.specs.Io.KnownBytes.{Appends, Consumes}
-use Rattle.std.proofs.KnownBytes.{Appends-nil, Appends-trans}
+use Rattle.std.specs.Io.KnownBytes.{Appends, Consumes, Keeps}
+use Rattle.std.proofs.KnownBytes.{Appends-kept, Appends-nil, Appends-trans}
 use Rattle.sub_io.specs.Device.{AppendsPrefix, RisesIf}
 use Rattle.sub_io.specs.Reading.{IfTold}
 use Rattle.sub_io.proofs.DeviceLemmas.{AppendsPrefix-first, AppendsPrefix-second}
+use Rattle.sub_io.proofs.DeviceLemmas.{AppendsPrefix-whole}
 use Rattle.ttx_pes.specs.Outcome as pes
 use Rattle.ttx_pes.specs.Outcome.{ReadsPackets, outcome_after}
 use Rattle.ttx_pes.specs.PesPacket.{PesValue}
@@ -23,9 +24,9 @@ use Rattle.stl_file.specs.Reading.{ends, fails}
 use Rattle.stl_file.specs.Subtitle.{SubtitleValue}
 use Rattle.stl_file.specs.declared.fault.StlFault.{StlFault}
 use Rattle.sub_answer.specs.Faults.{kind_by, stl_told}
-use Rattle.sub_answer.specs.DeviceCall.{SinkCall, SourceCall}
-use Rattle.sub_answer.specs.Listing.{Gives, IsListed, Listing, Lists, PrintsListing, PrintsOrFails}
-use Rattle.sub_answer.specs.Listing.{followed, has_failed}
+use Rattle.sub_answer.specs.DeviceCall.{Counts, SinkCall, SourceCall}
+use Rattle.sub_answer.specs.Listing.{Gives, IsCut, IsListed, Listing, Lists, PrintsListing}
+use Rattle.sub_answer.specs.Listing.{PrintsOrFails, followed, has_failed}
 use Rattle.sub_answer.specs.PacketsListing.{frame_lines, pes_listing}
 use Rattle.sub_answer.specs.ShowListing.{ListsFrom, ReadsFile, ReadsSubtitles, subtitles_listing}
 use Rattle.sub_answer.specs.Told.{line_of, status_of}
@@ -64,6 +65,46 @@ followed-twice : (first second : List ℕ) (more : Listing)
 followed-twice first second more =
     ap (λ (t : List ℕ). let l : Listing = record { text = t; status = more.status } in l)
     (sym (append_assoc first second more.text))
+
+-- What was printed stays where lines are handed on. For `list`.
+pub front-kept :
+    (Before After : IsListed)
+    (told left old now new : Option (List ℕ))
+    → IsFront Before After told left old now
+    → Keeps now new
+    → IsFront Before After told left old new
+front-kept Before After told left old now new i kept = record {
+  text = i.text;
+  printed = Appends-kept old now new i.text i.printed kept;
+  listed = i.listed;
+}
+
+-- The count of a source's failures, where the sink failed. For `list`.
+pub counts-fault : (old new : ℕ) (failed : Bool) → RisesIf old failed new → Counts old Fault new
+counts-fault old new true risen = record {
+  kept = λ other. absurd (other refl);
+  risen = omega (arith, risen);
+  once = omega (arith, risen);
+}
+counts-fault old new false risen = record {
+  kept = λ other. absurd (other refl);
+  risen = omega (arith, risen);
+  once = omega (arith, risen);
+}
+
+-- And where it did not.
+pub counts-status : (old new : ℕ) (status : Status) → RisesIf old (has_failed (Some status)) new
+    → Counts old status new
+counts-status old new Fault risen = record {
+  kept = λ other. absurd (other refl);
+  risen = omega (arith, risen);
+  once = omega (arith, risen);
+}
+counts-status old new status risen = record {
+  kept = λ _. omega (arith, risen);
+  risen = omega (arith, risen);
+  once = omega (arith, risen);
+}
 
 -- The next lines were printed, and more may follow. For `list`.
 pub front-more :
@@ -140,13 +181,38 @@ front-cut Before At After source out left now text (Some status) i gives p risen
   printed = inr (risen, AppendsPrefix-second out.old now out.new i.text text i.printed p, refl);
 }
 
+-- Lines were cut, since the sink failed as the lines before were handed on. For `list`.
+pub front-stopped :
+    {S : Type 0} (Before At : IsListed)
+    (source : SourceCall S) (out : SinkCall) (left now : Option (List ℕ))
+    → IsFront Before At source.told left out.old now
+    → IsCut At left source.left
+    → Keeps now out.new
+    → out.new_count ≡ out.old_count + 1
+    → source.new_count ≡ source.old_count
+    → PrintsListing Before source out Fault
+unfolding PrintsOrFails
+front-stopped Before At source out left now i cut kept risen counted = record {
+  ending = None;
+  listing = followed i.text cut.0;
+  is_listed = i.listed source.left None cut.0 cut.1;
+  source_count = omega (arith, counted);
+  cut = λ e same. omega (arith, risen, same);
+  printed = inr (
+    risen,
+    AppendsPrefix-first out.old out.new i.text cut.0.text
+        (AppendsPrefix-whole out.old out.new i.text (Appends-kept _ _ _ _ i.printed kept)),
+    refl,
+  );
+}
+
 -- Something is listed where a sink failed.
-lists-some :
+pub lists-some :
     (O : Type 0) (listing_of : O → Listing) (given : List ℕ → O)
-    (Takes : Bool → Option (List ℕ) → O → Option (List ℕ) → Type 0) (left : Option (List ℕ))
+    (Takes : Bool → Option (List ℕ) → O → Option (List ℕ) → Type 0) (told left : Option (List ℕ))
     → O
-    → (more : Listing) × Lists listing_of given Takes left left None more
-lists-some O listing_of given Takes None o = (
+    → IsCut (Lists listing_of given Takes) told left
+lists-some O listing_of given Takes None left o = (
   listing_of o,
   record {
     outcome = o;
@@ -155,7 +221,7 @@ lists-some O listing_of given Takes None o = (
     taken = λ other. absurd (other refl);
   },
 )
-lists-some O listing_of given Takes (Some b) o = (
+lists-some O listing_of given Takes (Some b) left o = (
   listing_of (given b),
   record {
     outcome = given b;
@@ -186,7 +252,7 @@ gives-next O before after given given' Takes Takes' piece told left text lines t
         ap piece (l.exact read.0 read.1 ok) ∙ sym read.2;
     taken = λ other. tells l.outcome (has_failed ending) end (l.taken other);
   },
-  lists-some O after given' Takes' left o,
+  lists-some O after given' Takes' left left o,
 )
 
 -- The last lines were made, and they are those of this outcome. For the listers.

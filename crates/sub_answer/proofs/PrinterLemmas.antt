@@ -1,18 +1,20 @@
 -- What a printer does that was told several events; main lemma: prints_all.
 use Rattle.std.proofs.Common.{◌≡◌, ◌∙◌, ap, refl, sym, subst, arith, ℕ, ◌+◌, ◌<◌, ◌≤◌, ◌||◌}
-use Rattle.std.proofs.Common.{not}
+use Rattle.std.proofs.Common.{◌≢◌, not}
 use Rattle.std.proofs.Common.{List, [], ◌∷◌, ◌++◌, map, Bool, true, false}
 use Rattle.std.proofs.Common.{append_assoc, drop, take}
 use Rattle.std.proofs.lemmas.List.{map-append, take-append-drop}
 use Rattle.std.proofs.lemmas.Bool.{true≢false}
 use Rattle.std.proofs.lemmas.Bool.Decides.{nat_tests}
-use Rattle.std.proofs.KnownBytes.{Appends-nil, Appends-trans}
+use Rattle.std.proofs.KnownBytes.{Appends-nil, Appends-trans, Keeps-refl}
+use Rattle.std.proofs.KnownBytes.{Keeps-trans}
 use Rattle.sub_io.proofs.DeviceLemmas.{AppendsPrefix-first, AppendsPrefix-second}
 use Rattle.sub_io.specs.Device.{AppendsPrefix}
 use Rattle.sub_io.specs.Telling.{Tells, TellsInTurn}
 use Rattle.sub_rules.specs.declared.event.Event.{Event}
 use Rattle.sub_answer.specs.FaultListing.{event_line, event_lines, most_counted, refusal, refusals}
-use Rattle.sub_answer.specs.Printer.{PrinterValue, PrintsEvent, PrintsEvents, can_fail, counted}
+use Rattle.sub_answer.specs.Printer.{PrinterValue, PrintsEvent, PrintsEvents, StaysPrinted}
+use Rattle.sub_answer.specs.Printer.{can_fail, counted}
 
 -- More refusals after some.
 counted-twice : (r m n : ℕ) → counted (counted r m) n ≡ counted r (m + n)
@@ -191,3 +193,52 @@ has_stopped false b failing = absurd (true≢false (sym failing))
 pub cannot_fail : (failed b : Bool) → ((failed || b) ≡ true → ⊥) → failed ≡ false
 cannot_fail true b holds = absurd (holds refl)
 cannot_fail false b holds = refl
+
+-- ---- lines that are handed on
+
+-- Nothing was handed on.
+pub stays-none : (a : PrinterValue) → StaysPrinted a a
+stays-none a = record {
+  kept = Keeps-refl a.contents;
+  refused = refl;
+  same = λ _. refl;
+  risen = λ other. absurd (other refl);
+}
+
+-- Lines were handed on again: whether the sink failed, and its count, before, between and after.
+stays-count : (x y z : Bool) (k m n : ℕ)
+    → (y ≡ x → m ≡ k) → (y ≢ x → (y ≡ true) × (m ≡ k + 1))
+    → (z ≡ y → n ≡ m) → (z ≢ y → (z ≡ true) × (n ≡ m + 1))
+    → (z ≡ x → n ≡ k) × (z ≢ x → (z ≡ true) × (n ≡ k + 1))
+stays-count true true true k m n a b c d = (λ _. c refl ∙ a refl, λ other. absurd (other refl))
+stays-count true true false k m n a b c d = absurd (true≢false (sym (d (λ e. cc)).0))
+stays-count true false z k m n a b c d = absurd (true≢false (sym (b (λ e. cc)).0))
+stays-count false true true k m n a b c d =
+    (λ e. cc, λ other. (refl, c refl ∙ (b other).1))
+stays-count false true false k m n a b c d = absurd (true≢false (sym (d (λ e. cc)).0))
+stays-count false false true k m n a b c d =
+    (λ e. cc, λ other. (refl, (d other).1 ∙ ap (λ i. i + 1) (a refl)))
+stays-count false false false k m n a b c d = (λ _. c refl ∙ a refl, λ other. absurd (other refl))
+
+pub stays-trans : (a b c : PrinterValue) → StaysPrinted a b → StaysPrinted b c → StaysPrinted a c
+stays-trans a b c p q =
+    let counted = stays-count a.failed b.failed c.failed a.count b.count c.count p.same p.risen
+    q.same q.risen in
+    record {
+      kept = Keeps-trans _ _ _ p.kept q.kept;
+      refused = q.refused ∙ p.refused;
+      same = counted.0;
+      risen = counted.1;
+    }
+
+-- One that has said stop, and had not failed, has failed as lines were handed on.
+pub stopped_fails : (a b : PrinterValue) (is : Bool) → b.failed ≡ is
+    → a.failed ≡ false
+    → a.count < 0xFFFF_FFFF_FFFF_FFFF
+    → StaysPrinted a b
+    → (b.failed || not (can_fail b.count)) ≡ true
+    → b.failed ≡ true
+stopped_fails a b true is goes room stays stopped = is
+stopped_fails a b false is goes room stays stopped =
+    absurd (true≢false (sym stopped
+    ∙ still_goes b.failed a.count b.count room is (stays.same (is ∙ sym goes))))

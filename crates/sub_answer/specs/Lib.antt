@@ -1,4 +1,5 @@
 pub mod Lines
+pub mod StaysPrinted
 pub mod Told
 pub mod Faults
 pub mod Listing

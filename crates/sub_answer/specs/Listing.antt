@@ -123,3 +123,7 @@ Gives Before After told left text None =
     × ((more : Listing) × After left left None more)
 Gives Before After told left text (Some status) =
     Before told left (Some status) (record { text = text; status = status })
+
+-- A piece was not read whole, since the sink had failed: what is listed then has no end.
+abbrev pub IsCut : IsListed → Option (List ℕ) → Option (List ℕ) → Type 0
+IsCut Lists told left = (more : Listing) × Lists told left None more

@@ -1,6 +1,6 @@
 -- What a device does that prints a line for each event. Private functions alone cite this.
-use Rattle.std.specs.Prelude.{◌≡◌, ℕ, ◌+◌, min, nat_lt, Bool, true, false, List, Option}
-use Rattle.std.specs.Io.KnownBytes.{Appends}
+use Rattle.std.specs.Prelude.{◌≡◌, ◌≢◌, ◌||◌, not, ℕ, ◌+◌, min, nat_lt, Bool, true, false, List, Option}
+use Rattle.std.specs.Io.KnownBytes.{Appends, Keeps}
 use Rattle.sub_io.specs.Device.{AppendsPrefix}
 use Rattle.sub_rules.specs.declared.event.Event.{Event}
 use Rattle.sub_answer.specs.FaultListing.{event_line, event_lines, most_counted, refusal, refusals}
@@ -49,3 +49,15 @@ pub record PrintsEvents (old : PrinterValue) (events : List Event) (new : Printe
     pub put_refused : new.failed ≡ false → new.refused ≡ counted old.refused (refusals events)
     pub cut : new.failed ≡ true → AppendsPrefix old.contents new.contents (event_lines events)
     pub cut_count : new.failed ≡ true → new.count ≡ old.count + 1
+
+-- Whatever was handed on, what was printed stays. Where it could not be, the sink failed once.
+pub record StaysPrinted (old new : PrinterValue) : Type 0 where
+  pub kept : Keeps old.contents new.contents
+  pub refused : new.refused ≡ old.refused
+  pub same : new.failed ≡ old.failed → new.count ≡ old.count
+  pub risen : new.failed ≢ old.failed → (new.failed ≡ true) × (new.count ≡ old.count + 1)
+
+-- It was to hand on the lines that its sink holds back, and did so where `ok`.
+pub record HandsOnLines (old : PrinterValue) (ok : Bool) (new : PrinterValue) : Type 0 where
+  pub stays : StaysPrinted old new
+  pub stopped : (new.failed || not (can_fail new.count)) ≡ not ok

@@ -34,7 +34,7 @@ use packets::PacketLister;
 use schedule::ScheduleWork;
 use show::SubtitleLister;
 use std::alloc::Global;
-use sub_io::{Flush, Sink, Source};
+use sub_io::{Ahead, Flush, Sink};
 use sub_request::{ReceiverKind, Request, UsageFault};
 use ttx_page::{Blank, Keep};
 
@@ -44,7 +44,7 @@ use ttx_page::{Blank, Keep};
 /// file to be written and `out` the standard output. Devices that the request does not name are
 /// not touched. `Fault` where a device failed, or where memory ran out; what was printed until then
 /// stays.
-pub fn answer<S: Source, T: Source, F: Flush, K: Sink>(
+pub fn answer<S: Ahead, T: Ahead, F: Flush, K: Flush>(
     alloc: Global,
     request: &Request<'_>,
     first: &mut S,

@@ -15,7 +15,7 @@ use crate::status::Status;
 use std::alloc::Global;
 use stl_rows::{National, load_all};
 use sub_check::{Accepted, CheckFault, check_all};
-use sub_io::{Sink, Source, put_all};
+use sub_io::{Ahead, Flush, Sink, Source, put_all};
 use sub_plan::Options;
 
 /// Checks a PES file against a subtitle file, and prints a line for each place that is broken, and
@@ -25,7 +25,7 @@ use sub_plan::Options;
 /// `pes` is not touched where the subtitle file is refused. `Done` where the files are accepted;
 /// `Refused` where a place is broken; `Fault` where a device failed or memory ran out, with its
 /// line last. Once `out` failed nothing more is read or printed.
-pub fn print_every_fault<S: Source, T: Source, K: Sink>(
+pub fn print_every_fault<S: Source, T: Ahead, K: Flush>(
     alloc: Global,
     stl: &mut S,
     pes: &mut T,
@@ -48,12 +48,14 @@ pub fn print_every_fault<S: Source, T: Source, K: Sink>(
         out,
         refused: 0,
         failed: false,
+        waiting: false,
     };
     let answer = tell_every_fault(alloc, stl, pes, national, options, &mut printer);
     let Printer {
         out,
         refused,
         failed,
+        waiting: _,
     } = printer;
     if failed {
         return Status::Fault;
@@ -63,7 +65,7 @@ pub fn print_every_fault<S: Source, T: Source, K: Sink>(
 
 // Tells a printer what is broken in the subtitle file, or else in the PES file. `None` where the
 // subtitle file is refused or the printer said stop, else what was read of the PES file.
-fn tell_every_fault<S: Source, T: Source, K: Sink>(
+fn tell_every_fault<S: Source, T: Ahead, K: Flush>(
     alloc: Global,
     stl: &mut S,
     pes: &mut T,

@@ -1,20 +1,27 @@
 //! `packets PES`: lists PES packets and their Teletext units.
-ghost use Rattle.std.specs.Prelude.{◌≡◌, ◌+◌, ◌-◌, ◌<◌, ◌≤◌, ◌++◌, [], None};
+ghost use Rattle.std.specs.Prelude.{◌≡◌, ◌≢◌, ℕ, ◌+◌, ◌-◌, ◌<◌, ◌≤◌, ◌++◌, [], None, IfNone};
+ghost use Rattle.std.specs.Prelude.{IfSome, false, is_none, true};
 ghost use Rattle.arrayvec.specs.ArrayVec.{array_vec_len};
+ghost use Rattle.sub_io.specs.Device.{CanFail, CountsIf, RisesIf, failed};
+ghost use Rattle.ttx_pes.specs.Comparing.{as_given};
+ghost use Rattle.ttx_pes.specs.Fault.{is_read};
+ghost use Rattle.ttx_pes.specs.Reader.{TellsPacket, given_frame, progress_after};
 ghost use Rattle.ttx_pes.specs.Outcome.{ReadsPackets, outcome_after};
 ghost use Rattle.ttx_pes.specs.Reading.{most_packets};
 ghost use Rattle.ttx_pes.specs.declared.progress.Progress.TheVariants.{Reading};
 ghost use Rattle.sub_answer.specs.Lines.{unit_line};
 ghost use Rattle.sub_answer.specs.Listing.{Lists};
 ghost use Rattle.sub_answer.specs.PacketsListing.{frame_lines, pes_listing};
+ghost use Rattle.sub_answer.specs.Printer.{StaysPrinted, printer_value};
 
 use crate::faults::told_of_check;
 use crate::lines::{push_lower_hex, push_number, push_text};
 use crate::listing::{Lister, PIECE, Text, end_at, end_with};
+use crate::printer::Printer;
 use crate::status::Status;
 use sub_check::CheckFault;
-use sub_io::Source;
-use ttx_pes::{Compared, ComparingReader, MOST_UNITS, Unit};
+use sub_io::{Ahead, Flush, HandingOn};
+use ttx_pes::{Compared, ComparingReader, MOST_UNITS, PesFault, Unit};
 
 /// Lists the PES packets of a file (EN 300 472).
 #[derive(Drop)]
@@ -57,8 +64,16 @@ impl Lister for PacketLister {
 
     ghost lists = { λ l. Lists (pes_listing l.index) (outcome_after l.index) ReadsPackets };
 
-    fn next<S: Source>(&mut self, source: &mut S, text: &mut Text) -> Option<Status> {
-        match self.reader.next(source) {
+    fn next<S: Ahead, K: Flush>(
+        &mut self,
+        source: &mut S,
+        printer: &mut Printer<'_, K>,
+        text: &mut Text,
+    ) -> Option<Status> {
+        let Some(read) = next_live(&mut self.reader, source, printer) else {
+            return Some(Status::Fault);
+        };
+        match read {
             Ok(Compared::End) => end_at(text, self.index, b" pes\n"),
             Ok(Compared::Same) => self.list_read(text),
             Ok(Compared::Other) => self.list_read(text),
@@ -68,6 +83,81 @@ impl Lister for PacketLister {
             }
         }
     }
+}
+
+// Reads the next PES packet. Before the source may have to wait, the lines before it are handed on;
+// `None` where they can't be, and then nothing more was read.
+fn next_live<S: Ahead, K: Flush>(
+    reader: &mut ComparingReader,
+    source: &mut S,
+    printer: &mut Printer<'_, K>,
+) -> Option<Result<Compared, PesFault>>
+    requires source { CanFail (S.failure_count source.old) }
+    requires out { CanFail (K.failure_count printer.old.out.now) }
+    requires goes_on { printer.old.failed ≡ false }
+    ensures same { printer.new.out.ghost_name ≡ printer.old.out.ghost_name }
+    ensures stays { StaysPrinted
+        (printer_value (K.contents printer.old.out.now) (K.failure_count printer.old.out.now)
+        printer.old.refused printer.old.failed)
+        (printer_value (K.contents printer.new.out.now) (K.failure_count printer.new.out.now)
+        printer.new.refused printer.new.failed) }
+    ensures failed { printer.new.failed ≡ is_none result }
+    ensures refused { IfNone result (S.failure_count source.new ≡ S.failure_count source.old) }
+    ensures count { IfSome result (λ read.
+        CountsIf S.failure_count source.old (failed is_read read) source.new) }
+    ensures tells { IfSome result (λ read. TellsPacket reader.old.progress
+        (S.remaining source.old) (S.remaining source.new)
+        (given_frame (as_given read) reader.new.frame)) }
+    ensures progress { IfSome result (λ read. reader.new.progress
+        ≡ progress_after reader.old.progress (given_frame (as_given read) reader.new.frame)) }
+    ensures few { IfSome result (λ _.
+        (given : ℕ) → reader.new.progress ≡ Reading given → given ≤ most_packets) }
+{
+    let mut lent = HandingOn {
+        source,
+        beside: printer,
+        refused: 0,
+    };
+    let read = next_lent(reader, &mut lent);
+    if lent.refused > 0 {
+        return None;
+    }
+    Some(read)
+}
+
+// The same of a source that is lent. Where a pull was refused the answer is of no use.
+fn next_lent<S: Ahead, K: Flush>(
+    reader: &mut ComparingReader,
+    lent: &mut HandingOn<'_, S, Printer<'_, K>>,
+) -> Result<Compared, PesFault>
+    requires source { CanFail (S.failure_count lent.old.source.now) }
+    requires out { CanFail (K.failure_count lent.old.beside.now.out.now) }
+    requires goes_on { lent.old.beside.now.failed ≡ false }
+    requires none { lent.old.refused ≡ 0 }
+    ensures source { lent.new.source.ghost_name ≡ lent.old.source.ghost_name }
+    ensures beside { lent.new.beside.ghost_name ≡ lent.old.beside.ghost_name }
+    ensures same { lent.new.beside.now.out.ghost_name ≡ lent.old.beside.now.out.ghost_name }
+    ensures stays { StaysPrinted
+        (printer_value (K.contents lent.old.beside.now.out.now)
+        (K.failure_count lent.old.beside.now.out.now)
+        lent.old.beside.now.refused lent.old.beside.now.failed)
+        (printer_value (K.contents lent.new.beside.now.out.now)
+        (K.failure_count lent.new.beside.now.out.now)
+        lent.new.beside.now.refused lent.new.beside.now.failed) }
+    ensures goes_on { lent.new.refused ≡ 0 → lent.new.beside.now.failed ≡ false }
+    ensures stopped { lent.new.refused ≢ 0 → lent.new.beside.now.failed ≡ true }
+    ensures count { lent.new.refused ≡ 0
+        → RisesIf (S.failure_count lent.old.source.now) (failed is_read result)
+        (S.failure_count lent.new.source.now) }
+    ensures refused { lent.new.refused ≢ 0
+        → S.failure_count lent.new.source.now ≡ S.failure_count lent.old.source.now }
+    ensures tells { TellsPacket reader.old.progress (S.remaining lent.old.source.now)
+        (S.remaining lent.new.source.now) (given_frame (as_given result) reader.new.frame) }
+    ensures progress { reader.new.progress
+        ≡ progress_after reader.old.progress (given_frame (as_given result) reader.new.frame) }
+    ensures few { (given : ℕ) → reader.new.progress ≡ Reading given → given ≤ most_packets }
+{
+    reader.next(lent)
 }
 
 // Room for the line of a PES packet.

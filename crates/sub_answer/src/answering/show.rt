@@ -6,9 +6,10 @@ ghost use Rattle.sub_answer.specs.ShowListing.{IsReady, ListsFrom, blocks_left};
 use crate::faults::told_of_stl;
 use crate::lines::{push_number, push_text, push_text_digits, push_time};
 use crate::listing::{Lister, Text, end_at, end_with};
+use crate::printer::Printer;
 use crate::status::Status;
 use stl_file::{StlReader, Subtitle, five_digits_of};
-use sub_io::Source;
+use sub_io::{Ahead, Flush};
 
 /// Lists the subtitles of a file, one after the other as they are read (EBU Tech 3264).
 #[derive(Drop)]
@@ -38,7 +39,12 @@ impl Lister for SubtitleLister {
 
     ghost lists = { λ l. ListsFrom l.reader l.count };
 
-    fn next<S: Source>(&mut self, source: &mut S, text: &mut Text) -> Option<Status> {
+    fn next<S: Ahead, K: Flush>(
+        &mut self,
+        source: &mut S,
+        _printer: &mut Printer<'_, K>,
+        text: &mut Text,
+    ) -> Option<Status> {
         let Some(reader) = &mut self.reader else {
             return match StlReader::open(source) {
                 Ok(reader) => {

@@ -1,5 +1,5 @@
 -- What was told of the subtitle file, and then of the PES file: by EveryFaultLemmas.
-use Rattle.std.proofs.Common.{◌≡◌, ◌∙◌, ap, refl, sym, subst, arith, ℕ, List, Option, Some, Ok, Err}
+use Rattle.std.proofs.Common.{◌≡◌, ◌∙◌, ap, refl, sym, subst, arith, ℕ, List, Option}
 use Rattle.std.proofs.Common.{◌<◌}
 use Rattle.stl_rows.specs.declared.fault.LoadFault.{LoadFault}
 use Rattle.sub_rules.specs.declared.event.Event.{Event}

@@ -17,8 +17,8 @@ use Rattle.sub_answer.proofs.answering.show.SubtitleListerLister.next.Goals as g
 pub returns-in-Ok-clause-gives : goal.returns-in-Ok-clause-gives
 returns-in-Ok-clause-gives g c =
     let none : c.args.self.now.reader ≡ None = search rules in
-    rw (none, c.requires.empty)
-    (gives-opened c.args.self.now.count c.in-Ok.reader _ _ c.in-Ok.ensures.start.0
+    rw (none, c.requires.empty) (λ _.
+    gives-opened c.args.self.now.count c.in-Ok.reader _ _ c.in-Ok.ensures.start.0
     c.in-Ok.ensures.taken.0 c.in-Ok.ensures.taken.1 c.in-Ok.ensures.left
     (λ bytes told. c.in-Ok.ensures.exact bytes told refl))
 
@@ -27,8 +27,8 @@ returns-in-Err-clause-gives g c =
     let none : c.args.self.now.reader ≡ None = search rules in
     let end : c.end_with.result ≡ Some (status_of (kind_by (is_read c.in-Err.fault))) =
     search rules in
-    rw (none, end)
-    (gives-refused c.args.self.now.count c.in-Err.fault _ _ c.end_with.new.text.items
+    rw (none, end) (λ _.
+    gives-refused c.args.self.now.count c.in-Err.fault _ _ c.end_with.new.text.items
     (search rules) c.in-Err.ensures.exact c.in-Err.ensures.failed c.in-Err.ensures.refused)
 
 pub returns-in-Ok-Some-clause-gives : goal.returns-in-Ok-Some-clause-gives
@@ -39,8 +39,8 @@ returns-in-Ok-Some-clause-gives g c =
     let ready = rw c.in-Some.is at c.requires.ready in
     let line : subtitle_line c.in-Ok-Some.subtitle ≡ c.push_subtitle.new.text.items =
     search rules in
-    rw c.in-Some.is
-    (gives-next _ (subtitles_listing count) (subtitles_listing (count + 1))
+    rw c.in-Some.is (λ _.
+    gives-next _ (subtitles_listing count) (subtitles_listing (count + 1))
     (outcome_left old) (outcome_left new)
     (λ failed. ReadsSubtitles failed old.block)
     (λ failed. ReadsSubtitles failed new.block)
@@ -54,7 +54,7 @@ returns-in-Ok-Some-clause-gives g c =
     ends)
 
 pub returns-in-Ok-Some-clause-ready : goal.returns-in-Ok-Some-clause-ready
-returns-in-Ok-Some-clause-ready g c = λ none.
+returns-in-Ok-Some-clause-ready g c = λ goes none.
     let ready = rw c.in-Some.is at c.requires.ready in
     let taken = rw c.in-Ok-Some.field-0-is at (c.in-Ok-Some.ensures.subtitle ready.0) in
     let rises = block-rises _ _ _ _ _ taken in
@@ -67,7 +67,7 @@ returns-in-Ok-Some-clause-ready g c = λ none.
     )
 
 pub returns-in-Ok-Some-clause-fewer : goal.returns-in-Ok-Some-clause-fewer
-returns-in-Ok-Some-clause-fewer g c = λ none.
+returns-in-Ok-Some-clause-fewer g c = λ goes none.
     let ready = rw c.in-Some.is at c.requires.ready in
     let taken = rw c.in-Ok-Some.field-0-is at (c.in-Ok-Some.ensures.subtitle ready.0) in
     let rises = block-rises _ _ _ _ _ taken in
@@ -79,8 +79,8 @@ returns-in-Ok-Some-clause-fewer g c = λ none.
 pub returns-in-Ok-None-clause-gives : goal.returns-in-Ok-None-clause-gives
 returns-in-Ok-None-clause-gives g c =
     let ready = rw c.in-Some.is at c.requires.ready in
-    rw (c.in-Some.is, c.end_at.ensures.end)
-    (gives-last _ (subtitles_listing c.args.self.now.count) (outcome_left c.in-Some.reader)
+    rw (c.in-Some.is, c.end_at.ensures.end) (λ _.
+    gives-last _ (subtitles_listing c.args.self.now.count) (outcome_left c.in-Some.reader)
     (λ failed. ReadsSubtitles failed c.in-Some.reader.block) _ _ ends _ false
     c.end_at.ensures.line refl
     (λ bytes told ok.
@@ -94,8 +94,8 @@ returns-in-Err-next-clause-gives g c =
     let ready = rw c.in-Some.is at c.requires.ready in
     let end : c.end_with-in-Err-next.result ≡ Some (status_of (kind_by (is_read f))) =
     search rules in
-    rw (c.in-Some.is, end)
-    (gives-last _ (subtitles_listing c.args.self.now.count) (outcome_left c.in-Some.reader)
+    rw (c.in-Some.is, end) (λ _.
+    gives-last _ (subtitles_listing c.args.self.now.count) (outcome_left c.in-Some.reader)
     (λ failed. ReadsSubtitles failed c.in-Some.reader.block) _ _
     (fails f c.next.new.self.block) c.end_with-in-Err-next.new.text.items (is_read f)
     (search rules) (kind_by-failed (is_read f))
