@@ -1,5 +1,6 @@
 -- What a device does that prints a line for each event. Private functions alone cite this.
-use Rattle.std.specs.Prelude.{◌≡◌, ◌≢◌, ◌||◌, not, ℕ, ◌+◌, min, nat_lt, Bool, true, false, List, Option}
+use Rattle.std.specs.Prelude.{◌≡◌, ◌≢◌, ◌||◌, not, ℕ, ◌+◌, min, nat_lt, Bool, true, false, List}
+use Rattle.std.specs.Prelude.{Option}
 use Rattle.std.specs.Io.KnownBytes.{Appends, Keeps}
 use Rattle.sub_io.specs.Device.{AppendsPrefix}
 use Rattle.sub_rules.specs.declared.event.Event.{Event}

@@ -6,7 +6,8 @@ ghost use Rattle.sub_io.specs.Device.{AppendsPrefix, CanFail, CountsFailure};
 ghost use Rattle.sub_io.proofs.HandingOnLemmas.{Tells-stays};
 ghost use Rattle.sub_answer.specs.FaultListing.{refusal, subtitle_event};
 ghost use Rattle.sub_answer.specs.StaysPrinted.{line_stays, not_true};
-ghost use Rattle.sub_answer.specs.Printer.{HandsOnLines, PrintsEvent, can_fail, counted, printer_value};
+ghost use Rattle.sub_answer.specs.Printer.{HandsOnLines, PrintsEvent, can_fail, counted};
+ghost use Rattle.sub_answer.specs.Printer.{printer_value};
 
 use crate::lines::{Line, push_event};
 use stl_rows::LoadFault;
@@ -187,7 +188,8 @@ impl<K: Flush> Live for Printer<'_, K> {
 impl<K: Flush> LiveAudience<Event> for Printer<'_, K> {
     ghost stays_told = { record {
       told = λ start old new ok items settled told on.
-          Tells-stays _ start old new items (λ same. on.1 (rw same (not_true start.waiting settled)))
+          Tells-stays _ start old new items
+          (λ same. on.1 (rw same (not_true start.waiting settled)))
           (λ d x is. (on.0 ∙ is.0, line_stays _ _ _ x is.1 on.2.stays)) told;
       stopped = λ old new ok on. on.2.stopped;
     } };

@@ -1,6 +1,7 @@
 pub mod Checker
 pub mod Comparison
 pub mod Following
+pub mod Lending
 pub mod Listener
 pub mod SentAgain
 pub mod Steps

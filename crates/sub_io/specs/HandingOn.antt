@@ -68,17 +68,22 @@ pub record HandsOnFirst
       → (is_settled new.beside ≡ true) × IsPassedOn failure_count IsPull old room answer new)
       × (ok ≡ false → IsRefused old answer new)
 
+-- What was told to an audience up to one state was told up to another, if it held nothing back before
+-- the first of it.
+abbrev pub KeepsTold : {A D : Type 0} → (D → A → D → Type 0) → (D → Bool) → D → D → Type 0
+KeepsTold {A} {D} IsTold is_settled old new =
+    (start : D) (items : List A)
+    → is_settled start ≡ true
+    → Tells IsTold start old items
+    → Tells IsTold start new items
+
 -- What pulls one after another leave, none of which was refused before: what was told to the
 -- audience stays told, and it has said stop exactly where a pull was refused.
 pub record IsLent
     {S A T : Type 0} (failure_count : S → ℕ) (IsTold : A → T → A → Type 0)
     (has_stopped is_settled : A → Bool) (old new : Lent S A)
     : Type 0 where
-  pub told :
-      (start : A) (items : List T)
-      → is_settled start ≡ true
-      → Tells IsTold start old.beside items
-      → Tells IsTold start new.beside items
+  pub told : KeepsTold IsTold is_settled old.beside new.beside
   pub goes_on : new.refused ≡ 0 → has_stopped new.beside ≡ false
   pub stopped : new.refused ≢ 0 → has_stopped new.beside ≡ true
   pub count : failure_count old.source ≤ failure_count new.source
