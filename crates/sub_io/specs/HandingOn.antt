@@ -68,8 +68,8 @@ pub record HandsOnFirst
       → (is_settled new.beside ≡ true) × IsPassedOn failure_count IsPull old room answer new)
       × (ok ≡ false → IsRefused old answer new)
 
--- What was told to an audience up to one state was told up to another, if it held nothing back before
--- the first of it.
+-- What was told to an audience up to one state was told up to another, if it held nothing back
+-- before the first of it.
 abbrev pub KeepsTold : {A D : Type 0} → (D → A → D → Type 0) → (D → Bool) → D → D → Type 0
 KeepsTold {A} {D} IsTold is_settled old new =
     (start : D) (items : List A)
