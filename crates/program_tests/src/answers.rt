@@ -5,7 +5,7 @@ use fixtures::Watched;
 use std::alloc::Global;
 use std::process::Abort;
 use sub_answer::{Status, answer, say};
-use sub_io::{Flush, MemSink, MemSource, Sink, Source};
+use sub_io::{Ahead, Flush, MemSink, MemSource};
 use sub_request::Request;
 use sub_words::ParseWords;
 
@@ -22,7 +22,7 @@ pub const ACCEPTED: &str = "accepted 51 frames 2 transmissions\n";
 pub const SCHEDULE: [&str; 4] = ["subttx", "schedule", "a", "b"];
 
 /// Answers words over two sources, a file that is written, and an output.
-pub fn answer_words<'a, S: Source, T: Source, F: Flush, K: Sink>(
+pub fn answer_words<'a, S: Ahead, T: Ahead, F: Flush, K: Flush>(
     alloc: Global,
     words: &'a [&'a str],
     first: &mut S,
@@ -81,7 +81,7 @@ fn is_made_of(text: &[u8], front: &[u8], end: &[u8]) -> bool {
 
 /// Asserts what is printed for words over two sources, in two parts, and the status that the last
 /// line tells.
-pub fn assert_prints<'a, S: Source, T: Source>(
+pub fn assert_prints<'a, S: Ahead, T: Ahead>(
     rt: &(impl Abort + Alloc<A = Global>),
     words: &'a [&'a str],
     first: &mut S,

@@ -7,7 +7,7 @@ use crate::asserting::assert_same;
 use fixtures::{Counting, Endless, HI, TEN, block, file_of_five, gsi, head, put, schedule_of_hi};
 use std::alloc::Global;
 use std::process::Abort;
-use sub_io::{MemSource, Source};
+use sub_io::{Ahead, MemSource};
 
 /// What is told of five subtitles.
 pub const OF_FIVE: &str = "refused 57 Overlap block 2\n\
@@ -83,7 +83,7 @@ const OF_EIGHT: &str = "refused 51 Control block 1 at 0\n\
     refused 56 OutOfOrder block 8\n";
 
 // Asserts what is told of the eight subtitles and more blocks, where no byte of a PES file is read.
-fn assert_ends_with<S: Source>(rt: &(impl Abort + Alloc<A = Global>), stl: &mut S, end: &str)
+fn assert_ends_with<S: Ahead>(rt: &(impl Abort + Alloc<A = Global>), stl: &mut S, end: &str)
     requires { CanFail (S.failure_count stl.old) }
 {
     let pes = schedule_of_hi();

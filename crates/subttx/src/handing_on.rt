@@ -12,7 +12,7 @@ use sub_io::{BufferedSink, Close, Flush, Sink};
 ///
 /// Where the system gave the program no standard output, the file may have its number. So lines
 /// that are handed on while the file is open could be written into it.
-pub trait HandOn<F: Close>: Sink {
+pub trait HandOn<F: Close>: Flush {
     // The bytes that it has taken and holds back.
     ghost held_back: { Self → List ℕ };
 
