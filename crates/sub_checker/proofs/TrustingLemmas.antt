@@ -184,7 +184,8 @@ module _ {D : Type 0} (Behind : D → Event → D → Type 0) (has_stopped : D �
   passes_prefix old new es (n, l, told) =
       let p = passes_all old new (take n es) told in
       subst (TellsPrefix Behind old.device.now new.device.now)
-      (sym (with_run-append _ _ (take n es) (drop n es)) ∙ ap (with_run _ _) (take-append-drop n es))
+      (sym (with_run-append _ _ (take n es) (drop n es))
+      ∙ ap (with_run _ _) (take-append-drop n es))
       (TellsPrefix-first _ _ _ _ p.cut)
 
   -- Where there is no run.
@@ -289,7 +290,8 @@ module _ (g : Task) (frames : Transmission) (n : ℕ) (t : Trust) (is : Judges g
         let two = tells_none-append arriving taking in
         rw (all_of, one, two) grind (arith, nat_tests)
 
-    quiet_then : (none : Bool) → none ≡ stands_none (standing_at g frames (suc n) (frame_at frames n))
+    quiet_then : (none : Bool)
+        → none ≡ stands_none (standing_at g frames (suc n) (frame_at frames n))
         → (taken.is_clean && none) ≡ is_quiet g frames n
     unfolding is_quiet
     quiet_then none stands =

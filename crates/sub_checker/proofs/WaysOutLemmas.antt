@@ -46,7 +46,8 @@ events_from :
 unfolding all_events all_events_of_first
 events_from g frames n l =
     let more =
-    grows_to (all_events_of_first g frames) (all_frame_events g frames) (λ k. refl) n (length frames) l in
+    grows_to (all_events_of_first g frames) (all_frame_events g frames) (λ k. refl) n
+    (length frames) l in
     let last : List Event = last_trusted g frames in
     let closing : List Event = closing_events g frames (length frames) in (
       more.0 ++ last ++ closing,
@@ -56,7 +57,8 @@ events_from g frames n l =
     )
 
 pub one_more : (g : Task) (frames : Transmission) (n : ℕ)
-    → all_events_of_first g frames (n + 1) ≡ all_events_of_first g frames n ++ all_frame_events g frames n
+    → all_events_of_first g frames (n + 1)
+    ≡ all_events_of_first g frames n ++ all_frame_events g frames n
 unfolding all_events_of_first
 one_more g frames n = rw add-one refl
 
@@ -79,7 +81,8 @@ all_parts : (g : Task) (frames : Transmission) (n : ℕ) → length frames ≡ n
     ≡ all_events_of_first g frames n ++ (last_trusted g frames ++ closing_events g frames n)
 unfolding all_events
 all_parts g frames n all =
-    ap (λ k. all_events_of_first g frames k ++ last_trusted g frames ++ closing_events g frames k) all
+    ap (λ k. all_events_of_first g frames k ++ last_trusted g frames ++ closing_events g frames k)
+    all
     ∙ append_assoc (all_events_of_first g frames n) (last_trusted g frames)
     (closing_events g frames n)
 
