@@ -2,17 +2,17 @@
 -- `law_of_all_trusted`.
 use Rattle.std.proofs.lemmas.Bool.Decides.{nat_tests}
 use Rattle.std.proofs.Common.{◌≡◌, ◌≢◌, ℕ, zero, suc, ◌+◌, ◌-◌, ◌<◌, ◌≤◌, inl, inr, Bool, true}
-use Rattle.std.proofs.Common.{false, List, [], ◌∷◌, ◌++◌, Contains, length, take, Option, Some}
+use Rattle.std.proofs.Common.{false, List, [], ◌∷◌, Contains, length, take, Option, Some}
 use Rattle.std.proofs.Common.{None, refl, sym, ap, ◌∙◌, subst, arith, cond}
 use Rattle.std.proofs.lemmas.Bool.{cases_lt, lt-ltb}
 use Rattle.std.proofs.lemmas.List.{length-take-le, take-take}
 use Rattle.std.proofs.lemmas.List.Elements.{Contains-append_left, Contains-append_right}
 use Rattle.ttx_page.specs.PacketKind.{kind}
 use Rattle.ttx_page.specs.Span.{holds_header}
-use Rattle.sub_rules.specs.Events.{end_before, events, events_at_end}
-use Rattle.sub_rules.specs.Events.{first_header_events, frame_events, gap_events, gap_length}
-use Rattle.sub_rules.specs.Events.{order_events, packet_events, standing_at, standing_before}
-use Rattle.sub_rules.specs.FrameRules.{Task, Unread, end_frame, frame_at, packets_before}
+use Rattle.sub_rules.specs.Events.{events}
+use Rattle.sub_rules.specs.Events.{frame_events, gap_events, gap_length}
+use Rattle.sub_rules.specs.Events.{order_events, standing_at, standing_before}
+use Rattle.sub_rules.specs.FrameRules.{Task, Unread, end_frame, frame_at}
 use Rattle.sub_rules.specs.FrameRules.{packets_of_frame}
 use Rattle.sub_rules.specs.PacketTests.{breaks}
 use Rattle.sub_rules.specs.Transmission.{Transmission, last_frame}
@@ -27,15 +27,15 @@ use Rattle.sub_rules.specs.declared.packet_rule.PacketRule.{PacketRule}
 use Rattle.sub_rules.proofs.GrowingLists.{grows_to}
 use Rattle.sub_laws.specs.CleanStretch.{IsEnd, is_needed}
 use Rattle.sub_laws.specs.TrustedFrames.{CanStay, LawOfAllTrusted, rising_count}
-use Rattle.sub_laws.proofs.DoubtLemmas.{doubt-append, first_doubt, none-doubt, or_else, or_none}
+use Rattle.sub_laws.proofs.DoubtLemmas.{first_doubt, none-doubt, or_else, or_none}
 use Rattle.sub_laws.proofs.DoubtLemmas.{over-none, over-some, told_in_run}
-use Rattle.sub_laws.proofs.FrameDoubtLemmas.{end_doubt, gap_doubt, header_doubt, none_some}
-use Rattle.sub_laws.proofs.FrameDoubtLemmas.{order_doubt, packets_calm, packets_doubt, rises_untold}
-use Rattle.sub_laws.proofs.FrameDoubtLemmas.{or_some, stood_before}
+use Rattle.sub_laws.proofs.FrameDoubtLemmas.{frame_doubt, gap_doubt, none_some, order_doubt}
+use Rattle.sub_laws.proofs.FrameDoubtLemmas.{own_doubt, stood_before}
+use Rattle.sub_laws.proofs.OrderToldLemmas.{rises_untold}
 use Rattle.sub_laws.proofs.PrefixLemmas.{before, last-same, packet_at}
 use Rattle.sub_laws.proofs.TrustedFrameLemmas.{count_low, count_most, count_rises, frame_at-take}
 use Rattle.sub_laws.proofs.TrustedFrameLemmas.{packets-take, standing-take}
-use Rattle.sub_laws.proofs.TrustedRunLemmas.{Run, frame_doubt, latest_is, long, run_is, stood}
+use Rattle.sub_laws.proofs.TrustedRunLemmas.{Run, latest_is, long, run_is, stood}
 use Rattle.sub_laws.proofs.TrustedRunLemmas.{up_to}
 
 -- A frame whose number is told to fall does so.
@@ -130,22 +130,8 @@ module _ (g : Task) (frames : Transmission) (a b : ℕ) (can : CanStay g frames 
   own_calm : (k : ℕ) → k < m → a ≤ frame_at frames k → frame_at frames k ≤ b
       → first_doubt (frame_before frames k) (own_events g frames k) ≡ None
   own_calm k l low high =
-      let last : ℕ = frame_before frames k in
-      let f : ℕ = frame_at frames k in
-      let packets : List Event = packet_events g.watched f (packets_before frames k)
-      (packets_of_frame frames k) (length (packets_of_frame frames k)) in
-      let header : List Event = first_header_events g frames k in
-      let end : List Event = events_at_end g frames k (suc k) f in
-      doubt-append last (packets ++ header) end
-      ∙ ap (λ d. or_else d (first_doubt last end))
-      (doubt-append last packets header
-      ∙ ap (λ d. or_else d (first_doubt last header))
-      (packets_calm last g.watched f (packets_before frames k) (packets_of_frame frames k)
-      (length (packets_of_frame frames k))
-      (λ r p needed below. packets_quiet r k p needed l low high below))
-      ∙ header_doubt g frames last k)
-      ∙ (end_doubt last (standing_before g frames k f) (end_before frames k f)
-      (standing_at g frames (suc k) f) f).calm (own_end k l low high)
+      (own_doubt g frames k).calm
+      (λ r p needed below. packets_quiet r k p needed l low high below) (own_end k l low high)
 
   quiet_if : (k : ℕ) → suc k ≤ m
       → first_doubt (frame_before frames k) (own_events g frames k) ≡ None
@@ -207,16 +193,6 @@ module _ (g : Task) (frames : Transmission) (a b : ℕ) (can : CanStay g frames 
           abbrev gap : Option ℕ
           gap = first_doubt last (gap_events g frames n (gap_length frames n))
 
-          abbrev packets : List Event
-          packets = packet_events g.watched f (packets_before frames n)
-              (packets_of_frame frames n) (length (packets_of_frame frames n))
-
-          abbrev header_events : List Event
-          header_events = first_header_events g frames n
-
-          abbrev end : List Event
-          end = events_at_end g frames n (suc n) f
-
           n_low : n ≤ m
           n_low = count_most frames (length frames) n (omega arith) run.rises
 
@@ -266,51 +242,19 @@ module _ (g : Task) (frames : Transmission) (a b : ℕ) (can : CanStay g frames 
           abbrev own : Option ℕ
           own = first_doubt last (own_events g frames n)
 
-          own_is : own
-              ≡ or_else (or_else (first_doubt last packets) (first_doubt last header_events))
-              (first_doubt last end)
-          own_is =
-              doubt-append last (packets ++ header_events) end
-              ∙ ap (λ d. or_else d (first_doubt last end)) (doubt-append last packets header_events)
-
-          own_at : (x : ℕ) → own ≡ Some x → x ≡ f
-          own_at x e =
-              or_some (or_else (first_doubt last packets) (first_doubt last header_events))
-              (first_doubt last end) x f
-              (λ z. or_some (first_doubt last packets) (first_doubt last header_events) z f
-              (packets_doubt last g.watched f (packets_before frames n) (packets_of_frame frames n)
-              (length (packets_of_frame frames n))).at
-              (λ y is. absurd (none_some (sym (header_doubt g frames last n) ∙ is))))
-              (end_doubt last (standing_before g frames n f) (end_before frames n f)
-              (standing_at g frames (suc n) f) f).at (sym own_is ∙ e)
-
           own_past : frame_at frames k < f → (x : ℕ) → own ≡ Some x → b < x
           own_past rise x e = elim (cases_lt b f) [
-            | inl past ↦ let at = own_at x e in omega arith
+            | inl past ↦ let at = (own_doubt g frames n).at x e in omega arith
             | inr no_later ↦
                 let lower = a_low in
                 absurd (none_some
                 (sym (own_calm n (rises_in rise) (omega arith) (omega arith)) ∙ e))
           ]
 
-          whole_is : first_doubt last (frame_events g frames n) ≡ or_else (or_else order gap) own
-          whole_is =
-              frame_doubt g frames k next from run
-              ∙ assoc order gap (first_doubt last packets) (first_doubt last header_events)
-              (first_doubt last end)
-              ∙ ap (or_else (or_else order gap)) (sym own_is)
-            where
-              assoc : (o q p h e : Option ℕ)
-                  → or_else (or_else (or_else (or_else o q) p) h) e
-                  ≡ or_else (or_else o q) (or_else (or_else p h) e)
-              assoc (Some x) q p h e = refl
-              assoc None (Some x) p h e = refl
-              assoc None None p h e = refl
-
           -- What makes a frame quiet no more comes after the stretch.
           past : (x : ℕ) → first_doubt last (frame_events g frames n) ≡ Some x → b < x
           unfolding frame_before
-          past x e = by_order order refl (sym whole_is ∙ e)
+          past x e = by_order order refl (sym (frame_doubt g frames n) ∙ e)
             where
               by_gap : frame_at frames k < f → (d : Option ℕ) → gap ≡ d → or_else d own ≡ Some x
                   → b < x
@@ -341,12 +285,9 @@ module _ (g : Task) (frames : Transmission) (a b : ℕ) (can : CanStay g frames 
           unfolding run_after
           on none =
               let parts : (or_else order gap ≡ None) × (own ≡ None) =
-              or_none _ _ (sym whole_is ∙ none) in
+              or_none _ _ (sym (frame_doubt g frames n) ∙ none) in
               let two : (order ≡ None) × (gap ≡ None) = or_none _ _ parts.0 in
               let rise : frame_at frames k < f = (order_doubt g frames last k).1 two.0 in
-              let three : (or_else (first_doubt last packets) (first_doubt last header_events)
-              ≡ None) × (first_doubt last end ≡ None) =
-              or_none _ _ (sym own_is ∙ parts.1) in
               let calm =
               (gap_doubt g frames n (omega arith) (latest_is g frames k next from run)
               (stood g frames k next from run) last (gap_length frames n)).quiet two.1 in
@@ -356,9 +297,7 @@ module _ (g : Task) (frames : Transmission) (a b : ℕ) (can : CanStay g frames 
               let before : stands_none (standing_before g frames n f) ≡ true =
               subst (λ x. stands_none (standing_before g frames n x) ≡ true)
               (long g frames k next from run rise) was in
-              let stands =
-              (end_doubt last (standing_before g frames n f) (end_before frames n f)
-              (standing_at g frames (suc n) f) f).quiet before three.1 in
+              let stands = (own_doubt g frames n).stands parts.1 before in
               let inside = rises_in rise in
               let quiet = quiet_if n inside parts.1 stands in
               rw (quiet, over-none last (run_after g frames n) (frame_events g frames n) none, kept)

@@ -1,23 +1,23 @@
 -- What is told of a frame of the list, part by part: which frame is quiet no more by it, and what
--- is quiet where none is. Main lemmas: rises_of, gap_doubt, packets_doubt, end_doubt.
+-- is quiet where none is. Main lemmas: order_doubt, gap_doubt, own_doubt, frame_doubt.
 use Rattle.std.proofs.lemmas.Bool.Decides.{nat_tests}
 use Rattle.std.proofs.Common.{◌≡◌, ℕ, zero, suc, ◌+◌, ◌-◌, ◌<◌, inl, inr, Bool, true, false}
 use Rattle.std.proofs.Common.{nat_lt, cond, List, [], ◌∷◌, ◌++◌, map, take, get_or}
 use Rattle.std.proofs.Common.{Option, Some, None, is_none, refl, sym, ap, ◌∙◌}
-use Rattle.std.proofs.Common.{subst, arith}
-use Rattle.std.specs.List.{filter, list_any}
+use Rattle.std.proofs.Common.{subst, arith, append_assoc, length}
+use Rattle.std.specs.List.{filter}
 use Rattle.std.specs.Prelude.{⊤}
-use Rattle.std.proofs.lemmas.Bool.{cases_lt, lt-ltb, ltb-true}
-use Rattle.std.proofs.lemmas.List.Folds.{list_any-append}
+use Rattle.std.proofs.lemmas.Bool.{cases_lt, ltb-true}
 use Rattle.sub_rules.specs.Events.{Standing, content_events, end_before, end_events}
-use Rattle.sub_rules.specs.Events.{events_at_end, events_of_first}
-use Rattle.sub_rules.specs.Events.{first_header_events, frame_events, gap_events, latest}
+use Rattle.sub_rules.specs.Events.{events_at_end}
+use Rattle.sub_rules.specs.Events.{first_header_events, frame_events, gap_events, gap_length}
+use Rattle.sub_rules.specs.Events.{latest}
 use Rattle.sub_rules.specs.Events.{order_events, packet_events, packet_fault, rule_events}
 use Rattle.sub_rules.specs.Events.{rules_told, standing_at, standing_before}
-use Rattle.sub_rules.specs.FrameRules.{Task, frame_at}
+use Rattle.sub_rules.specs.FrameRules.{Task, frame_at, packets_before, packets_of_frame}
 use Rattle.sub_rules.specs.PacketTests.{breaks, broken_rules, packet_rules}
 use Rattle.sub_rules.specs.Transmission.{Transmission}
-use Rattle.sub_rules.specs.Trusted.{doubted, is_order, stands_none}
+use Rattle.sub_rules.specs.Trusted.{doubted, frame_before, own_events, stands_none}
 use Rattle.sub_rules.specs.declared.event.EndRule.{EndRule}
 use Rattle.sub_rules.specs.declared.event.EndRule.TheVariants as end
 use Rattle.sub_rules.specs.declared.event.Event.{Event}
@@ -35,7 +35,7 @@ use Rattle.sub_laws.proofs.DoubtLemmas.{doubt-append, first_doubt, or_else, or_n
 
 -- What is told at an end makes its own frame quiet no more; where it does not, nothing stands that
 -- did not stand before. Where nothing stands it does not.
-pub record EndDoubt (last : ℕ) (old new : Standing) (f : ℕ) (es : List Event) : Type 0 where
+record EndDoubt (last : ℕ) (old new : Standing) (f : ℕ) (es : List Event) : Type 0 where
   pub at : (x : ℕ) → first_doubt last es ≡ Some x → x ≡ f
   pub quiet : stands_none old ≡ true → first_doubt last es ≡ None → stands_none new ≡ true
   pub calm : stands_none new ≡ true → first_doubt last es ≡ None
@@ -50,27 +50,18 @@ content_quiet : (last before f : ℕ) (old new : Option (ℕ × ℕ)) → is_non
 unfolding doubted
 content_quiet last before f old new none e = grind (arith, nat_tests)
 
-gap_at : (last before f x : ℕ) (old new : Bool)
-    → first_doubt last (rule_events end.Gap (fault.Gap f) old before new) ≡ Some x → x ≡ f
+rule_at : (last : ℕ) (r : EndRule) (told : CheckFault) (before f x : ℕ) (old new : Bool)
+    → doubted last (Told told) ≡ Some f
+    → first_doubt last (rule_events r told old before new) ≡ Some x → x ≡ f
 unfolding doubted
-gap_at last before f x old new e = grind (arith, nat_tests)
+rule_at last r told before f x old new is e = grind (arith, nat_tests)
 
-gap_quiet : (last before f : ℕ) (old new : Bool) → old ≡ false
-    → first_doubt last (rule_events end.Gap (fault.Gap f) old before new) ≡ None → new ≡ false
+rule_quiet : (last : ℕ) (r : EndRule) (told : CheckFault) (before f : ℕ) (old new : Bool)
+    → doubted last (Told told) ≡ Some f
+    → old ≡ false
+    → first_doubt last (rule_events r told old before new) ≡ None → new ≡ false
 unfolding doubted
-gap_quiet last before f old new none e = grind (arith, nat_tests)
-
-open_at : (last before f x : ℕ) (old new : Bool)
-    → first_doubt last (rule_events end.Incomplete (fault.Incomplete f) old before new) ≡ Some x
-    → x ≡ f
-unfolding doubted
-open_at last before f x old new e = grind (arith, nat_tests)
-
-open_quiet : (last before f : ℕ) (old new : Bool) → old ≡ false
-    → first_doubt last (rule_events end.Incomplete (fault.Incomplete f) old before new) ≡ None
-    → new ≡ false
-unfolding doubted
-open_quiet last before f old new none e = grind (arith, nat_tests)
+rule_quiet last r told before f old new is none e = grind (arith, nat_tests)
 
 content_calm : (last before f : ℕ) (old new : Option (ℕ × ℕ)) → is_none new ≡ true
     → first_doubt last (content_events old before new f) ≡ None
@@ -88,7 +79,7 @@ pub none_some : {x : ℕ} → (let o : Option ℕ = None in o) ≡ Some x → �
 none_some e = cc
 
 -- What one of two says is said by one of them.
-pub or_some : (a b : Option ℕ) (x y : ℕ) → ((z : ℕ) → a ≡ Some z → z ≡ y)
+or_some : (a b : Option ℕ) (x y : ℕ) → ((z : ℕ) → a ≡ Some z → z ≡ y)
     → ((z : ℕ) → b ≡ Some z → z ≡ y)
     → or_else a b ≡ Some x → x ≡ y
 or_some None b x y p q e = q x e
@@ -103,9 +94,9 @@ of_three : (s : Standing) → is_none s.content ≡ true → s.gap ≡ false →
     → stands_none s ≡ true
 of_three s a b c = grind (arith, nat_tests)
 
-pub end_doubt : (last : ℕ) (old : Standing) (before : ℕ) (new : Standing) (f : ℕ)
+end_doubt : (last : ℕ) (old : Standing) (before : ℕ) (new : Standing) (f : ℕ)
     → EndDoubt last old new f (end_events old before new f)
-unfolding end_events
+unfolding end_events doubted
 end_doubt last old before new f =
     let c : List Event = content_events old.content before new.content f in
     let g : List Event = rule_events end.Gap (fault.Gap f) old.gap before new.gap in
@@ -120,8 +111,9 @@ end_doubt last old before new f =
           or_some (or_else (first_doubt last c) (first_doubt last g)) (first_doubt last o) x f
           (λ z. or_some (first_doubt last c) (first_doubt last g) z f
           (λ y. content_at last before f y old.content new.content)
-          (λ y. gap_at last before f y old.gap new.gap))
-          (λ z. open_at last before f z old.incomplete new.incomplete) (sym parts ∙ e);
+          (λ y. rule_at last end.Gap (fault.Gap f) before f y old.gap new.gap refl))
+          (λ z. rule_at last end.Incomplete (fault.Incomplete f) before f z old.incomplete
+          new.incomplete refl) (sym parts ∙ e);
       quiet = λ none e.
           let two : (or_else (first_doubt last c) (first_doubt last g) ≡ None)
           × (first_doubt last o ≡ None) =
@@ -130,8 +122,9 @@ end_doubt last old before new f =
           or_none _ _ two.0 in
           let stood = three_of old none in
           of_three new (content_quiet last before f old.content new.content stood.0 one.0)
-          (gap_quiet last before f old.gap new.gap stood.1 one.1)
-          (open_quiet last before f old.incomplete new.incomplete stood.2 two.1);
+          (rule_quiet last end.Gap (fault.Gap f) before f old.gap new.gap refl stood.1 one.1)
+          (rule_quiet last end.Incomplete (fault.Incomplete f) before f old.incomplete
+          new.incomplete refl stood.2 two.1);
       calm = λ now.
           let stands = three_of new now in
           parts
@@ -214,7 +207,7 @@ module _ (last frame k : ℕ) (test : PacketRule → Bool) where
 module _ (last : ℕ) (w : Watched) (frame : ℕ) (before packets : List (List ℕ)) where
   -- What is told of the first n packets makes this frame quiet no more; where it does not, none of
   -- them breaks a rule on which a receiver depends.
-  pub record PacketsDoubt (n : ℕ) : Type 0 where
+  record PacketsDoubt (n : ℕ) : Type 0 where
     pub at : (x : ℕ) → first_doubt last (packet_events w frame before packets n) ≡ Some x
         → x ≡ frame
     pub quiet : first_doubt last (packet_events w frame before packets n) ≡ None
@@ -223,7 +216,7 @@ module _ (last : ℕ) (w : Watched) (frame : ℕ) (before packets : List (List �
         → k < n
         → breaks r w (before ++ take k packets) (get_or packets k []) ≡ false
 
-  pub packets_doubt : (n : ℕ) → PacketsDoubt n
+  packets_doubt : (n : ℕ) → PacketsDoubt n
   unfolding packet_events rules_told broken_rules
   packets_doubt zero = record { at = λ x e. cc; quiet = λ e r k needed l. absurd (omega arith) }
   packets_doubt (suc n) =
@@ -250,7 +243,7 @@ module _ (last : ℕ) (w : Watched) (frame : ℕ) (before packets : List (List �
       }
 
   -- Where none of them breaks one this frame stays quiet.
-  pub packets_calm : (n : ℕ)
+  packets_calm : (n : ℕ)
       → ((r : PacketRule) (k : ℕ)
       → is_needed r ≡ true
       → k < n
@@ -288,50 +281,10 @@ module _ (g : Task) (frames : Transmission) where
       go true is = (λ x e. cc, λ e. ltb-true _ _ is)
       go false is = (λ x e. grind (arith, nat_tests), λ e. cc)
 
-  pub header_doubt : (last i : ℕ) → first_doubt last (first_header_events g frames i) ≡ None
+  header_doubt : (last i : ℕ) → first_doubt last (first_header_events g frames i) ≡ None
   unfolding first_header_events doubted
   header_doubt last zero = grind (arith, nat_tests)
   header_doubt last (suc i) = refl
-
-  -- A frame of which the order is not told is after the one before.
-  order_none : (i : ℕ) → list_any is_order (order_events g frames (suc i)) ≡ false
-      → frame_at frames i < frame_at frames (suc i)
-  unfolding order_events is_order
-  order_none i e = go (nat_lt (frame_at frames i) (frame_at frames (suc i))) refl e
-    where
-      go : (b : Bool) → nat_lt (frame_at frames i) (frame_at frames (suc i)) ≡ b
-          → list_any is_order (cond b [] (Told (fault.Order (suc i)) ∷ [])) ≡ false
-          → frame_at frames i < frame_at frames (suc i)
-      go true is e = ltb-true _ _ is
-      go false is e = cc
-
-  -- Of lists of which none holds one the first does not.
-  any_first : (xs ys : List Event) → list_any is_order (xs ++ ys) ≡ false
-      → list_any is_order xs ≡ false
-  any_first xs ys e = let both = list_any-append is_order xs ys in grind (arith, nat_tests)
-
-  any_second : (xs ys : List Event) → list_any is_order (xs ++ ys) ≡ false
-      → list_any is_order ys ≡ false
-  any_second xs ys e = let both = list_any-append is_order xs ys in grind (arith, nat_tests)
-
-  -- So where none is told of the first frames, each is after the one before.
-  pub rises_of : (n : ℕ) → list_any is_order (events_of_first g frames n) ≡ false
-      → (i : ℕ) → 0 < i → i < n → frame_at frames (i - 1) < frame_at frames i
-  unfolding events_of_first frame_events
-  rises_of zero e i some l = absurd (omega arith)
-  rises_of (suc n) e i some l = elim (cases_lt i n) [
-    | inl below ↦ rises_of n (any_first (events_of_first g frames n) _ e) i some below
-    | inr no_less ↦
-        let here : i ≡ n = omega arith in
-        let back : suc (i - 1) ≡ i = omega arith in
-        let order : list_any is_order (order_events g frames n) ≡ false =
-        any_first _ _ (any_first _ _ (any_first _ _ (any_first _ _
-        (any_second (events_of_first g frames n) _ e)))) in
-        subst (λ k. frame_at frames (i - 1) < frame_at frames k) back
-        (order_none (i - 1)
-        (subst (λ k. list_any is_order (order_events g frames k) ≡ false)
-        (sym (back ∙ here)) order))
-  ]
 
 -- ---- the frames of the day before a frame of the list
 
@@ -419,69 +372,91 @@ module _ (g : Task) (frames : Transmission) (n : ℕ) (some : 0 < n)
             let found = so_far.at x (is ∙ e) in
             (found.0, let l = found.1 in omega arith, found.2, found.3, found.4)
 
--- ---- nothing else is told of the order
+-- ---- a frame of the list, in three parts
 
-module _ (g : Task) (frames : Transmission) where
-  -- None of these tells of it.
-  abbrev NoOrder : List Event → Type 0
-  NoOrder es = list_any is_order es ≡ false
+module _ (g : Task) (frames : Transmission) (n : ℕ) where
+  abbrev last : ℕ
+  last = frame_before frames n
 
-  no_append : (xs ys : List Event) → NoOrder xs → NoOrder ys → NoOrder (xs ++ ys)
-  no_append xs ys p q = let both = list_any-append is_order xs ys in grind (arith, nat_tests)
+  abbrev f : ℕ
+  f = frame_at frames n
 
-  no_end : (old : Standing) (before : ℕ) (new : Standing) (f : ℕ)
-      → NoOrder (end_events old before new f)
-  unfolding end_events is_order
-  no_end old before new f = grind (arith, nat_tests)
+  -- Its packets break no rule on which a receiver depends.
+  abbrev pub PacketsKeep : Type 0
+  PacketsKeep =
+      (r : PacketRule) (k : ℕ)
+      → is_needed r ≡ true
+      → k < length (packets_of_frame frames n)
+      → breaks r g.watched (packets_before frames n ++ take k (packets_of_frame frames n))
+      (get_or (packets_of_frame frames n) k [])
+      ≡ false
 
-  no_gap : (n k : ℕ) → NoOrder (gap_events g frames n k)
-  unfolding gap_events
-  no_gap n zero = refl
-  no_gap n (suc k) = no_append _ _ (no_gap n k) (no_end _ _ _ _)
+  -- What is told of its packets and at its end makes the frame quiet no more. It does not exactly
+  -- where they keep the rules and, if nothing stood before, nothing stands.
+  pub record OwnDoubt (own : Option ℕ) : Type 0 where
+    pub at : (x : ℕ) → own ≡ Some x → x ≡ f
+    pub packets : own ≡ None → PacketsKeep
+    pub stands : own ≡ None → stands_none (standing_before g frames n f) ≡ true
+        → stands_none (standing_at g frames (suc n) f) ≡ true
+    pub calm : PacketsKeep → stands_none (standing_at g frames (suc n) f) ≡ true → own ≡ None
 
-  no_rule : (r : PacketRule) (f k : ℕ) → is_order (Told (packet_fault r f k)) ≡ false
-  unfolding is_order
-  no_rule r f k = grind (arith, nat_tests)
+  pub own_doubt : OwnDoubt (first_doubt last (own_events g frames n))
+  own_doubt =
+      let sent : List (List ℕ) = packets_of_frame frames n in
+      let before : List (List ℕ) = packets_before frames n in
+      let packets : List Event = packet_events g.watched f before sent (length sent) in
+      let header : List Event = first_header_events g frames n in
+      let end : List Event = events_at_end g frames n (suc n) f in
+      let parts : first_doubt last (packets ++ header ++ end)
+      ≡ or_else (or_else (first_doubt last packets) (first_doubt last header))
+      (first_doubt last end) =
+      doubt-append last (packets ++ header) end
+      ∙ ap (λ d. or_else d (first_doubt last end)) (doubt-append last packets header) in
+      let of_packets = packets_doubt last g.watched f before sent (length sent) in
+      let of_end =
+      end_doubt last (standing_before g frames n f) (end_before frames n f)
+      (standing_at g frames (suc n) f) f in
+      record {
+        at = λ x e.
+            or_some (or_else (first_doubt last packets) (first_doubt last header))
+            (first_doubt last end) x f
+            (λ z. or_some (first_doubt last packets) (first_doubt last header) z f of_packets.at
+            (λ y is. absurd (none_some (sym (header_doubt g frames last n) ∙ is)))) of_end.at
+            (sym parts ∙ e);
+        packets = λ e.
+            let two : (or_else (first_doubt last packets) (first_doubt last header) ≡ None)
+            × (first_doubt last end ≡ None) =
+            or_none _ _ (sym parts ∙ e) in
+            of_packets.quiet (or_none _ _ two.0).0;
+        stands = λ e stood.
+            of_end.quiet stood
+            (or_none (or_else (first_doubt last packets) (first_doubt last header))
+            (first_doubt last end) (sym parts ∙ e)).1;
+        calm = λ keep stands.
+            parts
+            ∙ ap (λ d. or_else (or_else d (first_doubt last header)) (first_doubt last end))
+            (packets_calm last g.watched f before sent (length sent) keep)
+            ∙ ap (λ d. or_else d (first_doubt last end)) (header_doubt g frames last n)
+            ∙ of_end.calm stands;
+      }
 
-  no_rules : (f k : ℕ) (rs : List PacketRule)
-      → NoOrder (map (λ (r : PacketRule). Told (packet_fault r f k)) rs)
-  no_rules f k [] = refl
-  no_rules f k (r ∷ rs) =
-      let here = no_rule r f k in
-      let rest = no_rules f k rs in
-      grind (arith, nat_tests)
-
-  no_packets : (w : Watched) (f : ℕ) (before packets : List (List ℕ)) (n : ℕ)
-      → NoOrder (packet_events w f before packets n)
-  unfolding packet_events rules_told
-  no_packets w f before packets zero = refl
-  no_packets w f before packets (suc n) =
-      no_append _ _ (no_packets w f before packets n) (no_rules _ _ _)
-
-  no_header : (i : ℕ) → NoOrder (first_header_events g frames i)
-  unfolding first_header_events is_order
-  no_header zero = grind (arith, nat_tests)
-  no_header (suc i) = refl
-
-  no_order : (i : ℕ) → (0 < i → frame_at frames (i - 1) < frame_at frames i)
-      → NoOrder (order_events g frames i)
-  unfolding order_events is_order
-  no_order zero rise = grind (arith, nat_tests)
-  no_order (suc i) rise =
-      let back : suc i - 1 ≡ i = omega arith in
-      let up : nat_lt (frame_at frames i) (frame_at frames (suc i)) ≡ true =
-      lt-ltb _ _ (subst (λ k. frame_at frames k < frame_at frames (suc i)) back
-      (rise (omega arith))) in
-      rw up refl
-
-  -- Where the first frames rise none tells of it.
-  pub rises_untold : (n : ℕ)
-      → ((i : ℕ) → 0 < i → i < n → frame_at frames (i - 1) < frame_at frames i)
-      → NoOrder (events_of_first g frames n)
-  unfolding events_of_first frame_events
-  rises_untold zero rises = refl
-  rises_untold (suc n) rises =
-      no_append _ _ (rises_untold n (λ i a l. rises i a (omega arith)))
-      (no_append _ _ (no_append _ _ (no_append _ _ (no_append _ _
-      (no_order n (λ a. rises n a (omega arith))) (no_gap n _)) (no_packets _ _ _ _ _))
-      (no_header n)) (no_end _ _ _ _))
+  -- All that is told of it.
+  pub frame_doubt : first_doubt last (frame_events g frames n)
+      ≡ or_else (or_else (first_doubt last (order_events g frames n))
+      (first_doubt last (gap_events g frames n (gap_length frames n))))
+      (first_doubt last (own_events g frames n))
+  unfolding frame_events
+  frame_doubt =
+      let order : List Event = order_events g frames n in
+      let gap : List Event = gap_events g frames n (gap_length frames n) in
+      let packets : List Event = packet_events g.watched f (packets_before frames n)
+      (packets_of_frame frames n) (length (packets_of_frame frames n)) in
+      let header : List Event = first_header_events g frames n in
+      let end : List Event = events_at_end g frames n (suc n) f in
+      ap (first_doubt last)
+      (append_assoc (order ++ gap ++ packets) header end
+      ∙ append_assoc (order ++ gap) packets (header ++ end)
+      ∙ ap (λ l. order ++ gap ++ l) (sym (append_assoc packets header end)))
+      ∙ doubt-append last (order ++ gap) (packets ++ header ++ end)
+      ∙ ap (λ d. or_else d (first_doubt last (packets ++ header ++ end)))
+      (doubt-append last order gap)

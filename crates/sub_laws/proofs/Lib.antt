@@ -9,6 +9,7 @@ pub mod FrameByFrame
 pub mod FrameDoubtLemmas
 pub mod FrameLemmas
 pub mod GoodLemmas
+pub mod OrderToldLemmas
 pub mod PesFileLemmas
 pub mod PlaceLemmas
 pub mod PlanLemmas

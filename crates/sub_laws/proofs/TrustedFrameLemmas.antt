@@ -45,12 +45,6 @@ module _ (frames : Transmission) where
   unfolding rises_at
   rises_is i e = ltb-true _ _ e
 
-  pub is_rise : (i : ℕ)
-      → frame_at frames i < frame_at frames (suc i)
-      → rises_at frames (suc i) ≡ true
-  unfolding rises_at
-  is_rise i l = lt-ltb _ _ l
-
   pub count_rises : (n i : ℕ) → suc i < rising_count frames n
       → frame_at frames i < frame_at frames (suc i)
   unfolding rising_count

@@ -9,11 +9,11 @@ use Rattle.std.specs.List.{list_any}
 use Rattle.std.proofs.lemmas.Bool.{cases_lt, cases_eq}
 use Rattle.ttx_page.specs.PacketKind.{kind}
 use Rattle.ttx_page.specs.Span.{holds_header}
-use Rattle.sub_rules.specs.Events.{end_before, events, events_at_end, events_of_first}
-use Rattle.sub_rules.specs.Events.{first_header_events, frame_events, gap_events, gap_length}
+use Rattle.sub_rules.specs.Events.{events, events_of_first}
+use Rattle.sub_rules.specs.Events.{frame_events, gap_events, gap_length}
 use Rattle.sub_rules.specs.Events.{latest}
-use Rattle.sub_rules.specs.Events.{order_events, packet_events, standing_at, standing_before}
-use Rattle.sub_rules.specs.FrameRules.{HasHeader, Task, end_frame, frame_at, packets_before}
+use Rattle.sub_rules.specs.Events.{order_events, standing_at}
+use Rattle.sub_rules.specs.FrameRules.{HasHeader, Task, end_frame, frame_at}
 use Rattle.sub_rules.specs.FrameRules.{Unread, packets_of_frame}
 use Rattle.sub_rules.specs.PacketTests.{breaks}
 use Rattle.sub_rules.specs.Transmission.{Transmission}
@@ -26,11 +26,12 @@ use Rattle.sub_rules.specs.declared.packet_rule.PacketRule.{PacketRule}
 use Rattle.sub_rules.proofs.EndLemmas.{gap_length-is}
 use Rattle.sub_rules.proofs.TrustedLemmas.{plain_closing, plain_frame}
 use Rattle.sub_laws.specs.CleanStretch.{IsEnd, is_needed}
-use Rattle.sub_laws.proofs.DoubtLemmas.{EachTrusted, doubt-append, doubt-none, each-append}
+use Rattle.sub_laws.proofs.DoubtLemmas.{EachTrusted, doubt-none, each-append}
 use Rattle.sub_laws.proofs.DoubtLemmas.{each-plain, each-put, first_doubt, or_else}
 use Rattle.sub_laws.proofs.DoubtLemmas.{or_none, over-some, trusted_in_run}
-use Rattle.sub_laws.proofs.FrameDoubtLemmas.{AreQuiet, end_doubt, gap_doubt, header_doubt}
-use Rattle.sub_laws.proofs.FrameDoubtLemmas.{order_doubt, packets_doubt, rises_of}
+use Rattle.sub_laws.proofs.FrameDoubtLemmas.{AreQuiet, frame_doubt, gap_doubt, order_doubt}
+use Rattle.sub_laws.proofs.FrameDoubtLemmas.{own_doubt}
+use Rattle.sub_laws.proofs.OrderToldLemmas.{rises_of}
 use Rattle.sub_laws.proofs.PrefixLemmas.{before, packet_at}
 use Rattle.sub_laws.proofs.RisingEndLemmas.{latest_at}
 
@@ -107,22 +108,6 @@ module _ (g : Task) (frames : Transmission) where
     rises_on : RiseTo (suc n)
     rises_on = rises_of g frames (suc n) parts_quiet.0
 
-    -- Its packets.
-    own_packets : (r : PacketRule) (k : ℕ) → is_needed r ≡ true
-        → k < length (packets_of_frame frames n)
-        → breaks r g.watched (before frames n k) (packet_at frames n k) ≡ false
-    own_packets r k needed l =
-        let last : ℕ = frame_before frames n in
-        let packets : List Event = packet_events g.watched (frame_at frames n)
-        (packets_before frames n) (packets_of_frame frames n)
-        (length (packets_of_frame frames n)) in
-        let header : List Event = first_header_events g frames n in
-        let end : List Event = events_at_end g frames n (suc n) (frame_at frames n) in
-        let one = or_none _ _ (sym (doubt-append last (packets ++ header) end) ∙ parts_quiet.1) in
-        let two = or_none _ _ (sym (doubt-append last packets header) ∙ one.0) in
-        (packets_doubt last g.watched (frame_at frames n) (packets_before frames n)
-        (packets_of_frame frames n) (length (packets_of_frame frames n))).quiet two.0 r k needed l
-
     -- An end of the frame, up to which one frame more counts.
     own_end : (m f : ℕ) → IsEnd frames m f → m ≤ suc n → n < m → f ≤ frame_at frames n
         → stands_none (standing_at g frames m f) ≡ true
@@ -149,7 +134,7 @@ module _ (g : Task) (frames : Transmission) where
           let same : n ≡ i = omega arith in
           subst (λ (i : ℕ). k < length (packets_of_frame frames i)
           → breaks r g.watched (before frames i k) (packet_at frames i k) ≡ false) same
-          (own_packets r k needed) l;
+          ((own_doubt g frames n).packets parts_quiet.1 r k needed) l;
       ends = λ m f end within low high. elim (cases_lt n m) [
         | inl more ↦
             own_end m f end within more
@@ -187,7 +172,7 @@ module _ (g : Task) (frames : Transmission) where
             let same : n ≡ i = omega arith in
             subst (λ (i : ℕ). k < length (packets_of_frame frames i)
             → breaks r g.watched (before frames i k) (packet_at frames i k) ≡ false) same
-            (own_packets r k needed) l
+            ((own_doubt g frames n).packets parts_quiet.1 r k needed) l
       ];
       ends = λ m f end within low high. elim (cases_lt n m) [
         | inl more ↦
@@ -268,28 +253,6 @@ module _ (g : Task) (frames : Transmission) where
     abbrev gap : List Event
     gap = gap_events g frames n (gap_length frames n)
 
-    abbrev packets : List Event
-    packets = packet_events g.watched (frame_at frames n) (packets_before frames n)
-        (packets_of_frame frames n) (length (packets_of_frame frames n))
-
-    abbrev header : List Event
-    header = first_header_events g frames n
-
-    abbrev end : List Event
-    end = events_at_end g frames n (suc n) (frame_at frames n)
-
-    pub frame_doubt : first_doubt last (frame_events g frames n)
-        ≡ or_else (or_else (or_else (or_else (first_doubt last order) (first_doubt last gap))
-        (first_doubt last packets)) (first_doubt last header)) (first_doubt last end)
-    unfolding frame_events
-    frame_doubt =
-        doubt-append last (order ++ gap ++ packets ++ header) end
-        ∙ ap (λ d. or_else d (first_doubt last end))
-        (doubt-append last (order ++ gap ++ packets) header
-        ∙ ap (λ d. or_else d (first_doubt last header))
-        (doubt-append last (order ++ gap) packets
-        ∙ ap (λ d. or_else d (first_doubt last packets)) (doubt-append last order gap)))
-
     pub long : frame_at frames i < frame_at frames n
         → latest frames n + suc (gap_length frames n) ≡ frame_at frames n
     long up =
@@ -303,10 +266,11 @@ module _ (g : Task) (frames : Transmission) where
         → (m f : ℕ) → IsEnd frames m f → m ≡ n → frame_at frames (n - 1) < f → f < frame_at frames n
         → stands_none (standing_at g frames m f) ≡ true
     gap_quiet none m f at same later high =
-        let all = or_none _ _ (sym frame_doubt ∙ none) in
-        let three = or_none _ _ all.0 in
-        let two = or_none _ _ three.0 in
-        let one = or_none _ _ two.0 in
+        let all : (or_else (first_doubt last order) (first_doubt last gap) ≡ None)
+        × (first_doubt last (own_events g frames n) ≡ None) =
+        or_none _ _ (sym (frame_doubt g frames n) ∙ none) in
+        let one : (first_doubt last order ≡ None) × (first_doubt last gap ≡ None) =
+        or_none _ _ all.0 in
         let up = (order_doubt g frames last i).1 one.0 in
         let whole = long up in
         let low = from_low in
@@ -335,42 +299,24 @@ module _ (g : Task) (frames : Transmission) where
     unfolding frame_before
     ended x e = by_order (first_doubt last order) refl
       where
-        packets_at : (x : ℕ) → first_doubt last packets ≡ Some x → x ≡ frame_at frames n
-        packets_at =
-            (packets_doubt last g.watched (frame_at frames n) (packets_before frames n)
-            (packets_of_frame frames n) (length (packets_of_frame frames n))).at
-        end_at : (x : ℕ) → first_doubt last end ≡ Some x → x ≡ frame_at frames n
-        end_at =
-            (end_doubt last (standing_before g frames n (frame_at frames n))
-            (end_before frames n (frame_at frames n))
-            (standing_at g frames (suc n) (frame_at frames n)) (frame_at frames n)).at
-        own : (p h q : Option ℕ) → first_doubt last packets ≡ p → first_doubt last header ≡ h
-            → first_doubt last end ≡ q
-            → or_else (or_else p h) q ≡ Some x
-            → x ≡ frame_at frames n
-        own (Some y) h q is none at e = packets_at x (is ∙ e)
-        own None (Some y) q is none at e =
-            let clash = header_doubt g frames last n in cc
-        own None None q is none at e = end_at x (at ∙ e)
         by_gap : frame_at frames i < frame_at frames n → first_doubt last order ≡ None
             → (d : Option ℕ) → first_doubt last gap ≡ d → Ended x
         by_gap up none (Some y) is =
-            let same : Some y ≡ Some x = rw (frame_doubt, none, is) at e in
+            let same : Some y ≡ Some x = rw (frame_doubt g frames n, none, is) at e in
             let found =
             (gap_doubt g frames n some latest_is stood last (gap_length frames n)).at x
             (is ∙ same) in
             ended_in_gap up found.0 x (let l = found.1 in omega arith) found.2 found.3
         by_gap up none None is =
             let whole = long up in
-            let at = own (first_doubt last packets) (first_doubt last header)
-            (first_doubt last end) refl refl refl (rw (frame_doubt, none, is) at e) in
+            let at = (own_doubt g frames n).at x (rw (frame_doubt g frames n, none, is) at e) in
             ended_in_gap up (gap_length frames n) x (omega arith) (omega arith)
             ((gap_doubt g frames n some latest_is stood last (gap_length frames n)).quiet is)
         by_order : (d : Option ℕ) → first_doubt last order ≡ d → Ended x
         by_order None is =
             by_gap ((order_doubt g frames last i).1 is) is (first_doubt last gap) refl
         by_order (Some y) is =
-            let same : Some y ≡ Some x = rw (frame_doubt, is) at e in
+            let same : Some y ≡ Some x = rw (frame_doubt g frames n, is) at e in
             let at : x ≡ frame_at frames i = (order_doubt g frames last i).0 x (is ∙ same) in
             let back = last_is in
             record {

@@ -1,0 +1,128 @@
+-- Where the order of frames is told: only of a frame that is not after the one before. So they rise
+-- where it is told of none, `rises_of`, and it is told of none where they rise, `rises_untold`.
+use Rattle.std.proofs.lemmas.Bool.Decides.{nat_tests}
+use Rattle.std.proofs.Common.{◌≡◌, ℕ, zero, suc, ◌-◌, ◌<◌, inl, inr, Bool, true, false}
+use Rattle.std.proofs.Common.{nat_lt, cond, List, [], ◌∷◌, ◌++◌, map}
+use Rattle.std.proofs.Common.{refl, sym, ◌∙◌}
+use Rattle.std.proofs.Common.{subst, arith}
+use Rattle.std.specs.List.{list_any}
+use Rattle.std.proofs.lemmas.Bool.{cases_lt, lt-ltb, ltb-true}
+use Rattle.std.proofs.lemmas.List.Folds.{list_any-append}
+use Rattle.sub_rules.specs.Events.{Standing, end_events}
+use Rattle.sub_rules.specs.Events.{events_of_first}
+use Rattle.sub_rules.specs.Events.{first_header_events, frame_events, gap_events}
+use Rattle.sub_rules.specs.Events.{order_events, packet_events, packet_fault}
+use Rattle.sub_rules.specs.Events.{rules_told}
+use Rattle.sub_rules.specs.FrameRules.{Task, frame_at}
+use Rattle.sub_rules.specs.Transmission.{Transmission}
+use Rattle.sub_rules.specs.Trusted.{is_order}
+use Rattle.sub_rules.specs.declared.event.Event.{Event}
+use Rattle.sub_rules.specs.declared.event.Event.TheVariants.{Told}
+use Rattle.sub_rules.specs.declared.fault.CheckFault.TheVariants as fault
+use Rattle.sub_rules.specs.declared.packet_rule.PacketRule.{PacketRule}
+use Rattle.sub_rules.specs.declared.packet_rule.Watched.{Watched}
+
+module _ (g : Task) (frames : Transmission) where
+  -- None of these tells of it.
+  abbrev NoOrder : List Event → Type 0
+  NoOrder es = list_any is_order es ≡ false
+
+  no_append : (xs ys : List Event) → NoOrder xs → NoOrder ys → NoOrder (xs ++ ys)
+  no_append xs ys p q = let both = list_any-append is_order xs ys in grind (arith, nat_tests)
+
+  no_end : (old : Standing) (before : ℕ) (new : Standing) (f : ℕ)
+      → NoOrder (end_events old before new f)
+  unfolding end_events is_order
+  no_end old before new f = grind (arith, nat_tests)
+
+  no_gap : (n k : ℕ) → NoOrder (gap_events g frames n k)
+  unfolding gap_events
+  no_gap n zero = refl
+  no_gap n (suc k) = no_append _ _ (no_gap n k) (no_end _ _ _ _)
+
+  no_rule : (r : PacketRule) (f k : ℕ) → is_order (Told (packet_fault r f k)) ≡ false
+  unfolding is_order
+  no_rule r f k = grind (arith, nat_tests)
+
+  no_rules : (f k : ℕ) (rs : List PacketRule)
+      → NoOrder (map (λ (r : PacketRule). Told (packet_fault r f k)) rs)
+  no_rules f k [] = refl
+  no_rules f k (r ∷ rs) =
+      let here = no_rule r f k in
+      let rest = no_rules f k rs in
+      grind (arith, nat_tests)
+
+  no_packets : (w : Watched) (f : ℕ) (before packets : List (List ℕ)) (n : ℕ)
+      → NoOrder (packet_events w f before packets n)
+  unfolding packet_events rules_told
+  no_packets w f before packets zero = refl
+  no_packets w f before packets (suc n) =
+      no_append _ _ (no_packets w f before packets n) (no_rules _ _ _)
+
+  no_header : (i : ℕ) → NoOrder (first_header_events g frames i)
+  unfolding first_header_events is_order
+  no_header zero = grind (arith, nat_tests)
+  no_header (suc i) = refl
+
+  no_order : (i : ℕ) → (0 < i → frame_at frames (i - 1) < frame_at frames i)
+      → NoOrder (order_events g frames i)
+  unfolding order_events is_order
+  no_order zero rise = grind (arith, nat_tests)
+  no_order (suc i) rise =
+      let back : suc i - 1 ≡ i = omega arith in
+      let up : nat_lt (frame_at frames i) (frame_at frames (suc i)) ≡ true =
+      lt-ltb _ _ (subst (λ k. frame_at frames k < frame_at frames (suc i)) back
+      (rise (omega arith))) in
+      rw up refl
+
+  -- Where the first frames rise none tells of it.
+  pub rises_untold : (n : ℕ)
+      → ((i : ℕ) → 0 < i → i < n → frame_at frames (i - 1) < frame_at frames i)
+      → NoOrder (events_of_first g frames n)
+  unfolding events_of_first frame_events
+  rises_untold zero rises = refl
+  rises_untold (suc n) rises =
+      no_append _ _ (rises_untold n (λ i a l. rises i a (omega arith)))
+      (no_append _ _ (no_append _ _ (no_append _ _ (no_append _ _
+      (no_order n (λ a. rises n a (omega arith))) (no_gap n _)) (no_packets _ _ _ _ _))
+      (no_header n)) (no_end _ _ _ _))
+
+  -- A frame of which the order is not told is after the one before.
+  order_none : (i : ℕ) → list_any is_order (order_events g frames (suc i)) ≡ false
+      → frame_at frames i < frame_at frames (suc i)
+  unfolding order_events is_order
+  order_none i e = go (nat_lt (frame_at frames i) (frame_at frames (suc i))) refl e
+    where
+      go : (b : Bool) → nat_lt (frame_at frames i) (frame_at frames (suc i)) ≡ b
+          → list_any is_order (cond b [] (Told (fault.Order (suc i)) ∷ [])) ≡ false
+          → frame_at frames i < frame_at frames (suc i)
+      go true is e = ltb-true _ _ is
+      go false is e = cc
+
+  -- Of lists of which none holds one the first does not.
+  any_first : (xs ys : List Event) → list_any is_order (xs ++ ys) ≡ false
+      → list_any is_order xs ≡ false
+  any_first xs ys e = let both = list_any-append is_order xs ys in grind (arith, nat_tests)
+
+  any_second : (xs ys : List Event) → list_any is_order (xs ++ ys) ≡ false
+      → list_any is_order ys ≡ false
+  any_second xs ys e = let both = list_any-append is_order xs ys in grind (arith, nat_tests)
+
+  -- So where none is told of the first frames, each is after the one before.
+  pub rises_of : (n : ℕ) → list_any is_order (events_of_first g frames n) ≡ false
+      → (i : ℕ) → 0 < i → i < n → frame_at frames (i - 1) < frame_at frames i
+  unfolding events_of_first frame_events
+  rises_of zero e i some l = absurd (omega arith)
+  rises_of (suc n) e i some l = elim (cases_lt i n) [
+    | inl below ↦ rises_of n (any_first (events_of_first g frames n) _ e) i some below
+    | inr no_less ↦
+        let here : i ≡ n = omega arith in
+        let back : suc (i - 1) ≡ i = omega arith in
+        let order : list_any is_order (order_events g frames n) ≡ false =
+        any_first _ _ (any_first _ _ (any_first _ _ (any_first _ _
+        (any_second (events_of_first g frames n) _ e)))) in
+        subst (λ k. frame_at frames (i - 1) < frame_at frames k) back
+        (order_none (i - 1)
+        (subst (λ k. list_any is_order (order_events g frames k) ≡ false)
+        (sym (back ∙ here)) order))
+  ]
