@@ -3,8 +3,9 @@ use crate::asserting::{assert_same, assert_same_in};
 use bitflags::Flags;
 use fixtures::HEADER;
 use std::process::Abort;
-use ttx_packet::{Control, Header, Packet, PageId, SentPacket, ham, is_odd, is_word};
-use ttx_packet::{mirror, mirrored};
+use ttx_packet::{
+    Control, Header, Packet, PageId, SentPacket, ham, is_odd, is_word, mirror, mirrored,
+};
 
 #[test]
 fn codes_hamming_8_4(rt: HostRuntime) {
@@ -61,7 +62,11 @@ fn reads_a_header_as_it_is_sent(rt: HostRuntime) {
     let mut sent = packet.mirrored();
     assert_same(&rt, &SentPacket::new(&sent).packet(), &packet);
     assert_same(&rt, &SentPacket::new(&sent).exact_address(), &Some((0, 0)));
-    assert_same(&rt, &SentPacket::new(&sent).exact_header(), &packet.header());
+    assert_same(
+        &rt,
+        &SentPacket::new(&sent).exact_header(),
+        &packet.header(),
+    );
     // A bit of the first address byte, and of the last coded byte: corrected by a `Packet` alone.
     sent[0] ^= 0x01;
     sent[9] ^= 0x80;

@@ -17,7 +17,7 @@ returns c =
       length-map places (λ at. unit_of (take 46 (drop at field))),
     ) in
     let block
-        : c.unwrap.result.now ≡ drop 4 (take 46 (drop (get_or places c.args.number 0) field)) =
+    : c.unwrap.result.now ≡ drop 4 (take 46 (drop (get_or places c.args.number 0) field)) =
     search rules in
     rw (← c.self.view_is)
     (c.new.ensures ∙ packet_at_place field places c.args.number l c.unwrap.result.now block)
