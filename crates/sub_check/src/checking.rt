@@ -11,7 +11,7 @@ ghost use Rattle.sub_check.specs.CheckedFiles.{all_events_of, first_answer};
 use crate::first_fault::FirstFault;
 use stl_rows::Programme;
 use sub_checker::{Accepted, tell_all};
-use sub_io::{Audience, Source};
+use sub_io::{Ahead, LiveAudience};
 use sub_plan::Options;
 use sub_rules::{CheckFault, Event};
 use ttx_pes::PesFault;
@@ -33,7 +33,7 @@ use ttx_pes::PesFault;
 /// `NoFirstHeader` for the first; `Content`, `Gap`, and where complete pages are asked for
 /// `Incomplete`. At the end `Empty` or `Late`. `Pes` with `Read` where the source failed in this
 /// call, and only there.
-pub fn check<S: Source>(
+pub fn check<S: Ahead>(
     programme: &Programme,
     source: &mut S,
     options: &Options,
@@ -71,12 +71,13 @@ pub fn check<S: Source>(
 /// frames of the day from the first PES packet's to the latest one's, and the headers of the page.
 /// `None` where the device said stop: the PES packet at which it did was read in part.
 ///
-/// It takes no memory, and reads as `check` does.
+/// It takes no memory, and reads as `check` does. What the device holds back it hands on before the
+/// source may have to wait: what a PES packet settles is seen before the next one has come.
 ///
 /// # Errors
 ///
 /// `Pes` with `Read` where the source failed: then the events are those of the PES packets before.
-pub fn check_all<S: Source, A: Audience<Event>>(
+pub fn check_all<S: Ahead, A: LiveAudience<Event>>(
     programme: &Programme,
     source: &mut S,
     options: &Options,
@@ -84,6 +85,7 @@ pub fn check_all<S: Source, A: Audience<Event>>(
 ) -> Result<Option<Accepted>, CheckFault>
     requires failures { CanFail (S.failure_count source.old) }
     requires goes_on { A.has_stopped audience.old ≡ false }
+    requires settled { A.is_settled audience.old ≡ true }
     // Where the source tells its bytes, these decide what the device is told.
     ensures told { IfTold (S.remaining source.old) (λ bytes.
         TellsEvents programme.now options.now bytes A.is_told audience.old audience.new result) }

@@ -475,6 +475,7 @@ module _ (g : Task) (frames : Transmission) (t : Trust) (c : CheckerValue)
             let back : length frames - 1 ≡ m = omega (arith, all) in
             let last : end_frame frames ≡ t.last = ap (frame_at frames) back ∙ sym judges.last_is in
             grind (arith, nat_tests)
+
         at : (quiet : Bool) → is_quiet g frames m ≡ quiet → told_last t.run ≡ last_trusted g frames
         at false other =
             let none : run_after g frames (suc m) ≡ None = rw other refl in

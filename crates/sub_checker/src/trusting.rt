@@ -40,14 +40,7 @@ impl Trust {
     ghost use Rattle.sub_rules.specs.Transmission.{Transmission};
 
     /// Before the first PES packet.
-    #[tactic(
-        auto,
-        unfolding(
-            sub_rules::specs::Events::events_of_first,
-            sub_rules::specs::Trusted::frame_before,
-            sub_rules::specs::Trusted::run_after
-        )
-    )]
+    #[tactic(auto, unfolding(sub_rules::specs::Events::events_of_first, sub_rules::specs::Trusted::frame_before, sub_rules::specs::Trusted::run_after))]
     pub fn new() -> Self
         ensures last { result.last ≡ 0 }
         ensures judges { (g : Task) (frames : Transmission) → Judges g frames 0 result }

@@ -7,8 +7,9 @@ use Rattle.sub_io.proofs.CallLemmas.{PullsSome-keep}
 use Rattle.sub_io.specs.Buffered.{failures_and_refused}
 use Rattle.sub_io.specs.Calls.{PullsSome}
 use Rattle.sub_io.specs.Device.{RisesIf}
-use Rattle.sub_io.specs.Telling.{Tells, TellsInTurn}
-use Rattle.sub_io.specs.HandingOn.{HandsOnFirst, IsLent, IsPassedOn, IsRefused, Lent, StaysTold}
+use Rattle.sub_io.proofs.TellingLemmas.{TellsSome-none, TellsSome-trans, TellsSome-until}
+use Rattle.sub_io.specs.Telling.{Tells, TellsInTurn, TellsSome}
+use Rattle.sub_io.specs.HandingOn.{HandsOnFirst, IsLent, KeepsTold, IsPassedOn, IsRefused, Lent, StaysTold}
 
 zero_or_not : (n : ℕ) → (n ≡ 0) ⊎ (n ≢ 0)
 zero_or_not zero = inl refl
@@ -28,7 +29,8 @@ module _
       → failure_count c.source + c.refused ≤ 0xFFFF_FFFF_FFFF_FFFF
       → IsLent failure_count IsTold has_stopped is_settled a c
   lent_after a b c answer was again same refused most = record {
-    told = λ start items settled tells. rw same (was.told start items settled tells);
+    told = record { kept = λ start items settled tells.
+        rw same (was.told.kept start items settled tells) };
     goes_on = λ none. absurd (again (omega (arith, none, refused.2)));
     stopped = λ _. rw same (was.stopped again);
     count = rw refused.1 was.count;
@@ -44,7 +46,8 @@ module _
       → failure_count c.source + c.refused ≤ 0xFFFF_FFFF_FFFF_FFFF
       → IsLent failure_count IsTold has_stopped is_settled a c
   lent_still a b c room answer was none same passed most = record {
-    told = λ start items settled tells. rw same (was.told start items settled tells);
+    told = record { kept = λ start items settled tells.
+        rw same (was.told.kept start items settled tells) };
     goes_on = λ _. rw same (was.goes_on none);
     stopped = λ some. absurd (some (passed.2 ∙ none));
     count = le_trans was.count passed.1;
@@ -61,18 +64,18 @@ module _
       → failure_count c.source + c.refused ≤ 0xFFFF_FFFF_FFFF_FFFF
       → IsLent failure_count IsTold has_stopped is_settled a c
   lent_first a b c room answer true was none handed passed refused most = record {
-    told = λ start items settled tells.
+    told = record { kept = λ start items settled tells.
         stays.told start b.beside c.beside true items settled
-        (was.told start items settled tells) handed;
+        (was.told.kept start items settled tells) handed };
     goes_on = λ _. stays.stopped b.beside c.beside true handed;
     stopped = λ some. absurd (some ((passed refl).2 ∙ none));
     count = le_trans was.count (passed refl).1;
     most = most;
   }
   lent_first a b c room answer false was none handed passed refused most = record {
-    told = λ start items settled tells.
+    told = record { kept = λ start items settled tells.
         stays.told start b.beside c.beside false items settled
-        (was.told start items settled tells) handed;
+        (was.told.kept start items settled tells) handed };
     goes_on = λ nothing. absurd (omega (arith, nothing, (refused refl).2));
     stopped = λ _. stays.stopped b.beside c.beside false handed;
     count = rw (refused refl).1 was.count;
@@ -136,7 +139,7 @@ module _
           refl,
           refl,
           record {
-            told = λ start items settled tells. tells;
+            told = record { kept = λ start items settled tells. tells };
             goes_on = λ _. goes;
             stopped = λ one. absurd (one none);
             count = le_refl (failure_count (value a).source);
@@ -216,3 +219,20 @@ module _
       beside_more (value s) (value t) room answer (must_ask (value s).source) refl here
       (each s t room answer call))
       a b was some
+
+-- ---- where it is only said that some was told
+
+-- It stays told.
+pub TellsSome-kept : {A D : Type 0} (IsTold : D → A → D → Type 0) (is_settled : D → Bool)
+    (start old new : D)
+    → TellsSome IsTold start old
+    → is_settled start ≡ true
+    → KeepsTold IsTold is_settled old new
+    → TellsSome IsTold start new
+TellsSome-kept IsTold is_settled start old new some settled keeps = record {
+  items = some.items;
+  told = keeps.kept start some.items settled some.told;
+}
+
+-- For a function that lends an audience: `using(sub_io::proofs::HandingOnLemmas::some_kept)`.
+pub ruleset some_kept = (TellsSome-none, TellsSome-trans, TellsSome-until, TellsSome-kept)

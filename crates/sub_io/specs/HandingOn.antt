@@ -70,12 +70,14 @@ pub record HandsOnFirst
 
 -- What was told to an audience up to one state was told up to another, if it held nothing back
 -- before the first of it.
-abbrev pub KeepsTold : {A D : Type 0} → (D → A → D → Type 0) → (D → Bool) → D → D → Type 0
-KeepsTold {A} {D} IsTold is_settled old new =
-    (start : D) (items : List A)
-    → is_settled start ≡ true
-    → Tells IsTold start old items
-    → Tells IsTold start new items
+pub record KeepsTold
+    {A D : Type 0} (IsTold : D → A → D → Type 0) (is_settled : D → Bool) (old new : D)
+    : Type 0 where
+  pub kept :
+      (start : D) (items : List A)
+      → is_settled start ≡ true
+      → Tells IsTold start old items
+      → Tells IsTold start new items
 
 -- What pulls one after another leave, none of which was refused before: what was told to the
 -- audience stays told, and it has said stop exactly where a pull was refused.

@@ -77,6 +77,7 @@ fn tell_every_fault<S: Source, T: Ahead, K: Flush>(
     requires pes { CanFail (T.failure_count pes.old) }
     requires out { CanFail (K.failure_count printer.old.out.now) }
     requires goes_on { printer.old.failed ≡ false }
+    requires settled { printer.old.waiting ≡ false }
     requires none { printer.old.refused ≡ 0 }
     ensures same { printer.new.out.ghost_name ≡ printer.old.out.ghost_name }
     ensures told { TellsBoth national options.now

@@ -104,11 +104,14 @@ returns-clause-told g c = λ task frames follows judges sent again.
           c.args.trusting.now c.reach.new.audience judges c.arrive.new.self c.take.new.audience
           c.arrive.ensures reached.0 c.in_ok-reach.ensures.stopped taken.0
           c.in_ok-take.ensures.stopped),
-      (taken.1, judges_then g.A.Audience.is_told g.A.Audience.has_stopped task frames c.args.pes
-          c.args.trusting.now c.reach.new.audience judges c.arrive.new.self c.take.new.audience
-          c.arrive.ensures reached.0 c.in_ok-reach.ensures.stopped taken.0
-          c.args.sending.frame _ _ _
-          (ap (λ (s : Trusting g.row.A.Denot). s.trust) c.end_frame.ensures)
-          (sym sent.frame_is) (header_more task frames c.args.pes _ _ sent.there before after)
-          stands),
+      (
+        taken.1,
+        judges_then g.A.Audience.is_told g.A.Audience.has_stopped task frames c.args.pes
+            c.args.trusting.now c.reach.new.audience judges c.arrive.new.self c.take.new.audience
+            c.arrive.ensures reached.0 c.in_ok-reach.ensures.stopped taken.0
+            c.args.sending.frame _ _ _
+            (ap (λ (s : Trusting g.row.A.Denot). s.trust) c.end_frame.ensures)
+            (sym sent.frame_is) (header_more task frames c.args.pes _ _ sent.there before after)
+            stands,
+      ),
     )
