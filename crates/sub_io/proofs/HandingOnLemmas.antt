@@ -9,7 +9,8 @@ use Rattle.sub_io.specs.Calls.{PullsSome}
 use Rattle.sub_io.specs.Device.{RisesIf}
 use Rattle.sub_io.proofs.TellingLemmas.{TellsSome-none, TellsSome-trans, TellsSome-until}
 use Rattle.sub_io.specs.Telling.{Tells, TellsInTurn, TellsSome}
-use Rattle.sub_io.specs.HandingOn.{HandsOnFirst, IsLent, KeepsTold, IsPassedOn, IsRefused, Lent, StaysTold}
+use Rattle.sub_io.specs.HandingOn.{HandsOnFirst, IsLent, KeepsTold, IsPassedOn, IsRefused, Lent}
+use Rattle.sub_io.specs.HandingOn.{StaysTold}
 
 zero_or_not : (n : ℕ) → (n ≡ 0) ⊎ (n ≢ 0)
 zero_or_not zero = inl refl
@@ -29,8 +30,10 @@ module _
       → failure_count c.source + c.refused ≤ 0xFFFF_FFFF_FFFF_FFFF
       → IsLent failure_count IsTold has_stopped is_settled a c
   lent_after a b c answer was again same refused most = record {
-    told = record { kept = λ start items settled tells.
-        rw same (was.told.kept start items settled tells) };
+    told = record {
+      kept = λ start items settled tells.
+          rw same (was.told.kept start items settled tells);
+    };
     goes_on = λ none. absurd (again (omega (arith, none, refused.2)));
     stopped = λ _. rw same (was.stopped again);
     count = rw refused.1 was.count;
@@ -46,8 +49,10 @@ module _
       → failure_count c.source + c.refused ≤ 0xFFFF_FFFF_FFFF_FFFF
       → IsLent failure_count IsTold has_stopped is_settled a c
   lent_still a b c room answer was none same passed most = record {
-    told = record { kept = λ start items settled tells.
-        rw same (was.told.kept start items settled tells) };
+    told = record {
+      kept = λ start items settled tells.
+          rw same (was.told.kept start items settled tells);
+    };
     goes_on = λ _. rw same (was.goes_on none);
     stopped = λ some. absurd (some (passed.2 ∙ none));
     count = le_trans was.count passed.1;
@@ -64,18 +69,22 @@ module _
       → failure_count c.source + c.refused ≤ 0xFFFF_FFFF_FFFF_FFFF
       → IsLent failure_count IsTold has_stopped is_settled a c
   lent_first a b c room answer true was none handed passed refused most = record {
-    told = record { kept = λ start items settled tells.
-        stays.told start b.beside c.beside true items settled
-        (was.told.kept start items settled tells) handed };
+    told = record {
+      kept = λ start items settled tells.
+          stays.told start b.beside c.beside true items settled
+          (was.told.kept start items settled tells) handed;
+    };
     goes_on = λ _. stays.stopped b.beside c.beside true handed;
     stopped = λ some. absurd (some ((passed refl).2 ∙ none));
     count = le_trans was.count (passed refl).1;
     most = most;
   }
   lent_first a b c room answer false was none handed passed refused most = record {
-    told = record { kept = λ start items settled tells.
-        stays.told start b.beside c.beside false items settled
-        (was.told.kept start items settled tells) handed };
+    told = record {
+      kept = λ start items settled tells.
+          stays.told start b.beside c.beside false items settled
+          (was.told.kept start items settled tells) handed;
+    };
     goes_on = λ nothing. absurd (omega (arith, nothing, (refused refl).2));
     stopped = λ _. stays.stopped b.beside c.beside false handed;
     count = rw (refused refl).1 was.count;
