@@ -5,6 +5,8 @@ pub mod FrameLists
 pub mod GrowingLists
 pub mod PacketLists
 pub mod PesReadingLemmas
+pub mod PieceEventLemmas
 pub mod PieceFileLemmas
+pub mod PrefixEventLemmas
 pub mod TestLemmas
 pub mod TrustedLemmas

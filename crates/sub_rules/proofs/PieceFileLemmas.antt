@@ -1,7 +1,7 @@
 -- One piece read, in terms of the value of the whole file: `reads_sent`, `reads_off`, `reads_bad`,
 -- `pieces_end`; and that a file is read up to the first piece that is passed over: `file_until`.
 use Rattle.std.proofs.lemmas.Bool.Decides.{nat_tests}
-use Rattle.std.proofs.Common.{◌≡◌, ◌≢◌, ℕ, ◌+◌, ◌<◌, ◌≤◌, true, false, List, []}
+use Rattle.std.proofs.Common.{◌≡◌, ◌≢◌, ℕ, zero, suc, ◌+◌, ◌<◌, ◌≤◌, Bool, true, false, List, []}
 use Rattle.std.proofs.Common.{◌∷◌, Option, Some, None, Result, Ok, Err, refl, sym, ap, ◌∙◌, arith}
 use Rattle.std.proofs.Common.{cond}
 use Rattle.std.proofs.Common.{◌++◌, length, length-append}
@@ -10,13 +10,13 @@ use Rattle.std.proofs.lemmas.List.{append-nil}
 use Rattle.std.proofs.lemmas.List.Folds.{concat-append}
 use Rattle.std.specs.List.{AllByRecursion, concat}
 use Rattle.ttx_pes.proofs.PesHeaderLemmas.{body_complete, body_of, packet_of_body, six_of}
-use Rattle.ttx_pes.proofs.PieceListLemmas.{pieces_after-next}
+use Rattle.ttx_pes.proofs.PieceListLemmas.{behind_packet, pieces_after-next}
 use Rattle.ttx_pes.specs.Comparing.{TakesDataField}
 use Rattle.ttx_pes.specs.Fault.{is_of_piece, is_read}
 use Rattle.ttx_pes.specs.PesPacket.{PesValue, IsPesPacket}
 use Rattle.ttx_pes.specs.Pieces.{IsPiece, PiecesValue, TakesPiece, behind_piece, piece_then}
 use Rattle.ttx_pes.specs.Pieces.{pieces_after}
-use Rattle.ttx_pes.specs.Reading.{answer_at, most_packets}
+use Rattle.ttx_pes.specs.Reading.{answer_at, most_packets, rest_after}
 use Rattle.ttx_pes.specs.declared.fault.PesFault.{PesFault}
 use Rattle.stl_file.specs.TimeCode.{day}
 use Rattle.sub_plan.specs.FrameTime.{pts_of}
@@ -24,10 +24,13 @@ use Rattle.sub_rules.specs.FrameRules.{Unread}
 use Rattle.sub_rules.specs.FrameRules.Unread.{BadPacket, NoFrame}
 use Rattle.sub_rules.specs.PacketRules.{packets_of_units}
 use Rattle.sub_rules.specs.Pieces.{Piece, PieceFileValue, ReadsPiece, ReadsPieces, file_of_pieces}
+use Rattle.sub_rules.specs.PesReading.{PesFileValue, file_at, file_with, frame_of_pts}
 use Rattle.sub_rules.specs.Pieces.{TakesOnePiece, TakesPieces, piece_of, piece_with, pieces_at}
+use Rattle.sub_rules.specs.Pieces.{read_until_passed}
 use Rattle.sub_rules.specs.Pieces.Piece.{Passed, Sent}
 use Rattle.sub_rules.specs.Sendings.{IsFrameOf}
-use Rattle.sub_rules.proofs.PesReadingLemmas.{frame_found, no_frame_found}
+use Rattle.sub_rules.proofs.PesReadingLemmas.{file_at-next, file_by, frame_found, no_frame_found}
+use Rattle.sub_rules.proofs.PesReadingLemmas.{reads-below}
 
 -- A piece, and then a file.
 abbrev pub before : Piece → PieceFileValue → PieceFileValue
@@ -145,6 +148,104 @@ pieces_stop origin n bytes pieces unread f few reads is kind =
 -- The fault of a piece is not that the source failed.
 pub no_failure : (f : PesFault) → is_of_piece f ≡ true → is_read f ≡ false
 no_failure f kind = grind (arith, nat_tests)
+
+-- ---- up to the first piece that is passed over
+
+-- A file that is read on, and one that is not, by one answer.
+until_by : (origin : ℕ) (answer : Result (Option PesValue) PesFault) (rest : PieceFileValue)
+    → file_by origin answer (read_until_passed rest.pieces rest.unread)
+    ≡ read_until_passed (pieces_by origin answer rest).pieces (pieces_by origin answer rest).unread
+unfolding read_until_passed piece_of
+until_by origin (Ok None) rest = refl
+until_by origin (Ok (Some v)) rest = go (frame_of_pts origin v.pts)
+  where
+    go : (f : Option ℕ)
+        → file_with f (packets_of_units v.units) (read_until_passed rest.pieces rest.unread)
+        ≡ read_until_passed (before (piece_with f (packets_of_units v.units)) rest).pieces
+        (before (piece_with f (packets_of_units v.units)) rest).unread
+    go None = refl
+    go (Some frame) = refl
+until_by origin (Err f) rest = go (is_of_piece f)
+  where
+    stop : PieceFileValue
+    stop = record { pieces = []; unread = Some (BadPacket f) }
+    passed : PieceFileValue
+    passed = before (Passed (BadPacket f)) rest
+    go : (b : Bool)
+        → record { frames = []; unread = Some (BadPacket f) }
+        ≡ read_until_passed (cond b passed stop).pieces (cond b passed stop).unread
+    go true = refl
+    go false = refl
+
+-- One answer on.
+until_step : (origin given : ℕ) (bytes : List ℕ) (r : Result (Option PesValue) PesFault)
+    (rest : PesFileValue)
+    → given ≤ most_packets
+    → answer_at given bytes ≡ r
+    → file_by origin r rest
+    ≡ file_by origin r (read_until_passed
+    (pieces_at origin (given + 1) (behind_piece bytes)).pieces
+    (pieces_at origin (given + 1) (behind_piece bytes)).unread)
+    → rest ≡ file_at origin (given + 1) (rest_after bytes)
+    → file_at origin given bytes
+    ≡ read_until_passed (pieces_at origin given bytes).pieces
+    (pieces_at origin given bytes).unread
+until_step origin given bytes r rest few is same rest_is =
+    let more = pieces_at origin (given + 1) (behind_piece bytes) in
+    file_at-next origin given bytes few
+    ∙ ap (λ (x : Result (Option PesValue) PesFault). file_by origin x
+    (file_at origin (given + 1) (rest_after bytes))) is
+    ∙ ap (file_by origin r) (sym rest_is)
+    ∙ same
+    ∙ until_by origin r more
+    ∙ ap (λ (f : PieceFileValue). read_until_passed f.pieces f.unread)
+    (sym (pieces_at-next origin given bytes r few is))
+
+-- The same, by what is read behind a PES packet.
+until_one : (origin given : ℕ) (bytes : List ℕ)
+    → given ≤ most_packets
+    → ((v : PesValue)
+    → answer_at given bytes ≡ Ok (Some v)
+    → file_at origin (given + 1) (rest_after bytes)
+    ≡ read_until_passed (pieces_at origin (given + 1) (behind_piece bytes)).pieces
+    (pieces_at origin (given + 1) (behind_piece bytes)).unread)
+    → file_at origin given bytes
+    ≡ read_until_passed (pieces_at origin given bytes).pieces
+    (pieces_at origin given bytes).unread
+until_one origin given bytes few sent = by (answer_at given bytes) refl
+  where
+    next : PesFileValue
+    next = file_at origin (given + 1) (rest_after bytes)
+    by : (r : Result (Option PesValue) PesFault) → answer_at given bytes ≡ r
+        → file_at origin given bytes
+        ≡ read_until_passed (pieces_at origin given bytes).pieces
+        (pieces_at origin given bytes).unread
+    by (Ok (Some v)) is =
+        until_step origin given bytes (Ok (Some v)) next few is
+        (ap (file_by origin (Ok (Some v))) (sent v is)) refl
+    by (Ok None) is = until_step origin given bytes (Ok None) next few is refl refl
+    by (Err f) is = until_step origin given bytes (Err f) next few is refl refl
+
+-- What is read up to the first piece that is passed over is what is read where reading stops
+-- there.
+until_from : (origin room given : ℕ) (bytes : List ℕ)
+    → given + room ≡ most_packets
+    → file_at origin given bytes
+    ≡ read_until_passed (pieces_at origin given bytes).pieces
+    (pieces_at origin given bytes).unread
+until_from origin zero given bytes e =
+    until_one origin given bytes (omega arith)
+    (λ v is. absurd (reads-below given bytes v is (omega arith)))
+until_from origin (suc room) given bytes e =
+    until_one origin given bytes (omega arith) (λ v is.
+    ap (file_at origin (given + 1)) (behind_packet given bytes v is)
+    ∙ until_from origin room (given + 1) (behind_piece bytes) (omega arith))
+
+-- The same of the whole.
+pub file_until : (origin : ℕ) (bytes : List ℕ)
+    → file_at origin 0 bytes
+    ≡ read_until_passed (pieces_at origin 0 bytes).pieces (pieces_at origin 0 bytes).unread
+file_until origin bytes = until_from origin most_packets 0 bytes refl
 
 -- ---- what was taken
 

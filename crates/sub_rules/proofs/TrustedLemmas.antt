@@ -15,7 +15,7 @@ use Rattle.sub_rules.specs.Trusted.{all_events, all_events_of_first, all_frame_e
 use Rattle.sub_rules.specs.Trusted.{frame_before, kept, last_trusted, run_after, run_over}
 use Rattle.sub_rules.specs.Trusted.{trusted_before, with_run}
 use Rattle.sub_rules.specs.declared.event.Event.{Event}
-use Rattle.sub_rules.specs.declared.event.Event.TheVariants.{Ended, Told, Trusted}
+use Rattle.sub_rules.specs.declared.event.Event.TheVariants.{Ended, PassedUntil, Told, Trusted}
 use Rattle.sub_rules.specs.declared.packet_rule.PacketRule.{PacketRule}
 use Rattle.sub_rules.specs.declared.packet_rule.Watched.{Watched}
 
@@ -75,6 +75,7 @@ pub untrusted-append : (xs ys : List Event)
 untrusted-append [] ys = refl
 untrusted-append (Trusted from to ∷ xs) ys = untrusted-append xs ys
 untrusted-append (Told f ∷ xs) ys = ap (λ l. Told f ∷ l) (untrusted-append xs ys)
+untrusted-append (PassedUntil f ∷ xs) ys = ap (λ l. PassedUntil f ∷ l) (untrusted-append xs ys)
 untrusted-append (Ended rule f ∷ xs) ys = ap (λ l. Ended rule f ∷ l) (untrusted-append xs ys)
 
 -- The first fault is the same.
@@ -82,6 +83,7 @@ pub first_told-untrusted : (es : List Event) → first_told (untrusted es) ≡ f
 first_told-untrusted [] = refl
 first_told-untrusted (Trusted from to ∷ es) = first_told-untrusted es
 first_told-untrusted (Told f ∷ es) = refl
+first_told-untrusted (PassedUntil f ∷ es) = first_told-untrusted es
 first_told-untrusted (Ended rule f ∷ es) = first_told-untrusted es
 
 -- There are none of those among these.

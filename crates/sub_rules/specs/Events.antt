@@ -25,7 +25,7 @@ use Rattle.sub_rules.specs.Transmission.{SentFrame, Transmission}
 use Rattle.sub_rules.specs.declared.event.EndRule.{EndRule}
 use Rattle.sub_rules.specs.declared.event.EndRule.TheVariants as end
 use Rattle.sub_rules.specs.declared.event.Event.{Event}
-use Rattle.sub_rules.specs.declared.event.Event.TheVariants.{Ended, Told, Trusted}
+use Rattle.sub_rules.specs.declared.event.Event.TheVariants.{Ended, PassedUntil, Told, Trusted}
 use Rattle.sub_rules.specs.declared.fault.CheckFault.{CheckFault}
 use Rattle.sub_rules.specs.declared.fault.CheckFault.TheVariants as fault
 use Rattle.sub_rules.specs.declared.packet_rule.PacketRule.{PacketRule}
@@ -255,3 +255,4 @@ first_told [] = None
 first_told (Told f ∷ more) = Some f
 first_told (Ended rule frame ∷ more) = first_told more
 first_told (Trusted from to ∷ more) = first_told more
+first_told (PassedUntil f ∷ more) = first_told more

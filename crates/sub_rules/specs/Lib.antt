@@ -6,6 +6,7 @@ pub mod PacketRules
 pub mod PacketTests
 pub mod PesFrames
 pub mod PesReading
+pub mod PieceEvents
 pub mod Pieces
 pub mod Sendings
 pub mod Transmission

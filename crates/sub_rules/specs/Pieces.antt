@@ -13,6 +13,7 @@ use Rattle.sub_rules.specs.FrameRules.{Unread}
 use Rattle.sub_rules.specs.FrameRules.Unread.{BadPacket, NoFrame}
 use Rattle.sub_rules.specs.PacketRules.{packets_of_units}
 use Rattle.sub_rules.specs.PesReading.{PesFileValue, frame_of_pts}
+use Rattle.sub_rules.specs.Sendings.{IsFrameOf}
 use Rattle.sub_rules.specs.Transmission.{SentFrame, Transmission}
 use Rattle.sub_rules.specs.declared.fault.CheckFault.{CheckFault}
 use Rattle.sub_rules.specs.declared.piece.NextPiece.{NextPiece}
@@ -81,6 +82,7 @@ TellsPiece origin n bytes pieces unread v (Ok None) = (pieces ≡ []) × (unread
 TellsPiece origin n bytes pieces unread v (Ok (Some (next.Sent s))) =
     ReadsPiece origin n bytes pieces unread
     (Sent (record { frame = s.frame; packets = packets_of_units v.units }))
+    × IsFrameOf origin v.pts s.frame
 TellsPiece origin n bytes pieces unread v (Ok (Some (next.Passed f))) =
     (u : Unread)
     × (f ≡ unread_fault n (Some u))

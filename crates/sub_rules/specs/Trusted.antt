@@ -29,6 +29,8 @@ use Rattle.sub_rules.specs.declared.fault.CheckFault.TheVariants as fault
 -- do not rise that of the PES packet before.
 abbrev pub doubted_by : ℕ → CheckFault → Option ℕ
 doubted_by last (fault.Order pes) = Some last
+doubted_by last (fault.Pes pes f) = Some last
+doubted_by last (fault.OffFrame pes) = Some last
 doubted_by last (fault.Address frame packet) = Some frame
 doubted_by last (fault.HeaderCode frame packet) = Some frame
 doubted_by last (fault.Control frame packet) = Some frame

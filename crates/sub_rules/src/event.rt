@@ -44,6 +44,9 @@ pub enum Event {
         /// The last frame at whose end it stood broken.
         frame: u32,
     },
+    /// More than one PES packet was passed over, one directly after the other, for the fault that
+    /// was told of the first of them: this is that of the last.
+    PassedUntil(CheckFault),
     /// These frames may stay as they are, whatever is broken elsewhere: in them nothing is told
     /// that a receiver depends on, and the first one holds a header of the page.
     Trusted {

@@ -6,7 +6,7 @@ ghost use Rattle.sub_io.specs.Device.{CanFail, CountsIf, failed};
 ghost use Rattle.sub_io.specs.Reading.{IfTold};
 ghost use Rattle.ttx_pes.specs.PesPacket.{PesValue};
 ghost use Rattle.ttx_pes.specs.Pieces.{behind_piece};
-ghost use Rattle.ttx_pes.specs.Reader.{FailsWithin};
+ghost use Rattle.ttx_pes.specs.Reader.{FailsWithin, TakesPesPacket};
 ghost use Rattle.ttx_pes.specs.Reading.{answer_at, most_packets};
 ghost use Rattle.ttx_pes.specs.declared.progress.Progress.TheVariants.{Reading};
 ghost use Rattle.stl_file.specs.TimeCode.{day};
@@ -56,6 +56,9 @@ pub fn next_piece<S: Source>(
     // Exactly the bytes of the piece were taken.
     ensures taken { IfOk result (λ piece. IsSome piece
         → TakesOnePiece (S.remaining source.old) (S.remaining source.new)) }
+    // Where it is sent, they are a PES packet of the grammar.
+    ensures sent { (sending : Sending) → result ≡ Ok (Some (NextPiece.Sent sending))
+        → TakesPesPacket (S.remaining source.old) (S.remaining source.new) reader.new.frame }
     ensures left { IfTold (S.remaining source.old) (λ bytes. IfOk result (λ piece. IsSome piece
         → S.remaining source.new ≡ Some (behind_piece bytes))) }
     ensures progress { IfOk result (λ piece. IsSome piece

@@ -70,3 +70,11 @@ returns-in-Ok-Other-clause-left g c = λ bytes told some.
     tells.left c.args.pes c.requires.reading bytes told
     ∙ ap (λ (x : List ℕ). Some x) (behind_packet c.args.pes bytes c.next.new.self.frame
     (tells.exact c.args.pes c.requires.reading bytes told refl))
+
+pub returns-in-Ok-Same-clause-sent : goal.returns-in-Ok-Same-clause-sent
+returns-in-Ok-Same-clause-sent g c = λ sending is.
+    (c.in-Ok-Same.ensures.taken (rw c.in-Ok-Same.field-0-is refl)).packet
+
+pub returns-in-Ok-Other-clause-sent : goal.returns-in-Ok-Other-clause-sent
+returns-in-Ok-Other-clause-sent g c = λ sending is.
+    (c.in-Ok-Other.ensures.taken (rw c.in-Ok-Other.field-0-is refl)).packet

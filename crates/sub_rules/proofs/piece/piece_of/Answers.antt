@@ -3,6 +3,7 @@ use Rattle.std.proofs.Common.{◌∙◌, refl, sym, arith}
 use Rattle.std.proofs.lemmas.Bool.Decides.{nat_tests}
 use Rattle.std.proofs.lemmas.Option.{same_Some}
 use Rattle.sub_rules.specs.FrameRules.Unread.{NoFrame}
+use Rattle.sub_rules.specs.Sendings.{IsFrameOf}
 use Rattle.sub_rules.proofs.PieceFileLemmas.{reads_off, reads_sent}
 use Rattle.sub_rules.proofs.piece.piece_of.Goals as goal
 
@@ -10,12 +11,13 @@ pub returns-in-Some-clause-exact : goal.returns-in-Some-clause-exact
 returns-in-Some-clause-exact c = λ v bytes pieces unread is few at reads.
     let found = c.frame_of.ensures in
     let of = (found c.in-Some.frame).0 c.in-Some.is in
-    reads_sent _ _ bytes pieces unread v c.in-Some.frame few reads at (record {
+    let frame : IsFrameOf c.args.options.now.origin v.pts c.in-Some.frame = record {
       in_day = of.0;
       is = of.1 ∙ sym is;
       alone = λ other in_day same.
           same_Some _ _ (sym ((found other).1 (in_day, same ∙ is)) ∙ c.in-Some.is);
-    })
+    } in
+    (reads_sent _ _ bytes pieces unread v c.in-Some.frame few reads at frame, frame)
 
 pub returns-in-Some-clause-day : goal.returns-in-Some-clause-day
 returns-in-Some-clause-day c = λ sending is.

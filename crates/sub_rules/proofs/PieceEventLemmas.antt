@@ -1,0 +1,422 @@
+-- Of a PES file that is read on the refusal is told first that is told where reading stops at the
+-- first piece that is passed over. Main lemma: first_told_is.
+use Rattle.std.proofs.Common.{◌≡◌, ℕ, zero, suc, ◌+◌, ◌&&◌, ◌||◌, Bool, true, false, not, List, []}
+use Rattle.std.proofs.Common.{◌∷◌, ◌++◌, length, map, Option, Some, None, refl, sym, ap, ◌∙◌, arith}
+use Rattle.std.proofs.Common.{append_assoc, length-append}
+use Rattle.std.proofs.lemmas.Bool.Decides.{nat_tests}
+use Rattle.std.proofs.lemmas.List.{append-nil, map-append}
+use Rattle.std.specs.Prelude.{option_map}
+use Rattle.sub_rules.specs.Events.{Standing, closing_events, content_events, end_events, endings}
+use Rattle.sub_rules.specs.Events.{events, events_of_first, first_header_events, frame_events}
+use Rattle.sub_rules.specs.Events.{gap_events, late_events, nothing_stands, order_events}
+use Rattle.sub_rules.specs.Events.{first_told, packet_events, packet_fault, rest_events}
+use Rattle.sub_rules.specs.Events.{rule_events, rules_told, unread_fault}
+use Rattle.sub_rules.specs.FrameRules.{Task, Unread}
+use Rattle.sub_rules.specs.PieceEvents.{LawOfFirstTold, PassedRun, all_announced, all_of_pieces}
+use Rattle.sub_rules.specs.PieceEvents.{announced, at_pes, closing_of_pieces, ended_run}
+use Rattle.sub_rules.specs.PieceEvents.{fault_at_pes, joins, last_of_run, no_run}
+use Rattle.sub_rules.specs.PieceEvents.{passed_after, passed_after_all, run_after_each, run_at}
+use Rattle.sub_rules.specs.PieceEvents.{told_of_each, told_of_frame, told_of_passed}
+use Rattle.sub_rules.specs.PieceEvents.{told_of_pieces, until_passed}
+use Rattle.sub_rules.specs.Pieces.{Piece, frames_of, read_until_passed}
+use Rattle.sub_rules.specs.Pieces.Piece.{Passed, Sent}
+use Rattle.sub_rules.specs.Transmission.{SentFrame, Transmission}
+use Rattle.sub_rules.specs.Trusted.{doubted, kept, tells_none, trusted, trusted_before, with_run}
+use Rattle.sub_rules.specs.declared.event.EndRule.{EndRule}
+use Rattle.sub_rules.specs.declared.event.EndRule.TheVariants as end
+use Rattle.sub_rules.specs.declared.event.Event.{Event}
+use Rattle.sub_rules.specs.declared.event.Event.TheVariants.{Ended, PassedUntil, Told, Trusted}
+use Rattle.sub_rules.specs.declared.fault.CheckFault.{CheckFault}
+use Rattle.sub_rules.specs.declared.fault.CheckFault.TheVariants as fault
+use Rattle.sub_rules.specs.declared.packet_rule.PacketRule.{PacketRule}
+use Rattle.sub_rules.proofs.PrefixEventLemmas.{frame_events-prefix}
+
+-- ---- what is told first of two lists
+
+-- The first, if there is one; else the other.
+abbrev pub or_else : Option CheckFault → Option CheckFault → Option CheckFault
+or_else None b = b
+or_else (Some f) b = Some f
+
+or_else_assoc : (a b c : Option CheckFault) → or_else (or_else a b) c ≡ or_else a (or_else b c)
+or_else_assoc None b c = refl
+or_else_assoc (Some f) b c = refl
+
+or_else_none : (a : Option CheckFault) → or_else a None ≡ a
+or_else_none None = refl
+or_else_none (Some f) = refl
+
+-- What is told first of the one list, or else of the other.
+pub first_of_two : (xs ys : List Event)
+    → first_told (xs ++ ys) ≡ or_else (first_told xs) (first_told ys)
+first_of_two [] ys = refl
+first_of_two (Told f ∷ xs) ys = refl
+first_of_two (Ended rule frame ∷ xs) ys = first_of_two xs ys
+first_of_two (Trusted from to ∷ xs) ys = first_of_two xs ys
+first_of_two (PassedUntil f ∷ xs) ys = first_of_two xs ys
+
+-- Before what is told of frames that may be trusted, and of runs of pieces.
+trusted_first : (run d : Option ℕ) → first_told (trusted_before run d) ≡ None
+trusted_first run None = refl
+trusted_first None (Some f) = refl
+trusted_first (Some from) (Some f) = grind (arith, nat_tests)
+
+last_first : (run : Option ℕ) (f : ℕ) → first_told (trusted run f) ≡ None
+last_first None f = refl
+last_first (Some from) f = grind (arith, nat_tests)
+
+-- What is trusted changes nothing.
+with_run_first : (last : ℕ) (run : Option ℕ) (es : List Event)
+    → first_told (with_run last run es) ≡ first_told es
+unfolding with_run
+with_run_first last run [] = refl
+with_run_first last run (e ∷ es) =
+    first_of_two (trusted_before run (doubted last e)) _
+    ∙ ap (λ (o : Option CheckFault). or_else o (first_told (e ∷ with_run last
+    (kept run (doubted last e)) es))) (trusted_first run (doubted last e))
+    ∙ first_of_two (e ∷ []) (with_run last (kept run (doubted last e)) es)
+    ∙ ap (or_else (first_told (e ∷ []))) (with_run_first last (kept run (doubted last e)) es)
+    ∙ sym (first_of_two (e ∷ []) es)
+
+-- Nor does up to which piece a run goes, where none was passed over before.
+announced_first : (es : List Event) → first_told (all_announced no_run es) ≡ first_told es
+unfolding all_announced announced joins passed_after
+announced_first [] = refl
+announced_first (Told f ∷ es) = refl
+announced_first (Ended rule frame ∷ es) = announced_first es
+announced_first (Trusted from to ∷ es) = announced_first es
+announced_first (PassedUntil f ∷ es) = announced_first es
+
+ended_first : (run : PassedRun) → first_told (ended_run run) ≡ None
+ended_first run = grind (arith, nat_tests)
+
+-- ---- refusals that name the PES packet already
+
+-- Of a list whose frames are counted as PES packets: each event names PES packet `pes`, if one.
+abbrev pub Names : ℕ → List Event → Type 0
+Names pes es = map (at_pes pes) es ≡ es
+
+names_two : (pes : ℕ) (xs ys : List Event) → Names pes xs → Names pes ys → Names pes (xs ++ ys)
+names_two pes xs ys p q =
+    map-append (at_pes pes) xs ys
+    ∙ ap (λ (l : List Event). l ++ map (at_pes pes) ys) p
+    ∙ ap (λ (l : List Event). xs ++ l) q
+
+names_end : (pes : ℕ) (old new : Standing) (before f : ℕ) → Names pes (end_events old before new f)
+unfolding end_events at_pes
+names_end pes old new before f = grind (arith, nat_tests)
+
+names_order : (g : Task) (frames : Transmission) (i : ℕ) → Names i (order_events g frames i)
+unfolding order_events at_pes
+names_order g frames zero = grind (arith, nat_tests)
+names_order g frames (suc i) = grind (arith, nat_tests)
+
+names_gap : (pes : ℕ) (g : Task) (frames : Transmission) (i n : ℕ)
+    → Names pes (gap_events g frames i n)
+unfolding gap_events
+names_gap pes g frames i zero = refl
+names_gap pes g frames i (suc n) =
+    names_two pes (gap_events g frames i n) _ (names_gap pes g frames i n)
+    (names_end pes _ _ _ _)
+
+names_rule : (pes : ℕ) (rules : List PacketRule) (frame k : ℕ)
+    → Names pes (map (λ (r : PacketRule). Told (packet_fault r frame k)) rules)
+unfolding at_pes
+names_rule pes [] frame k = refl
+names_rule pes (r ∷ rules) frame k =
+    let rest = names_rule pes rules frame k in grind (arith, nat_tests)
+
+names_packets : (pes : ℕ) (g : Task) (frame : ℕ) (before packets : List (List ℕ)) (n : ℕ)
+    → Names pes (packet_events g.watched frame before packets n)
+unfolding packet_events rules_told
+names_packets pes g frame before packets zero = refl
+names_packets pes g frame before packets (suc n) =
+    names_two pes (packet_events g.watched frame before packets n) _
+    (names_packets pes g frame before packets n) (names_rule pes _ frame n)
+
+names_header : (pes : ℕ) (g : Task) (frames : Transmission) (i : ℕ)
+    → Names pes (first_header_events g frames i)
+unfolding first_header_events at_pes
+names_header pes g frames zero = grind (arith, nat_tests)
+names_header pes g frames (suc i) = refl
+
+-- What is told of a frame.
+names_frame : (g : Task) (frames : Transmission) (i : ℕ) → Names i (frame_events g frames i)
+unfolding frame_events
+names_frame g frames i =
+    names_two i _ _ (names_two i _ _ (names_two i _ _ (names_two i _ _ (names_order g frames i)
+    (names_gap i g frames i _)) (names_packets i g _ _ _ _)) (names_header i g frames i))
+    (names_end i _ _ _ _)
+
+-- What is told after the last frame.
+names_closing : (g : Task) (frames : Transmission) (n : ℕ) → length frames ≡ n
+    → Names n (closing_events g frames n)
+unfolding closing_events at_pes
+names_closing g frames zero all = rest g.unread
+  where
+    rest : (u : Option Unread) → Names 0 (Told (unread_fault 0 u) ∷ [])
+    rest u = grind (arith, nat_tests)
+names_closing g frames (suc n) all =
+    names_two (suc n) _ _ (names_end (suc n) _ _ _ _) (rest g.unread)
+  where
+    rest : (u : Option Unread) → Names (suc n) (rest_events g frames u)
+    rest u = grind (arith, nat_tests)
+
+-- ---- the whole
+
+-- Events of PES packet `pes` by what is told of its frame.
+first_at : (pes : ℕ) (es : List Event)
+    → first_told (map (at_pes pes) es) ≡ option_map (fault_at_pes pes) (first_told es)
+unfolding at_pes
+first_at pes [] = refl
+first_at pes (Told f ∷ es) = refl
+first_at pes (Ended rule frame ∷ es) = first_at pes es
+first_at pes (Trusted from to ∷ es) = first_at pes es
+first_at pes (PassedUntil f ∷ es) = first_at pes es
+
+-- A frame that is sent, whatever is trusted before it.
+frame_first : (g : Task) (frames : Transmission) (i : ℕ) (run : Option ℕ)
+    → first_told (map (at_pes i) (told_of_frame g frames i run))
+    ≡ first_told (frame_events g frames i)
+frame_first g frames i run =
+    first_at i (told_of_frame g frames i run)
+    ∙ ap (option_map (fault_at_pes i)) (with_run_first _ run (frame_events g frames i))
+    ∙ sym (first_at i (frame_events g frames i))
+    ∙ ap first_told (names_frame g frames i)
+
+-- Bytes that can't be read on are told first after the last frame: what stood broken has ended.
+endings_first : (last : Standing) (f : ℕ) → first_told (endings last f) ≡ None
+unfolding end_events
+endings_first last f = grind (arith, nat_tests)
+
+closing_first : (g : Task) (frames : Transmission) (n : ℕ) (u : Unread)
+    → length frames ≡ n
+    → g.unread ≡ Some u
+    → first_told (closing_events g frames n) ≡ Some (unread_fault n (Some u))
+unfolding closing_events
+closing_first g frames zero u all is = rw is refl
+closing_first g frames (suc n) u all is =
+    first_of_two (endings _ _) (rest_events g frames g.unread)
+    ∙ rw (endings_first _ _, is) (ap (λ (k : ℕ). Some (unread_fault k (Some u))) all)
+
+-- What is told of frames, the first of them frame i of the list.
+told_plain : Task → Transmission → ℕ → Transmission → List Event
+told_plain g frames i [] = []
+told_plain g frames i (s ∷ others) = frame_events g frames i ++ told_plain g frames (suc i) others
+
+plain_all : (g : Task) (frames : Transmission) (i n : ℕ) (others : Transmission)
+    → i + length others ≡ n
+    → events_of_first g frames n ≡ events_of_first g frames i ++ told_plain g frames i others
+unfolding told_plain events_of_first
+plain_all g frames i n [] e =
+    ap (events_of_first g frames) (let is : n ≡ i = omega arith in is)
+    ∙ sym (append-nil (events_of_first g frames i))
+plain_all g frames i n (s ∷ others) e =
+    plain_all g frames (suc i) n others (omega arith)
+    ∙ append_assoc (events_of_first g frames i) (frame_events g frames i)
+    (told_plain g frames (suc i) others)
+
+-- From some frames on, all of which are read both ways.
+walk : (g : Task) (done all first : Transmission) (n : ℕ) (run : Option ℕ) (pieces : List Piece)
+    (u : Option Unread) (after : Option CheckFault)
+    → length done ≡ n
+    → all ≡ done ++ frames_of pieces
+    → first ≡ done ++ (read_until_passed pieces g.unread).frames
+    → u ≡ (read_until_passed pieces g.unread).unread
+    → (length (frames_of pieces) ≡ length pieces
+    → after ≡ first_told (closing_events g all (length all)))
+    → or_else (first_told (told_of_each g all n n run pieces)) after
+    ≡ or_else (first_told (told_plain (record g { unread = u }) first n
+    (read_until_passed pieces g.unread).frames))
+    (first_told (closing_events (record g { unread = u }) first (length first)))
+unfolding told_of_each frames_of read_until_passed told_plain
+walk g done all first n run [] u after size all_is first_is u_is closing =
+    closing refl ∙ rw (all_is, first_is, u_is) refl
+walk g done all first n run (Passed v ∷ pieces) u after size all_is first_is u_is closing =
+    let none : length first ≡ n = ap length (first_is ∙ append-nil done) ∙ size in
+    ap (λ (o : Option CheckFault). or_else o after)
+    (first_of_two (told_of_passed all n n run v) _
+    ∙ ap (λ (o : Option CheckFault). or_else o (first_told (told_of_each g all (suc n) n None
+    pieces))) (with_run_first _ run (Told (unread_fault n (Some v)) ∷ [])))
+    ∙ sym (closing_first (record g { unread = u }) first n v none u_is)
+    ∙ ap (λ (k : ℕ). first_told (closing_events (record g { unread = u }) first k)) (sym none)
+walk g done all first n run (Sent s ∷ pieces) u after size all_is first_is u_is closing =
+    let next = done ++ s ∷ [] in
+    let stop = read_until_passed pieces g.unread in
+    let longer : length next ≡ suc n = length-append done (s ∷ []) ∙ omega (arith, size) in
+    let all_next : all ≡ next ++ frames_of pieces =
+    all_is ∙ sym (append_assoc done (s ∷ []) (frames_of pieces)) in
+    let first_next : first ≡ next ++ stop.frames =
+    first_is ∙ sym (append_assoc done (s ∷ []) stop.frames) in
+    let same : frame_events g all n ≡ frame_events (record g { unread = u }) first n =
+    ap (λ (fs : Transmission). frame_events g fs n) all_next
+    ∙ frame_events-prefix g u next (frames_of pieces) n (omega arith)
+    ∙ sym (frame_events-prefix (record g { unread = u }) u next stop.frames n (omega arith))
+    ∙ ap (λ (fs : Transmission). frame_events (record g { unread = u }) fs n) (sym first_next) in
+    let rest = walk g next all first (suc n) (run_at g all n run) pieces u after longer all_next
+    first_next u_is (λ e. closing (ap suc e)) in
+    ap (λ (o : Option CheckFault). or_else o after)
+    (first_of_two (map (at_pes n) (told_of_frame g all n run)) _
+    ∙ ap (λ (o : Option CheckFault). or_else o (first_told (told_of_each g all (suc n) (suc n)
+    (run_at g all n run) pieces))) (frame_first g all n run ∙ ap first_told same))
+    ∙ or_else_assoc (first_told (frame_events (record g { unread = u }) first n)) _ after
+    ∙ ap (or_else (first_told (frame_events (record g { unread = u }) first n))) rest
+    ∙ sym (or_else_assoc (first_told (frame_events (record g { unread = u }) first n)) _ _)
+    ∙ ap (λ (o : Option CheckFault). or_else o (first_told (closing_events
+    (record g { unread = u }) first (length first))))
+    (sym (first_of_two (frame_events (record g { unread = u }) first n) _))
+
+-- After pieces that are all sent.
+closing_same : (g : Task) (frames : Transmission) (n : ℕ) → length frames ≡ n
+    → closing_of_pieces g frames n n ≡ closing_events g frames n
+unfolding closing_of_pieces
+closing_same g frames zero all = names_closing g frames zero all
+closing_same g frames (suc n) all = names_closing g frames (suc n) all
+
+last_of_first : (g : Task) (frames : Transmission) (run : Option ℕ) (any : Bool)
+    → first_told (last_of_run g frames run any) ≡ None
+unfolding last_of_run
+last_of_first g frames run any =
+    let trusted_none = last_first run in grind (arith, nat_tests)
+
+-- The refusal that is told first: the law.
+pub first_told_is : LawOfFirstTold
+unfolding all_of_pieces told_of_pieces events events_of_first
+first_told_is g pieces =
+    let frames = frames_of pieces in
+    let stop = read_until_passed pieces g.unread in
+    let h : Task = until_passed g pieces in
+    let each = told_of_each g frames 0 0 None pieces in
+    let closing = closing_of_pieces g frames (length pieces) (length frames) in
+    let any = not (tells_none each) || not (tells_none closing) in
+    let last = last_of_run g frames (run_after_each g frames 0 None pieces) any in
+    first_of_two (all_announced no_run (each ++ last ++ closing)) _
+    ∙ ap (or_else (first_told (all_announced no_run (each ++ last ++ closing)))) (ended_first _)
+    ∙ or_else_none _
+    ∙ announced_first (each ++ last ++ closing)
+    ∙ first_of_two (each ++ last) closing
+    ∙ ap (λ (o : Option CheckFault). or_else o (first_told closing))
+    (first_of_two each last
+    ∙ ap (or_else (first_told each)) (last_of_first g frames _ any)
+    ∙ or_else_none (first_told each))
+    ∙ walk g [] frames stop.frames 0 None pieces stop.unread (first_told closing) refl refl refl
+    refl (λ e.
+    ap (λ (k : ℕ). first_told (closing_of_pieces g frames k (length frames))) (sym e)
+    ∙ ap first_told (closing_same g frames (length frames) refl))
+    ∙ sym (first_of_two (told_plain h stop.frames 0 stop.frames) _)
+    ∙ ap (λ (l : List Event). first_told (l ++ closing_events h stop.frames
+    (length stop.frames)))
+    (sym (plain_all h stop.frames 0 (length stop.frames) stop.frames (omega arith)))
+
+-- ---- one list after another, for a device that hands them on
+
+-- The run after the one is that before the other.
+pub passed_after-append : (run : PassedRun) (xs ys : List Event)
+    → passed_after_all run (xs ++ ys) ≡ passed_after_all (passed_after_all run xs) ys
+unfolding passed_after_all
+passed_after-append run [] ys = refl
+passed_after-append run (x ∷ xs) ys = passed_after-append (passed_after run x) xs ys
+
+-- What is told of the one, and then of the other.
+pub all_announced-append : (run : PassedRun) (xs ys : List Event)
+    → all_announced run (xs ++ ys)
+    ≡ all_announced run xs ++ all_announced (passed_after_all run xs) ys
+unfolding all_announced passed_after_all
+all_announced-append run [] ys = refl
+all_announced-append run (x ∷ xs) ys =
+    ap (λ (l : List Event). announced run x ++ l) (all_announced-append (passed_after run x) xs ys)
+    ∙ sym (append_assoc (announced run x) (all_announced (passed_after run x) xs) _)
+
+-- ---- pieces, and then more of them
+
+-- The frames of the one and of the other.
+pub frames_of-append : (xs ys : List Piece) → frames_of (xs ++ ys) ≡ frames_of xs ++ frames_of ys
+unfolding frames_of
+frames_of-append [] ys = refl
+frames_of-append (Sent s ∷ xs) ys = ap (λ (fs : Transmission). s ∷ fs) (frames_of-append xs ys)
+frames_of-append (Passed u ∷ xs) ys = frames_of-append xs ys
+
+-- The run after them.
+pub run_after_each-append : (g : Task) (frames : Transmission) (i k : ℕ) (run : Option ℕ)
+    (xs ys : List Piece)
+    → k ≡ i + length (frames_of xs)
+    → run_after_each g frames i run (xs ++ ys)
+    ≡ run_after_each g frames k (run_after_each g frames i run xs) ys
+unfolding run_after_each frames_of
+run_after_each-append g frames i k run [] ys e =
+    ap (λ (n : ℕ). run_after_each g frames n run ys) (let is : i ≡ k = omega arith in is)
+run_after_each-append g frames i k run (Sent s ∷ xs) ys e =
+    run_after_each-append g frames (suc i) k (run_at g frames i run) xs ys (omega arith)
+run_after_each-append g frames i k run (Passed u ∷ xs) ys e =
+    run_after_each-append g frames i k None xs ys e
+
+-- What is told of them.
+pub told_of_each-append : (g : Task) (frames : Transmission) (pes n i k : ℕ) (run : Option ℕ)
+    (xs ys : List Piece)
+    → n ≡ pes + length xs
+    → k ≡ i + length (frames_of xs)
+    → told_of_each g frames pes i run (xs ++ ys)
+    ≡ told_of_each g frames pes i run xs
+    ++ told_of_each g frames n k (run_after_each g frames i run xs) ys
+unfolding told_of_each run_after_each frames_of
+told_of_each-append g frames pes n i k run [] ys d e =
+    ap (λ (m : ℕ). told_of_each g frames m i run ys) (let is : pes ≡ n = omega arith in is)
+    ∙ ap (λ (m : ℕ). told_of_each g frames n m run ys) (let is : i ≡ k = omega arith in is)
+told_of_each-append g frames pes n i k run (Sent s ∷ xs) ys d e =
+    ap (λ (es : List Event). map (at_pes pes) (told_of_frame g frames i run) ++ es)
+    (told_of_each-append g frames (suc pes) n (suc i) k (run_at g frames i run) xs ys (omega arith)
+    (omega arith))
+    ∙ sym (append_assoc (map (at_pes pes) (told_of_frame g frames i run)) _ _)
+told_of_each-append g frames pes n i k run (Passed u ∷ xs) ys d e =
+    ap (λ (es : List Event). told_of_passed frames pes i run u ++ es)
+    (told_of_each-append g frames (suc pes) n i k None xs ys (omega arith) e)
+    ∙ sym (append_assoc (told_of_passed frames pes i run u) _ _)
+
+-- ---- where nothing is told
+
+pub tells_none-two : (xs ys : List Event) → tells_none (xs ++ ys) ≡ (tells_none xs && tells_none ys)
+tells_none-two [] ys = refl
+tells_none-two (x ∷ xs) ys = refl
+
+pub tells_none-at : (pes : ℕ) (es : List Event) → tells_none (map (at_pes pes) es) ≡ tells_none es
+tells_none-at pes [] = refl
+tells_none-at pes (e ∷ es) = refl
+
+-- Nothing is trusted where nothing is told.
+pub tells_none-run : (last : ℕ) (run : Option ℕ) (es : List Event)
+    → tells_none (with_run last run es) ≡ tells_none es
+unfolding with_run
+tells_none-run last run [] = refl
+tells_none-run last run (e ∷ es) =
+    tells_none-two (trusted_before run (doubted last e)) _ ∙ grind (arith, nat_tests)
+
+-- What is trusted names no PES packet.
+trusted_at : (pes : ℕ) (run : Option ℕ) (f : ℕ) → map (at_pes pes) (trusted run f) ≡ trusted run f
+unfolding at_pes
+trusted_at pes None f = refl
+trusted_at pes (Some from) f = grind (arith, nat_tests)
+
+pub last_of_run-at : (pes : ℕ) (g : Task) (frames : Transmission) (run : Option ℕ) (any : Bool)
+    → map (at_pes pes) (last_of_run g frames run any) ≡ last_of_run g frames run any
+unfolding last_of_run
+last_of_run-at pes g frames run true = trusted_at pes run _
+last_of_run-at pes g frames run false = refl
+
+-- The fault of a piece names it already.
+pub passed_at : (pes last : ℕ) (run : Option ℕ) (u : Option Unread)
+    → map (at_pes pes) (with_run last run (Told (unread_fault pes u) ∷ []))
+    ≡ with_run last run (Told (unread_fault pes u) ∷ [])
+unfolding with_run at_pes
+passed_at pes last run u =
+    map-append (at_pes pes) (trusted_before run (doubted last (Told (unread_fault pes u)))) _
+    ∙ ap (λ (es : List Event). es ++ map (at_pes pes) (Told (unread_fault pes u) ∷ []))
+    (before_at (doubted last (Told (unread_fault pes u))))
+    ∙ ap (λ (es : List Event). trusted_before run (doubted last (Told (unread_fault pes u))) ++ es)
+    (own u)
+  where
+    before_at : (d : Option ℕ) → map (at_pes pes) (trusted_before run d) ≡ trusted_before run d
+    before_at None = refl
+    before_at (Some f) = trusted_at pes run f
+    own : (u : Option Unread)
+        → map (at_pes pes) (Told (unread_fault pes u) ∷ []) ≡ Told (unread_fault pes u) ∷ []
+    own u = grind (arith, nat_tests)
