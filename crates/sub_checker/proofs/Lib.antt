@@ -1,8 +1,10 @@
+pub mod AnnouncingLemmas
 pub mod EdgeLemmas
 pub mod FollowingLemmas
 pub mod ListenerLemmas
 pub mod PacketEventLemmas
 pub mod PacketRuleLemmas
+pub mod PieceWaysLemmas
 pub mod RuleSetLemmas
 pub mod SentAgainLemmas
 pub mod TellingLemmas

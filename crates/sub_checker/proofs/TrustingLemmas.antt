@@ -28,8 +28,16 @@ use Rattle.sub_rules.specs.declared.fault.CheckFault.{CheckFault}
 use Rattle.sub_rules.proofs.TrustedLemmas.{run_over-append, with_run-append, with_run-none}
 use Rattle.sub_checker.specs.Checker.{CheckerValue, as_standing}
 use Rattle.sub_checker.specs.Following.{Follows, arriving_events, taking_events}
-use Rattle.sub_checker.specs.Steps.{ending_fault, fault_events, last_fault}
-use Rattle.sub_checker.specs.Trusting.{Judges, Passes, after_event, at_end, at_packets, told_with}
+use Rattle.sub_checker.specs.Steps.{FinishesTelling, ending_fault, fault_events, last_fault}
+use Rattle.sub_checker.specs.declared.telling.Accepted.{Accepted}
+use Rattle.sub_checker.specs.Trusting.{EndsQuiet, Judges, JudgesWith, Passes, after_event, at_end}
+use Rattle.sub_checker.specs.Trusting.{at_packets, told_with}
+use Rattle.sub_rules.specs.FrameRules.{Unread}
+use Rattle.sub_rules.specs.PieceEvents.{last_of_run, run_at, told_of_frame}
+use Rattle.sub_rules.specs.Events.{unread_fault}
+use Rattle.sub_rules.specs.Trusted.{kept}
+use Rattle.sub_rules.specs.declared.event.Event.TheVariants.{Told}
+use Rattle.std.proofs.Common.{inl, inr}
 use Rattle.sub_checker.specs.declared.trusting.Trust.{Trust}
 use Rattle.sub_checker.specs.declared.trusting.Trusting.{Trusting}
 use Rattle.sub_checker.proofs.FollowingLemmas.{closing_some, frame_events_are}
@@ -237,9 +245,20 @@ tells_none-append : (xs ys : List Event)
 tells_none-append [] ys = refl
 tells_none-append (x ∷ xs) ys = refl
 
+-- A run after a frame is over where that is not quiet.
+ends_quiet : (g : Task) (frames : Transmission) (n : ℕ) (run : Option ℕ)
+    → EndsQuiet g frames (suc n) (run_at g frames n run)
+unfolding run_at
+ends_quiet g frames n run = at (is_quiet g frames n) refl
+  where
+    at : (quiet : Bool) → is_quiet g frames n ≡ quiet
+        → EndsQuiet g frames (suc n) (run_at g frames n run)
+    at true is_so = inr is_so
+    at false other = inl (rw other refl)
+
 -- What is kept after the packets of a frame, and after its end. For `go_on`.
-module _ (g : Task) (frames : Transmission) (n : ℕ) (t : Trust) (is : Judges g frames n t)
-    (arriving taking : List Event)
+module _ (g : Task) (frames : Transmission) (n : ℕ) (t : Trust) {run : Option ℕ} {told : Bool}
+    (is : JudgesWith g frames n run told t) (arriving taking : List Event)
     (parts : frame_events g frames n ≡ arriving ++ taking)
     (own : taking ≡ own_events g frames n)
   where
@@ -253,14 +272,13 @@ module _ (g : Task) (frames : Transmission) (n : ℕ) (t : Trust) (is : Judges g
     pub told_parts :
         with_run t.last t.run arriving ++ with_run (at_packets arrived).last
         (at_packets arrived).run taking
-        ≡ all_frame_events g frames n
+        ≡ told_of_frame g frames n run
     told_parts =
         let a = after_is t arriving in
         let joined = with_run-append t.last t.run arriving taking in
         rw (a.run_is, a.last_is, sym joined, sym parts, is.last_is, is.run_is) refl
 
-    run_then : taken.run ≡ run_over (frame_before frames n) (run_after g frames n)
-        (frame_events g frames n)
+    run_then : taken.run ≡ run_over (frame_before frames n) run (frame_events g frames n)
     run_then =
         let a = after_is t arriving in
         let b = after_is (at_packets arrived) taking in
@@ -281,14 +299,13 @@ module _ (g : Task) (frames : Transmission) (n : ℕ) (t : Trust) (is : Judges g
         let two = list_any-append is_order arriving taking in
         rw (all_of, one, two) grind (arith, nat_tests)
 
-    told_then : taken.told ≡ not (tells_none (events_of_first g frames (suc n)))
+    told_then : taken.told ≡ (told || not (tells_none (frame_events g frames n)))
     told_then =
         let a = after_is t arriving in
         let b = after_is (at_packets arrived) taking in
         let first = is.told_is in
-        let one = tells_none-append (events_of_first g frames n) (arriving ++ taking) in
         let two = tells_none-append arriving taking in
-        rw (all_of, one, two) grind (arith, nat_tests)
+        rw (parts, two) grind (arith, nat_tests)
 
     quiet_then : (none : Bool)
         → none ≡ stands_none (standing_at g frames (suc n) (frame_at frames n))
@@ -305,10 +322,12 @@ module _ (g : Task) (frames : Transmission) (n : ℕ) (t : Trust) (is : Judges g
         → frame ≡ frame_at frames n
         → has ≡ holds_header (kind g.watched.page) (packets_of_frame frames n)
         → none ≡ stands_none (standing_at g frames (suc n) (frame_at frames n))
-        → Judges g frames (suc n) (at_end frame has none taken)
-    unfolding run_after frame_before
+        → JudgesWith g frames (suc n) (run_at g frames n run)
+        (told || not (tells_none (frame_events g frames n))) (at_end frame has none taken)
+    unfolding run_at frame_before
     judges_next frame has none at holds stands = record {
       run_is = rw (quiet_then none stands, run_then, at, holds) refl;
+      quiet = ends_quiet g frames n run;
       last_is = at;
       rises_is = rises_then;
       told_is = told_then;
@@ -317,8 +336,8 @@ module _ (g : Task) (frames : Transmission) (n : ℕ) (t : Trust) (is : Judges g
 -- ---- what is told of a frame of the list. For `go_on`.
 
 module _ {D : Type 0} (Behind : D → Event → D → Type 0) (has_stopped : D → Bool)
-    (g : Task) (frames : Transmission) (n : ℕ) (s0 s1 : Trusting D)
-    (judges : Judges g frames n s0.trust)
+    (g : Task) (frames : Transmission) (n : ℕ) (s0 s1 : Trusting D) {run : Option ℕ} {told : Bool}
+    (judges : JudgesWith g frames n run told s0.trust)
   where
     abbrev arriving : List Event
     arriving = arriving_events g frames n
@@ -332,15 +351,15 @@ module _ {D : Type 0} (Behind : D → Event → D → Type 0) (has_stopped : D �
     parts : with_run s0.trust.last s0.trust.run arriving
         ++ with_run (at_packets (after_all arriving s0.trust)).last
         (at_packets (after_all arriving s0.trust)).run taking
-        ≡ all_frame_events g frames n
+        ≡ told_of_frame g frames n run
     parts = told_parts g frames n s0.trust judges arriving taking (frame_events_are g frames n)
         own_is
 
     -- The device said stop before its packets.
     pub stopped_before : TellsPrefix (IsPassed Behind has_stopped) s0 s1 arriving
-        → TellsPrefix Behind s0.device.now s1.device.now (all_frame_events g frames n)
-    stopped_before told =
-        stopped_first _ _ _ _ _ (sym parts) (passes_prefix Behind has_stopped s0 s1 arriving told)
+        → TellsPrefix Behind s0.device.now s1.device.now (told_of_frame g frames n run)
+    stopped_before some =
+        stopped_first _ _ _ _ _ (sym parts) (passes_prefix Behind has_stopped s0 s1 arriving some)
 
     module _ (s2 s3 : Trusting D) (here : s2 ≡ record s1 { trust = at_packets s1.trust })
         (before : Tells (IsPassed Behind has_stopped) s0 s1 arriving)
@@ -358,20 +377,20 @@ module _ {D : Type 0} (Behind : D → Event → D → Type 0) (has_stopped : D �
 
         -- It did so after that.
         pub stopped_after : TellsPrefix (IsPassed Behind has_stopped) s2 s3 taking
-            → TellsPrefix Behind s0.device.now s3.device.now (all_frame_events g frames n)
-        stopped_after told =
+            → TellsPrefix Behind s0.device.now s3.device.now (told_of_frame g frames n run)
+        stopped_after some =
             stopped_then _ s1.device.now _ _ _ _ (sym parts) (first.whole fine)
             (subst (λ d. TellsPrefix Behind d s3.device.now
             (with_run (at_packets (after_all arriving s0.trust)).last
             (at_packets (after_all arriving s0.trust)).run taking)) device_is
             (subst (λ (t : Trust). TellsPrefix Behind s2.device.now s3.device.now
             (with_run t.last t.run taking)) trust_is
-            (passes_prefix Behind has_stopped s2 s3 taking told)))
+            (passes_prefix Behind has_stopped s2 s3 taking some)))
 
         module _ (after : Tells (IsPassed Behind has_stopped) s2 s3 taking) where
           -- It did not.
           pub told_frame : has_stopped s3.device.now ≡ false
-              → Tells Behind s0.device.now s3.device.now (all_frame_events g frames n)
+              → Tells Behind s0.device.now s3.device.now (told_of_frame g frames n run)
           told_frame still =
               all_same _ _ _ _ (sym parts)
               (Tells-trans _ s1.device.now _ _ _ (first.whole fine)
@@ -388,13 +407,17 @@ module _ {D : Type 0} (Behind : D → Event → D → Type 0) (has_stopped : D �
               → frame ≡ frame_at frames n
               → has ≡ holds_header (kind g.watched.page) (packets_of_frame frames n)
               → none ≡ stands_none (standing_at g frames (n + 1) (frame_at frames n))
-              → Judges g frames (n + 1) t
+              → JudgesWith g frames (n + 1) (run_at g frames n run)
+              (told || not (tells_none (frame_events g frames n))) t
           judges_then frame has none t is at holds stands =
               let next : suc n ≡ n + 1 = omega arith in
               let kept = (passes_all Behind has_stopped s2 s3 taking after).kept
               ∙ ap (after_all taking) trust_is in
-              subst (λ k. Judges g frames k t) next
-              (subst (Judges g frames (suc n)) (sym (is ∙ ap (at_end frame has none) kept))
+              subst (λ k. JudgesWith g frames k (run_at g frames n run)
+              (told || not (tells_none (frame_events g frames n))) t) next
+              (subst (JudgesWith g frames (suc n) (run_at g frames n run)
+              (told || not (tells_none (frame_events g frames n))))
+              (sym (is ∙ ap (at_end frame has none) kept))
               (judges_next g frames n s0.trust judges arriving taking (frame_events_are g frames n)
               own_is frame has none at holds
               (stands ∙ ap (λ k. stands_none (standing_at g frames k (frame_at frames n)))
@@ -460,15 +483,22 @@ module _ (g : Task) (frames : Transmission) (t : Trust) (c : CheckerValue)
         ∙ ap (λ l. l ++ fault_events (last_fault given (last_out c.programme.records) (suc m)
         c.last)) (none_ends c.last)
 
+    -- Where there is no run, nothing is told of it.
+    last_none : (any : Bool) → last_of_run g frames None any ≡ []
+    unfolding last_of_run
+    last_none any = grind (arith, nat_tests)
+
     -- What is told of the last run. For `tell_last`.
-    pub last_is : (n : ℕ) → Judges g frames n t → Follows g frames n c → length frames ≡ n
+    pub last_is : (n : ℕ) {run : Option ℕ} {told : Bool} → JudgesWith g frames n run told t
+        → Follows g frames n c → length frames ≡ n
         → given ≡ ending_fault n g.unread
         → tells ≡ is_some (last_fault given (last_out c.programme.records) n c.last)
-        → told_last t.run ≡ last_trusted g frames
-    unfolding last_trusted events run_after frame_before
+        → told_last t.run
+        ≡ last_of_run g frames run (told || not (tells_none (closing_events g frames n)))
+    unfolding last_of_run frame_before
     last_is zero judges follows all is e =
-        rw (judges.run_is, all, no_run) grind (arith, nat_tests)
-    last_is (suc m) judges follows all is e = at (is_quiet g frames m) refl
+        rw (judges.run_is, judges.quiet, no_run, last_none _) refl
+    last_is (suc m) {run} {told} judges follows all is e = at judges.quiet
       where
         ending : trust_end g.unread (end_frame frames) ≡ cond left t.last (t.last + 1)
         ending =
@@ -476,18 +506,91 @@ module _ (g : Task) (frames : Transmission) (t : Trust) (c : CheckerValue)
             let last : end_frame frames ≡ t.last = ap (frame_at frames) back ∙ sym judges.last_is in
             grind (arith, nat_tests)
 
-        at : (quiet : Bool) → is_quiet g frames m ≡ quiet → told_last t.run ≡ last_trusted g frames
-        at false other =
-            let none : run_after g frames (suc m) ≡ None = rw other refl in
-            rw (judges.run_is, all, none, no_run) grind (arith, nat_tests)
-        at true is_so =
+        at : EndsQuiet g frames (suc m) run
+            → told_last t.run
+            ≡ last_of_run g frames run (told || not (tells_none (closing_events g frames (suc m))))
+        at (inl none) = rw (judges.run_is, none, no_run, last_none _) refl
+        at (inr is_so) =
             let closing = quiet_closing m follows all is is_so in
-            let told = judges.told_is in
-            let parts = tells_none-append (events_of_first g frames (suc m))
-            (closing_events g frames (suc m)) in
+            let some = judges.told_is in
             let last = tells_fault
             (last_fault given (last_out c.programme.records) (suc m) c.last) in
             let swap : told_last t.run
             ≡ cond (t.told || tells) (trusted t.run (trust_end g.unread (end_frame frames))) [] =
             ap (λ x. cond (t.told || tells) (trusted t.run x) []) (sym ending) in
-            swap ∙ rw (all, parts, closing, last, judges.run_is) grind (arith, nat_tests)
+            swap ∙ rw (closing, last, judges.run_is) grind (arith, nat_tests)
+
+-- ---- where all that was told is told of the frames
+
+run_more : (g : Task) (frames : Transmission) (k : ℕ)
+    → run_at g frames k (run_after g frames k) ≡ run_after g frames (suc k)
+unfolding run_at run_after
+run_more g frames k = refl
+
+told_more : (g : Task) (frames : Transmission) (k : ℕ)
+    → (not (tells_none (events_of_first g frames k)) || not (tells_none (frame_events g frames k)))
+    ≡ not (tells_none (events_of_first g frames (suc k)))
+unfolding events_of_first
+told_more g frames k =
+    let both = tells_none-append (events_of_first g frames k) (frame_events g frames k) in
+    grind (arith, nat_tests)
+
+-- A frame more.
+pub judges_more : (g : Task) (frames : Transmission) (n : ℕ) (t : Trust)
+    → JudgesWith g frames (n + 1) (run_at g frames n (run_after g frames n))
+    (not (tells_none (events_of_first g frames n)) || not (tells_none (frame_events g frames n))) t
+    → Judges g frames (n + 1) t
+judges_more g frames n t is =
+    subst (λ (k : ℕ). Judges g frames k t) next
+    (subst (λ (b : Bool). JudgesWith g frames (suc n) (run_after g frames (suc n)) b t)
+    (told_more g frames n)
+    (subst (λ (r : Option ℕ). JudgesWith g frames (suc n) r
+    (not (tells_none (events_of_first g frames n)) || not (tells_none (frame_events g frames n)))
+    t) (run_more g frames n)
+    (subst (λ (k : ℕ). JudgesWith g frames k (run_at g frames n (run_after g frames n))
+    (not (tells_none (events_of_first g frames n)) || not (tells_none (frame_events g frames n)))
+    t) (sym next) is)))
+  where
+    next : suc n ≡ n + 1
+    next = omega arith
+
+-- What is trusted of the last run.
+pub last_same : (g : Task) (frames : Transmission) (n : ℕ) → length frames ≡ n
+    → last_of_run g frames (run_after g frames n)
+    (not (tells_none (events_of_first g frames n)) || not (tells_none (closing_events g frames n)))
+    ≡ last_trusted g frames
+unfolding last_of_run last_trusted events
+last_same g frames n all =
+    let both = tells_none-append (events_of_first g frames n) (closing_events g frames n) in
+    rw (all, both) grind (arith, nat_tests)
+
+-- The same list by another name, and then others.
+pub finishes_same : {D : Type 0} (IsTold : D → Event → D → Type 0) (mid new : D)
+    (r : Option Accepted) (xs ys zs : List Event) → xs ≡ ys
+    → FinishesTelling IsTold mid new (xs ++ zs) r
+    → FinishesTelling IsTold mid new (ys ++ zs) r
+finishes_same IsTold mid new r xs ys zs is p =
+    subst (λ (es : List Event). FinishesTelling IsTold mid new (es ++ zs) r) is p
+
+-- After a piece that is passed over there is no run.
+pub judges_passed : (g : Task) (frames : Transmission) (n : ℕ) {run : Option ℕ} {told : Bool}
+    (t : Trust) (pes : ℕ) (u : Unread)
+    → JudgesWith g frames n run told t
+    → JudgesWith g frames n None true (after_event (Told (unread_fault pes (Some u))) t)
+unfolding doubted is_order
+judges_passed g frames n t pes u is = record {
+  run_is = none u;
+  quiet = no_run_quiet n;
+  last_is = is.last_is;
+  rises_is = rises u ∙ is.rises_is;
+  told_is = refl;
+}
+  where
+    none : (u : Unread) → kept t.run (doubted t.last (Told (unread_fault pes (Some u)))) ≡ None
+    none u = grind (arith, nat_tests)
+    rises : (u : Unread)
+        → (t.rises && not (is_order (Told (unread_fault pes (Some u))))) ≡ t.rises
+    rises u = grind (arith, nat_tests)
+    no_run_quiet : (k : ℕ) → EndsQuiet g frames k None
+    no_run_quiet zero = refl
+    no_run_quiet (suc k) = inl refl

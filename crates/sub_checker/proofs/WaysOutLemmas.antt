@@ -119,7 +119,7 @@ told_to_end g origin bytes frames n c old mid new None all before more counts re
 -- ---- packets of 42 bytes
 
 -- The packets of units have 42 bytes.
-whole_units :
+pub whole_units :
     (units : List UnitValue)
     → AllByRecursion IsUnit units
     → AllByRecursion (λ packet. length packet ≡ 42) (packets_of_units units)
@@ -145,7 +145,7 @@ whole_more frames n v l same is before =
 -- ---- packets of the grammar
 
 -- Two lists that agree place by place, and one item more of each.
-zip_push :
+pub zip_push :
     {A B : Type 0} (R : A → B → Type 0) (xs : List A) (ys : List B) (x : A) (y : B)
     → AllZip R xs ys
     → R x y

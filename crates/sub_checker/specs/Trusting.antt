@@ -1,13 +1,15 @@
 -- What is kept of the frames that may be trusted, and what a device tells that stands before
 -- another and tells it of them too. Private functions alone cite this.
-use Rattle.std.specs.Prelude.{◌≡◌, ℕ, ◌&&◌, Bool, false, true, not, List, [], ◌∷◌, ◌++◌}
+use Rattle.std.specs.Prelude.{◌≡◌, ℕ, zero, suc, ◌&&◌, ◌⊎◌, Bool, false, true, not, List, [], ◌∷◌}
+use Rattle.std.specs.Prelude.{◌++◌}
 use Rattle.std.specs.Prelude.{Option, None, is_none, if◌then◌else◌}
 use Rattle.std.specs.List.{list_any}
 use Rattle.sub_io.specs.Telling.{Tells, TellsPrefix}
 use Rattle.sub_rules.specs.Events.{events_of_first}
 use Rattle.sub_rules.specs.FrameRules.{Task}
 use Rattle.sub_rules.specs.Transmission.{Transmission}
-use Rattle.sub_rules.specs.Trusted.{begun, doubted, frame_before, is_order, kept, run_after}
+use Rattle.sub_rules.specs.Trusted.{begun, doubted, frame_before, is_order, is_quiet, kept}
+use Rattle.sub_rules.specs.Trusted.{run_after}
 use Rattle.sub_rules.specs.Trusted.{tells_none, trusted_before}
 use Rattle.sub_rules.specs.declared.event.Event.{Event}
 use Rattle.sub_checker.specs.declared.trusting.Trust.{Trust}
@@ -35,12 +37,27 @@ at_end frame has_header none t = record t {
   last = frame;
 }
 
--- What is kept after the first n frames of the list.
-pub record Judges (g : Task) (frames : Transmission) (n : ℕ) (t : Trust) : Type 0 where
-  pub run_is : t.run ≡ run_after g frames n
+-- A run ends with the last of the first n frames of the list: there is none where that is not
+-- quiet.
+abbrev pub EndsQuiet : Task → Transmission → ℕ → Option ℕ → Type 0
+EndsQuiet g frames zero run = run ≡ None
+EndsQuiet g frames (suc n) run = (run ≡ None) ⊎ (is_quiet g frames n ≡ true)
+
+-- What is kept after the first n frames of the list, with this run at the end of the last of them,
+-- where something was told or not.
+pub record JudgesWith
+    (g : Task) (frames : Transmission) (n : ℕ) (run : Option ℕ) (told : Bool) (t : Trust)
+    : Type 0 where
+  pub run_is : t.run ≡ run
+  pub quiet : EndsQuiet g frames n run
   pub last_is : t.last ≡ frame_before frames n
   pub rises_is : t.rises ≡ not (list_any is_order (events_of_first g frames n))
-  pub told_is : t.told ≡ not (tells_none (events_of_first g frames n))
+  pub told_is : t.told ≡ told
+
+-- The same where all that was told is told of these frames.
+abbrev pub Judges : Task → Transmission → ℕ → Trust → Type 0
+Judges g frames n t =
+    JudgesWith g frames n (run_after g frames n) (not (tells_none (events_of_first g frames n))) t
 
 -- ---- what is told
 

@@ -3,6 +3,7 @@
 ghost use Rattle.std.specs.Prelude.{◌≡◌, ℕ, ◌+◌, ◌-◌, ◌*◌, ◌<◌, ◌≤◌, ◌==◌, ◌&&◌, List, length};
 ghost use Rattle.std.specs.Prelude.{MatchOption, OnOk, IfErr, if◌then◌else◌, max, nat_le, nat_lt};
 ghost use Rattle.std.specs.Prelude.{IsTrue, Option, Some, None, true, false, is_err, is_some};
+ghost use Rattle.std.specs.Prelude.{◌||◌, Bool, not};
 ghost use Rattle.stl_file.specs.TimeCode.{day};
 ghost use Rattle.sub_io.specs.Telling.{TellsSome, TellsUntilStopped};
 ghost use Rattle.sub_checker.specs.Checker.{is_before, later_by};
@@ -83,8 +84,10 @@ impl<'a> Checker<'a> {
     ghost use Rattle.sub_rules.specs.Sendings.{IsSentFrame};
     ghost use Rattle.sub_checker.specs.Listener.{Knows, KnowsLast};
     ghost use Rattle.sub_checker.specs.Steps.{AreCounted};
-    ghost use Rattle.sub_checker.specs.Trusting.{Judges};
-    ghost use Rattle.sub_rules.specs.Trusted.{all_frame_events};
+    ghost use Rattle.sub_checker.specs.Trusting.{JudgesWith};
+    ghost use Rattle.sub_rules.specs.Events.{frame_events};
+    ghost use Rattle.sub_rules.specs.PieceEvents.{run_at, told_of_frame};
+    ghost use Rattle.sub_rules.specs.Trusted.{tells_none};
 
     /// Before the first PES packet: nothing was heard.
     pub fn new(programme: &'a Programme, options: &Options) -> Self
@@ -390,15 +393,17 @@ impl<'a> Checker<'a> {
         ensures some { TellsSome A.is_told trusting.old.device.now trusting.new.device.now }
         ensures headers { OnOk result (self.new.headers ≤ 255 * (pes + 1)) }
         ensures day { OnOk result (trusting.new.trust.last < day) }
-        ensures told { (g : Task) (frames : Transmission)
-            → Follows g frames pes self.old → Judges g frames pes trusting.old.trust
+        ensures told { (g : Task) (frames : Transmission) (run : Option ℕ) (told : Bool)
+            → Follows g frames pes self.old
+            → JudgesWith g frames pes run told trusting.old.trust
             → IsSentFrame frames pes sending.frame (packets_of_units units.now)
             → (sending.again ≡ true
             → packets_of_frame frames (pes - 1) ≡ packets_of_units units.now)
             → TellsUntilStopped A.is_told trusting.old.device.now trusting.new.device.now
-            (all_frame_events g frames pes) result
+            (told_of_frame g frames pes run) result
             × OnOk result (Follows g frames (pes + 1) self.new
-            × Judges g frames (pes + 1) trusting.new.trust) }
+            × JudgesWith g frames (pes + 1) (run_at g frames pes run)
+            (told || not (tells_none (frame_events g frames pes))) trusting.new.trust) }
     {
         let before = self.headers;
         self.reach(pes, sending.frame, trusting)?;
@@ -461,8 +466,12 @@ impl<'a> Checker<'a> {
     }
 }
 
-// Tells a fault, if there is one.
-fn tell_fault<A: Audience<Event>>(
+/// Tells a fault, if there is one.
+///
+/// # Errors
+///
+/// `Stopped` where the audience said stop.
+pub(crate) fn tell_fault<A: Audience<Event>>(
     fault: Option<CheckFault>,
     audience: &mut A,
 ) -> Result<(), Stopped>

@@ -8,6 +8,7 @@
 //! ```
 #![tactic(auto)]
 
+mod announcing;
 mod checker;
 mod comparison;
 mod laws;
@@ -17,7 +18,9 @@ mod packet_rules;
 mod rule_set;
 mod standing;
 mod telling;
+mod telling_pieces;
 mod trusting;
 
 pub use laws::law_of_sent_again;
 pub use telling::{Accepted, tell_all};
+pub use telling_pieces::tell_pieces;

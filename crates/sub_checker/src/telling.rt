@@ -1,6 +1,6 @@
 //! What is told of a PES file: all that is broken, one PES packet at a time.
 ghost use Rattle.std.specs.Prelude.{◌≡◌, ℕ, Err, Option, IfErr, IfOk, IfSome, true, false, is_none};
-ghost use Rattle.std.specs.Prelude.{length, ◌<◌, ◌++◌, is_err};
+ghost use Rattle.std.specs.Prelude.{length, ◌<◌, ◌++◌, ◌||◌, Bool, is_err, not};
 ghost use Rattle.sub_io.specs.Device.{CanFail, CountsIf, failed};
 ghost use Rattle.sub_io.specs.Reading.{IfTold};
 ghost use Rattle.sub_io.specs.Telling.{TellsSome, TellsUntilStopped};
@@ -13,11 +13,12 @@ ghost use Rattle.sub_rules.specs.Events.{closing_events};
 ghost use Rattle.sub_rules.specs.FrameRules.{Task, Unread, task_of};
 ghost use Rattle.sub_rules.specs.PesReading.{ReadsAs};
 ghost use Rattle.sub_rules.specs.Transmission.{Transmission};
-ghost use Rattle.sub_rules.specs.Trusted.{last_trusted};
+ghost use Rattle.sub_rules.specs.PieceEvents.{last_of_run};
+ghost use Rattle.sub_rules.specs.Trusted.{tells_none};
 ghost use Rattle.sub_checker.specs.Following.{Follows};
 ghost use Rattle.sub_checker.specs.Steps.{AreCounted, FinishesTelling, ending_fault};
 ghost use Rattle.sub_checker.specs.Telling.{TellsAll};
-ghost use Rattle.sub_checker.specs.Trusting.{Judges};
+ghost use Rattle.sub_checker.specs.Trusting.{Judges, JudgesWith};
 
 use crate::checker::Checker;
 use crate::lending::next_live;
@@ -147,11 +148,12 @@ fn finish<A: Audience<Event>>(
     ensures same { trusting.new.device.ghost_name ≡ trusting.old.device.ghost_name }
     ensures stopped { A.has_stopped trusting.new.device.now ≡ is_none result }
     ensures some { TellsSome A.is_told trusting.old.device.now trusting.new.device.now }
-    ensures told { (g : Task) (frames : Transmission)
-        → Follows g frames pes checker.now → Judges g frames pes trusting.old.trust
+    ensures told { (g : Task) (frames : Transmission) (run : Option ℕ) (told : Bool)
+        → Follows g frames pes checker.now → JudgesWith g frames pes run told trusting.old.trust
         → length frames ≡ pes → fault ≡ ending_fault pes g.unread
         → FinishesTelling A.is_told trusting.old.device.now trusting.new.device.now
-        (last_trusted g frames ++ closing_events g frames pes) result }
+        (last_of_run g frames run (told || not (tells_none (closing_events g frames pes)))
+        ++ closing_events g frames pes) result }
     ensures counts { IfSome result (AreCounted checker.now pes) }
 {
     match tell_last(checker, pes, fault, trusting) {
@@ -160,8 +162,12 @@ fn finish<A: Audience<Event>>(
     }
 }
 
-// Tells it.
-fn tell_last<A: Audience<Event>>(
+/// Tells it.
+///
+/// # Errors
+///
+/// `Stopped` where the audience said stop.
+pub(crate) fn tell_last<A: Audience<Event>>(
     checker: &Checker<'_>,
     pes: u32,
     fault: Option<CheckFault>,
@@ -172,18 +178,19 @@ fn tell_last<A: Audience<Event>>(
     ensures same { trusting.new.device.ghost_name ≡ trusting.old.device.ghost_name }
     ensures stopped { A.has_stopped trusting.new.device.now ≡ is_err result }
     ensures some { TellsSome A.is_told trusting.old.device.now trusting.new.device.now }
-    ensures told { (g : Task) (frames : Transmission)
-        → Follows g frames pes checker.now → Judges g frames pes trusting.old.trust
+    ensures told { (g : Task) (frames : Transmission) (run : Option ℕ) (told : Bool)
+        → Follows g frames pes checker.now → JudgesWith g frames pes run told trusting.old.trust
         → length frames ≡ pes → fault ≡ ending_fault pes g.unread
         → TellsUntilStopped A.is_told trusting.old.device.now trusting.new.device.now
-        (last_trusted g frames ++ closing_events g frames pes) result }
+        (last_of_run g frames run (told || not (tells_none (closing_events g frames pes)))
+        ++ closing_events g frames pes) result }
 {
     trusting.close(fault.is_some(), checker.tells_last(pes, fault))?;
     checker.close(pes, fault, trusting)
 }
 
-// The source failed.
-fn is_source_failure(fault: &CheckFault) -> bool
+/// The source failed.
+pub(crate) fn is_source_failure(fault: &CheckFault) -> bool
     ensures { result ≡ is_pes_read fault.now }
 {
     match fault {

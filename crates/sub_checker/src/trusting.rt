@@ -10,7 +10,7 @@ use sub_io::{Audience, Stopped};
 use sub_rules::{CheckFault, Event};
 
 /// What is kept of the frames that may be trusted.
-#[derive(Drop)]
+#[derive(Clone, Copy)]
 pub(crate) struct Trust {
     /// The run of quiet frames up to the last end: the frame of its first header of the page.
     pub run: Option<u32>,
@@ -125,8 +125,12 @@ impl<A: Audience<Event>> Trusting<'_, A> {
         tell_trusted(run, end, self.device)
     }
 
-    // Hands on an event, and tells before it what is trusted of the run that it ends.
-    fn pass(&mut self, event: Event) -> Result<(), Stopped>
+    /// Hands on an event, and tells before it what is trusted of the run that it ends.
+    ///
+    /// # Errors
+    ///
+    /// `Stopped` where the device said stop.
+    pub fn pass(&mut self, event: Event) -> Result<(), Stopped>
         requires goes_on { A.has_stopped self.old.device.now ≡ false }
         ensures same { self.new.device.ghost_name ≡ self.old.device.ghost_name }
         ensures stopped { A.has_stopped self.new.device.now ≡ is_err result }
@@ -208,7 +212,7 @@ fn doubted(last: u32, event: &Event) -> Option<u32>
 {
     match event {
         Event::Told(fault) => doubted_by(last, fault),
-        Event::Ended { .. } | Event::Trusted { .. } => None,
+        Event::Ended { .. } | Event::PassedUntil(_) | Event::Trusted { .. } => None,
     }
 }
 
@@ -217,7 +221,9 @@ fn doubted_by(last: u32, fault: &CheckFault) -> Option<u32>
     ensures { result ≡ doubted_by last fault.now }
 {
     match fault {
-        CheckFault::Order { .. } => Some(last),
+        CheckFault::Order { .. } | CheckFault::Pes { .. } | CheckFault::OffFrame { .. } => {
+            Some(last)
+        }
         CheckFault::Address { frame, .. }
         | CheckFault::HeaderCode { frame, .. }
         | CheckFault::Control { frame, .. }

@@ -16,6 +16,7 @@ use Rattle.sub_checker.proofs.WaysOutLemmas.{Reads-none, again_is, at_end, count
 use Rattle.sub_checker.proofs.WaysOutLemmas.{next_read, next_sent, none_of_first, one_more}
 use Rattle.sub_checker.proofs.WaysOutLemmas.{told_so_far, told_to_end, told_to_stop}
 use Rattle.sub_checker.proofs.TellingLemmas.{all_same}
+use Rattle.sub_checker.proofs.TrustingLemmas.{finishes_same, judges_more, last_same}
 use Rattle.sub_checker.proofs.telling.tell_frames.Goals as goal
 
 pub packets-init : goal.packets-init
@@ -71,7 +72,9 @@ returns-in-Err-clause-exact g c = λ frames unread judges bytes told reads.
     let end = at_end i.0 (Some at.0) at.2 in
     let given = ap Some at.1 ∙ ap (ending_fault c.packets.pes) (sym end.1) in
     told_to_end task c.args.options.now.origin bytes frames c.packets.pes c.packets.checker _ _ _
-    c.finish.result end.0 so_far (c.finish.ensures.told task frames i.1 i.3 end.0 given)
+    c.finish.result end.0 so_far
+    (finishes_same g.A.Audience.is_told _ _ _ _ _ _ (last_same task frames c.packets.pes end.0)
+    (c.finish.ensures.told task frames _ _ i.1 i.3 end.0 given))
     c.finish.ensures.counts
     (λ a counts.
     is_read i.0 (Some at.0) a at.2 (counts_read i.0 c.packets.checker a i.1 end.0 counts))
@@ -88,7 +91,8 @@ returns-in_default-more-clause-exact g c = λ frames unread judges bytes told re
     let given = ap (ending_fault c.packets.pes) (sym end.1) in
     told_to_end task c.args.options.now.origin bytes frames c.packets.pes c.packets.checker _ _ _
     c.finish-in_default-more.result end.0 so_far
-    (c.finish-in_default-more.ensures.told task frames i.1 i.3 end.0 given)
+    (finishes_same g.A.Audience.is_told _ _ _ _ _ _ (last_same task frames c.packets.pes end.0)
+    (c.finish-in_default-more.ensures.told task frames _ _ i.1 i.3 end.0 given))
     c.finish-in_default-more.ensures.counts
     (λ a counts. is_read i.0 None a at (counts_read i.0 c.packets.checker a i.1 end.0 counts))
 
@@ -107,7 +111,7 @@ returns-in-Err-go_on-clause-exact g c = λ frames unread judges bytes told reads
     (packets_of_units us)) (sym c.units_of-units.ensures.value)
     (next_sent i.0 c.next_live.new.reader.frame c.in-Some-more.sending.frame at) in
     let go =
-    c.in-Err-go_on.ensures.told task frames i.1 i.3 sent
+    c.in-Err-go_on.ensures.told task frames _ _ i.1 i.3 sent
     (λ e.
     again_is frames c.packets.pes _ _ _ sent i.2
     (ap packets_of_units
@@ -149,7 +153,7 @@ packets-preserved g c =
           subst (λ (us : List UnitValue). IsSentFrame frames c.packets.pes
           c.in-Some-more.sending.frame (packets_of_units us)) (sym c.units_of-units.ensures.value) first in
           let go =
-          c.in-Ok-go_on.ensures.told task frames i.1 i.3 sent
+          c.in-Ok-go_on.ensures.told task frames _ _ i.1 i.3 sent
           (λ e.
           again_is frames c.packets.pes _ _ _ sent i.2
           (ap packets_of_units
@@ -159,7 +163,7 @@ packets-preserved g c =
                 (here.left i.0.rest i.0.rest_is) takes c.units_of-units.ensures.frame,
             go.1.0,
             λ some. ap (packets_of_frame frames) (omega arith) ∙ first.packets_are,
-            go.1.1,
+            judges_more task frames c.packets.pes _ go.1.1,
             all_same _ _ _ _ (one_more task frames c.packets.pes)
                 (Tells-trans _ _ _ _ _ so_far go.0),
           );

@@ -8,7 +8,7 @@ use Rattle.sub_checker.specs.declared.trusting.Trust.{Trust}
 use Rattle.sub_checker.proofs.telling.tell_last.Goals as goal
 
 pub returns-in_err-close-clause-told : goal.returns-in_err-close-clause-told
-returns-in_err-close-clause-told g c = λ task frames follows judges all is.
+returns-in_err-close-clause-told g c = λ task frames run told follows judges all is.
     let p = err_from_is_err_and c.from_residual.result c.from_residual.ensures.1 in
     let last =
     last_is task frames c.args.trusting.now.trust c.args.checker.now c.args.fault
@@ -31,7 +31,7 @@ returns-clause-some g c =
     c.close-2.new.audience c.close-2.ensures.some)
 
 pub returns-clause-told : goal.returns-clause-told
-returns-clause-told g c = λ task frames follows judges all is.
+returns-clause-told g c = λ task frames run told follows judges all is.
     let last =
     last_is task frames c.args.trusting.now.trust c.args.checker.now c.args.fault
     c.is_some.result c.tells_last.result c.is_some.ensures c.args.pes judges follows all is

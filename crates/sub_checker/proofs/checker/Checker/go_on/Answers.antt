@@ -3,7 +3,8 @@ use Rattle.std.proofs.Common.{◌≡◌, ◌∙◌, ap, sym, subst, arith, ◌+�
 use Rattle.std.proofs.lemmas.Result.{err_from_is_err_and}
 use Rattle.sub_rules.specs.FrameRules.{frame_at}
 use Rattle.sub_rules.specs.Events.{standing_at}
-use Rattle.sub_rules.specs.Trusted.{all_frame_events, stands_none}
+use Rattle.sub_rules.specs.PieceEvents.{told_of_frame}
+use Rattle.sub_rules.specs.Trusted.{stands_none}
 use Rattle.sub_io.specs.Telling.{Tells, TellsSome}
 use Rattle.sub_io.proofs.TellingLemmas.{TellsSome-trans}
 use Rattle.sub_checker.specs.Following.{Follows}
@@ -23,7 +24,7 @@ returns-in_err-reach-clause-some g c =
     c.reach.new.audience c.in_err-reach.ensures.some
 
 pub returns-in_err-reach-clause-told : goal.returns-in_err-reach-clause-told
-returns-in_err-reach-clause-told g c = λ task frames follows judges sent again.
+returns-in_err-reach-clause-told g c = λ task frames run told follows judges sent again.
     let p = err_from_is_err_and c.from_residual.result c.from_residual.ensures.1 in
     let reached = c.in_err-reach.ensures.told task frames follows sent.frame_is in
     rw p.1 (
@@ -51,7 +52,7 @@ returns-in_err-take-clause-some g c =
     c.in_err-take.ensures.some))
 
 pub returns-in_err-take-clause-told : goal.returns-in_err-take-clause-told
-returns-in_err-take-clause-told g c = λ task frames follows judges sent again.
+returns-in_err-take-clause-told g c = λ task frames run told follows judges sent again.
     let r = c.from_residual-in_err-take in
     let p = err_from_is_err_and r.result r.ensures.1 in
     let reached = c.in_ok-reach.ensures.told task frames follows sent.frame_is in
@@ -86,7 +87,7 @@ returns-clause-some g c =
     c.in_ok-take.ensures.some)))
 
 pub returns-clause-told : goal.returns-clause-told
-returns-clause-told g c = λ task frames follows judges sent again.
+returns-clause-told g c = λ task frames run told follows judges sent again.
     let reached = c.in_ok-reach.ensures.told task frames follows sent.frame_is in
     let taken =
     c.in_ok-take.ensures.told task frames reached.1 sent.there sent.packets_are again in
@@ -99,7 +100,7 @@ returns-clause-told g c = λ task frames follows judges sent again.
     ∙ ap (λ k. stands_none (standing_at task frames (c.args.pes + 1) (frame_at frames k))) back in (
       subst (λ (s : Trusting g.row.A.Denot). Tells g.A.Audience.is_told
           c.args.trusting.now.device.now s.device.now
-          (all_frame_events task frames c.args.pes)) (sym c.end_frame.ensures)
+          (told_of_frame task frames c.args.pes run)) (sym c.end_frame.ensures)
           (told_frame g.A.Audience.is_told g.A.Audience.has_stopped task frames c.args.pes
           c.args.trusting.now c.reach.new.audience judges c.arrive.new.self c.take.new.audience
           c.arrive.ensures reached.0 c.in_ok-reach.ensures.stopped taken.0

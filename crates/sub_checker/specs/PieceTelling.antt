@@ -1,0 +1,66 @@
+-- What the checker tells of a PES file that is read on behind the pieces that are passed over.
+use Rattle.std.specs.Prelude.{◌≡◌, ℕ, zero, suc, ◌≤◌, ◌||◌, Bool, not, List, [], ◌++◌, length, take}
+use Rattle.std.specs.Prelude.{Option, Some, None, Result, Ok, Err}
+use Rattle.sub_io.specs.Telling.{Tells, TellsPrefix}
+use Rattle.ttx_pes.specs.declared.fault.PesFault.TheVariants.{Read}
+use Rattle.sub_rules.specs.Events.{closing_events}
+use Rattle.sub_rules.specs.FrameRules.{Task}
+use Rattle.sub_rules.specs.PieceEvents.{PassedRun, all_announced, all_of_pieces, ended_run}
+use Rattle.sub_rules.specs.PieceEvents.{events_of_pieces, fault_at_pes, last_of_run}
+use Rattle.sub_rules.specs.PieceEvents.{passed_after_all, told_of_unread}
+use Rattle.sub_rules.specs.Pieces.{Piece, frames_of}
+use Rattle.sub_rules.specs.Transmission.{Transmission}
+use Rattle.sub_rules.specs.Trusted.{tells_none}
+use Rattle.sub_rules.specs.declared.event.Event.{Event}
+use Rattle.sub_rules.specs.declared.fault.CheckFault.{CheckFault}
+use Rattle.sub_rules.specs.declared.fault.CheckFault.TheVariants as fault
+use Rattle.ttx_pes.specs.Reading.{most_packets}
+use Rattle.sub_checker.specs.Telling.{AreTaken, AreWhole, CountsRead}
+use Rattle.sub_checker.specs.declared.telling.Accepted.{Accepted}
+
+-- The bytes were read as pieces, and what these send is counted: where each is sent, and nothing is
+-- left, the bytes are a PES file of their frames.
+pub record IsReadOn
+    (g : Task) (origin : ℕ) (bytes : List ℕ) (pieces : List Piece) (a : Accepted)
+    : Type 0 where
+  pub few : length pieces ≤ most_packets
+  pub taken :
+      length (frames_of pieces) ≡ length pieces
+      → g.unread ≡ None
+      → AreTaken origin bytes (frames_of pieces) []
+  pub whole : AreWhole (frames_of pieces)
+  pub counts : CountsRead g.watched.page (frames_of pieces) a
+
+-- What a device was told of pieces that are read of these bytes. Where the source failed, what is
+-- told of the pieces that were read whole.
+abbrev pub TellsPieces : {D : Type 0} → Task → ℕ → List ℕ → List Piece
+    → (D → Event → D → Type 0) → D → D → Result (Option Accepted) CheckFault → Type 0
+TellsPieces g origin bytes pieces IsTold old new (Ok (Some a)) =
+    Tells IsTold old new (all_of_pieces g pieces) × IsReadOn g origin bytes pieces a
+TellsPieces g origin bytes pieces IsTold old new (Ok None) =
+    TellsPrefix IsTold old new (all_of_pieces g pieces)
+TellsPieces g origin bytes pieces IsTold old new (Err f) =
+    (n : ℕ)
+    × (n ≤ length pieces)
+    × (f ≡ fault.Pes n Read)
+    × Tells IsTold old new (events_of_pieces g (frames_of pieces) (take n pieces))
+
+-- ---- private functions alone cite what follows
+
+-- The fault that ended reading, if one did, told of PES packet `pes`.
+abbrev pub ending_at : ℕ → Option CheckFault → Option CheckFault
+ending_at pes None = None
+ending_at pes (Some f) = Some (fault_at_pes pes f)
+
+-- What is told after `pes` pieces that send n frames, where these are counted alone: what is
+-- trusted of the last run, and what the checker tells last.
+unfoldable pub closing_raw :
+    Task → Transmission → ℕ → ℕ → Option ℕ → Bool → List Event
+closing_raw g frames (suc pes) zero run told = told_of_unread (suc pes) g.unread
+closing_raw g frames pes n run told =
+    last_of_run g frames run (told || not (tells_none (closing_events g frames n)))
+    ++ closing_events g frames n
+
+-- These are told after a run of pieces that were passed over, and then up to which one a run goes.
+abbrev pub finished : PassedRun → List Event → List Event
+finished run es = all_announced run es ++ ended_run (passed_after_all run es)
