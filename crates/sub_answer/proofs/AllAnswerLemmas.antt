@@ -34,7 +34,7 @@ use Rattle.sub_rules.specs.Trusted.{all_events}
 use Rattle.sub_rules.proofs.TrustedLemmas.{all_none, first_told-all}
 use Rattle.sub_check.specs.FirstTold.{IsRuleFault}
 use Rattle.sub_check.proofs.FirstToldLemmas.{first_decides}
-use Rattle.sub_rules.specs.declared.event.Event.TheVariants.{Ended, Told, Trusted}
+use Rattle.sub_rules.specs.declared.event.Event.TheVariants.{Ended, PassedUntil, Told, Trusted}
 use Rattle.sub_answer.specs.declared.told.Kind.{Kind}
 use Rattle.sub_answer.specs.declared.told.Kind.TheVariants as kind
 use Rattle.std.proofs.Common.{◌∷◌}
@@ -167,6 +167,7 @@ first-accepted : (events : List Event) (a : Accepted) → refusals events ≡ 0
 first-accepted [] a none = refl
 first-accepted (Told f ∷ events) a none = absurd (omega (arith, none))
 first-accepted (Ended rule frame ∷ events) a none = first-accepted events a (omega (arith, none))
+first-accepted (PassedUntil f ∷ events) a none = first-accepted events a (omega (arith, none))
 first-accepted (Trusted from to ∷ events) a none =
     first-accepted events a (omega (arith, none))
 

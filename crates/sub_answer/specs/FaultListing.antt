@@ -2,16 +2,16 @@
 use Rattle.std.specs.Prelude.{ℕ, ◌+◌, ◌==◌, min, List, [], ◌∷◌, ◌++◌, codes, decimal, map}
 use Rattle.std.specs.Prelude.{Option, Some, None, Result, Ok, Err, if◌then◌else◌}
 use Rattle.stl_rows.specs.declared.fault.LoadFault.{LoadFault}
-use Rattle.sub_rules.specs.Fault.{rule_code}
+use Rattle.sub_rules.specs.Fault.{check_code, place_of, rule_code}
 use Rattle.sub_checker.specs.declared.telling.Accepted.{Accepted}
 use Rattle.sub_rules.specs.declared.event.EndRule.{EndRule}
 use Rattle.sub_rules.specs.declared.event.Event.{Event}
-use Rattle.sub_rules.specs.declared.event.Event.TheVariants.{Ended, Told, Trusted}
+use Rattle.sub_rules.specs.declared.event.Event.TheVariants.{Ended, PassedUntil, Told, Trusted}
 use Rattle.sub_rules.specs.declared.fault.CheckFault.{CheckFault}
 use Rattle.sub_rules.specs.declared.fault.CheckFault.TheVariants.{Subtitles}
 use Rattle.sub_answer.specs.Faults.{check_told}
 use Rattle.sub_answer.specs.Listing.{Listing, done, followed, told_listing}
-use Rattle.sub_answer.specs.Told.{clock_text, code_text, frame_text, line_of}
+use Rattle.sub_answer.specs.Told.{clock_text, code_text, frame_text, line_of, place_text}
 use Rattle.sub_answer.specs.declared.status.Status.TheVariants.{Refused}
 
 -- ---- a line for each event
@@ -20,6 +20,11 @@ use Rattle.sub_answer.specs.declared.status.Status.TheVariants.{Refused}
 abbrev pub ended_line : EndRule → ℕ → List ℕ
 ended_line rule frame =
     codes "ended " ++ code_text (rule_code rule) ++ frame_text frame ++ codes "\n"
+
+-- PES packets were passed over up to the one that this fault names.
+abbrev pub passed_line : CheckFault → List ℕ
+passed_line f =
+    codes "ended " ++ code_text (check_code f) ++ place_text (place_of f) ++ codes "\n"
 
 -- These frames may be trusted, the first and the last one too.
 abbrev pub trusted_line : ℕ → ℕ → List ℕ
@@ -30,6 +35,7 @@ trusted_line from to =
 abbrev pub event_line : Event → List ℕ
 event_line (Told f) = line_of (check_told f)
 event_line (Ended rule frame) = ended_line rule frame
+event_line (PassedUntil f) = passed_line f
 event_line (Trusted from to) = trusted_line from to
 
 -- The lines of events.
@@ -41,6 +47,7 @@ event_lines (e ∷ events) = event_line e ++ event_lines events
 abbrev pub refusal : Event → ℕ
 refusal (Told f) = 1
 refusal (Ended rule frame) = 0
+refusal (PassedUntil f) = 0
 refusal (Trusted from to) = 0
 
 -- How many of these are refusals.

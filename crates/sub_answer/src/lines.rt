@@ -7,7 +7,8 @@ ghost use Rattle.std.specs.Prelude.{◌≡◌, ◌+◌, ◌%◌, ◌≤◌, ◌<
 ghost use Rattle.arrayvec.specs.ArrayVec.{array_vec_len};
 ghost use Rattle.hex.specs.Hex.{encode_lower};
 ghost use Rattle.stl_file.specs.TimeCode.{day};
-ghost use Rattle.sub_answer.specs.FaultListing.{ended_line, event_line, trusted_line};
+ghost use Rattle.sub_answer.specs.FaultListing.{ended_line, event_line, passed_line};
+ghost use Rattle.sub_answer.specs.FaultListing.{trusted_line};
 ghost use Rattle.sub_answer.specs.Lines.{glyph, text_digits, time_text, two_digits};
 ghost use Rattle.sub_answer.specs.Told.{code_text, frame_text, line_of, place_text};
 
@@ -16,7 +17,7 @@ use crate::hex_digits::digits_of_block;
 use crate::told::{Kind, Told};
 use arrayvec::ArrayVec;
 use stl_file::TimeCode;
-use sub_check::{EndRule, Event, FaultPlace};
+use sub_check::{CheckFault, EndRule, Event, FaultPlace};
 use sub_io::FaultCode;
 use ttx_pes::MOST_PACKETS;
 
@@ -159,6 +160,7 @@ pub fn push_event<const N: usize>(line: &mut ArrayVec<u8, N>, event: Event)
     match event {
         Event::Told(fault) => push_told(line, &told_of_check(fault)),
         Event::Ended { rule, frame } => push_ended(line, rule, frame),
+        Event::PassedUntil(fault) => push_passed(line, fault),
         Event::Trusted { from, to } => push_trusted(line, from, to),
     }
 }
@@ -171,6 +173,17 @@ fn push_ended<const N: usize>(line: &mut ArrayVec<u8, N>, rule: EndRule, frame: 
     push_text(line, b"ended ");
     push_code(line, &rule.code());
     push_frame(line, frame);
+    push_text(line, b"\n");
+}
+
+// Appends the line of PES packets that were passed over up to the one that the fault names.
+fn push_passed<const N: usize>(line: &mut ArrayVec<u8, N>, fault: CheckFault)
+    requires { array_vec_len line.old + LINE_ROOM ≤ N }
+    ensures { line.new.items ≡ line.old.items ++ passed_line fault }
+{
+    push_text(line, b"ended ");
+    push_code(line, &fault.code());
+    push_place(line, fault.place());
     push_text(line, b"\n");
 }
 

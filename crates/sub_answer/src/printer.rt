@@ -125,7 +125,7 @@ fn refusal(event: Event) -> u64
 {
     match event {
         Event::Told(_) => 1,
-        Event::Ended { .. } | Event::Trusted { .. } => 0,
+        Event::Ended { .. } | Event::PassedUntil(_) | Event::Trusted { .. } => 0,
     }
 }
 

@@ -26,7 +26,7 @@ use Rattle.sub_rules.specs.Transmission.{EachPacket, SentFrame, Transmission}
 use Rattle.sub_rules.specs.Trusted.{all_events, all_events_of_first}
 use Rattle.sub_rules.specs.WrongContent.{IsWrongEverywhere}
 use Rattle.sub_rules.specs.declared.event.Event.{Event}
-use Rattle.sub_rules.specs.declared.event.Event.TheVariants.{Ended, Told, Trusted}
+use Rattle.sub_rules.specs.declared.event.Event.TheVariants.{Ended, PassedUntil, Told, Trusted}
 use Rattle.sub_rules.specs.declared.fault.CheckFault.{CheckFault}
 use Rattle.sub_rules.specs.declared.fault.CheckFault.TheVariants as fault
 use Rattle.sub_rules.proofs.TrustedLemmas.{first_told-all, first_told-untrusted, untrusted}
@@ -163,6 +163,8 @@ module _ (programme : ProgrammeValue) (options : OptionsValue) (bytes : List ℕ
         ap (λ x. Some x) same ∙ sym last
     kept_is (suc n) new (Ended rule f ∷ xs) told (mid, keeps, rest) =
         let (first, e, named) = told.first (Ended rule f) (untrusted xs) refl in cc
+    kept_is (suc n) new (PassedUntil f ∷ xs) told (mid, keeps, rest) =
+        let (first, e, named) = told.first (PassedUntil f) (untrusted xs) refl in cc
 
     first_taken : (n : ℕ) (xs : List Event) (f : CheckFault) → first_told (take n xs) ≡ Some f
         → first_told xs ≡ Some f
@@ -170,6 +172,7 @@ module _ (programme : ProgrammeValue) (options : OptionsValue) (bytes : List ℕ
     first_taken (suc n) [] f e = cc
     first_taken (suc n) (Told first ∷ xs) f e = e
     first_taken (suc n) (Ended rule frame ∷ xs) f e = first_taken n xs f e
+    first_taken (suc n) (PassedUntil last ∷ xs) f e = first_taken n xs f e
     first_taken (suc n) (Trusted from to ∷ xs) f e = first_taken n xs f e
 
     -- The same of all events and of some, without what is trusted.

@@ -4,7 +4,7 @@ use Rattle.std.specs.Prelude.{if◌then◌else◌}
 use Rattle.ttx_pes.specs.Fault.{is_read, is_write}
 use Rattle.sub_rules.specs.Fault.{is_pes_read, is_pes_write, is_subtitle_fault}
 use Rattle.sub_rules.specs.declared.event.Event.{Event}
-use Rattle.sub_rules.specs.declared.event.Event.TheVariants.{Ended, Told, Trusted}
+use Rattle.sub_rules.specs.declared.event.Event.TheVariants.{Ended, PassedUntil, Told, Trusted}
 use Rattle.sub_rules.specs.declared.fault.CheckFault.{CheckFault}
 use Rattle.sub_rules.specs.declared.fault.CheckFault.TheVariants as fault
 
@@ -25,6 +25,7 @@ is_of_rule _ = true
 abbrev pub kept_of : Event → Option CheckFault
 kept_of (Told f) = if is_of_rule f then Some f else None
 kept_of (Ended rule frame) = None
+kept_of (PassedUntil f) = None
 kept_of (Trusted from to) = None
 
 -- It keeps the first, and is told none after it.

@@ -11,7 +11,7 @@ use Rattle.std.specs.List.{list_any}
 use Rattle.std.specs.Prelude.{⊤}
 use Rattle.sub_rules.specs.Trusted.{doubted, kept, run_over, trusted, trusted_before, with_run}
 use Rattle.sub_rules.specs.declared.event.Event.{Event}
-use Rattle.sub_rules.specs.declared.event.Event.TheVariants.{Ended, Told, Trusted}
+use Rattle.sub_rules.specs.declared.event.Event.TheVariants.{Ended, PassedUntil, Told, Trusted}
 use Rattle.sub_rules.proofs.TrustedLemmas.{IsPlain, untrusted, with_run-none}
 
 -- The one, or else the other.
@@ -86,6 +86,7 @@ abbrev pub EachTrusted : (ℕ → ℕ → Type 0) → List Event → Type 0
 EachTrusted P [] = ⊤
 EachTrusted P (Told f ∷ es) = EachTrusted P es
 EachTrusted P (Ended rule f ∷ es) = EachTrusted P es
+EachTrusted P (PassedUntil f ∷ es) = EachTrusted P es
 EachTrusted P (Trusted from to ∷ es) = P from to × EachTrusted P es
 
 pub each-append : (P : ℕ → ℕ → Type 0) (xs ys : List Event)
@@ -93,6 +94,7 @@ pub each-append : (P : ℕ → ℕ → Type 0) (xs ys : List Event)
 each-append P [] ys p q = q
 each-append P (Told f ∷ xs) ys p q = each-append P xs ys p q
 each-append P (Ended rule f ∷ xs) ys p q = each-append P xs ys p q
+each-append P (PassedUntil f ∷ xs) ys p q = each-append P xs ys p q
 each-append P (Trusted from to ∷ xs) ys p q = (p.0, each-append P xs ys p.1 q)
 
 pub each-contains : (P : ℕ → ℕ → Type 0) (xs : List Event) (from to : ℕ)
@@ -107,6 +109,9 @@ each-contains P (Told f ∷ xs) from to p (suc k, l, e) =
 each-contains P (Ended rule f ∷ xs) from to p (zero, l, e) = cc
 each-contains P (Ended rule f ∷ xs) from to p (suc k, l, e) =
     each-contains P xs from to p (k, omega arith, e)
+each-contains P (PassedUntil f ∷ xs) from to p (zero, l, e) = cc
+each-contains P (PassedUntil f ∷ xs) from to p (suc k, l, e) =
+    each-contains P xs from to p (k, omega arith, e)
 
 -- Events without what is trusted begin with none of these.
 no_head : (es ys : List Event) (from to : ℕ) → untrusted es ≡ Trusted from to ∷ ys → ⊥
@@ -114,6 +119,7 @@ no_head [] ys from to e = cc
 no_head (Trusted a b ∷ es) ys from to e = no_head es ys from to e
 no_head (Told f ∷ es) ys from to e = cc
 no_head (Ended rule f ∷ es) ys from to e = cc
+no_head (PassedUntil f ∷ es) ys from to e = cc
 
 -- Where there are none, it holds of each.
 pub each-plain : (P : ℕ → ℕ → Type 0) (es : List Event) → IsPlain es → EachTrusted P es
@@ -121,6 +127,7 @@ each-plain P [] plain = tt
 each-plain P (Trusted from to ∷ es) plain = absurd (no_head es es from to plain)
 each-plain P (Told f ∷ es) plain = let rest : untrusted es ≡ es = cc in each-plain P es rest
 each-plain P (Ended rule f ∷ es) plain = let rest : untrusted es ≡ es = cc in each-plain P es rest
+each-plain P (PassedUntil f ∷ es) plain = let rest : untrusted es ≡ es = cc in each-plain P es rest
 
 -- What is trusted before a frame.
 pub each-put : (P : ℕ → ℕ → Type 0) (run : Option ℕ) (x : ℕ)
@@ -164,6 +171,12 @@ module _ (P : ℕ → ℕ → Type 0) (last : ℕ) (run : Option ℕ) where
   trusted_in_run (Told f ∷ es) plain h =
       let rest : untrusted es ≡ es = cc in
       with_event (doubted last (Told f)) (Told f) es rest (λ l p. p)
+      (λ none. trusted_in_run es rest
+      (λ x from is. h x from (ap (λ d. or_else d (first_doubt last es)) none ∙ is)))
+      (λ x from is. h x from (ap (λ d. or_else d (first_doubt last es)) is))
+  trusted_in_run (PassedUntil f ∷ es) plain h =
+      let rest : untrusted es ≡ es = cc in
+      with_event (doubted last (PassedUntil f)) (PassedUntil f) es rest (λ l p. p)
       (λ none. trusted_in_run es rest
       (λ x from is. h x from (ap (λ d. or_else d (first_doubt last es)) none ∙ is)))
       (λ x from is. h x from (ap (λ d. or_else d (first_doubt last es)) is))
