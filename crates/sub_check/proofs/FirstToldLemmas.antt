@@ -191,10 +191,12 @@ module _ (programme : ProgrammeValue) (options : OptionsValue) (bytes : List ℕ
     nothing_kept None (Some x) a e quiet told = cc
     nothing_kept None None a e quiet (told, read) =
         let xs = all_events g frames in
-        let all = take_all (length xs) xs (omega arith) in
-        (read, none_told (events g frames) all_named
-        (first_all ∙ ap first_told (sym all)
-        ∙ kept_is (length xs) None xs all_kept (rw all told.in_turn)))
+        let all = take_all (length xs) xs (omega arith) in (
+          read,
+          none_told (events g frames) all_named
+              (first_all ∙ ap first_told (sym all)
+              ∙ kept_is (length xs) None xs all_kept (rw all told.in_turn)),
+        )
 
     -- It kept a fault: that was told first.
     pub fault_kept : (none kept : Option CheckFault) (f : CheckFault) → none ≡ None
@@ -222,11 +224,13 @@ module _ (programme : ProgrammeValue) (options : OptionsValue) (bytes : List ℕ
         let all = take_all (length xs) xs (omega arith) in
         let some = untrusted-first g frames n in
         let first = frames_named n l in
-        subst (λ m. (m ≤ length frames) × (events_of_first g frames m ≡ [])) at
-        (l, none_told (events_of_first g frames n) first
-        (ap first_told (sym some) ∙ first_told-untrusted xs ∙ ap first_told (sym all)
-        ∙ kept_is (length xs) None xs
-        (subst (FirstOf Named (AreOk g frames n)) (sym some) first) (rw all told.in_turn)))
+        subst (λ m. (m ≤ length frames) × (events_of_first g frames m ≡ [])) at (
+          l,
+          none_told (events_of_first g frames n) first
+              (ap first_told (sym some) ∙ first_told-untrusted xs ∙ ap first_told (sym all)
+              ∙ kept_is (length xs) None xs
+              (subst (FirstOf Named (AreOk g frames n)) (sym some) first) (rw all told.in_turn)),
+        )
 
     -- ---- the answer of `check` by all events
 

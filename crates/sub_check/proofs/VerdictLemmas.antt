@@ -125,9 +125,12 @@ module _ (programme : ProgrammeValue) (options : OptionsValue) (is : IsOptions o
       let file = pes_file_of options.origin bytes in
       let (read, quiet) = decides file.frames file.unread refl in
       let (good, complete, none) = (told_none bytes file.unread file.frames refl).0 quiet in (
-        λ ok.
-            (file.frames, carried_from bytes file.unread file.frames refl a read good none, good,
-            complete),
+        λ ok. (
+          file.frames,
+          carried_from bytes file.unread file.frames refl a read good none,
+          good,
+          complete,
+        ),
         λ g. refl,
       )
   accepted_from bytes (Err f) decides = (

@@ -242,4 +242,4 @@ TellsEvents programme options bytes IsTold old new (Err f) =
     × (n ≤ length file.frames)
     × (f ≡ fault.Pes n Read)
     × Tells IsTold old new
-        (all_events_of_first (task_of programme options file.unread) file.frames n)
+    (all_events_of_first (task_of programme options file.unread) file.frames n)

@@ -213,8 +213,14 @@ module _ (options : OptionsValue) (bytes : List ℕ) (all : List Piece) (unread 
               subst (λ (fs : Transmission). AreTaken options.origin bytes fs
               (behind_piece at.rest)) (sym list)
               (taken_sent options.origin bytes at.rest (frames_of at.done) v frame before after
-              (at.taken (omega (arith, e, ap length list, length-append (frames_of at.done)
-              (s ∷ []), length-append at.done (Sent s ∷ [])))) at.rest_is left takes of);
+              (at.taken (omega (
+                arith,
+                e,
+                ap length list,
+                length-append (frames_of at.done)
+                    (s ∷ []),
+                length-append at.done (Sent s ∷ []),
+              ))) at.rest_is left takes of);
           whole =
               subst AreWhole (sym list)
               (whole_sent (frames_of at.done) v frame at.whole value);
@@ -548,51 +554,51 @@ closing_is g list (suc pes) (suc n) run told none =
     both_at (suc pes) g list run told (closing_events g list (suc n))
 
 module _ (g : Task) (all : List Piece) where
-    abbrev closing : List Event
-    closing = closing_of_pieces g (frames_of all) (length all) (length (frames_of all))
+  abbrev closing : List Event
+  closing = closing_of_pieces g (frames_of all) (length all) (length (frames_of all))
 
-    abbrev any : Bool
-    any = not (tells_none (each_told g all all)) || not (tells_none closing)
+  abbrev any : Bool
+  any = not (tells_none (each_told g all all)) || not (tells_none closing)
 
-    abbrev last : List Event
-    last = last_of_run g (frames_of all) (run_of g all all) any
+  abbrev last : List Event
+  last = last_of_run g (frames_of all) (run_of g all all) any
 
-    -- All that is told, by what was told of the pieces.
-    whole : all_of_pieces g all
-        ≡ events_of_pieces g (frames_of all) all
-        ++ finished (passed_after_all no_run (each_told g all all)) (last ++ closing)
-    unfolding all_of_pieces told_of_pieces events_of_pieces
-    whole =
-        let each = each_told g all all in
-        let told : each ++ last ++ closing ≡ each ++ (last ++ closing) =
-        append_assoc each last closing in
-        ap (λ (es : List Event). all_announced no_run es ++ ended_run (passed_after_all no_run es))
-        told
-        ∙ ap (λ (es : List Event). es ++ ended_run (passed_after_all no_run
-        (each ++ (last ++ closing)))) (all_announced-append no_run each (last ++ closing))
-        ∙ ap (λ (r : pieces.PassedRun). (all_announced no_run each
-        ++ all_announced (passed_after_all no_run each) (last ++ closing)) ++ ended_run r)
-        (passed_after-append no_run each (last ++ closing))
-        ∙ append_assoc (all_announced no_run each) _ _
+  -- All that is told, by what was told of the pieces.
+  whole : all_of_pieces g all
+      ≡ events_of_pieces g (frames_of all) all
+      ++ finished (passed_after_all no_run (each_told g all all)) (last ++ closing)
+  unfolding all_of_pieces told_of_pieces events_of_pieces
+  whole =
+      let each = each_told g all all in
+      let told : each ++ last ++ closing ≡ each ++ (last ++ closing) =
+      append_assoc each last closing in
+      ap (λ (es : List Event). all_announced no_run es ++ ended_run (passed_after_all no_run es))
+      told
+      ∙ ap (λ (es : List Event). es ++ ended_run (passed_after_all no_run
+      (each ++ (last ++ closing)))) (all_announced-append no_run each (last ++ closing))
+      ∙ ap (λ (r : pieces.PassedRun). (all_announced no_run each
+      ++ all_announced (passed_after_all no_run each) (last ++ closing)) ++ ended_run r)
+      (passed_after-append no_run each (last ++ closing))
+      ∙ append_assoc (all_announced no_run each) _ _
 
-    -- A device that was told what follows the last piece was told the whole, and what was read is
-    -- counted; or a part, where it said stop.
-    pub told_end : {D : Type 0} {IsTold : D → Event → D → Type 0} (origin : ℕ) (bytes : List ℕ)
-        (a b c : D)
-        (r : Option Accepted) (run : PassedRun) (raw : List Event)
-        → as_run run ≡ passed_after_all no_run (each_told g all all)
-        → raw ≡ last ++ closing
-        → Tells IsTold a b (events_of_pieces g (frames_of all) all)
-        → FinishesTelling IsTold b c (finished (as_run run) raw) r
-        → IfSome r (IsReadOn g origin bytes all)
-        → TellsPieces g origin bytes all IsTold a c (Ok r)
-    told_end {D} {IsTold} origin bytes a b c (Some x) run raw is same first second counts = (
-      subst (Tells IsTold a c) (sym whole) (Tells-trans a b c _ _ first (rw (is, same) at second)),
-      counts,
-    )
-    told_end {D} {IsTold} origin bytes a b c None run raw is same first second counts =
-        subst (TellsPrefix IsTold a c) (sym whole)
-        (TellsPrefix-second a b c _ _ first (rw (is, same) at second))
+  -- A device that was told what follows the last piece was told the whole, and what was read is
+  -- counted; or a part, where it said stop.
+  pub told_end : {D : Type 0} {IsTold : D → Event → D → Type 0} (origin : ℕ) (bytes : List ℕ)
+      (a b c : D)
+      (r : Option Accepted) (run : PassedRun) (raw : List Event)
+      → as_run run ≡ passed_after_all no_run (each_told g all all)
+      → raw ≡ last ++ closing
+      → Tells IsTold a b (events_of_pieces g (frames_of all) all)
+      → FinishesTelling IsTold b c (finished (as_run run) raw) r
+      → IfSome r (IsReadOn g origin bytes all)
+      → TellsPieces g origin bytes all IsTold a c (Ok r)
+  told_end {D} {IsTold} origin bytes a b c (Some x) run raw is same first second counts = (
+    subst (Tells IsTold a c) (sym whole) (Tells-trans a b c _ _ first (rw (is, same) at second)),
+    counts,
+  )
+  told_end {D} {IsTold} origin bytes a b c None run raw is same first second counts =
+      subst (TellsPrefix IsTold a c) (sym whole)
+      (TellsPrefix-second a b c _ _ first (rw (is, same) at second))
 
 -- A device that said stop at a piece was told a part of the whole.
 pub told_stop : (g : Task) (all done more : List Piece) (p : Piece) (pes frames : ℕ)
@@ -614,10 +620,12 @@ told_stop g all done more p pes frames {D} {IsTold} a b c run es parts count sen
   where
     each : List Event
     each = each_told g all done
+
     next : List Event
     next = told_of_each g (frames_of all) (pes + 1)
         (frames + length (frames_of (p ∷ [])))
         (run_after_each g (frames_of all) frames (run_of g all done) (p ∷ [])) more
+
     told : each_told g all all ≡ each ++ (es ++ next)
     told =
         ap (each_told g all) parts
@@ -627,8 +635,10 @@ told_stop g all done more p pes frames {D} {IsTold} a b c run es parts count sen
         (told_of_each-append g (frames_of all) pes (pes + 1) frames
         (frames + length (frames_of (p ∷ []))) (run_of g all done) (p ∷ []) more refl refl
         ∙ ap (λ (l : List Event). l ++ next) of)
+
     rest : List Event
     rest = last g all ++ closing g all
+
     front : all_of_pieces g all
         ≡ (all_announced no_run each ++ all_announced (passed_after_all no_run each) es)
         ++ (all_announced (passed_after_all (passed_after_all no_run each) es) next

@@ -588,9 +588,11 @@ judges_passed g frames n t pes u is = record {
   where
     none : (u : Unread) → kept t.run (doubted t.last (Told (unread_fault pes (Some u)))) ≡ None
     none u = grind (arith, nat_tests)
+
     rises : (u : Unread)
         → (t.rises && not (is_order (Told (unread_fault pes (Some u))))) ≡ t.rises
     rises u = grind (arith, nat_tests)
+
     no_run_quiet : (k : ℕ) → EndsQuiet g frames k None
     no_run_quiet zero = refl
     no_run_quiet (suc k) = inl refl

@@ -106,11 +106,7 @@ impl<A: Audience<Event>> Audience<Event> for Announcing<'_, A> {
 }
 
 // Tells an event after a run of PES packets that were passed over, unless it goes on with it.
-#[tactic(
-    auto,
-    using(sub_io::proofs::TellingLemmas::tellings),
-    unfolding(sub_rules::specs::PieceEvents::announced)
-)]
+#[tactic(auto, using(sub_io::proofs::TellingLemmas::tellings), unfolding(sub_rules::specs::PieceEvents::announced))]
 fn announce<A: Audience<Event>>(
     run: &PassedRun,
     event: Event,

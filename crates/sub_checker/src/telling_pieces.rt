@@ -313,11 +313,7 @@ fn announce_fault<A: Audience<Event>>(
 }
 
 // The same to any device, with what is trusted.
-#[tactic(
-    auto,
-    using(sub_io::proofs::TellingLemmas::some),
-    unfolding(sub_rules::specs::Trusted::with_run)
-)]
+#[tactic(auto, using(sub_io::proofs::TellingLemmas::some), unfolding(sub_rules::specs::Trusted::with_run))]
 fn hand_fault<A: Audience<Event>>(
     fault: CheckFault,
     trust: &mut Trust,
