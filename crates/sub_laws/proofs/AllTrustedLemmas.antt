@@ -116,13 +116,18 @@ module _ (g : Task) (frames : Transmission) (a b : ℕ) (can : CanStay g frames 
   gap_end n f some l later earlier low high =
       let all = part_length in
       let at = frame_at-take frames m n l in
-      ends_quiet n f
-      (some, omega arith,
-        inr (omega arith, omega arith,
+      ends_quiet n f (
+        some,
+        omega arith,
+        inr (
+          omega arith,
+          omega arith,
           λ k below.
               let e = frame_at-take frames m k (omega arith) in
               let h = up_to g frames m up k (n - 1) (omega arith) (omega arith) in
-              omega arith))
+              omega arith,
+        ),
+      )
       (omega arith) (omega arith) low high
 
   -- ---- a frame in it
@@ -260,6 +265,7 @@ module _ (g : Task) (frames : Transmission) (a b : ℕ) (can : CanStay g frames 
                   → b < x
               by_gap rise None is e = own_past rise x e
               by_gap rise (Some y) is e = gap_past rise x (is ∙ e)
+
               by_order : (d : Option ℕ) → order ≡ d → or_else (or_else d gap) own ≡ Some x → b < x
               by_order None is e =
                   by_gap ((order_doubt g frames last k).1 is) gap refl e
@@ -354,6 +360,7 @@ module _ (g : Task) (frames : Transmission) (a b : ℕ) (can : CanStay g frames 
                 let at = last_is (omega arith) in
                 let place = ap (λ k. frame_at frames (k - 1)) all in
                 omega arith
+
             end_later : (u : Option Unread) → g.unread ≡ u → b < trust_end u (end_frame frames)
             end_later None is = let low = last_low in omega arith
             end_later (Some u) is =
@@ -361,6 +368,7 @@ module _ (g : Task) (frames : Transmission) (a b : ℕ) (can : CanStay g frames 
                 let at = last_is (omega arith) in
                 let place = ap (λ k. frame_at frames (k - 1)) all in
                 omega arith
+
             none_false : (es : List Event) → es ≢ [] → (P : Bool → Type 0) → P false
                 → P (tells_none es)
             none_false [] some P p = absurd (some refl)

@@ -348,6 +348,7 @@ module _ (g : Task) (frames : Transmission) (n : ℕ) (some : 0 < n)
               subst (λ j. stands_none (standing_at g frames n (latest frames n + suc j)) ≡ true)
               same now
         ]
+
         at : GapDoubt last k
             → EndDoubt last (standing_before g frames n (latest frames n + suc k))
             (standing_at g frames n (latest frames n + suc k)) (latest frames n + suc k)

@@ -300,6 +300,7 @@ module _ (g : Task) (frames : Transmission) (from to : ℕ) (stays : StaysTo g f
         | inl less ↦ less
         | inr more ↦ let past = later i (omega arith) l in absurd (omega arith)
       ]
+
       not_before : stays.run.j ≤ i
       not_before = elim (cases_lt i stays.run.j) [
         | inr no_less ↦ omega arith

@@ -312,6 +312,7 @@ module _ (g : Task) (frames : Transmission) where
             let at = (own_doubt g frames n).at x (rw (frame_doubt g frames n, none, is) at e) in
             ended_in_gap up (gap_length frames n) x (omega arith) (omega arith)
             ((gap_doubt g frames n some latest_is stood last (gap_length frames n)).quiet is)
+
         by_order : (d : Option ℕ) → first_doubt last order ≡ d → Ended x
         by_order None is =
             by_gap ((order_doubt g frames last i).1 is) is (first_doubt last gap) refl
@@ -361,6 +362,7 @@ module _ (g : Task) (frames : Transmission) where
           let left = over-some (frame_before frames k) (run_after g frames k)
           (frame_events g frames k) from (is ∙ ap (λ x. Some x) same) in
           goes_on k from (omega arith) quiet left.0 (before left.0) left.1
+
       by_quiet : (run_after g frames k ≡ Some from → Run k from)
           → (b : Bool) → is_quiet g frames k ≡ b → Run (suc k) from
       by_quiet before true quiet =

@@ -417,6 +417,7 @@ passed_at pes last run u =
     before_at : (d : Option ℕ) → map (at_pes pes) (trusted_before run d) ≡ trusted_before run d
     before_at None = refl
     before_at (Some f) = trusted_at pes run f
+
     own : (u : Option Unread)
         → map (at_pes pes) (Told (unread_fault pes u) ∷ []) ≡ Told (unread_fault pes u) ∷ []
     own u = grind (arith, nat_tests)

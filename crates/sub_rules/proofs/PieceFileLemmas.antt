@@ -169,8 +169,10 @@ until_by origin (Err f) rest = go (is_of_piece f)
   where
     stop : PieceFileValue
     stop = record { pieces = []; unread = Some (BadPacket f) }
+
     passed : PieceFileValue
     passed = before (Passed (BadPacket f)) rest
+
     go : (b : Bool)
         → record { frames = []; unread = Some (BadPacket f) }
         ≡ read_until_passed (cond b passed stop).pieces (cond b passed stop).unread
@@ -216,6 +218,7 @@ until_one origin given bytes few sent = by (answer_at given bytes) refl
   where
     next : PesFileValue
     next = file_at origin (given + 1) (rest_after bytes)
+
     by : (r : Result (Option PesValue) PesFault) → answer_at given bytes ≡ r
         → file_at origin given bytes
         ≡ read_until_passed (pieces_at origin given bytes).pieces
@@ -304,5 +307,12 @@ pub takes_more_pieces : (n : ℕ) (old mid new : Option (List ℕ))
 takes_more_pieces n old mid new h t =
     let joined : concat (h.pieces ++ t.bytes ∷ []) ≡ concat h.pieces ++ t.bytes =
     grind (arith, nat_tests, concat-append, append-nil) in
-    grind (arith, nat_tests, concat-append, append-nil, length-append, each_piece_more,
-    Consumes-trans)
+    grind (
+      arith,
+      nat_tests,
+      concat-append,
+      append-nil,
+      length-append,
+      each_piece_more,
+      Consumes-trans,
+    )

@@ -93,6 +93,13 @@ module _ (g : Task) (u : Option Unread) (done more : Transmission) where
   unfolding frame_events
   frame_events-prefix i l =
       let some : 0 < length done = omega arith in
-      rw (order_same i l, length_same i l, gap_same i (gap_length done i) some (omega arith),
-      at i l, packets i l, take-append-le i done more (omega arith), header_same i l,
-      end_same i (suc i) (frame_at done i) some (omega arith) (omega arith)) refl
+      rw (
+        order_same i l,
+        length_same i l,
+        gap_same i (gap_length done i) some (omega arith),
+        at i l,
+        packets i l,
+        take-append-le i done more (omega arith),
+        header_same i l,
+        end_same i (suc i) (frame_at done i) some (omega arith) (omega arith),
+      ) refl
