@@ -1,6 +1,6 @@
 //! Devices that say stop, of a subtitle file and of a transmission with faults: they are told the
 //! first ones. All that is told is tested by the lines that the program prints.
-ghost use Rattle.std.specs.Prelude.{◌≡◌, false};
+ghost use Rattle.std.specs.Prelude.{◌≡◌, false, true};
 
 use crate::asserting::assert_same;
 use fixtures::{FirstFew, file_of_five, file_of_hi, options, schedule_of_hi};
@@ -9,7 +9,7 @@ use std::process::Abort;
 use std::test::Fail;
 use stl_rows::{LoadFault, LoadFaultKind, National, RowFault, RowFaultKind, load, load_all};
 use sub_check::{CheckFault, EndRule, Event, check_all};
-use sub_io::{Audience, MemSource};
+use sub_io::{LiveAudience, MemSource};
 
 #[test]
 fn tells_the_first_faults_of_a_subtitle_file(rt: HostRuntime) {
@@ -34,11 +34,12 @@ fn assert_is(rt: &impl Abort, item: &Option<LoadFault>, block: u32, kind: LoadFa
 }
 
 // Tells a device what is broken where the schedule of `Hi` comes a frame earlier than is due.
-fn tell_early<A: Audience<Event>>(
+fn tell_early<A: LiveAudience<Event>>(
     rt: &(impl Abort + Alloc<A = Global>),
     audience: &mut A,
 ) -> Result<(), Fail>
-    requires { A.has_stopped audience.old ≡ false }
+    requires goes_on { A.has_stopped audience.old ≡ false }
+    requires settled { A.is_settled audience.old ≡ true }
 {
     let stl = file_of_hi();
     let pes = schedule_of_hi();
