@@ -22,6 +22,8 @@ mod failing;
 #[cfg(test)]
 mod listen;
 #[cfg(test)]
+mod live;
+#[cfg(test)]
 mod normal;
 #[cfg(test)]
 mod packet;

@@ -1,0 +1,182 @@
+//! Lists that are followed while a PES file is sent: whenever its source may have to wait, all that
+//! was told is handed on.
+ghost use Rattle.std.specs.Prelude.{None, true};
+ghost use Rattle.sub_io.specs.Device.{holds_nothing};
+
+use crate::answers::answer_words;
+use crate::asserting::assert_same_in;
+use fixtures::{Counting, Drip, Watched, file_of_hi, schedule_of_hi};
+use std::alloc::Global;
+use std::cell::Cell;
+use std::process::Abort;
+use sub_answer::Status;
+use sub_io::{Ahead, BufferedSource, FailAt, Failed, Flush, MemSink, MemSource, Sink, Source};
+
+// The words of a check of another page than the one that is sent.
+const PAGE_100: [&str; 7] = ["subttx", "check", "--all", "a", "b", "--page", "100"];
+
+// The words of a listing.
+const PACKETS: [&str; 3] = ["subttx", "packets", "a"];
+
+// What is told of the schedule of `Hi` at its first PES packet, and at both.
+const AT_FIRST: &[u8] = b"refused 71 NoFirstHeader frame 10:00:00:00\n\
+    refused 72 Content frame 10:00:00:00 row 22 column 16\n";
+
+const AT_BOTH: &[u8] = b"refused 71 NoFirstHeader frame 10:00:00:00\n\
+    refused 72 Content frame 10:00:00:00 row 22 column 16\n\
+    ended 72 Content frame 10:00:01:24\n";
+
+// What a source sees of an output beside it.
+#[derive(Drop)]
+struct Line {
+    // The bytes that the output holds back.
+    held: Cell<u64>,
+    // In how many calls it handed bytes on.
+    calls: Cell<u64>,
+    // The pulls that found bytes held back.
+    early: Cell<u64>,
+}
+
+impl Line {
+    fn new() -> Self {
+        Line {
+            held: Cell::new(0),
+            calls: Cell::new(0),
+            early: Cell::new(0),
+        }
+    }
+}
+
+fn add(count: &Cell<u64>, more: u64) {
+    count.set(count.get().saturating_add(more));
+}
+
+// A source that gives at most so many bytes a pull, and looks whether bytes are held back then.
+#[derive(Drop)]
+struct Fed<'a> {
+    rest: &'a [u8],
+    most: usize,
+    line: &'a Line,
+}
+
+impl Source for Fed<'_> {
+    ghost remaining = { λ _. None };
+
+    ghost failure_count = { λ _. 0 };
+
+    fn pull(&mut self, to: &mut [u8]) -> Result<usize, Failed> {
+        if self.line.held.get() > 0 {
+            add(&self.line.early, 1);
+        }
+        let n = self.rest.len().min(to.len()).min(self.most);
+        let (given, rest) = self.rest.split_at(n);
+        to[..n].copy_from_slice(given);
+        self.rest = rest;
+        Ok(n)
+    }
+
+    fn failures(&self) -> u64 {
+        0
+    }
+}
+
+impl Ahead for Fed<'_> {
+    ghost must_ask = { λ _. true };
+
+    fn asks(&self) -> bool {
+        true
+    }
+}
+
+// An output that holds back all that it takes until it is flushed.
+#[derive(Drop)]
+struct Holding<'a> {
+    line: &'a Line,
+}
+
+impl Sink for Holding<'_> {
+    ghost contents = { λ _. None };
+
+    ghost failure_count = { λ _. 0 };
+
+    fn push(&mut self, from: &[u8]) -> Result<usize, Failed> {
+        add(&self.line.held, from.len() as u64);
+        Ok(from.len())
+    }
+
+    fn failures(&self) -> u64 {
+        0
+    }
+}
+
+impl Flush for Holding<'_> {
+    ghost held = { holds_nothing };
+
+    fn flush(&mut self) -> Result<(), Failed> {
+        if self.line.held.get() > 0 {
+            add(&self.line.calls, 1);
+            self.line.held.set(0);
+        }
+        Ok(())
+    }
+}
+
+// Answers words over a PES file of which a read gives at most so many bytes. Asserts that no read
+// found bytes held back, in how many calls they were handed on, and that the last line alone, which
+// comes after the last read, still is held back.
+fn assert_hands_on<'a>(
+    rt: &(impl Abort + Alloc<A = Global>),
+    words: &'a [&'a str],
+    most: usize,
+    calls: u64,
+    last: &str,
+) {
+    let (stl, pes) = (file_of_hi(), schedule_of_hi());
+    let line = Line::new();
+    let (rest, line) = (&pes[..], &line);
+    let mut room = [0; 512];
+    let mut pes = BufferedSource::new(Fed { rest, most, line }, &mut room);
+    let mut stl = MemSource::new(&stl);
+    let mut file = MemSink::new(&mut []);
+    let mut out = Holding { line };
+    if words.len() == PACKETS.len() {
+        answer_words(rt.alloc(), words, &mut pes, &mut stl, &mut file, &mut out);
+    } else {
+        answer_words(rt.alloc(), words, &mut stl, &mut pes, &mut file, &mut out);
+    }
+    let seen = (line.early.get(), line.calls.get(), line.held.get());
+    assert_same_in(rt, &seen, &(0, calls, last.len() as u64), &most);
+}
+
+#[test]
+fn hands_on_what_was_told_before_each_read(rt: HostRuntime) {
+    // The schedule has two PES packets of 184 bytes: they are read at once, one by one, in parts.
+    for (most, calls) in [(512, 1), (184, 2), (92, 2), (1, 2)] {
+        assert_hands_on(&rt, &PAGE_100, most, calls, "2 faults\n");
+        assert_hands_on(&rt, &PACKETS, most, calls, "2 pes\n");
+    }
+}
+
+// Asserts that nothing more is read or printed where these lines can't be handed on, and how many
+// bytes were read. Each line and each handing on is a call of the output.
+fn assert_stops(rt: &(impl Abort + Alloc<A = Global>), call: u64, lines: &[u8], bytes: u64) {
+    let (stl, pes) = (file_of_hi(), schedule_of_hi());
+    let inner = Drip { rest: &pes };
+    let mut pes = Counting { inner, pulls: 0 };
+    let mut stl = MemSource::new(&stl);
+    let mut file = MemSink::new(&mut []);
+    let mut room = [0; 512];
+    let mut out = Watched::new(FailAt::new(MemSink::new(&mut room), call));
+    let words = &PAGE_100;
+    let status = answer_words(rt.alloc(), words, &mut stl, &mut pes, &mut file, &mut out);
+    let seen = (out.failures(), out.late_calls, pes.pulls);
+    assert_same_in(rt, &seen, &(1, 0, bytes), &call);
+    let is_right = room.starts_with(lines) && room.get(lines.len()) == Some(&0);
+    assert!(rt; status == Status::Fault && is_right, "{call}");
+}
+
+#[test]
+fn stops_where_lines_can_not_be_handed_on(rt: HostRuntime) {
+    assert_stops(&rt, 2, AT_FIRST, 184);
+    assert_stops(&rt, 4, AT_BOTH, 368);
+}
