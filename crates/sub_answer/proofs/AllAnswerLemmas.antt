@@ -22,18 +22,18 @@ use Rattle.stl_rows.specs.declared.fault.LoadFaultKind.{LoadFaultKind}
 use Rattle.stl_rows.specs.declared.fault.LoadFaultKind.TheVariants as load
 use Rattle.stl_rows.specs.declared.national.National.{National}
 use Rattle.sub_plan.specs.Options.{OptionsValue}
-use Rattle.sub_check.specs.CheckedFiles.{IsChecked, answer_by, events_of, first_answer}
+use Rattle.sub_check.specs.CheckedFiles.{IsChecked, all_events_of, answer_by, events_of}
+use Rattle.sub_check.specs.CheckedFiles.{first_answer}
 use Rattle.sub_rules.specs.Events.{first_told}
-use Rattle.sub_rules.specs.FrameRules.{task_of}
 use Rattle.sub_rules.specs.Good.{Good}
 use Rattle.sub_rules.specs.PesFrames.{Carries}
 use Rattle.sub_rules.specs.PesReading.{pes_file_of}
 use Rattle.sub_laws.specs.OnScreen.{Complete}
 use Rattle.sub_rules.specs.Transmission.{Transmission}
-use Rattle.sub_rules.specs.Trusted.{all_events}
-use Rattle.sub_rules.proofs.TrustedLemmas.{all_none, first_told-all}
 use Rattle.sub_check.specs.FirstTold.{IsRuleFault}
 use Rattle.sub_check.proofs.FirstToldLemmas.{first_decides}
+use Rattle.sub_check.proofs.ReadOnLemmas.{first_of_pieces, none_of_pieces}
+use Rattle.sub_laws.proofs.PesFileLemmas.{carried_is_read}
 use Rattle.sub_rules.specs.declared.event.Event.TheVariants.{Ended, PassedUntil, Told, Trusted}
 use Rattle.sub_answer.specs.declared.told.Kind.{Kind}
 use Rattle.sub_answer.specs.declared.told.Kind.TheVariants as kind
@@ -238,8 +238,7 @@ no-fault national file programme loads =
 nothing-told :
     (options : OptionsValue) (bytes : List ℕ) (p : ProgrammeValue) (frames : Transmission)
     (events : List Event) (a : Accepted)
-    → events ≡ all_events (task_of p options (pes_file_of options.origin bytes).unread)
-    (pes_file_of options.origin bytes).frames
+    → events ≡ all_events_of p options bytes
     → IsChecked p options bytes (first_answer events a)
     → Carries options.origin bytes frames
     → Good p frames options
@@ -247,13 +246,12 @@ nothing-told :
     → events ≡ []
 nothing-told options bytes p frames events a are checked carries good complete =
     let file = pes_file_of options.origin bytes in
-    let g = task_of p options file.unread in
     are
-    ∙ all_none g file.frames
+    ∙ none_of_pieces p options bytes frames (carried_is_read options.origin bytes frames carries)
     (go (first_answer (events_of p options bytes) a)
     (first_decides p options bytes file.frames file.unread refl a)
     (subst (λ o. IsChecked p options bytes (answer_by o a))
-    (ap first_told are ∙ first_told-all g file.frames) checked))
+    (ap first_told are ∙ first_of_pieces p options bytes) checked))
   where
     go : (r : Result Accepted CheckFault)
         → MatchResult r (λ b. (b ≡ a) × (events_of p options bytes ≡ []))

@@ -12,7 +12,6 @@ use Rattle.sub_io.specs.Device.{RisesIf, failed}
 use Rattle.sub_io.specs.Reading.{IfTold}
 use Rattle.sub_io.specs.Telling.{Tells, TellsSome}
 use Rattle.ttx_packet.specs.PageId.{PageIdValue}
-use Rattle.ttx_pes.specs.Reader.{FailsAtPacket}
 use Rattle.ttx_pes.specs.declared.fault.PesFault.TheVariants as pes_fault
 use Rattle.stl_file.specs.Reader.{outcome_of}
 use Rattle.stl_file.specs.declared.fault.StlFault.TheVariants as stl_fault
@@ -26,15 +25,15 @@ use Rattle.stl_rows.specs.declared.fault.LoadFaultKind.{LoadFaultKind}
 use Rattle.stl_rows.specs.declared.fault.LoadFaultKind.TheVariants as load
 use Rattle.stl_rows.specs.declared.national.National.{National}
 use Rattle.sub_plan.specs.Options.{OptionsValue}
-use Rattle.sub_check.specs.CheckedFiles.{IsChecked, TellsEvents, all_events_of, first_answer}
+use Rattle.sub_check.specs.CheckedFiles.{IsChecked, TellsEvents, all_events_of}
+use Rattle.sub_check.specs.CheckedFiles.{events_of_first_pieces, first_answer, frames_read}
 use Rattle.sub_checker.specs.Telling.{CountsRead}
 use Rattle.sub_rules.specs.Events.{latest}
 use Rattle.sub_rules.specs.Fault.{is_pes_read}
-use Rattle.sub_rules.specs.FrameRules.{frame_at, packets_before, task_of}
+use Rattle.sub_rules.specs.FrameRules.{frame_at, packets_before}
 use Rattle.sub_rules.specs.PacketRules.{header_count}
-use Rattle.sub_rules.specs.PesReading.{pes_file_of}
+use Rattle.sub_rules.specs.Pieces.{FailsAtPiece, piece_file_of}
 use Rattle.sub_rules.specs.Transmission.{Transmission}
-use Rattle.sub_rules.specs.Trusted.{all_events, all_events_of_first}
 use Rattle.sub_checker.specs.declared.telling.Accepted.{Accepted}
 use Rattle.sub_rules.specs.declared.event.Event.{Event}
 use Rattle.sub_rules.specs.declared.fault.CheckFault.{CheckFault}
@@ -299,11 +298,9 @@ module _ {D N : Type 0} (IsTold : D → Event → D → Type 0) (name : D → N)
       → (value new).failed ≡ false
       → Tells IsTold old new items
       → RisesIf pes.old_count true pes.new_count
-      → ((index : ℕ) → n ≡ index → FailsAtPacket index pes.told pes.left)
-      → IfTold pes.told (λ bytes. (n ≤ length (pes_file_of options.origin bytes).frames)
-      × (items ≡ all_events_of_first
-      (task_of programme options (pes_file_of options.origin bytes).unread)
-      (pes_file_of options.origin bytes).frames n))
+      → ((index : ℕ) → n ≡ index → FailsAtPiece index pes.told pes.left)
+      → IfTold pes.told (λ bytes. (n ≤ length (piece_file_of options.origin bytes).pieces)
+      × (items ≡ events_of_first_pieces programme options bytes n))
       → TellsBoth national options stl pes (value old) (value new)
       (Err (fault.Pes n pes_fault.Read))
   failed_pes n items quiet told count fails are = record {
@@ -329,23 +326,21 @@ module _ {D N : Type 0} (IsTold : D → Event → D → Type 0) (name : D → N)
       → IfTold pes.told (λ bytes. TellsEvents programme options bytes IsTold old new
       (Err (fault.Pes n pes_fault.Read)))
       → RisesIf pes.old_count true pes.new_count
-      → ((index : ℕ) → n ≡ index → FailsAtPacket index pes.told pes.left)
+      → ((index : ℕ) → n ≡ index → FailsAtPiece index pes.told pes.left)
       → TellsBoth national options stl pes (value old) (value new)
       (Err (fault.Pes n pes_fault.Read))
   go_pes None n is quiet some told count fails =
       failed_pes n some.items quiet some.told count fails (λ bytes heard. cc)
   go_pes (Some bytes) n is quiet some told count fails =
       let here = told bytes is in
-      let file = pes_file_of options.origin bytes in
       let at : here.0 ≡ n = let e = here.2 in cc in
-      failed_pes n
-      (all_events_of_first (task_of programme options file.unread) file.frames n) quiet
-      (subst (λ (m : ℕ). Tells IsTold old new
-      (all_events_of_first (task_of programme options file.unread) file.frames m)) at
-      here.3) count fails
+      failed_pes n (events_of_first_pieces programme options bytes n) quiet
+      (subst (λ (m : ℕ). Tells IsTold old new (events_of_first_pieces programme options bytes m))
+      at here.3) count fails
       (λ other heard.
       let same : bytes ≡ other = cc in
-      rw (sym same) (subst (λ (m : ℕ). m ≤ length file.frames) at here.1, refl))
+      rw (sym same)
+      (subst (λ (m : ℕ). m ≤ length (piece_file_of options.origin bytes).pieces) at here.1, refl))
 
   -- The source of the PES file failed.
   after_pes_error : (f : CheckFault)
@@ -357,7 +352,7 @@ module _ {D N : Type 0} (IsTold : D → Event → D → Type 0) (name : D → N)
       → ((index : ℕ)
       → (let r : Result (Option Accepted) CheckFault = Err f in r)
       ≡ Err (fault.Pes index pes_fault.Read)
-      → FailsAtPacket index pes.told pes.left)
+      → FailsAtPiece index pes.told pes.left)
       → TellsBoth national options stl pes (value old) (value new) (Err f)
   after_pes_error (fault.Pes n pes_fault.Read) is quiet some told count fails =
       go_pes pes.told n refl quiet some told count
@@ -370,10 +365,8 @@ module _ {D N : Type 0} (IsTold : D → Event → D → Type 0) (name : D → N)
       → PrintsEvents (value old) items (value new)
       → ((value new).failed ≡ false → Ok (Some a) ≡ given)
       → RisesIf pes.old_count false pes.new_count
-      → IfTold pes.told (λ bytes. (items ≡ all_events
-      (task_of programme options (pes_file_of options.origin bytes).unread)
-      (pes_file_of options.origin bytes).frames)
-      × CountsRead options.page (pes_file_of options.origin bytes).frames a)
+      → IfTold pes.told (λ bytes. (items ≡ all_events_of programme options bytes)
+      × CountsRead options.page (frames_read options bytes) a)
       → ((value new).failed ≡ false
       → IfTold pes.told (λ bytes. IsChecked programme options bytes (first_answer items a)))
       → TellsBoth national options stl pes (value old) (value new) given
@@ -411,8 +404,7 @@ module _ {D N : Type 0} (IsTold : D → Event → D → Type 0) (name : D → N)
       read_pes some.items given (Ok (Some given)) (put some.items some.told).1 (λ holds. refl) count
       (λ bytes heard. cc) (λ holds bytes heard. cc)
   after_all (Some bytes) given is some told first count =
-      let file = pes_file_of options.origin bytes in
-      let whole = all_events (task_of programme options file.unread) file.frames in
+      let whole = all_events_of programme options bytes in
       let here = told bytes is in
       read_pes whole given (Ok (Some given)) (put whole here.0).1 (λ holds. refl) count
       (λ other heard.
@@ -433,9 +425,9 @@ module _ {D N : Type 0} (IsTold : D → Event → D → Type 0) (name : D → N)
       (put some.items some.told).1 (λ holds. absurd (true≢false (sym failing ∙ holds))) count
       (λ bytes heard. cc) (λ holds bytes heard. cc)
   after_stop (Some bytes) is failing some told count =
-      let file = pes_file_of options.origin bytes in
-      let whole = all_events (task_of programme options file.unread) file.frames in
-      let counts = some_counts options.page file.frames (length file.frames) refl in
+      let whole = all_events_of programme options bytes in
+      let frames = frames_read options bytes in
+      let counts = some_counts options.page frames (length frames) refl in
       let p = told bytes is in
       let part =
       prints_all IsTold name value (λ (e : Event). e) one old new (take p.0 whole) goes few p.2 in
@@ -462,7 +454,7 @@ module _ {D N : Type 0} (IsTold : D → Event → D → Type 0) (name : D → N)
       → RisesIf pes.old_count (failed is_pes_read r) pes.new_count
       → ((index : ℕ)
       → r ≡ Err (fault.Pes index pes_fault.Read)
-      → FailsAtPacket index pes.told pes.left)
+      → FailsAtPiece index pes.told pes.left)
       → TellsBoth national options stl pes (value old) (value new) r
   after_pes (Ok (Some a)) stopped stops quiet some told first is goes_on only count fails =
       after_all pes.told a refl some told first count

@@ -5,7 +5,6 @@ use Rattle.std.specs.List.{filter}
 use Rattle.std.specs.Io.KnownBytes.{Consumes}
 use Rattle.sub_io.specs.Device.{RisesIf, failed}
 use Rattle.sub_io.specs.Reading.{IfTold}
-use Rattle.ttx_pes.specs.Reader.{FailsAtPacket}
 use Rattle.ttx_pes.specs.declared.fault.PesFault.TheVariants.{Read}
 use Rattle.stl_file.specs.Reader.{block_of_byte, outcome_of}
 use Rattle.stl_rows.specs.EveryFault.{faults, is_told_before}
@@ -18,16 +17,15 @@ use Rattle.stl_rows.specs.declared.fault.LoadFaultKind.TheVariants.{File, Memory
 use Rattle.stl_rows.specs.declared.national.National.{National}
 use Rattle.stl_file.specs.declared.fault.StlFault.TheVariants as stl_fault
 use Rattle.sub_plan.specs.Options.{OptionsValue}
-use Rattle.sub_check.specs.CheckedFiles.{IsChecked, first_answer}
+use Rattle.sub_check.specs.CheckedFiles.{IsChecked, all_events_of, events_of_first_pieces}
+use Rattle.sub_check.specs.CheckedFiles.{first_answer, frames_read}
 use Rattle.sub_checker.specs.Telling.{CountsRead}
 use Rattle.sub_rules.specs.Fault.{is_pes_read, is_stl_read, is_subtitle_fault}
-use Rattle.sub_rules.specs.FrameRules.{task_of}
 use Rattle.sub_rules.specs.Good.{Good}
 use Rattle.sub_laws.specs.OnScreen.{Complete}
 use Rattle.sub_rules.specs.PesFrames.{Carries}
-use Rattle.sub_rules.specs.PesReading.{pes_file_of}
+use Rattle.sub_rules.specs.Pieces.{FailsAtPiece, piece_file_of}
 use Rattle.sub_rules.specs.Transmission.{Transmission}
-use Rattle.sub_rules.specs.Trusted.{all_events, all_events_of_first}
 use Rattle.sub_checker.specs.declared.telling.Accepted.{Accepted}
 use Rattle.sub_rules.specs.declared.event.Event.{Event}
 use Rattle.sub_rules.specs.declared.fault.CheckFault.{CheckFault}
@@ -56,18 +54,16 @@ AreListedBefore national file events block Memory =
     (events ≡ []) × EndsRecord national [] block (outcome_of file)
 AreListedBefore national file events block kind = ⊥
 
--- What is told of the PES file, by how many PES packets of it were read: of all of them, and they
--- are counted; or where its source failed, of those before that.
+-- What is told of the PES file, by how many pieces of it were read: of all of them, and the frames
+-- that they send are counted; or where its source failed, of those before that.
 abbrev pub AreListedOfPes :
     ProgrammeValue → OptionsValue → List ℕ → List Event → Result Accepted ℕ → Type 0
 AreListedOfPes programme options bytes events (Ok a) =
-    let file = pes_file_of options.origin bytes in
-    (events ≡ all_events (task_of programme options file.unread) file.frames)
-    × CountsRead options.page file.frames a
+    (events ≡ all_events_of programme options bytes)
+    × CountsRead options.page (frames_read options bytes) a
 AreListedOfPes programme options bytes events (Err n) =
-    let file = pes_file_of options.origin bytes in
-    (n ≤ length file.frames)
-    × (events ≡ all_events_of_first (task_of programme options file.unread) file.frames n)
+    (n ≤ length (piece_file_of options.origin bytes).pieces)
+    × (events ≡ events_of_first_pieces programme options bytes n)
 
 -- The same, where the subtitle file gives a programme.
 pub record IsListedOf
@@ -148,7 +144,7 @@ pub record TellsBoth
   pub pes_read :
       (index : ℕ)
       → answer ≡ Err (Pes index Read)
-      → FailsAtPacket index pes.told pes.left
+      → FailsAtPiece index pes.told pes.left
   pub before : is_of_subtitles answer ≡ true → pes.new ≡ pes.old
   pub ended : IfErr answer (CanEnd events)
   pub cut : new.failed ≡ true → IsOk answer
@@ -171,7 +167,7 @@ pub record AnswersAll
   -- The answer tells which device failed.
   pub stl_count : RisesIf stl.old_count (failed is_stl_read answer) stl.new_count
   pub pes_count : RisesIf pes.old_count (failed is_pes_read answer) pes.new_count
-  -- That a source failed is told at the block of the byte that was asked for, or at the PES packet
+  -- That a source failed is told at the block of the byte that was asked for, or at the piece
   -- within which it failed.
   pub stl_read :
       (f : LoadFault)
@@ -181,7 +177,7 @@ pub record AnswersAll
   pub pes_read :
       (index : ℕ)
       → answer ≡ Err (Pes index Read)
-      → FailsAtPacket index pes.told pes.left
+      → FailsAtPiece index pes.told pes.left
   -- Where the subtitle file is refused or can't be read, no PES byte is read.
   pub before : is_of_subtitles answer ≡ true → pes.new ≡ pes.old
   -- Where the files tell their bytes, these decide the events.

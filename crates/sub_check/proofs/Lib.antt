@@ -1,2 +1,3 @@
 pub mod FirstToldLemmas
+pub mod ReadOnLemmas
 pub mod VerdictLemmas

@@ -21,15 +21,16 @@ use Rattle.sub_plan.specs.Schedule.{plan}
 use Rattle.sub_check.specs.CheckedFiles.{AreAccepted, IsChecked, Mean, ServesReceivers, HasCounts}
 use Rattle.sub_check.specs.CheckedFiles.{TellsEvents, all_events_of, answer_by, events_of}
 use Rattle.sub_check.specs.CheckedFiles.{first_answer}
-use Rattle.sub_rules.proofs.TrustedLemmas.{first_told-all}
 use Rattle.sub_check.specs.FirstTold.{IsRuleFault}
-use Rattle.sub_checker.specs.Telling.{IsRead, TellsAll}
+use Rattle.sub_checker.specs.PieceTelling.{IsReadOn, TellsPieces}
+use Rattle.sub_checker.specs.Telling.{IsRead}
 use Rattle.sub_rules.specs.Events.{events, events_of_first, first_told}
 use Rattle.sub_rules.specs.FrameRules.{Unread, task_of}
 use Rattle.sub_rules.specs.Good.{Good}
 use Rattle.sub_laws.specs.OnScreen.{Complete}
 use Rattle.sub_rules.specs.PesFrames.{Carries, IsSentAs}
-use Rattle.sub_rules.specs.PesReading.{ReadsAs, pes_file_of}
+use Rattle.sub_rules.specs.PesReading.{PesFileValue, ReadsAs, pes_file_of}
+use Rattle.sub_rules.specs.Pieces.{Piece, ReadsPieces, piece_file_of}
 use Rattle.sub_laws.specs.Planned.{planned}
 use Rattle.sub_rules.specs.Transmission.{Transmission}
 use Rattle.sub_checker.specs.declared.telling.Accepted.{Accepted}
@@ -37,6 +38,7 @@ use Rattle.sub_rules.specs.declared.event.Event.{Event}
 use Rattle.sub_rules.specs.declared.fault.CheckFault.{CheckFault}
 use Rattle.sub_check.proofs.FirstToldLemmas.{first_decides, no_read, packets_whole}
 use Rattle.sub_check.proofs.FirstToldLemmas.{wrong_of_first}
+use Rattle.sub_check.proofs.ReadOnLemmas.{first_of_pieces, read_whole}
 use Rattle.sub_laws.proofs.EventLemmas.{law_of_nothing_told}
 use Rattle.sub_laws.proofs.GoodLemmas.{rises_each, whole-is}
 use Rattle.sub_laws.proofs.PrefixLemmas.{first-same, last-same}
@@ -248,31 +250,41 @@ pub checked_first :
     (r : Result (Option Accepted) CheckFault)
     → IsOptions options
     → IsProgramme programme.national programme.records
-    → ((frames : Transmission) (unread : Option Unread)
-    → ReadsAs options.origin 0 bytes frames unread
-    → TellsAll (task_of programme options unread) options.origin bytes frames IsTold old new r)
+    → ((pieces : List Piece) (unread : Option Unread)
+    → ReadsPieces options.origin 0 bytes pieces unread
+    → TellsPieces (task_of programme options unread) options.origin bytes pieces IsTold old new r)
     → IfOk r (λ counts. IfSome counts (λ a. IsChecked programme options bytes
     (first_answer (all_events_of programme options bytes) a)))
 checked_first programme options bytes IsTold old new (Ok (Some a)) fine p told =
     let file = pes_file_of options.origin bytes in
+    let pieces = piece_file_of options.origin bytes in
     let first = first_decides programme options bytes file.frames file.unread refl a in
-    let read = (told file.frames file.unread refl).1 in
+    let read = (told pieces.pieces pieces.unread refl).1 in
     subst (λ o. IsChecked programme options bytes (answer_by o a))
-    (sym (first_told-all (task_of programme options file.unread) file.frames))
+    (sym (first_of_pieces programme options bytes))
     (by_first (first_answer (events_of programme options bytes) a) read first)
   where
     by_first : (r : Result Accepted CheckFault)
-        → IsRead (task_of programme options (pes_file_of options.origin bytes).unread)
-        options.origin bytes (pes_file_of options.origin bytes).frames a
+        → IsReadOn (task_of programme options (piece_file_of options.origin bytes).unread)
+        options.origin bytes (piece_file_of options.origin bytes).pieces a
         → MatchResult r (λ b. (b ≡ a) × (events_of programme options bytes ≡ []))
         (λ f. (first_told (events_of programme options bytes) ≡ Some f) × IsRuleFault f)
         → IsChecked programme options bytes r
     by_first (Ok b) read (same, none) =
         checked_from programme options fine bytes (Ok b) p
-        (λ own frames unread reads. grind (arith, nat_tests)) (λ frames unread pes reads is. cc)
+        (λ own frames unread reads.
+        let empty = ap (λ (f : PesFileValue). events (task_of programme options f.unread) f.frames)
+        (sym reads) ∙ none in
+        let end = (told_none programme options fine bytes unread frames reads).0 empty in (
+          subst (IsRead (task_of programme options unread) options.origin bytes frames) (sym same)
+              (read_whole programme options bytes frames unread a reads end.2 read),
+          empty,
+        )) (λ frames unread pes reads is. cc)
     by_first (Err f) read (first, own) =
         checked_from programme options fine bytes (Err f) p
-        (λ fine frames unread reads. grind (arith, nat_tests))
+        (λ fine frames unread reads.
+        ap (λ (f : PesFileValue). first_told (events (task_of programme options f.unread) f.frames))
+        (sym reads) ∙ first)
         (λ frames unread pes reads is. absurd (no_read f pes own is))
 checked_first programme options bytes IsTold old new (Ok None) fine p told = tt
 checked_first programme options bytes IsTold old new (Err f) fine p told = tt
@@ -282,17 +294,17 @@ pub tells_events :
     (programme : ProgrammeValue) (options : OptionsValue) (bytes : List ℕ)
     {D : Type 0} (IsTold : D → Event → D → Type 0) (old new : D)
     (r : Result (Option Accepted) CheckFault)
-    → ((frames : Transmission) (unread : Option Unread)
-    → ReadsAs options.origin 0 bytes frames unread
-    → TellsAll (task_of programme options unread) options.origin bytes frames IsTold old new r)
+    → ((pieces : List Piece) (unread : Option Unread)
+    → ReadsPieces options.origin 0 bytes pieces unread
+    → TellsPieces (task_of programme options unread) options.origin bytes pieces IsTold old new r)
     → TellsEvents programme options bytes IsTold old new r
 tells_events programme options bytes IsTold old new (Ok (Some a)) told =
-    let file = pes_file_of options.origin bytes in
-    let whole = told file.frames file.unread refl in (whole.0, whole.1.counts)
+    let file = piece_file_of options.origin bytes in
+    let whole = told file.pieces file.unread refl in (whole.0, whole.1.counts)
 tells_events programme options bytes IsTold old new (Ok None) told =
-    let file = pes_file_of options.origin bytes in told file.frames file.unread refl
+    let file = piece_file_of options.origin bytes in told file.pieces file.unread refl
 tells_events programme options bytes IsTold old new (Err f) told =
-    let file = pes_file_of options.origin bytes in told file.frames file.unread refl
+    let file = piece_file_of options.origin bytes in told file.pieces file.unread refl
 
 -- ---- both files
 

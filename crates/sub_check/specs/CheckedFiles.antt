@@ -1,5 +1,5 @@
 -- What the checker tells of the bytes of a subtitle file and a PES file.
-use Rattle.std.specs.Prelude.{◌≡◌, ◌≢◌, ◌↔◌, ℕ, ◌≤◌, length, List, [], Bool, false, true}
+use Rattle.std.specs.Prelude.{◌≡◌, ◌≢◌, ◌↔◌, ℕ, ◌≤◌, length, take, List, [], Bool, false, true}
 use Rattle.std.specs.Prelude.{Option, Some, None}
 use Rattle.std.specs.Prelude.{All, Contains, IsOk}
 use Rattle.std.specs.Prelude.{Result, Ok, Err, IfOk, IfErr, IsTrue}
@@ -37,7 +37,8 @@ use Rattle.sub_rules.specs.PesFrames.{AreSentAs, Carries, IsPesFile}
 use Rattle.sub_rules.specs.PesReading.{pes_file_of}
 use Rattle.sub_laws.specs.Recovery.{Recovers}
 use Rattle.sub_laws.specs.Robust.{Robust}
-use Rattle.sub_rules.specs.Trusted.{all_events, all_events_of_first}
+use Rattle.sub_rules.specs.PieceEvents.{all_of_pieces, events_of_pieces}
+use Rattle.sub_rules.specs.Pieces.{frames_of, piece_file_of}
 use Rattle.sub_rules.specs.WrongContent.{IsWrongEverywhere}
 use Rattle.sub_checker.specs.Telling.{CountsRead}
 use Rattle.sub_checker.specs.declared.telling.Accepted.{Accepted}
@@ -127,11 +128,23 @@ events_of programme options bytes =
     let file = pes_file_of options.origin bytes in
     events (task_of programme options file.unread) file.frames
 
--- The same, and which frames may be trusted.
+-- The same where reading goes on behind a piece that is passed over, and which frames may be
+-- trusted.
 abbrev pub all_events_of : ProgrammeValue → OptionsValue → List ℕ → List Event
 all_events_of programme options bytes =
-    let file = pes_file_of options.origin bytes in
-    all_events (task_of programme options file.unread) file.frames
+    let file = piece_file_of options.origin bytes in
+    all_of_pieces (task_of programme options file.unread) file.pieces
+
+-- The frames that are sent by its pieces.
+abbrev pub frames_read : OptionsValue → List ℕ → Transmission
+frames_read options bytes = frames_of (piece_file_of options.origin bytes).pieces
+
+-- What is told of its first n pieces.
+abbrev pub events_of_first_pieces : ProgrammeValue → OptionsValue → List ℕ → ℕ → List Event
+events_of_first_pieces programme options bytes n =
+    let file = piece_file_of options.origin bytes in
+    events_of_pieces (task_of programme options file.unread) (frames_of file.pieces)
+    (take n file.pieces)
 
 -- What is told of the bytes of a PES file, checked against a programme. A refusal of the subtitle
 -- file, which is then want of memory or its failing source, tells nothing of them.
@@ -224,22 +237,20 @@ abbrev pub TellsWhatMayStay : ProgrammeValue → OptionsValue → List ℕ → T
 TellsWhatMayStay programme options bytes =
     (from to : ℕ)
     → Contains (all_events_of programme options bytes) (Trusted from to)
-    → MayStay programme (rising_part (pes_file_of options.origin bytes).frames) options from to
+    → MayStay programme (rising_part (frames_read options bytes)) options from to
 
 -- What a device was told of the bytes of a PES file, checked against a programme: where it did not
 -- say stop, all events, and the answer counts what was read; else the events up to there, and
--- nothing is counted. Where the source failed, the events of the PES packets that were read whole.
+-- nothing is counted. Where the source failed, the events of the pieces that were read whole.
 abbrev pub TellsEvents : {D : Type 0} → ProgrammeValue → OptionsValue → List ℕ
     → (D → Event → D → Type 0) → D → D → Result (Option Accepted) CheckFault → Type 0
 TellsEvents programme options bytes IsTold old new (Ok (Some a)) =
     Tells IsTold old new (all_events_of programme options bytes)
-    × CountsRead options.page (pes_file_of options.origin bytes).frames a
+    × CountsRead options.page (frames_read options bytes) a
 TellsEvents programme options bytes IsTold old new (Ok None) =
     TellsPrefix IsTold old new (all_events_of programme options bytes)
 TellsEvents programme options bytes IsTold old new (Err f) =
-    let file = pes_file_of options.origin bytes in
     (n : ℕ)
-    × (n ≤ length file.frames)
+    × (n ≤ length (piece_file_of options.origin bytes).pieces)
     × (f ≡ fault.Pes n Read)
-    × Tells IsTold old new
-    (all_events_of_first (task_of programme options file.unread) file.frames n)
+    × Tells IsTold old new (events_of_first_pieces programme options bytes n)

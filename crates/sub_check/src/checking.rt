@@ -5,13 +5,14 @@ ghost use Rattle.sub_io.specs.Reading.{IfTold};
 ghost use Rattle.sub_io.specs.Telling.{TellsSome};
 ghost use Rattle.ttx_pes.specs.Reader.{FailsAtPacket};
 ghost use Rattle.sub_rules.specs.Fault.{is_pes_read, is_pes_write, is_subtitle_fault};
+ghost use Rattle.sub_rules.specs.Pieces.{FailsAtPiece};
 ghost use Rattle.sub_check.specs.CheckedFiles.{IsChecked, TellsEvents, TellsWhatMayStay};
 ghost use Rattle.sub_check.specs.CheckedFiles.{all_events_of, first_answer};
 
 use crate::first_fault::FirstFault;
 use stl_rows::Programme;
-use sub_checker::{Accepted, tell_all};
-use sub_io::{Ahead, LiveAudience};
+use sub_checker::{Accepted, tell_all, tell_pieces};
+use sub_io::{Ahead, LiveAudience, Source};
 use sub_plan::Options;
 use sub_rules::{CheckFault, Event};
 use ttx_pes::PesFault;
@@ -33,7 +34,7 @@ use ttx_pes::PesFault;
 /// `NoFirstHeader` for the first; `Content`, `Gap`, and where complete pages are asked for
 /// `Incomplete`. At the end `Empty` or `Late`. `Pes` with `Read` where the source failed in this
 /// call, and only there.
-pub fn check<S: Ahead>(
+pub fn check<S: Source>(
     programme: &Programme,
     source: &mut S,
     options: &Options,
@@ -67,16 +68,20 @@ pub fn check<S: Ahead>(
 /// The events are those of `check`'s list, each where it is broken: all rules that a packet breaks;
 /// of a rule that is asked at the end of each frame, where it begins to be broken and where it has
 /// ended. Beside them it tells which frames may stay on air as they are, each run of them where it
-/// is over. Where the bytes can't be read on, that is the last event. It counts what was read: the
-/// frames of the day from the first PES packet's to the latest one's, and the headers of the page.
-/// `None` where the device said stop: the PES packet at which it did was read in part.
+/// is over. A piece that begins as a PES packet does and is as long as its length field says, but
+/// is none that can be read, or whose PTS is that of no frame of the day, is passed over: its fault
+/// is told, of pieces one directly after the other with one fault that of the first, and up to
+/// which one they go. Where the bytes can't be read on, that is the last event. It counts what was
+/// read: the frames of the day from the first PES packet's to the latest one's, and the headers of
+/// the page. `None` where the device said stop: the PES packet at which it did was read in part.
 ///
-/// It takes no memory, and reads as `check` does. What the device holds back it hands on before the
-/// source may have to wait: what a PES packet settles is seen before the next one has come.
+/// It takes no memory, and reads as `check` does but for what it passes over. What the device holds
+/// back it hands on before the source may have to wait: what a PES packet settles is seen before
+/// the next one has come.
 ///
 /// # Errors
 ///
-/// `Pes` with `Read` where the source failed: then the events are those of the PES packets before.
+/// `Pes` with `Read` where the source failed: then the events are those of the pieces before.
 pub fn check_all<S: Ahead, A: LiveAudience<Event>>(
     programme: &Programme,
     source: &mut S,
@@ -102,12 +107,12 @@ pub fn check_all<S: Ahead, A: LiveAudience<Event>>(
     // source failed.
     ensures some { TellsSome A.is_told audience.old audience.new }
     ensures goes_on { IfErr result (λ _. A.has_stopped audience.new ≡ false) }
-    // That the source failed is told at the PES packet within which it failed: those before it were
+    // That the source failed is told at the piece within which it failed: those before it were
     // taken. There is no other `Err`.
     ensures read { (pes : ℕ) → result ≡ Err (CheckFault.Pes pes PesFault.Read)
-        → FailsAtPacket pes (S.remaining source.old) (S.remaining source.new) }
+        → FailsAtPiece pes (S.remaining source.old) (S.remaining source.new) }
     ensures only { IfErr result (λ f. is_pes_read f ≡ true) }
     ensures count { CountsIf S.failure_count source.old (failed is_pes_read result) source.new }
 {
-    tell_all(programme, source, options, audience)
+    tell_pieces(programme, source, options, audience)
 }

@@ -13,7 +13,7 @@ use crate::checking::check;
 use std::alloc::Global;
 use stl_rows::{National, law_of_loading, load};
 use sub_checker::Accepted;
-use sub_io::{Ahead, Source};
+use sub_io::Source;
 use sub_plan::Options;
 use sub_rules::CheckFault;
 use ttx_pes::PesFault;
@@ -26,7 +26,7 @@ use ttx_pes::PesFault;
 ///
 /// `Subtitles` with the fault of `load`, and then the PES source is as it was. Else those of
 /// `check`.
-pub fn check_files<S: Source, P: Ahead>(
+pub fn check_files<S: Source, P: Source>(
     alloc: Global,
     stl: &mut S,
     pes: &mut P,

@@ -9,6 +9,7 @@ use Rattle.std.proofs.Math.Seq.{get_or-append_seam}
 use Rattle.std.specs.Prelude.{IfSome}
 use Rattle.sub_io.specs.Telling.{Tells, TellsPrefix}
 use Rattle.sub_io.proofs.TellingLemmas.{Tells-trans, TellsPrefix-first, TellsPrefix-second}
+use Rattle.sub_io.proofs.TellingLemmas.{TellsPrefix-whole}
 use Rattle.sub_rules.specs.Events.{closing_events, events_of_first, frame_events, unread_fault}
 use Rattle.sub_rules.specs.FrameRules.{Task, Unread, frame_at, packets_of_frame}
 use Rattle.sub_rules.specs.PieceEvents as pieces
@@ -655,6 +656,40 @@ told_stop g all done more p pes frames {D} {IsTold} a b c run es parts count sen
         ∙ sym (append_assoc (all_announced no_run each) _ _))
         ∙ append_assoc (all_announced no_run each
         ++ all_announced (passed_after_all no_run each) es) _ _
+
+-- The same of one that said stop before the next piece.
+pub told_before : (g : Task) (all done more : List Piece)
+    {D : Type 0} {IsTold : D → Event → D → Type 0} (a b : D)
+    → all ≡ done ++ more
+    → Tells IsTold a b (events_of_pieces g (frames_of all) done)
+    → TellsPrefix IsTold a b (all_of_pieces g all)
+unfolding events_of_pieces
+told_before g all done more {D} {IsTold} a b parts told =
+    subst (TellsPrefix IsTold a b) (sym front)
+    (TellsPrefix-first a b _ _ (TellsPrefix-whole a b _ told))
+  where
+    each : List Event
+    each = each_told g all done
+    next : List Event
+    next = told_of_each g (frames_of all) (length done) (length (frames_of done))
+        (run_of g all done) more
+    rest : List Event
+    rest = last g all ++ closing g all
+    front : all_of_pieces g all
+        ≡ all_announced no_run each
+        ++ (all_announced (passed_after_all no_run each) next
+        ++ finished (passed_after_all no_run (each_told g all all)) rest)
+    front =
+        whole g all
+        ∙ ap (λ (l : List Event). all_announced no_run l
+        ++ finished (passed_after_all no_run (each_told g all all)) rest)
+        (ap (each_told g all) parts
+        ∙ told_of_each-append g (frames_of all) 0 (length done) 0 (length (frames_of done)) None
+        done more (omega arith) (omega arith))
+        ∙ ap (λ (l : List Event). l
+        ++ finished (passed_after_all no_run (each_told g all all)) rest)
+        (all_announced-append no_run each next)
+        ∙ append_assoc (all_announced no_run each) _ _
 
 -- ---- the end of the loop
 

@@ -11,7 +11,6 @@ use Rattle.std.proofs.lemmas.List.{get_or-map, take_more, take_all}
 use Rattle.std.proofs.lemmas.List.Elements.{All-from_recursion}
 use Rattle.sub_io.specs.Telling.{Tells, TellsPrefix}
 use Rattle.sub_io.proofs.TellingLemmas.{Tells-trans, TellsPrefix-first, TellsPrefix-second}
-use Rattle.sub_io.proofs.TellingLemmas.{TellsPrefix-whole}
 use Rattle.stl_rows.specs.Programme.{ProgrammeValue}
 use Rattle.ttx_pes.specs.DataUnit.{UnitValue, IsUnit}
 use Rattle.ttx_pes.specs.PesPacket.{PesValue, IsPesPacket, IsPesValue}
@@ -75,17 +74,6 @@ told_to_stop g frames n a b c l before more =
     let whole = events_from g frames (n + 1) (omega arith) in
     rw (whole.1, one_more g frames n)
     (TellsPrefix-first a c _ whole.0 (TellsPrefix-second a b c _ _ before more))
-
--- And one that said stop before the next frame. For `tell_all`.
-pub told_so_far :
-    (g : Task) (frames : Transmission) (n : ℕ)
-    {D : Type 0} {IsTold : D → Event → D → Type 0} (a b : D)
-    → n ≤ length frames
-    → Tells IsTold a b (all_events_of_first g frames n)
-    → TellsPrefix IsTold a b (all_events g frames)
-told_so_far g frames n a b l told =
-    let whole = events_from g frames n l in
-    rw whole.1 (TellsPrefix-first a b _ whole.0 (TellsPrefix-whole a b _ told))
 
 -- All that is told, in these parts.
 all_parts : (g : Task) (frames : Transmission) (n : ℕ) → length frames ≡ n

@@ -21,12 +21,11 @@ ghost use Rattle.sub_checker.specs.Telling.{TellsAll};
 ghost use Rattle.sub_checker.specs.Trusting.{Judges, JudgesWith};
 
 use crate::checker::Checker;
-use crate::lending::next_live;
 use crate::trusting::{Trust, Trusting};
 use stl_rows::Programme;
-use sub_io::{Ahead, Audience, LiveAudience, Stopped};
+use sub_io::{Audience, Source, Stopped};
 use sub_plan::Options;
-use sub_rules::{CheckFault, Event, units_of};
+use sub_rules::{CheckFault, Event, next_sending, units_of};
 use ttx_pes::{ComparingReader, PesFault};
 
 /// What an accepted transmission holds.
@@ -40,14 +39,14 @@ pub struct Accepted {
 
 /// Tells all that is broken to a device of the caller's, PES packet by PES packet, and which frames
 /// may stay on air as they are, until it says stop; and counts what was read. `None` where it said
-/// stop. What was told is handed on before the source may have to wait.
+/// stop.
 ///
 /// `check` and `check_all` of `sub_check` call it, and say what its events and counts mean.
 ///
 /// # Errors
 ///
 /// `Pes` with `Read` where the source failed: then the events are those of the PES packets before.
-pub fn tell_all<S: Ahead, A: LiveAudience<Event>>(
+pub fn tell_all<S: Source, A: Audience<Event>>(
     programme: &Programme,
     source: &mut S,
     options: &Options,
@@ -55,7 +54,6 @@ pub fn tell_all<S: Ahead, A: LiveAudience<Event>>(
 ) -> Result<Option<Accepted>, CheckFault>
     requires failures { CanFail (S.failure_count source.old) }
     requires goes_on { A.has_stopped audience.old ≡ false }
-    requires settled { A.is_settled audience.old ≡ true }
     ensures exact { (frames : Transmission) (unread : Option Unread)
         → IfTold (S.remaining source.old) (λ bytes.
         ReadsAs options.now.origin 0 bytes frames unread
@@ -79,8 +77,8 @@ pub fn tell_all<S: Ahead, A: LiveAudience<Event>>(
 }
 
 // The same, to a device that tells which frames may be trusted.
-#[tactic(auto, using(sub_io::proofs::HandingOnLemmas::some_kept))]
-fn tell_frames<S: Ahead, A: LiveAudience<Event>>(
+#[tactic(auto, using(sub_io::proofs::TellingLemmas::some))]
+fn tell_frames<S: Source, A: Audience<Event>>(
     programme: &Programme,
     source: &mut S,
     options: &Options,
@@ -88,7 +86,6 @@ fn tell_frames<S: Ahead, A: LiveAudience<Event>>(
 ) -> Result<Option<Accepted>, CheckFault>
     requires failures { CanFail (S.failure_count source.old) }
     requires goes_on { A.has_stopped trusting.old.device.now ≡ false }
-    requires settled { A.is_settled trusting.old.device.now ≡ true }
     requires last { trusting.old.trust.last ≡ 0 }
     ensures same { trusting.new.device.ghost_name ≡ trusting.old.device.ghost_name }
     ensures exact { (frames : Transmission) (unread : Option Unread)
@@ -112,10 +109,7 @@ fn tell_frames<S: Ahead, A: LiveAudience<Event>>(
     let mut checker = Checker::new(programme, options);
     let mut pes = 0;
     'packets: loop {
-        let Some(read) = next_live(&mut reader, source, trusting.device, options, pes) else {
-            return Ok(None);
-        };
-        let more = match read {
+        let more = match next_sending(&mut reader, source, options, pes) {
             Err(fault) => {
                 if is_source_failure(&fault) {
                     return Err(fault);

@@ -29,12 +29,13 @@ ghost use Rattle.sub_checker.specs.Trusting.{Judges, JudgesWith, after_event};
 
 use crate::announcing::{Announcing, PassedRun, fault_at_pes, tell_ended};
 use crate::checker::{Checker, tell_fault};
+use crate::lending::next_live;
 use crate::telling::{Accepted, is_source_failure, tell_last};
 use crate::trusting::{Trust, Trusting};
 use stl_rows::Programme;
-use sub_io::{Audience, Source, Stopped};
+use sub_io::{Ahead, Audience, LiveAudience, Stopped};
 use sub_plan::Options;
-use sub_rules::{CheckFault, Event, NextPiece, Sending, next_piece, units_of};
+use sub_rules::{CheckFault, Event, NextPiece, Sending, units_of};
 use ttx_pes::{ComparingReader, PesFault, SentUnits};
 
 // What is kept beside the checker from one piece to the next.
@@ -56,7 +57,7 @@ struct Kept {
 ///
 /// `Pes` with `Read` where the source failed: then the events are those of the pieces before.
 #[tactic(auto, using(sub_io::proofs::TellingLemmas::some))]
-pub fn tell_pieces<S: Source, A: Audience<Event>>(
+pub fn tell_pieces<S: Ahead, A: LiveAudience<Event>>(
     programme: &Programme,
     source: &mut S,
     options: &Options,
@@ -64,6 +65,7 @@ pub fn tell_pieces<S: Source, A: Audience<Event>>(
 ) -> Result<Option<Accepted>, CheckFault>
     requires failures { CanFail (S.failure_count source.old) }
     requires goes_on { A.has_stopped audience.old ≡ false }
+    requires settled { A.is_settled audience.old ≡ true }
     ensures exact { (pieces : List Piece) (unread : Option Unread)
         → IfTold (S.remaining source.old) (λ bytes.
         ReadsPieces options.now.origin 0 bytes pieces unread
@@ -87,7 +89,10 @@ pub fn tell_pieces<S: Source, A: Audience<Event>>(
     // The piece before was passed over.
     let mut passed = false;
     'pieces: loop {
-        let next = match next_piece(&mut reader, source, options, pes) {
+        let Some(read) = next_live(&mut reader, source, audience, options, pes) else {
+            return Ok(None);
+        };
+        let next = match read {
             Err(fault) => {
                 if is_source_failure(&fault) {
                     return Err(fault);

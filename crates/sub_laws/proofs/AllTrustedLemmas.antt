@@ -1,42 +1,42 @@
 -- Each stretch that may stay is told as trusted from a header of the page in it on:
 -- `law_of_all_trusted`.
 use Rattle.std.proofs.lemmas.Bool.Decides.{nat_tests}
-use Rattle.std.proofs.Common.{◌≡◌, ◌≢◌, ℕ, zero, suc, ◌+◌, ◌-◌, ◌<◌, ◌≤◌, inl, inr, Bool, true}
-use Rattle.std.proofs.Common.{false, List, [], ◌∷◌, Contains, length, take, Option, Some}
-use Rattle.std.proofs.Common.{None, refl, sym, ap, ◌∙◌, subst, arith, cond}
+use Rattle.std.proofs.Common.{◌≡◌, ℕ, zero, suc, ◌+◌, ◌-◌, ◌<◌, ◌≤◌, inl, inr, Bool, true, false}
+use Rattle.std.proofs.Common.{List, [], ◌∷◌, Contains, length, take, Option, Some, None, refl, sym}
+use Rattle.std.proofs.Common.{ap, ◌∙◌, subst, arith, cond, ◌⊎◌, ◌||◌, ◌++◌, not, map}
 use Rattle.std.proofs.lemmas.Bool.{cases_lt, lt-ltb}
 use Rattle.std.proofs.lemmas.List.{length-take-le, take-take}
 use Rattle.std.proofs.lemmas.List.Elements.{Contains-append_left, Contains-append_right}
 use Rattle.ttx_page.specs.PacketKind.{kind}
 use Rattle.ttx_page.specs.Span.{holds_header}
-use Rattle.sub_rules.specs.Events.{events}
-use Rattle.sub_rules.specs.Events.{frame_events, gap_events, gap_length}
-use Rattle.sub_rules.specs.Events.{order_events, standing_at, standing_before}
-use Rattle.sub_rules.specs.FrameRules.{Task, Unread, end_frame, frame_at}
-use Rattle.sub_rules.specs.FrameRules.{packets_of_frame}
+use Rattle.sub_rules.specs.Events.{frame_events, gap_events, gap_length, order_events, standing_at}
+use Rattle.sub_rules.specs.Events.{standing_before, unread_fault}
+use Rattle.sub_rules.specs.FrameRules.{Task, Unread, end_frame, frame_at, packets_of_frame}
 use Rattle.sub_rules.specs.PacketTests.{breaks}
-use Rattle.sub_rules.specs.Transmission.{Transmission, last_frame}
-use Rattle.sub_rules.specs.Trusted.{all_events, all_events_of_first, all_frame_events, begun}
-use Rattle.sub_rules.specs.Trusted.{frame_before, is_quiet, last_trusted, own_events}
-use Rattle.sub_rules.specs.Trusted.{run_after, run_over, stands_none, tells_none, trust_end}
-use Rattle.sub_rules.specs.Trusted.{trusted}
-use Rattle.sub_rules.specs.Trusted.{with_run}
+use Rattle.sub_rules.specs.Transmission.{Transmission, last_frame, SentFrame}
+use Rattle.sub_rules.specs.Trusted.{begun, frame_before, is_quiet, own_events, run_over}
+use Rattle.sub_rules.specs.Trusted.{stands_none, tells_none, trust_end, trusted, with_run}
 use Rattle.sub_rules.specs.declared.event.Event.{Event}
-use Rattle.sub_rules.specs.declared.event.Event.TheVariants.{Trusted}
+use Rattle.sub_rules.specs.declared.event.Event.TheVariants.{Trusted, Told}
 use Rattle.sub_rules.specs.declared.packet_rule.PacketRule.{PacketRule}
-use Rattle.sub_rules.proofs.GrowingLists.{grows_to}
+use Rattle.sub_rules.specs.PieceEvents.{all_of_pieces, at_pes, closing_of_pieces, last_of_run}
+use Rattle.sub_rules.specs.PieceEvents.{no_run, run_after_each, run_at, told_of_each, told_of_frame}
+use Rattle.sub_rules.specs.PieceEvents.{told_of_passed, told_of_pieces}
+use Rattle.sub_rules.specs.Pieces.{Piece, frames_of}
+use Rattle.sub_rules.specs.Pieces.Piece.{Passed, Sent}
+use Rattle.sub_laws.proofs.DoubtLemmas.{contains-announced, contains-at, first_doubt, none-doubt}
+use Rattle.sub_laws.proofs.DoubtLemmas.{or_else, or_none, over-none, over-some, told_in_run}
+use Rattle.sub_laws.proofs.TrustedPieceLemmas.{any_told, passed_doubt}
+use Rattle.sub_laws.proofs.TrustedRunLemmas.{IsRun, run_next, Run, latest_is, long, stood, up_to}
 use Rattle.sub_laws.specs.CleanStretch.{IsEnd, is_needed}
 use Rattle.sub_laws.specs.TrustedFrames.{CanStay, LawOfAllTrusted, rising_count}
-use Rattle.sub_laws.proofs.DoubtLemmas.{first_doubt, none-doubt, or_else, or_none}
-use Rattle.sub_laws.proofs.DoubtLemmas.{over-none, over-some, told_in_run}
 use Rattle.sub_laws.proofs.FrameDoubtLemmas.{frame_doubt, gap_doubt, none_some, order_doubt}
 use Rattle.sub_laws.proofs.FrameDoubtLemmas.{own_doubt, stood_before}
 use Rattle.sub_laws.proofs.OrderToldLemmas.{rises_untold}
+use Rattle.sub_laws.proofs.PassedOutsideLemmas.{IsOutside, is_outside}
 use Rattle.sub_laws.proofs.PrefixLemmas.{before, last-same, packet_at}
 use Rattle.sub_laws.proofs.TrustedFrameLemmas.{count_low, count_most, count_rises, frame_at-take}
 use Rattle.sub_laws.proofs.TrustedFrameLemmas.{packets-take, standing-take}
-use Rattle.sub_laws.proofs.TrustedRunLemmas.{Run, latest_is, long, run_is, stood}
-use Rattle.sub_laws.proofs.TrustedRunLemmas.{up_to}
 
 -- A frame whose number is told to fall does so.
 order_falls : (g : Task) (frames : Transmission) (last i x : ℕ)
@@ -47,7 +47,10 @@ unfolding order_events
 order_falls g frames last i x up e =
     none_some (rw (lt-ltb (frame_at frames i) (frame_at frames (suc i)) up) at e)
 
-module _ (g : Task) (frames : Transmission) (a b : ℕ) (can : CanStay g frames a b) where
+module _ (g : Task) (pieces : List Piece) (a b : ℕ) (can : CanStay g pieces a b) where
+  abbrev frames : Transmission
+  frames = frames_of pieces
+
   abbrev m : ℕ
   m = rising_count frames (length frames)
 
@@ -152,27 +155,24 @@ module _ (g : Task) (frames : Transmission) (a b : ℕ) (can : CanStay g frames 
       (header : holds_header (kind g.watched.page) (packets_of_frame frames i) ≡ true)
     where
       -- The run that holds frame i.
-      first_run : (from : ℕ) × (from ≤ frame_at frames i) × (run_after g frames (suc i) ≡ Some from)
-      unfolding run_after
-      first_run =
+      first_run : (kept : Option ℕ) → IsRun g frames i kept
+          → (from : ℕ) × (from ≤ frame_at frames i) × (run_at g frames i kept ≡ Some from)
+      unfolding run_at
+      first_run kept before =
           let quiet = quiet_if i there (own_calm i there low high) (own_end i there low high) in
-          at (run_over (frame_before frames i) (run_after g frames i) (frame_events g frames i))
-          refl
+          at (run_over (frame_before frames i) kept (frame_events g frames i)) refl
           (rw (quiet, header) refl)
         where
           at : (o : Option ℕ)
-              → run_over (frame_before frames i) (run_after g frames i) (frame_events g frames i)
-              ≡ o
-              → run_after g frames (suc i)
-              ≡ begun (run_over (frame_before frames i) (run_after g frames i)
-              (frame_events g frames i)) true (frame_at frames i)
-              → (from : ℕ) × (from ≤ frame_at frames i) × (run_after g frames (suc i) ≡ Some from)
+              → run_over (frame_before frames i) kept (frame_events g frames i) ≡ o
+              → run_at g frames i kept
+              ≡ begun (run_over (frame_before frames i) kept (frame_events g frames i)) true
+              (frame_at frames i)
+              → (from : ℕ) × (from ≤ frame_at frames i) × (run_at g frames i kept ≡ Some from)
           at None is e = (frame_at frames i, omega arith, e ∙ rw is refl)
           at (Some from) is e =
-              let left = over-some (frame_before frames i) (run_after g frames i)
-              (frame_events g frames i) from is in
-              let l = within in
-              let run = run_is g frames i from (omega arith) left.0 in
+              let left = over-some (frame_before frames i) kept (frame_events g frames i) from is in
+              let run = before from left.0 in
               let at = run.at in
               let below = run.below in
               let rise = up_to g frames m up run.j i (omega arith) there in
@@ -181,7 +181,7 @@ module _ (g : Task) (frames : Transmission) (a b : ℕ) (can : CanStay g frames 
       -- ---- the next frame
 
       module _ (from k : ℕ) (l : i ≤ k) (next : suc k < length frames)
-          (run : Run g frames (suc k) from) (kept : run_after g frames (suc k) ≡ Some from)
+          (run : Run g frames (suc k) from)
         where
           abbrev n : ℕ
           n = suc k
@@ -287,8 +287,8 @@ module _ (g : Task) (frames : Transmission) (a b : ℕ) (can : CanStay g frames 
 
           -- Where there is none the run goes on.
           on : first_doubt last (frame_events g frames n) ≡ None
-              → run_after g frames (suc n) ≡ Some from
-          unfolding run_after
+              → run_at g frames n (Some from) ≡ Some from
+          unfolding run_at
           on none =
               let parts : (or_else order gap ≡ None) × (own ≡ None) =
               or_none _ _ (sym (frame_doubt g frames n) ∙ none) in
@@ -306,116 +306,200 @@ module _ (g : Task) (frames : Transmission) (a b : ℕ) (can : CanStay g frames 
               let stands = (own_doubt g frames n).stands parts.1 before in
               let inside = rises_in rise in
               let quiet = quiet_if n inside parts.1 stands in
-              rw (quiet, over-none last (run_after g frames n) (frame_events g frames n) none, kept)
-              refl
+              rw (quiet, over-none last (Some from) (frame_events g frames n) none) refl
 
       -- ---- to the end
 
-      module _ (told : events g frames ≢ []) (from : ℕ) (from_low : from ≤ frame_at frames i) where
-        abbrev IsTold : Type 0
-        IsTold = (to : ℕ) × (b ≤ to) × Contains (all_events g frames) (Trusted from to)
+      -- From a frame on, frames up to the end of the stretch are told as trusted among these.
+      abbrev IsTold : ℕ → List Event → Type 0
+      IsTold from es = (to : ℕ) × (b ≤ to) × Contains es (Trusted from to)
 
-        in_frame : (n x : ℕ) → n < length frames
-            → run_after g frames n ≡ Some from
-            → first_doubt (frame_before frames n) (frame_events g frames n) ≡ Some x
-            → b < x
-            → IsTold
-        unfolding all_events all_events_of_first
-        in_frame n x l run doubt past =
-            let found =
-            subst (λ r. Contains (with_run (frame_before frames n) r (frame_events g frames n))
-            (Trusted from (x - 1))) (sym run)
-            (told_in_run (frame_before frames n) from x (frame_events g frames n) doubt
-            (omega arith)) in
-            let more =
-            grows_to (all_events_of_first g frames) (all_frame_events g frames) (λ k. refl) (suc n)
-            (length frames) l in (
-              x - 1,
-              omega arith,
-              Contains-append_left _ _ _
-                  (Contains-append_left _ _ _
-                  (subst (λ xs. Contains xs (Trusted from (x - 1))) (sym more.1)
-                  (Contains-append_left _ more.0 _
-                  (Contains-append_right (all_events_of_first g frames n) _ _ found)))),
-            )
+      -- The run from there is over in what is told of pieces, after the stretch; or it is kept to
+      -- the end.
+      abbrev Goes : ℕ → ℕ → ℕ → Option ℕ → List Piece → Type 0
+      Goes from pes n kept ahead =
+          IsTold from (told_of_each g frames pes n kept ahead)
+          ⊎ ((run_after_each g frames n kept ahead ≡ Some from) × Run g frames (length frames) from)
 
-        at_end : run_after g frames (length frames) ≡ Some from → m ≡ length frames → IsTold
-        unfolding all_events last_trusted
-        at_end run all =
-            let end : ℕ = trust_end g.unread (end_frame frames) in
-            let later = end_later g.unread refl in (
-              end - 1,
-              omega arith,
-              Contains-append_left _ _ _
-                  (Contains-append_right (all_events_of_first g frames (length frames)) _ _
-                  (none_false (events g frames) told
-                  (λ o. Contains (cond o [] (trusted (run_after g frames (length frames)) end))
-                  (Trusted from (end - 1)))
-                  (rw (run, lt-ltb from end (omega arith)) (0, omega arith, refl)))),
-            )
-          where
-            last_low : b ≤ end_frame frames
-            last_low =
-                let high = can.untold.stretch.to in
-                let at = last_is (omega arith) in
-                let place = ap (λ k. frame_at frames (k - 1)) all in
-                omega arith
+      goes_sent : (from pes n : ℕ) (kept : Option ℕ) (s : SentFrame) (ahead : List Piece)
+          → Goes from (suc pes) (suc n) (run_at g frames n kept) ahead
+          → Goes from pes n kept (Sent s ∷ ahead)
+      unfolding told_of_each run_after_each
+      goes_sent from pes n kept s ahead (inl (to, l, c)) =
+          inl (
+            to,
+            l,
+            Contains-append_right (map (at_pes pes) (told_of_frame g frames n kept)) _ _ c,
+          )
+      goes_sent from pes n kept s ahead (inr end) = inr end
 
-            end_later : (u : Option Unread) → g.unread ≡ u → b < trust_end u (end_frame frames)
-            end_later None is = let low = last_low in omega arith
-            end_later (Some u) is =
-                let before = can.before_unread u is in
-                let at = last_is (omega arith) in
-                let place = ap (λ k. frame_at frames (k - 1)) all in
-                omega arith
+      goes_passed : (from pes n : ℕ) (kept : Option ℕ) (u : Unread) (ahead : List Piece)
+          → Goes from (suc pes) n None ahead
+          → Goes from pes n kept (Passed u ∷ ahead)
+      unfolding told_of_each run_after_each
+      goes_passed from pes n kept u ahead (inl (to, l, c)) =
+          inl (to, l, Contains-append_right (told_of_passed frames pes n kept u) _ _ c)
+      goes_passed from pes n kept u ahead (inr end) = inr end
 
-            none_false : (es : List Event) → es ≢ [] → (P : Bool → Type 0) → P false
-                → P (tells_none es)
-            none_false [] some P p = absurd (some refl)
-            none_false (e ∷ es) some P p = p
+      module _ (from : ℕ) (from_low : from ≤ frame_at frames i) where
+        is_over : (last x : ℕ) (es : List Event) → first_doubt last es ≡ Some x → b < x
+            → IsTold from (with_run last (Some from) es)
+        is_over last x es doubt past =
+            (x - 1, omega arith, told_in_run last from x es doubt (omega arith))
 
-        goes : (d k : ℕ) → suc k + d ≡ length frames → i ≤ k
-            → run_after g frames (suc k) ≡ Some from
-            → IsTold
-        goes zero k e l kept =
+        goes : (pes k : ℕ) (ahead : List Piece) → IsOutside pieces a b (suc k) ahead
+            → suc k + length (frames_of ahead) ≡ length frames
+            → i ≤ k
+            → Run g frames (suc k) from
+            → Goes from pes (suc k) (Some from) ahead
+        unfolding frames_of told_of_each run_after_each frame_before
+        goes pes k [] outside all l run =
             let same : suc k ≡ length frames = omega arith in
-            let run = run_is g frames (suc k) from (omega arith) kept in
+            inr (refl, subst (λ n. Run g frames n from) same run)
+        goes pes k (Passed u ∷ ahead) outside all l run =
             let most = count_most frames (length frames) (suc k) (omega arith) run.rises in
-            let w = within in
-            at_end (ap (run_after g frames) (sym same) ∙ kept) (omega arith)
-        goes (suc d) k e l kept =
-            let run = run_is g frames (suc k) from (omega arith) kept in
-            by_doubt (goes d (suc k) (omega arith) (omega arith))
-            (past from k l (omega arith) run kept) (on from k l (omega arith) run kept)
+            let rise = up_to g frames (suc k) run.rises i k l (omega arith) in
+            let back : frame_at frames (suc k - 1) ≡ frame_at frames k =
+            ap (frame_at frames) (omega arith) in
+            let past : b < frame_at frames k =
+            elim (outside.0 (omega arith) (omega arith)) [
+              | inl before ↦ absurd (omega arith)
+              | inr after ↦ omega arith
+            ] in
+            let told =
+            is_over (frame_at frames k) (frame_at frames k) (Told (unread_fault pes (Some u)) ∷ [])
+            (passed_doubt (frame_at frames k) pes u) past in
+            inl (told.0, told.1, Contains-append_left _ _ _ told.2)
+        goes pes k (Sent s ∷ ahead) outside all l run =
+            by_doubt (goes (suc pes) (suc k) ahead outside (omega arith) (omega arith))
             (first_doubt (frame_before frames (suc k)) (frame_events g frames (suc k))) refl
           where
-            by_doubt : (run_after g frames (suc (suc k)) ≡ Some from → IsTold)
-                → ((x : ℕ)
-                → first_doubt (frame_before frames (suc k)) (frame_events g frames (suc k))
-                ≡ Some x
-                → b < x)
-                → (first_doubt (frame_before frames (suc k)) (frame_events g frames (suc k)) ≡ None
-                → run_after g frames (suc (suc k)) ≡ Some from)
+            by_doubt : (Run g frames (suc (suc k)) from
+                → Goes from (suc pes) (suc (suc k)) (Some from) ahead)
                 → (o : Option ℕ)
                 → first_doubt (frame_before frames (suc k)) (frame_events g frames (suc k)) ≡ o
-                → IsTold
-            by_doubt rest late more None is = rest (more is)
-            by_doubt rest late more (Some x) is =
-                in_frame (suc k) x (omega arith) kept is (late x is)
+                → Goes from pes (suc k) (Some from) (Sent s ∷ ahead)
+            by_doubt rest None is =
+                let kept : run_at g frames (suc k) (Some from) ≡ Some from =
+                on from k l (omega arith) run is in
+                let more =
+                run_next g frames (suc k) (Some from) (omega arith)
+                (λ f e. let same : from ≡ f = cc in subst (Run g frames (suc k)) same run) from
+                kept in
+                goes_sent from pes (suc k) (Some from) s ahead
+                (subst (λ o. Goes from (suc pes) (suc (suc k)) o ahead) (sym kept)
+                (rest more))
+            by_doubt rest (Some x) is =
+                let told =
+                is_over (frame_before frames (suc k)) x (frame_events g frames (suc k)) is
+                (past from k l (omega arith) run x is) in
+                inl (
+                  told.0,
+                  told.1,
+                  Contains-append_left _ _ _
+                      (contains-at pes (told_of_frame g frames (suc k) (Some from)) from told.0
+                      told.2),
+                )
+
+      -- From the first piece on.
+      begins : (pes n : ℕ) (kept : Option ℕ) (ahead : List Piece) → IsOutside pieces a b n ahead
+          → n + length (frames_of ahead) ≡ length frames
+          → n ≤ i
+          → IsRun g frames n kept
+          → (from : ℕ) × (from ≤ frame_at frames i) × Goes from pes n kept ahead
+      unfolding frames_of
+      begins pes n kept [] outside all l before = let w = within in absurd (omega arith)
+      begins pes n kept (Passed u ∷ ahead) outside all l before =
+          let rest = begins (suc pes) n None ahead outside.1 all l (λ from e. cc) in
+          (rest.0, rest.1, goes_passed rest.0 pes n kept u ahead rest.2)
+      begins pes n kept (Sent s ∷ ahead) outside all l before = elim (cases_lt n i) [
+        | inl earlier ↦
+            let rest =
+            begins (suc pes) (suc n) (run_at g frames n kept) ahead outside (omega arith)
+            (omega arith) (run_next g frames n kept (omega arith) before) in
+            (rest.0, rest.1, goes_sent rest.0 pes n kept s ahead rest.2)
+        | inr here ↦
+            let same : i ≡ n = omega arith in
+            let first =
+            subst (λ (j : ℕ). IsRun g frames j kept
+            → (from : ℕ) × (from ≤ frame_at frames i) × (run_at g frames j kept ≡ Some from)) same
+            (first_run kept) before in
+            let run = run_next g frames n kept (omega arith) before first.0 first.2 in (
+              first.0,
+              first.1,
+              goes_sent first.0 pes n kept s ahead
+                  (subst (λ o. Goes first.0 (suc pes) (suc n) o ahead) (sym first.2)
+                  (goes first.0 first.1 (suc pes) n ahead outside (omega arith) (omega arith)
+                  run)),
+            )
+      ]
+
+      -- What is kept to the end is told there, where anything is told.
+      at_end : (from : ℕ) (kept : Option ℕ) → from ≤ frame_at frames i → kept ≡ Some from
+          → Run g frames (length frames) from
+          → IsTold from (last_of_run g frames kept true)
+      unfolding last_of_run
+      at_end from kept from_low is run =
+          let end : ℕ = trust_end g.unread (end_frame frames) in
+          let most = count_most frames (length frames) (length frames) (omega arith) run.rises in
+          let later = end_later (let w = within in omega arith) g.unread refl in
+          (end - 1, omega arith, rw (is, lt-ltb from end (omega arith)) (0, omega arith, refl))
+        where
+          last_low : m ≡ length frames → b ≤ end_frame frames
+          last_low all =
+              let high = can.untold.stretch.to in
+              let at = last_is (omega arith) in
+              let place = ap (λ k. frame_at frames (k - 1)) all in
+              omega arith
+          end_later : m ≡ length frames → (u : Option Unread) → g.unread ≡ u
+              → b < trust_end u (end_frame frames)
+          end_later all None is = let low = last_low all in omega arith
+          end_later all (Some u) is =
+              let before = can.before_unread u is in
+              let at = last_is (omega arith) in
+              let place = ap (λ k. frame_at frames (k - 1)) all in
+              omega arith
 
 -- ---- the law
 
 pub law_of_all_trusted : LawOfAllTrusted
-law_of_all_trusted g frames a b i can there low high header told =
+unfolding all_of_pieces told_of_pieces frames_of
+law_of_all_trusted g pieces a b i can there low high header told =
+    let frames : Transmission = frames_of pieces in
     let m : ℕ = rising_count frames (length frames) in
-    let inside : i < m = let all = part_length g frames a b can in omega arith in
+    let inside : i < m = let all = part_length g pieces a b can in omega arith in
     let at = frame_at-take frames m i inside in
     let ps = packets-take frames m i inside in
     let holds = ap (holds_header (kind g.watched.page)) (sym ps) ∙ header in
-    let first =
-    first_run g frames a b can i inside (omega arith) (omega arith) holds in
-    let l = count_low frames (length frames) in
+    let each : List Event = told_of_each g frames 0 0 None pieces in
+    let closing : List Event = closing_of_pieces g frames (length pieces) (length frames) in
+    let kept : Option ℕ = run_after_each g frames 0 None pieces in
+    let any : Bool = not (tells_none each) || not (tells_none closing) in
     let found =
-    goes g frames a b can i inside (omega arith) (omega arith) holds told first.0 first.1
-    (length frames - suc i) i (omega arith) (omega arith) first.2 in
-    (first.0, found.0, let e = first.1 in omega arith, found.1, found.2)
+    begins g pieces a b can i inside (omega arith) (omega arith) holds 0 0 None pieces
+    (is_outside pieces a b can.passed 0 [] pieces refl refl) (omega arith) (omega arith)
+    (λ from e. cc) in
+    let whole : (to : ℕ)
+    × (b ≤ to)
+    × Contains (each ++ last_of_run g frames kept any ++ closing) (Trusted found.0 to) =
+    elim found.2 [
+      | inl (to, l, c) ↦
+          (to, l, Contains-append_left _ closing _ (Contains-append_left each _ _ c))
+      | inr (is, run) ↦
+          let end =
+          at_end g pieces a b can i inside (omega arith) (omega arith) holds found.0 kept found.1 is
+          run in (
+            end.0,
+            end.1,
+            Contains-append_left _ closing _
+                (Contains-append_right each _ _
+                (subst (λ o. Contains (last_of_run g frames kept o) (Trusted found.0 end.0))
+                (sym (any_told g frames kept each closing told)) end.2)),
+          )
+    ] in (
+      found.0,
+      whole.0,
+      let low = found.1 in omega arith,
+      whole.1,
+      Contains-append_left _ _ _ (contains-announced no_run _ found.0 whole.0 whole.2),
+    )

@@ -2,16 +2,18 @@
 -- `trusted_in_run`, and what is left of a run, `over-some`.
 use Rattle.std.proofs.lemmas.Bool.Decides.{nat_tests}
 use Rattle.std.proofs.Common.{◌≡◌, ℕ, zero, suc, ◌-◌, ◌<◌, Bool, true, false, nat_lt, List, [], ◌∷◌}
-use Rattle.std.proofs.Common.{◌++◌, Contains, Option, Some, None, is_some, refl, sym, ap, ◌∙◌}
-use Rattle.std.proofs.Common.{subst}
-use Rattle.std.proofs.Common.{arith, cond}
+use Rattle.std.proofs.Common.{map, ◌++◌, Contains, Option, Some, None, is_some, refl, sym, ap, ◌∙◌}
+use Rattle.std.proofs.Common.{subst, arith, cond}
 use Rattle.std.proofs.lemmas.Bool.{lt-ltb, ltb-true}
 use Rattle.std.proofs.lemmas.List.Elements.{Contains-append_left, Contains-append_right}
 use Rattle.std.specs.List.{list_any}
 use Rattle.std.specs.Prelude.{⊤}
+use Rattle.sub_rules.specs.PieceEvents.{PassedRun, all_announced, announced, at_pes, ended_run}
+use Rattle.sub_rules.specs.PieceEvents.{goes_on_after, joins, passed_after, until}
 use Rattle.sub_rules.specs.Trusted.{doubted, kept, run_over, trusted, trusted_before, with_run}
 use Rattle.sub_rules.specs.declared.event.Event.{Event}
 use Rattle.sub_rules.specs.declared.event.Event.TheVariants.{Ended, PassedUntil, Told, Trusted}
+use Rattle.sub_rules.specs.declared.fault.CheckFault.{CheckFault}
 use Rattle.sub_rules.proofs.TrustedLemmas.{IsPlain, untrusted, with_run-none}
 
 -- The one, or else the other.
@@ -128,6 +130,76 @@ each-plain P (Trusted from to ∷ es) plain = absurd (no_head es es from to plai
 each-plain P (Told f ∷ es) plain = let rest : untrusted es ≡ es = cc in each-plain P es rest
 each-plain P (Ended rule f ∷ es) plain = let rest : untrusted es ≡ es = cc in each-plain P es rest
 each-plain P (PassedUntil f ∷ es) plain = let rest : untrusted es ≡ es = cc in each-plain P es rest
+
+-- Which PES packet is told changes nothing.
+pub each-at : (P : ℕ → ℕ → Type 0) (pes : ℕ) (es : List Event)
+    → EachTrusted P es → EachTrusted P (map (at_pes pes) es)
+unfolding at_pes
+each-at P pes [] p = tt
+each-at P pes (Told f ∷ es) p = each-at P pes es p
+each-at P pes (Ended rule f ∷ es) p = each-at P pes es p
+each-at P pes (PassedUntil f ∷ es) p = each-at P pes es p
+each-at P pes (Trusted from to ∷ es) p = (p.0, each-at P pes es p.1)
+
+-- Nor does up to which piece is passed over.
+pub each-ended : (P : ℕ → ℕ → Type 0) (run : PassedRun) → EachTrusted P (ended_run run)
+each-ended P run = go run.many run.last
+  where
+    go : (many : Bool) (last : Option CheckFault)
+        → EachTrusted P (cond many (until last) [])
+    go false last = tt
+    go true None = tt
+    go true (Some f) = tt
+
+pub each-announced : (P : ℕ → ℕ → Type 0) (run : PassedRun) (es : List Event)
+    → EachTrusted P es → EachTrusted P (all_announced run es)
+unfolding all_announced announced joins
+each-announced P run [] p = tt
+each-announced P run (Told f ∷ es) p =
+    each-append P (announced run (Told f)) _ (go (goes_on_after run.last f))
+    (each-announced P (passed_after run (Told f)) es p)
+  where
+    go : (b : Bool) → EachTrusted P (cond b [] (ended_run run ++ Told f ∷ []))
+    go true = tt
+    go false = each-append P (ended_run run) _ (each-ended P run) tt
+each-announced P run (Ended rule f ∷ es) p =
+    each-append P (ended_run run ++ Ended rule f ∷ []) _
+    (each-append P (ended_run run) _ (each-ended P run) tt)
+    (each-announced P (passed_after run (Ended rule f)) es p)
+each-announced P run (PassedUntil f ∷ es) p =
+    each-append P (ended_run run ++ PassedUntil f ∷ []) _
+    (each-append P (ended_run run) _ (each-ended P run) tt)
+    (each-announced P (passed_after run (PassedUntil f)) es p)
+each-announced P run (Trusted from to ∷ es) p =
+    each-append P (ended_run run ++ Trusted from to ∷ []) _
+    (each-append P (ended_run run) _ (each-ended P run) (p.0, tt))
+    (each-announced P (passed_after run (Trusted from to)) es p.1)
+
+-- What is told as trusted is so there.
+pub contains-at : (pes : ℕ) (es : List Event) (from to : ℕ)
+    → Contains es (Trusted from to) → Contains (map (at_pes pes) es) (Trusted from to)
+unfolding at_pes
+contains-at pes [] from to (k, l, e) = absurd (omega arith)
+contains-at pes (x ∷ es) from to (suc k, l, e) =
+    Contains-append_right (at_pes pes x ∷ []) _ _ (contains-at pes es from to (k, omega arith, e))
+contains-at pes (Told f ∷ es) from to (zero, l, e) = cc
+contains-at pes (Ended rule f ∷ es) from to (zero, l, e) = cc
+contains-at pes (PassedUntil f ∷ es) from to (zero, l, e) = cc
+contains-at pes (Trusted a b ∷ es) from to (zero, l, e) = (0, omega arith, e)
+
+pub contains-announced : (run : PassedRun) (es : List Event) (from to : ℕ)
+    → Contains es (Trusted from to) → Contains (all_announced run es) (Trusted from to)
+unfolding all_announced announced joins
+contains-announced run [] from to (k, l, e) = absurd (omega arith)
+contains-announced run (x ∷ es) from to (suc k, l, e) =
+    Contains-append_right (announced run x) _ _
+    (contains-announced (passed_after run x) es from to (k, omega arith, e))
+contains-announced run (Told f ∷ es) from to (zero, l, e) = cc
+contains-announced run (Ended rule f ∷ es) from to (zero, l, e) = cc
+contains-announced run (PassedUntil f ∷ es) from to (zero, l, e) = cc
+contains-announced run (Trusted a b ∷ es) from to (zero, l, e) =
+    Contains-append_left (ended_run run ++ Trusted a b ∷ []) _ _
+    (Contains-append_right (ended_run run) (Trusted a b ∷ []) _ (0, omega arith, e))
 
 -- What is trusted before a frame.
 pub each-put : (P : ℕ → ℕ → Type 0) (run : Option ℕ) (x : ℕ)

@@ -1,18 +1,15 @@
 -- What is told of a frame of the list, part by part: which frame is quiet no more by it, and what
 -- is quiet where none is. Main lemmas: order_doubt, gap_doubt, own_doubt, frame_doubt.
 use Rattle.std.proofs.lemmas.Bool.Decides.{nat_tests}
-use Rattle.std.proofs.Common.{◌≡◌, ℕ, zero, suc, ◌+◌, ◌-◌, ◌<◌, inl, inr, Bool, true, false}
-use Rattle.std.proofs.Common.{nat_lt, cond, List, [], ◌∷◌, ◌++◌, map, take, get_or}
-use Rattle.std.proofs.Common.{Option, Some, None, is_none, refl, sym, ap, ◌∙◌}
-use Rattle.std.proofs.Common.{subst, arith, append_assoc, length}
+use Rattle.std.proofs.Common.{◌≡◌, ℕ, zero, suc, ◌+◌, ◌-◌, ◌<◌, inl, inr, Bool, true, false, nat_lt}
+use Rattle.std.proofs.Common.{cond, List, [], ◌∷◌, ◌++◌, map, take, get_or, Option, Some, None}
+use Rattle.std.proofs.Common.{is_none, refl, sym, ap, ◌∙◌, subst, arith, append_assoc, length}
 use Rattle.std.specs.List.{filter}
 use Rattle.std.specs.Prelude.{⊤}
 use Rattle.std.proofs.lemmas.Bool.{cases_lt, ltb-true}
-use Rattle.sub_rules.specs.Events.{Standing, content_events, end_before, end_events}
-use Rattle.sub_rules.specs.Events.{events_at_end}
+use Rattle.sub_rules.specs.Events.{Standing, content_events, end_before, end_events, events_at_end}
 use Rattle.sub_rules.specs.Events.{first_header_events, frame_events, gap_events, gap_length}
-use Rattle.sub_rules.specs.Events.{latest}
-use Rattle.sub_rules.specs.Events.{order_events, packet_events, packet_fault, rule_events}
+use Rattle.sub_rules.specs.Events.{latest, order_events, packet_events, packet_fault, rule_events}
 use Rattle.sub_rules.specs.Events.{rules_told, standing_at, standing_before}
 use Rattle.sub_rules.specs.FrameRules.{Task, frame_at, packets_before, packets_of_frame}
 use Rattle.sub_rules.specs.PacketTests.{breaks, broken_rules, packet_rules}

@@ -10,6 +10,7 @@ pub mod FrameDoubtLemmas
 pub mod FrameLemmas
 pub mod GoodLemmas
 pub mod OrderToldLemmas
+pub mod PassedOutsideLemmas
 pub mod PesFileLemmas
 pub mod PlaceLemmas
 pub mod PlanLemmas
@@ -22,5 +23,6 @@ pub mod StepByStepLemmas
 pub mod StretchLemmas
 pub mod TransmissionLemmas
 pub mod TrustedFrameLemmas
+pub mod TrustedPieceLemmas
 pub mod TrustedRunLemmas
 pub mod UntoldLemmas

@@ -1,18 +1,14 @@
 -- Where the order of frames is told: only of a frame that is not after the one before. So they rise
 -- where it is told of none, `rises_of`, and it is told of none where they rise, `rises_untold`.
 use Rattle.std.proofs.lemmas.Bool.Decides.{nat_tests}
-use Rattle.std.proofs.Common.{◌≡◌, ℕ, zero, suc, ◌-◌, ◌<◌, inl, inr, Bool, true, false}
-use Rattle.std.proofs.Common.{nat_lt, cond, List, [], ◌∷◌, ◌++◌, map}
-use Rattle.std.proofs.Common.{refl, sym, ◌∙◌}
-use Rattle.std.proofs.Common.{subst, arith}
+use Rattle.std.proofs.Common.{◌≡◌, ℕ, zero, suc, ◌-◌, ◌<◌, inl, inr, Bool, true, false, nat_lt}
+use Rattle.std.proofs.Common.{cond, List, [], ◌∷◌, ◌++◌, map, refl, sym, ◌∙◌, subst, arith}
 use Rattle.std.specs.List.{list_any}
 use Rattle.std.proofs.lemmas.Bool.{cases_lt, lt-ltb, ltb-true}
 use Rattle.std.proofs.lemmas.List.Folds.{list_any-append}
-use Rattle.sub_rules.specs.Events.{Standing, end_events}
-use Rattle.sub_rules.specs.Events.{events_of_first}
-use Rattle.sub_rules.specs.Events.{first_header_events, frame_events, gap_events}
-use Rattle.sub_rules.specs.Events.{order_events, packet_events, packet_fault}
-use Rattle.sub_rules.specs.Events.{rules_told}
+use Rattle.sub_rules.specs.Events.{Standing, end_events, events_of_first, first_header_events}
+use Rattle.sub_rules.specs.Events.{frame_events, gap_events, order_events, packet_events}
+use Rattle.sub_rules.specs.Events.{packet_fault, rules_told}
 use Rattle.sub_rules.specs.FrameRules.{Task, frame_at}
 use Rattle.sub_rules.specs.Transmission.{Transmission}
 use Rattle.sub_rules.specs.Trusted.{is_order}

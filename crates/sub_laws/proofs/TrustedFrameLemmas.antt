@@ -1,21 +1,18 @@
 -- Frames that are told as trusted may stay in the part in which frames rise: `law_of_trusted`.
 use Rattle.std.proofs.lemmas.Bool.Decides.{nat_tests}
 use Rattle.std.proofs.Common.{◌≡◌, ℕ, zero, suc, ◌+◌, ◌-◌, ◌<◌, ◌≤◌, inl, inr, ◌&&◌, ◌==◌, Bool}
-use Rattle.std.proofs.Common.{true, false, [], ◌∷◌, length, take}
-use Rattle.std.proofs.Common.{None, refl, sym, ap, ◌∙◌, subst}
+use Rattle.std.proofs.Common.{true, false, [], ◌∷◌, length, take, None, refl, sym, ap, ◌∙◌, subst}
 use Rattle.std.proofs.Common.{arith, cond}
 use Rattle.std.proofs.lemmas.Bool.{cases_lt, cases_eq, lt-ltb, ltb-true}
 use Rattle.std.proofs.lemmas.List.{length-take-le, take-take}
 use Rattle.ttx_page.specs.PacketKind.{kind}
 use Rattle.ttx_page.specs.Span.{holds_header}
-use Rattle.sub_rules.specs.Events.{Standing}
-use Rattle.sub_rules.specs.Events.{is_gap, is_incomplete}
-use Rattle.sub_rules.specs.Events.{standing_at}
-use Rattle.sub_rules.specs.FrameRules.{Task, frame_at}
-use Rattle.sub_rules.specs.FrameRules.{IsEnded, packets_of_frame, task_of}
+use Rattle.sub_rules.specs.Events.{Standing, is_gap, is_incomplete, standing_at}
+use Rattle.sub_rules.specs.FrameRules.{Task, frame_at, IsEnded, packets_of_frame, task_of}
 use Rattle.sub_rules.specs.PacketTests.{breaks}
+use Rattle.sub_rules.specs.PieceEvents.{all_of_pieces}
+use Rattle.sub_rules.specs.Pieces.{frames_of}
 use Rattle.sub_rules.specs.Transmission.{IsRising, Transmission, packets_of}
-use Rattle.sub_rules.specs.Trusted.{all_events}
 use Rattle.sub_rules.specs.Trusted.{stands_none}
 use Rattle.sub_rules.specs.declared.packet_rule.PacketRule.{PacketRule}
 use Rattle.sub_laws.specs.CleanStretch.{AtEnds, IsClean, IsEnd, IsStretch, IsUntold, is_needed}
@@ -25,7 +22,8 @@ use Rattle.sub_laws.proofs.GoodLemmas.{any_sent, number_at}
 use Rattle.sub_laws.proofs.UntoldLemmas.{law_of_untold_stretch}
 use Rattle.sub_laws.proofs.DoubtLemmas.{each-contains}
 use Rattle.sub_laws.proofs.PrefixLemmas.{before, first-same, last-same, packet_at, rises_strictly}
-use Rattle.sub_laws.proofs.TrustedRunLemmas.{StaysTo, all_stay, up_to}
+use Rattle.sub_laws.proofs.TrustedPieceLemmas.{StaysTo, all_stay}
+use Rattle.sub_laws.proofs.TrustedRunLemmas.{up_to}
 
 -- ---- the rising part
 
@@ -348,16 +346,16 @@ module _ (g : Task) (frames : Transmission) (from to : ℕ) (stays : StaysTo g f
 -- ---- the law
 
 pub law_of_trusted : LawOfTrusted
-law_of_trusted programme transmission options unread from to told =
+law_of_trusted programme options unread pieces from to told =
     let g = task_of programme options unread in
-    let stays : StaysTo g transmission from to =
-    each-contains (StaysTo g transmission) (all_events g transmission) from to
-    (all_stay g transmission) told in
+    let frames = frames_of pieces in
+    let stays : StaysTo g frames from to =
+    each-contains (StaysTo g frames) (all_of_pieces g pieces) from to (all_stay g pieces) told in
     let trusted =
-    law_of_clean_stretch programme (rising_part transmission) options unread from to
-    (clean g transmission from to stays) in
+    law_of_clean_stretch programme (rising_part frames) options unread from to
+    (clean g frames from to stays) in
     record {
-      header = header_there g transmission from to stays;
+      header = header_there g frames from to stays;
       trusted = trusted.trusted;
-      shown = λ asks class. trusted.shown asks (complete g transmission from to stays) class;
+      shown = λ asks class. trusted.shown asks (complete g frames from to stays) class;
     }

@@ -1,34 +1,25 @@
--- What a run of quiet frames holds, `run_is`, and what is so of each that is told as trusted where
--- it is over: `all_stay`.
+-- What a run of quiet frames holds, `Run`; and it does so after the next frame, `run_next`.
 use Rattle.std.proofs.lemmas.Bool.Decides.{nat_tests}
-use Rattle.std.proofs.Common.{◌≡◌, ℕ, zero, suc, ◌+◌, ◌-◌, ◌<◌, ◌≤◌, ◌⊎◌, inl, inr, Bool}
-use Rattle.std.proofs.Common.{true, false, List, [], ◌++◌, length}
-use Rattle.std.proofs.Common.{Option, Some, None, refl, sym, ap, ◌∙◌, subst}
-use Rattle.std.proofs.Common.{arith, cond}
+use Rattle.std.proofs.Common.{◌≡◌, ℕ, zero, suc, ◌+◌, ◌-◌, ◌<◌, ◌≤◌, ◌⊎◌, inl, inr, Bool, true}
+use Rattle.std.proofs.Common.{false, not, List, [], length, Option, Some, None, refl, sym, ap, ◌∙◌}
+use Rattle.std.proofs.Common.{subst, arith, cond}
 use Rattle.std.specs.List.{list_any}
 use Rattle.std.proofs.lemmas.Bool.{cases_lt, cases_eq}
 use Rattle.ttx_page.specs.PacketKind.{kind}
 use Rattle.ttx_page.specs.Span.{holds_header}
-use Rattle.sub_rules.specs.Events.{events, events_of_first}
-use Rattle.sub_rules.specs.Events.{frame_events, gap_events, gap_length}
-use Rattle.sub_rules.specs.Events.{latest}
+use Rattle.sub_rules.specs.Events.{events_of_first, frame_events, gap_events, gap_length, latest}
 use Rattle.sub_rules.specs.Events.{order_events, standing_at}
-use Rattle.sub_rules.specs.FrameRules.{HasHeader, Task, end_frame, frame_at}
-use Rattle.sub_rules.specs.FrameRules.{Unread, packets_of_frame}
+use Rattle.sub_rules.specs.FrameRules.{HasHeader, Task, frame_at, packets_of_frame}
 use Rattle.sub_rules.specs.PacketTests.{breaks}
+use Rattle.sub_rules.specs.PieceEvents.{run_at}
 use Rattle.sub_rules.specs.Transmission.{Transmission}
-use Rattle.sub_rules.specs.Trusted.{all_events, all_events_of_first, begun, frame_before}
-use Rattle.sub_rules.specs.Trusted.{is_order, is_quiet, last_trusted, own_events, run_after}
-use Rattle.sub_rules.specs.Trusted.{run_over}
-use Rattle.sub_rules.specs.Trusted.{stands_none, tells_none, trust_end, trusted}
+use Rattle.sub_rules.specs.Trusted.{begun, frame_before, is_order, is_quiet, own_events, run_over}
+use Rattle.sub_rules.specs.Trusted.{stands_none}
 use Rattle.sub_rules.specs.declared.event.Event.{Event}
 use Rattle.sub_rules.specs.declared.packet_rule.PacketRule.{PacketRule}
 use Rattle.sub_rules.proofs.EndLemmas.{gap_length-is}
-use Rattle.sub_rules.proofs.TrustedLemmas.{plain_closing, plain_frame}
 use Rattle.sub_laws.specs.CleanStretch.{IsEnd, is_needed}
-use Rattle.sub_laws.proofs.DoubtLemmas.{EachTrusted, doubt-none, each-append}
-use Rattle.sub_laws.proofs.DoubtLemmas.{each-plain, each-put, first_doubt, or_else}
-use Rattle.sub_laws.proofs.DoubtLemmas.{or_none, over-some, trusted_in_run}
+use Rattle.sub_laws.proofs.DoubtLemmas.{doubt-none, first_doubt, or_else, or_none, over-some}
 use Rattle.sub_laws.proofs.FrameDoubtLemmas.{AreQuiet, frame_doubt, gap_doubt, order_doubt}
 use Rattle.sub_laws.proofs.FrameDoubtLemmas.{own_doubt}
 use Rattle.sub_laws.proofs.OrderToldLemmas.{rises_of}
@@ -326,139 +317,45 @@ module _ (g : Task) (frames : Transmission) where
               high = inr (omega arith);
             }
 
-  -- ---- the run after each frame
+  -- ---- a run that is kept
 
-  -- A run that goes on, by what is told of the frame.
+  -- What is kept after the first n frames of the list is a run up to the last of them.
+  abbrev pub IsRun : ℕ → Option ℕ → Type 0
+  IsRun n kept = (from : ℕ) → kept ≡ Some from → Run n from
+
+  -- It goes on, by what is told of the frame.
   goes_on : (n from : ℕ) → n < length frames
       → is_quiet g frames n ≡ true
-      → run_after g frames n ≡ Some from
       → Run n from
       → first_doubt (frame_before frames n) (frame_events g frames n) ≡ None
       → Run (suc n) from
-  unfolding run_after
-  goes_on zero from there quiet kept run none = cc
-  goes_on (suc i) from there quiet kept run none =
+  goes_on zero from there quiet run none = let below = run.below in absurd (omega arith)
+  goes_on (suc i) from there quiet run none =
       run_goes_on (suc i) quiet from (omega arith) there run (gap_quiet i there from run none)
 
-  -- A run that is kept is one.
-  pub run_is : (n from : ℕ) → n ≤ length frames → run_after g frames n ≡ Some from → Run n from
-  unfolding run_after
-  run_is zero from l e = cc
-  run_is (suc k) from l e =
-      by_quiet (λ kept. run_is k from (omega arith) kept) (is_quiet g frames k) refl
+  -- So it is after the next frame.
+  pub run_next : (n : ℕ) (kept : Option ℕ) → n < length frames → IsRun n kept
+      → IsRun (suc n) (run_at g frames n kept)
+  unfolding run_at
+  run_next n kept there before from e = by_quiet (is_quiet g frames n) refl
     where
-      by_run : (run_after g frames k ≡ Some from → Run k from)
-          → is_quiet g frames k ≡ true → (o : Option ℕ)
-          → run_over (frame_before frames k) (run_after g frames k) (frame_events g frames k) ≡ o
-          → (h : Bool) → holds_header (kind g.watched.page) (packets_of_frame frames k) ≡ h
-          → begun o h (frame_at frames k) ≡ Some from
-          → Run (suc k) from
-      by_run before quiet None is true holds e =
-          let same : frame_at frames k ≡ from = cc in
-          subst (Run (suc k)) same (run_begins k quiet holds)
-      by_run before quiet None is false holds e = cc
-      by_run before quiet (Some f) is h holds e =
+      by_run : is_quiet g frames n ≡ true → (o : Option ℕ)
+          → run_over (frame_before frames n) kept (frame_events g frames n) ≡ o
+          → (h : Bool) → holds_header (kind g.watched.page) (packets_of_frame frames n) ≡ h
+          → begun o h (frame_at frames n) ≡ Some from
+          → Run (suc n) from
+      by_run quiet None is true holds e =
+          let same : frame_at frames n ≡ from = cc in
+          subst (Run (suc n)) same (run_begins n quiet holds)
+      by_run quiet None is false holds e = cc
+      by_run quiet (Some f) is h holds e =
           let same : f ≡ from = cc in
-          let left = over-some (frame_before frames k) (run_after g frames k)
-          (frame_events g frames k) from (is ∙ ap (λ x. Some x) same) in
-          goes_on k from (omega arith) quiet left.0 (before left.0) left.1
-
-      by_quiet : (run_after g frames k ≡ Some from → Run k from)
-          → (b : Bool) → is_quiet g frames k ≡ b → Run (suc k) from
-      by_quiet before true quiet =
-          by_run before quiet
-          (run_over (frame_before frames k) (run_after g frames k) (frame_events g frames k)) refl
-          (holds_header (kind g.watched.page) (packets_of_frame frames k)) refl
+          let left = over-some (frame_before frames n) kept (frame_events g frames n) from
+          (is ∙ ap (λ x. Some x) same) in
+          goes_on n from there quiet (before from left.0) left.1
+      by_quiet : (b : Bool) → is_quiet g frames n ≡ b → Run (suc n) from
+      by_quiet true quiet =
+          by_run quiet (run_over (frame_before frames n) kept (frame_events g frames n)) refl
+          (holds_header (kind g.watched.page) (packets_of_frame frames n)) refl
           (rw quiet at e)
-      by_quiet before false other = let none = rw other at e in cc
-
-  -- ---- what is told as trusted
-
-  -- The frames from one up to another, that one left out, are those of a run.
-  pub record Stays (from x : ℕ) : Type 0 where
-    pub n : ℕ
-    pub within : n ≤ length frames
-    pub run : Run n from
-    pub before : from < x
-    pub ends : EndsQuiet n from x
-    pub next :
-        n < length frames
-        → ((frame_at frames (n - 1) < frame_at frames n) × (x ≤ frame_at frames n))
-        ⊎ (x ≤ frame_at frames (n - 1))
-    pub last : n ≡ length frames → x ≤ end_frame frames + 1
-
-  abbrev pub StaysTo : ℕ → ℕ → Type 0
-  StaysTo from to = Stays from (to + 1)
-
-  frame_stays : (n : ℕ) → n < length frames → (x from : ℕ)
-      → first_doubt (frame_before frames n) (frame_events g frames n) ≡ Some x
-      → run_after g frames n ≡ Some from
-      → from < x
-      → StaysTo from (x - 1)
-  unfolding run_after
-  frame_stays zero there x from e run l = cc
-  frame_stays (suc i) there x from e run l =
-      let before = run_is (suc i) from (omega arith) run in
-      let over = ended i there from before x e in
-      let same : x ≡ x - 1 + 1 = omega arith in
-      subst (Stays from) same (record {
-        n = suc i;
-        within = omega arith;
-        run = before;
-        before = l;
-        ends = over.ends;
-        next = λ there. over.high;
-        last = λ all. absurd (omega arith);
-      })
-
-  first_stay : (n : ℕ) → n ≤ length frames
-      → EachTrusted StaysTo (all_events_of_first g frames n)
-  unfolding all_events_of_first
-  first_stay zero l = tt
-  first_stay (suc n) l =
-      each-append StaysTo (all_events_of_first g frames n) _ (first_stay n (omega arith))
-      (trusted_in_run StaysTo (frame_before frames n) (run_after g frames n)
-      (frame_events g frames n) (plain_frame g frames n)
-      (λ x from e run below. frame_stays n (omega arith) x from e run below))
-
-  end_low-trusted : (u : Option Unread) (f : ℕ) → trust_end u f ≤ f + 1
-  end_low-trusted None f = omega arith
-  end_low-trusted (Some u) f = omega arith
-
-  last_run : (from : ℕ)
-      → run_after g frames (length frames) ≡ Some from
-      → from < trust_end g.unread (end_frame frames)
-      → StaysTo from (trust_end g.unread (end_frame frames) - 1)
-  last_run from e l =
-      let x : ℕ = trust_end g.unread (end_frame frames) in
-      let same : x ≡ x - 1 + 1 = omega arith in
-      let run = run_is (length frames) from (omega arith) e in
-      let low = end_low-trusted g.unread (end_frame frames) in
-      subst (Stays from) same (record {
-        n = length frames;
-        within = omega arith;
-        run = run;
-        before = l;
-        ends = λ m f end within from_low high. run.ends m f end within from_low (omega arith);
-        next = λ there. absurd (omega arith);
-        last = λ all. low;
-      })
-
-  last_stays : EachTrusted StaysTo (last_trusted g frames)
-  unfolding last_trusted
-  last_stays = go (tells_none (events g frames))
-    where
-      go : (b : Bool)
-          → EachTrusted StaysTo (cond b [] (trusted (run_after g frames (length frames))
-          (trust_end g.unread (end_frame frames))))
-      go true = tt
-      go false = each-put StaysTo _ _ last_run
-
-  pub all_stay : EachTrusted StaysTo (all_events g frames)
-  unfolding all_events
-  all_stay =
-      each-append StaysTo
-      (all_events_of_first g frames (length frames) ++ last_trusted g frames) _
-      (each-append StaysTo (all_events_of_first g frames (length frames)) (last_trusted g frames)
-      (first_stay (length frames) (omega arith)) last_stays)
-      (each-plain StaysTo _ (plain_closing g frames (length frames)))
+      by_quiet false other = let none = rw other at e in cc

@@ -58,14 +58,16 @@ pub fn law_of_untold_stretch()
     ensures { LawOfUntoldStretch }
 {}
 
-/// Frames that are told as trusted may stay on air as they are, whatever is broken elsewhere: the
-/// first one holds a header of the page, and from it on receivers recover there.
+/// Frames that are told as trusted of a PES file may stay on air as they are, whatever is broken
+/// elsewhere, and whatever its pieces put on air that are passed over: the first one holds a header
+/// of the page, and from it on receivers recover there.
 pub fn law_of_trusted()
     ensures { LawOfTrusted }
 {}
 
-/// No frame that may stay is left out: where anything is told, each stretch of which nothing is
-/// told that a receiver depends on is told as trusted, from its first header of the page on.
+/// No frame that may stay is left out: where anything is told of a PES file, each stretch of which
+/// nothing is told that a receiver depends on, and in which no piece may have been sent that is
+/// passed over, is told as trusted, from its first header of the page on.
 pub fn law_of_all_trusted()
     ensures { LawOfAllTrusted }
 {}

@@ -12,7 +12,7 @@ use crate::status::Status;
 use std::alloc::Global;
 use stl_rows::National;
 use sub_check::{Accepted, check_files};
-use sub_io::{Ahead, Sink, Source};
+use sub_io::{Sink, Source};
 use sub_plan::Options;
 
 /// Checks a PES file against a subtitle file, and prints the one line of the verdict.
@@ -21,7 +21,7 @@ use sub_plan::Options;
 /// touched. `Done` where the files are accepted, with how many frames of the day the PES file
 /// reaches over and how many headers of the page it has; `Refused` with the first fault; `Fault`
 /// where a device failed or memory ran out.
-pub fn print_verdict<S: Source, T: Ahead, K: Sink>(
+pub fn print_verdict<S: Source, T: Source, K: Sink>(
     alloc: Global,
     stl: &mut S,
     pes: &mut T,

@@ -8,14 +8,14 @@ use Rattle.sub_checker.proofs.lending.next_lent.Given.{Over}
 use Rattle.sub_checker.proofs.lending.next_lent.Goals as goal
 
 -- The references are those that they were, and what else pulls leave.
-inside : (g : Over) (c : goal.After-next_sending g)
-    → (c.next_sending.new.source.source.ghost_name ≡ c.args.lent.now.source.ghost_name)
-    × (c.next_sending.new.source.beside.ghost_name ≡ c.args.lent.now.beside.ghost_name)
+inside : (g : Over) (c : goal.After-next_piece g)
+    → (c.next_piece.new.source.source.ghost_name ≡ c.args.lent.now.source.ghost_name)
+    × (c.next_piece.new.source.beside.ghost_name ≡ c.args.lent.now.beside.ghost_name)
     × IsLent g.S.Source.failure_count g.A.Audience.is_told g.A.Audience.has_stopped
     g.A.Live.is_settled
     (lent_as c.args.lent.now.source.now c.args.lent.now.beside.now c.args.lent.now.refused)
-    (lent_as c.next_sending.new.source.source.now c.next_sending.new.source.beside.now
-    c.next_sending.new.source.refused)
+    (lent_as c.next_piece.new.source.source.now c.next_piece.new.source.beside.now
+    c.next_piece.new.source.refused)
 inside g c =
     lent_for g.S.Source.failure_count g.S.Ahead.must_ask g.S.Source.is_pull
     g.A.Audience.is_told g.A.Audience.has_stopped g.A.Live.is_settled g.A.Live.is_handed_on
@@ -23,8 +23,8 @@ inside g c =
     (λ h. lent_as h.source.now h.beside.now h.refused)
     (λ h. h.source.ghost_name) (λ h. h.beside.ghost_name)
     _ (λ s t room answer call. call)
-    c.args.lent.now c.next_sending.new.source c.requires.none c.requires.goes_on
-    (omega (arith, c.requires.failures)) c.next_sending.ensures.pulls
+    c.args.lent.now c.next_piece.new.source c.requires.none c.requires.goes_on
+    (omega (arith, c.requires.failures)) c.next_piece.ensures.pulls
 
 pub returns-clause-source : goal.returns-clause-source
 returns-clause-source g c = (inside g c).0
@@ -44,26 +44,27 @@ returns-clause-stopped g c = (inside g c).2.stopped
 pub returns-clause-count : goal.returns-clause-count
 returns-clause-count g c =
     let l = (inside g c).2 in
-    (count_inside _ _ c.next_sending.new.source.refused (failed is_pes_read c.next_sending.result)
-    c.requires.failures l.count l.most (rw c.requires.none at c.next_sending.ensures.count)).0
+    (count_inside _ _ c.next_piece.new.source.refused (failed is_pes_read c.next_piece.result)
+    c.requires.failures l.count l.most (rw c.requires.none at c.next_piece.ensures.count)).0
 
 pub returns-clause-refused : goal.returns-clause-refused
 returns-clause-refused g c =
     let l = (inside g c).2 in
-    (count_inside _ _ c.next_sending.new.source.refused (failed is_pes_read c.next_sending.result)
-    c.requires.failures l.count l.most (rw c.requires.none at c.next_sending.ensures.count)).1
+    (count_inside _ _ c.next_piece.new.source.refused (failed is_pes_read c.next_piece.result)
+    c.requires.failures l.count l.most (rw c.requires.none at c.next_piece.ensures.count)).1
 
 pub returns-clause-reads : goal.returns-clause-reads
 returns-clause-reads g c =
-    let e = c.next_sending.ensures in
+    let e = c.next_piece.ensures in
     record {
       exact = e.exact;
       taken = e.taken;
-      again = e.again;
+      sent = e.sent;
       left = e.left;
+      progress = e.progress;
+      below = e.below;
+      again = e.again;
+      day = e.day;
       place = e.place;
       within = e.within;
-      progress = e.progress;
-      few = e.few;
-      day = e.day;
     }

@@ -1,7 +1,6 @@
 -- Each way out tells what the whole file is: by WaysOutLemmas.
 use Rattle.std.proofs.Common.{◌∙◌, List, None, Option, Result, Ok, Some, sym, refl, ap, subst}
 use Rattle.std.proofs.Common.{arith}
-use Rattle.sub_io.proofs.HandingOnLemmas.{TellsSome-kept}
 use Rattle.sub_io.proofs.TellingLemmas.{TellsSome-none, TellsSome-trans, Tells-none, Tells-trans}
 use Rattle.ttx_pes.proofs.TakenPackets.{takes-more, takes-none}
 use Rattle.ttx_pes.specs.Comparing.{ComparingValue}
@@ -14,7 +13,7 @@ use Rattle.sub_rules.specs.declared.fault.CheckFault.{CheckFault}
 use Rattle.sub_rules.specs.declared.sending.Sending.{Sending}
 use Rattle.sub_checker.proofs.WaysOutLemmas.{Reads-none, again_is, at_end, counts_read, is_read}
 use Rattle.sub_checker.proofs.WaysOutLemmas.{next_read, next_sent, none_of_first, one_more}
-use Rattle.sub_checker.proofs.WaysOutLemmas.{told_so_far, told_to_end, told_to_stop}
+use Rattle.sub_checker.proofs.WaysOutLemmas.{told_to_end, told_to_stop}
 use Rattle.sub_checker.proofs.TellingLemmas.{all_same}
 use Rattle.sub_checker.proofs.TrustingLemmas.{finishes_same, judges_more, last_same}
 use Rattle.sub_checker.proofs.telling.tell_frames.Goals as goal
@@ -40,154 +39,104 @@ packets-init g c = record {
   );
 }
 
-pub returns-in_default-clause-exact : goal.returns-in_default-clause-exact
-returns-in_default-clause-exact g c = λ frames unread judges bytes told reads.
-    let i = c.packets.invariant.told frames unread bytes judges told reads in
-    let task = task_of c.args.programme.now c.args.options.now unread in
-    told_so_far task frames c.packets.pes _ _ i.0.within
-    (c.next_live.ensures.told.kept c.args.trusting.now.device.now _ c.requires.settled i.4)
-
 pub returns-then-is_source_failure-clause-exact : goal.returns-then-is_source_failure-clause-exact
 returns-then-is_source_failure-clause-exact g c = λ frames unread judges bytes told reads.
-    let i = c.packets.invariant.told frames unread bytes judges told reads in
-    let here = rw c.in-Err.is at c.in-Some.ensures.reads in
-    let so_far =
-    c.next_live.ensures.told.kept c.args.trusting.now.device.now _ c.requires.settled i.4 in (
+    let i = c.packets.invariant.told frames unread bytes judges told reads in (
       c.packets.pes,
       i.0.within,
-      here.place (sym c.is_source_failure.ensures ∙ c.if-is_source_failure.true),
-      so_far,
+      c.in-Err.ensures.place (sym c.is_source_failure.ensures ∙ c.if-is_source_failure.true),
+      i.4,
     )
 
 pub returns-in-Err-clause-exact : goal.returns-in-Err-clause-exact
 returns-in-Err-clause-exact g c = λ frames unread judges bytes told reads.
     let i = c.packets.invariant.told frames unread bytes judges told reads in
-    let here = rw c.in-Err.is at c.in-Some.ensures.reads in
-    let so_far =
-    c.next_live.ensures.told.kept c.args.trusting.now.device.now _ c.requires.settled i.4 in
     let task = task_of c.args.programme.now c.args.options.now unread in
     let at =
-    here.exact i.0.rest i.0.rest_is
+    c.in-Err.ensures.exact i.0.rest i.0.rest_is
     (sym c.is_source_failure.ensures ∙ c.if-is_source_failure.false) in
     let end = at_end i.0 (Some at.0) at.2 in
     let given = ap Some at.1 ∙ ap (ending_fault c.packets.pes) (sym end.1) in
     told_to_end task c.args.options.now.origin bytes frames c.packets.pes c.packets.checker _ _ _
-    c.finish.result end.0 so_far
+    c.finish.result end.0 i.4
     (finishes_same g.A.Audience.is_told _ _ _ _ _ _ (last_same task frames c.packets.pes end.0)
     (c.finish.ensures.told task frames _ _ i.1 i.3 end.0 given))
     c.finish.ensures.counts
     (λ a counts.
     is_read i.0 (Some at.0) a at.2 (counts_read i.0 c.packets.checker a i.1 end.0 counts))
 
-pub returns-in_default-more-clause-exact : goal.returns-in_default-more-clause-exact
-returns-in_default-more-clause-exact g c = λ frames unread judges bytes told reads.
+pub returns-in_default-clause-exact : goal.returns-in_default-clause-exact
+returns-in_default-clause-exact g c = λ frames unread judges bytes told reads.
     let i = c.packets.invariant.told frames unread bytes judges told reads in
-    let here = rw c.in-Ok.is at c.in-Some.ensures.reads in
-    let so_far =
-    c.next_live.ensures.told.kept c.args.trusting.now.device.now _ c.requires.settled i.4 in
     let task = task_of c.args.programme.now c.args.options.now unread in
-    let at = rw c.in_default-more.is at (here.exact i.0.rest i.0.rest_is refl) in
+    let at = rw c.in_default.is at (c.in-Ok.ensures.exact i.0.rest i.0.rest_is refl) in
     let end = at_end i.0 None at in
     let given = ap (ending_fault c.packets.pes) (sym end.1) in
     told_to_end task c.args.options.now.origin bytes frames c.packets.pes c.packets.checker _ _ _
-    c.finish-in_default-more.result end.0 so_far
+    c.finish-in_default.result end.0 i.4
     (finishes_same g.A.Audience.is_told _ _ _ _ _ _ (last_same task frames c.packets.pes end.0)
-    (c.finish-in_default-more.ensures.told task frames _ _ i.1 i.3 end.0 given))
-    c.finish-in_default-more.ensures.counts
+    (c.finish-in_default.ensures.told task frames _ _ i.1 i.3 end.0 given))
+    c.finish-in_default.ensures.counts
     (λ a counts. is_read i.0 None a at (counts_read i.0 c.packets.checker a i.1 end.0 counts))
 
 pub returns-in-Err-go_on-clause-exact : goal.returns-in-Err-go_on-clause-exact
 returns-in-Err-go_on-clause-exact g c = λ frames unread judges bytes told reads.
     let i = c.packets.invariant.told frames unread bytes judges told reads in
-    let here = rw c.in-Ok.is at c.in-Some.ensures.reads in
-    let so_far =
-    c.next_live.ensures.told.kept c.args.trusting.now.device.now _ c.requires.settled i.4 in
     let task = task_of c.args.programme.now c.args.options.now unread in
-    let given = ap (λ x. let r : Result (Option Sending) CheckFault = Ok x in r)
-    c.in-Some-more.is in
-    let at = rw c.in-Some-more.is at (here.exact i.0.rest i.0.rest_is refl) in
+    let given = ap (λ x. let r : Result (Option Sending) CheckFault = Ok x in r) c.in-Some.is in
+    let at = rw c.in-Some.is at (c.in-Ok.ensures.exact i.0.rest i.0.rest_is refl) in
     let sent =
-    subst (λ (us : List UnitValue). IsSentFrame frames c.packets.pes c.in-Some-more.sending.frame
+    subst (λ (us : List UnitValue). IsSentFrame frames c.packets.pes c.in-Some.sending.frame
     (packets_of_units us)) (sym c.units_of-units.ensures.value)
-    (next_sent i.0 c.next_live.new.reader.frame c.in-Some-more.sending.frame at) in
+    (next_sent i.0 c.next_sending.new.reader.frame c.in-Some.sending.frame at) in
     let go =
     c.in-Err-go_on.ensures.told task frames _ _ i.1 i.3 sent
     (λ e.
     again_is frames c.packets.pes _ _ _ sent i.2
     (ap packets_of_units
-    (sym (here.again c.in-Some-more.sending given e)
+    (sym (c.in-Ok.ensures.again c.in-Some.sending given e)
     ∙ sym c.units_of-units.ensures.value))) in
-    told_to_stop task frames c.packets.pes _ _ _ sent.there so_far go.0
+    told_to_stop task frames c.packets.pes _ _ _ sent.there i.4 go.0
 
 pub packets-preserved : goal.packets-preserved
 packets-preserved g c =
-    let here = rw c.in-Ok.is at c.in-Some.ensures.reads in
-    let some =
-    TellsSome-kept _ _ _ _ _ c.packets.invariant.some c.requires.settled
-    c.next_live.ensures.told in
-    let given = ap (λ x. let r : Result (Option Sending) CheckFault = Ok x in r)
-    c.in-Some-more.is in
-    let next = here.few c.in-Some-more.sending given in
-    let counted = rw c.in-Ok.is at c.in-Some.ensures.count in
+    let given = ap (λ x. let r : Result (Option Sending) CheckFault = Ok x in r) c.in-Some.is in
+    let next = c.in-Ok.ensures.few c.in-Some.sending given in
+    let counted = c.in-Ok.ensures.count in
     let before = c.packets.invariant.failures in
-    let takes = here.taken c.in-Some-more.sending given in
+    let takes = c.in-Ok.ensures.taken c.in-Some.sending given in
     record {
       few = omega (arith, next);
-      reading = here.progress c.in-Some-more.sending given;
+      reading = c.in-Ok.ensures.progress c.in-Some.sending given;
       taken = takes-more c.packets.pes _ _ _ _ c.packets.invariant.taken takes;
       failures = omega (arith, counted, before);
       same = c.in-Ok-go_on.ensures.same ∙ c.packets.invariant.same;
       goes_on = c.in-Ok-go_on.ensures.stopped;
       day = c.in-Ok-go_on.ensures.day;
-      some = TellsSome-trans _ _ _ some c.in-Ok-go_on.ensures.some;
+      some = TellsSome-trans _ _ _ c.packets.invariant.some c.in-Ok-go_on.ensures.some;
       headers = c.in-Ok-go_on.ensures.headers;
       told = λ frames unread bytes judges told reads.
           let i = c.packets.invariant.told frames unread bytes judges told reads in
-          let so_far =
-          c.next_live.ensures.told.kept c.args.trusting.now.device.now _ c.requires.settled i.4 in
           let task = task_of c.args.programme.now c.args.options.now unread in
-          let at = rw c.in-Some-more.is at (here.exact i.0.rest i.0.rest_is refl) in
+          let at = rw c.in-Some.is at (c.in-Ok.ensures.exact i.0.rest i.0.rest_is refl) in
           let first =
-          next_sent i.0 c.next_live.new.reader.frame c.in-Some-more.sending.frame at in
+          next_sent i.0 c.next_sending.new.reader.frame c.in-Some.sending.frame at in
           let sent =
-          subst (λ (us : List UnitValue). IsSentFrame frames c.packets.pes
-          c.in-Some-more.sending.frame (packets_of_units us)) (sym c.units_of-units.ensures.value) first in
+          subst (λ (us : List UnitValue). IsSentFrame frames c.packets.pes c.in-Some.sending.frame
+          (packets_of_units us)) (sym c.units_of-units.ensures.value) first in
           let go =
           c.in-Ok-go_on.ensures.told task frames _ _ i.1 i.3 sent
           (λ e.
           again_is frames c.packets.pes _ _ _ sent i.2
           (ap packets_of_units
-          (sym (here.again c.in-Some-more.sending given e)
+          (sym (c.in-Ok.ensures.again c.in-Some.sending given e)
           ∙ sym c.units_of-units.ensures.value))) in (
-            next_read i.0 c.next_live.new.reader.frame c.in-Some-more.sending.frame _ at
-                (here.left i.0.rest i.0.rest_is) takes c.units_of-units.ensures.frame,
+            next_read i.0 c.next_sending.new.reader.frame c.in-Some.sending.frame _ at
+                (c.in-Ok.ensures.left i.0.rest i.0.rest_is) takes c.units_of-units.ensures.frame,
             go.1.0,
             λ some. ap (packets_of_frame frames) (omega arith) ∙ first.packets_are,
             judges_more task frames c.packets.pes _ go.1.1,
             all_same _ _ _ _ (one_more task frames c.packets.pes)
-                (Tells-trans _ _ _ _ _ so_far go.0),
+                (Tells-trans _ _ _ _ _ i.4 go.0),
           );
     }
-
--- ---- some was told
-
-pub returns-in-Err-clause-some : goal.returns-in-Err-clause-some
-returns-in-Err-clause-some g c =
-    TellsSome-trans _ _ _
-    (TellsSome-kept _ _ _ _ _ c.packets.invariant.some c.requires.settled
-    c.next_live.ensures.told)
-    c.finish.ensures.some
-
-pub returns-in_default-more-clause-some : goal.returns-in_default-more-clause-some
-returns-in_default-more-clause-some g c =
-    TellsSome-trans _ _ _
-    (TellsSome-kept _ _ _ _ _ c.packets.invariant.some c.requires.settled
-    c.next_live.ensures.told)
-    c.finish-in_default-more.ensures.some
-
-pub returns-in-Err-go_on-clause-some : goal.returns-in-Err-go_on-clause-some
-returns-in-Err-go_on-clause-some g c =
-    TellsSome-trans _ _ _
-    (TellsSome-kept _ _ _ _ _ c.packets.invariant.some c.requires.settled
-    c.next_live.ensures.told)
-    c.in-Err-go_on.ensures.some

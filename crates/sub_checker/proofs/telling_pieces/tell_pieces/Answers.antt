@@ -3,6 +3,7 @@ use Rattle.std.proofs.Common.{◌≡◌, ◌≤◌, ◌∙◌, ◌∷◌, [], ap
 use Rattle.std.proofs.Common.{None, Ok, Option, Result, Some}
 use Rattle.sub_checker.specs.Steps.{ending_fault}
 use Rattle.sub_rules.specs.declared.fault.CheckFault.{CheckFault}
+use Rattle.sub_io.proofs.HandingOnLemmas.{TellsSome-kept}
 use Rattle.sub_io.proofs.TellingLemmas.{TellsSome-none, Tells-none}
 use Rattle.sub_io.specs.Telling.{Tells}
 use Rattle.ttx_pes.specs.Comparing.{ComparingValue}
@@ -12,8 +13,8 @@ use Rattle.sub_rules.specs.Pieces.{Piece, frames_of}
 use Rattle.sub_rules.specs.PieceEvents.{events_of_pieces}
 use Rattle.sub_checker.proofs.PieceWaysLemmas.{done_none, front, list_long, none_of_pieces}
 use Rattle.sub_checker.proofs.PieceWaysLemmas.{passed_as, passed_told, reads_on_none, sent_next}
-use Rattle.sub_checker.proofs.PieceWaysLemmas.{sent_told, step_passed, step_sent, told_stop}
-use Rattle.sub_checker.proofs.PieceWaysLemmas.{told_whole, tracks_none}
+use Rattle.sub_checker.proofs.PieceWaysLemmas.{sent_told, step_passed, step_sent, told_before}
+use Rattle.sub_checker.proofs.PieceWaysLemmas.{told_stop, told_whole, tracks_none}
 use Rattle.std.proofs.Common.{◌+◌, ◌-◌, ◌<◌, ◌++◌, true}
 use Rattle.std.proofs.lemmas.Bool.{true≢false}
 use Rattle.stl_file.specs.TimeCode.{day}
@@ -67,37 +68,46 @@ pieces-init g c = record {
 pub returns-then-is_source_failure-clause-exact : goal.returns-then-is_source_failure-clause-exact
 returns-then-is_source_failure-clause-exact g c = λ pieces unread bytes told reads.
     let i = c.pieces.invariant.told pieces unread bytes told reads in
+    let here = rw c.in-Err.is at c.in-Some.ensures.reads in
+    let so_far =
+    c.next_live.ensures.told.kept c.args.audience.now _ c.requires.settled i.3 in
     let at = front c.args.programme.now i.0 i.1 in (
       c.pieces.pes,
       at.0,
-      c.in-Err.ensures.place (sym c.is_source_failure.ensures ∙ c.if-is_source_failure.true),
+      here.place (sym c.is_source_failure.ensures ∙ c.if-is_source_failure.true),
       subst (λ (l : List Piece). Tells g.A.Audience.is_told c.args.audience.now
-          c.pieces.audience (events_of_pieces (task_of c.args.programme.now c.args.options.now
-          unread) (frames_of pieces) l)) (sym at.1) i.3,
+          c.next_live.new.audience (events_of_pieces (task_of c.args.programme.now
+          c.args.options.now unread) (frames_of pieces) l)) (sym at.1) so_far,
     )
 
 pub returns-in-Err-clause-exact : goal.returns-in-Err-clause-exact
 returns-in-Err-clause-exact g c = λ pieces unread bytes told reads.
     let i = c.pieces.invariant.told pieces unread bytes told reads in
     let task = task_of c.args.programme.now c.args.options.now unread in
-    let end = c.in-Err.ensures.exact i.0.ahead unread i.0.rest i.0.rest_is
+    let here = rw c.in-Err.is at c.in-Some.ensures.reads in
+    let so_far =
+    c.next_live.ensures.told.kept c.args.audience.now _ c.requires.settled i.3 in
+    let end = here.exact i.0.ahead unread i.0.rest i.0.rest_is
     (sym c.is_source_failure.ensures ∙ c.if-is_source_failure.false) i.0.left in
     told_whole c.args.programme.now i.0 i.1 c.pieces.invariant.few end.0 _ _ _
-    c.finish-end.result i.3
+    c.finish-end.result so_far
     (c.finish-end.ensures.told task (frames_of pieces) _ _ i.1.follows i.1.judges
     (list_long c.args.programme.now i.0 i.1 c.pieces.invariant.few end.0)
     (ap (λ (f : CheckFault). Some f) end.3
     ∙ ap (ending_fault c.pieces.pes) (sym end.2)))
     c.finish-end.ensures.counts
 
-pub returns-in_default-clause-exact : goal.returns-in_default-clause-exact
-returns-in_default-clause-exact g c = λ pieces unread bytes told reads.
+pub returns-in_default-next-clause-exact : goal.returns-in_default-next-clause-exact
+returns-in_default-next-clause-exact g c = λ pieces unread bytes told reads.
     let i = c.pieces.invariant.told pieces unread bytes told reads in
     let task = task_of c.args.programme.now c.args.options.now unread in
-    let end = rw c.in_default.is at
-    (c.in-Ok.ensures.exact i.0.ahead unread i.0.rest i.0.rest_is refl i.0.left) in
+    let here = rw c.in-Ok.is at c.in-Some.ensures.reads in
+    let so_far =
+    c.next_live.ensures.told.kept c.args.audience.now _ c.requires.settled i.3 in
+    let end = rw c.in_default-next.is at
+    (here.exact i.0.ahead unread i.0.rest i.0.rest_is refl i.0.left) in
     told_whole c.args.programme.now i.0 i.1 c.pieces.invariant.few end.0 _ _ _
-    c.finish.result i.3
+    c.finish.result so_far
     (c.finish.ensures.told task (frames_of pieces) _ _ i.1.follows i.1.judges
     (list_long c.args.programme.now i.0 i.1 c.pieces.invariant.few end.0)
     (ap (ending_fault c.pieces.pes) (sym end.1)))
@@ -107,8 +117,11 @@ pub returns-in-Err-tell_passed-clause-exact : goal.returns-in-Err-tell_passed-cl
 returns-in-Err-tell_passed-clause-exact g c = λ pieces unread bytes told reads.
     let i = c.pieces.invariant.told pieces unread bytes told reads in
     let task = task_of c.args.programme.now c.args.options.now unread in
-    let at = rw (c.in-Some.is, c.in-Passed.is) at
-    (c.in-Ok.ensures.exact i.0.ahead unread i.0.rest i.0.rest_is refl i.0.left) in
+    let here = rw c.in-Ok.is at c.in-Some.ensures.reads in
+    let so_far =
+    c.next_live.ensures.told.kept c.args.audience.now _ c.requires.settled i.3 in
+    let at = rw (c.in-Some-next.is, c.in-Passed.is) at
+    (here.exact i.0.ahead unread i.0.rest i.0.rest_is refl i.0.left) in
     let is : c.in-Passed.fault ≡ unread_fault c.pieces.pes (Some at.0) = at.1 in
     let next : ReadsPiece c.args.options.now.origin c.pieces.pes i.0.rest i.0.ahead unread
     (Passed at.0) = at.2 in
@@ -119,8 +132,8 @@ returns-in-Err-tell_passed-clause-exact g c = λ pieces unread bytes told reads.
     (i.0.parts ∙ ap (λ (l : List Piece). i.0.done ++ l) next.first) i.0.count i.1.sent_is
     i.1.run_is
     (passed_told task pieces i.0.done c.pieces.pes c.pieces.frames i.0.count i.1.sent_is at.0)
-    i.3
-    (subst (λ (es : List Event). TellsPrefix g.A.Audience.is_told c.pieces.audience
+    so_far
+    (subst (λ (es : List Event). TellsPrefix g.A.Audience.is_told c.next_live.new.audience
     c.tell_passed.new.audience (all_announced (as_run c.pieces.kept.run) es)) same
     c.in-Err-tell_passed.ensures.told.told)
 
@@ -128,13 +141,16 @@ pub returns-in-Err-told-clause-exact : goal.returns-in-Err-told-clause-exact
 returns-in-Err-told-clause-exact g c = λ pieces unread bytes told reads.
     let i = c.pieces.invariant.told pieces unread bytes told reads in
     let task = task_of c.args.programme.now c.args.options.now unread in
-    let at = rw (c.in-Some.is, c.in-Sent.is) at
-    (c.in-Ok.ensures.exact i.0.ahead unread i.0.rest i.0.rest_is refl i.0.left) in
+    let here = rw c.in-Ok.is at c.in-Some.ensures.reads in
+    let so_far =
+    c.next_live.ensures.told.kept c.args.audience.now _ c.requires.settled i.3 in
+    let at = rw (c.in-Some-next.is, c.in-Sent.is) at
+    (here.exact i.0.ahead unread i.0.rest i.0.rest_is refl i.0.left) in
     let given = ap (λ x. let r : Result (Option NextPiece) CheckFault = Ok x in r)
-    (c.in-Some.is ∙ ap (λ (p : NextPiece). Some p) c.in-Sent.is) in
+    (c.in-Some-next.is ∙ ap (λ (p : NextPiece). Some p) c.in-Sent.is) in
     let s : SentFrame = record {
       frame = c.in-Sent.sending.frame;
-      packets = packets_of_units c.next_piece.new.reader.frame.units;
+      packets = packets_of_units c.next_live.new.reader.frame.units;
     } in
     let next : ReadsPiece c.args.options.now.origin c.pieces.pes i.0.rest i.0.ahead unread
     (Sent s) = at.0 in
@@ -150,67 +166,75 @@ returns-in-Err-told-clause-exact g c = λ pieces unread bytes told reads.
     let both = c.after_piece-sending.ensures.again e in
     again_is (frames_of pieces) c.pieces.frames _ _ _ sent (i.2 both.1)
     (ap packets_of_units
-    (sym (c.in-Ok.ensures.again c.in-Sent.sending given both.0)
+    (sym (here.again c.in-Sent.sending given both.0)
     ∙ sym c.units_of-units.ensures.value))) in
     told_stop task pieces i.0.done next.more (Sent s) c.pieces.pes c.pieces.frames
     _ _ _ c.pieces.kept.run _ parts i.0.count i.1.sent_is i.1.run_is
     (sent_told task pieces i.0.done c.pieces.pes c.pieces.frames i.0.count i.1.sent_is s)
-    i.3 go.0.told
+    so_far go.0.told
 
 pub pieces-preserved : goal.pieces-preserved
 pieces-preserved g c =
     let inv = c.pieces.invariant in
-    let below = (rw c.in-Some.is at c.in-Ok.ensures.below) refl in
-    let counted = c.in-Ok.ensures.count in
+    let here = rw c.in-Ok.is at c.in-Some.ensures.reads in
+    let below = (rw c.in-Some-next.is at here.below) refl in
+    let counted = rw c.in-Ok.is at c.in-Some.ensures.count in
     let before = inv.failures in
     let fewer = inv.fewer in
-    let one = (rw c.in-Some.is at c.in-Ok.ensures.taken) refl in
+    let one = (rw c.in-Some-next.is at here.taken) refl in
+    let some =
+    TellsSome-kept _ _ _ _ _ inv.some c.requires.settled c.next_live.ensures.told in
     elim c.match-piece.branch [
       | in-Passed+in-Ok-tell_passed w ↦
           rw (w.audience-is, w.checker-is, w.kept-is, w.frames-is, w.passed-is) (record {
             few = omega (arith, below);
             fewer = omega arith;
-            reading = (rw c.in-Some.is at c.in-Ok.ensures.progress) refl;
+            reading = (rw c.in-Some-next.is at here.progress) refl;
             taken = takes_more_pieces c.pieces.pes _ _ _ inv.taken one;
             failures = omega (arith, counted, before);
             goes_on = w.in-Ok-tell_passed.ensures.stopped;
             day =
                 subst (λ (t : Trust). t.last < day) (sym w.in-Ok-tell_passed.ensures.trust) inv.day;
-            some = TellsSome-trans _ _ _ inv.some w.in-Ok-tell_passed.ensures.some;
+            some = TellsSome-trans _ _ _ some w.in-Ok-tell_passed.ensures.some;
             headers = inv.headers;
             told = λ pieces unread bytes told reads.
                 let i = inv.told pieces unread bytes told reads in
-                let at = rw (c.in-Some.is, w.in-Passed.is) at
-                (c.in-Ok.ensures.exact i.0.ahead unread i.0.rest i.0.rest_is refl i.0.left) in
-                let left = (rw c.in-Some.is at (c.in-Ok.ensures.left i.0.rest i.0.rest_is)) refl in
+                let so_far = c.next_live.ensures.told.kept c.args.audience.now _
+                c.requires.settled i.3 in
+                let at = rw (c.in-Some-next.is, w.in-Passed.is) at
+                (here.exact i.0.ahead unread i.0.rest i.0.rest_is refl i.0.left) in
+                let left = (rw c.in-Some-next.is at (here.left i.0.rest i.0.rest_is)) refl in
                 let s = step_passed c.args.programme.now i.0 i.1 g.A.Audience.is_told _ at.0
                 w.in-Passed.fault w.tell_passed.new.kept.trust w.tell_passed.new.kept.run _ _ _
                 left at.2 at.1 w.in-Ok-tell_passed.ensures.trust
-                w.in-Ok-tell_passed.ensures.told.run_is i.3 w.in-Ok-tell_passed.ensures.told.told in
+                w.in-Ok-tell_passed.ensures.told.run_is so_far
+                w.in-Ok-tell_passed.ensures.told.told in
                 (s.reads, s.kept, λ no some. absurd (true≢false no), s.told);
           })
       | in-Sent+in-Ok-told w ↦
           rw (w.audience-is, w.checker-is, w.kept-is, w.frames-is, w.passed-is) (record {
             few = omega (arith, below);
             fewer = omega arith;
-            reading = (rw c.in-Some.is at c.in-Ok.ensures.progress) refl;
+            reading = (rw c.in-Some-next.is at here.progress) refl;
             taken = takes_more_pieces c.pieces.pes _ _ _ inv.taken one;
             failures = omega (arith, counted, before);
             goes_on = w.in-Ok-told.ensures.stopped;
             day = w.in-Ok-told.ensures.day;
-            some = TellsSome-trans _ _ _ inv.some w.in-Ok-told.ensures.some;
+            some = TellsSome-trans _ _ _ some w.in-Ok-told.ensures.some;
             headers = w.in-Ok-told.ensures.headers;
             told = λ pieces unread bytes told reads.
                 let i = inv.told pieces unread bytes told reads in
                 let task = task_of c.args.programme.now c.args.options.now unread in
-                let at = rw (c.in-Some.is, w.in-Sent.is) at
-                (c.in-Ok.ensures.exact i.0.ahead unread i.0.rest i.0.rest_is refl i.0.left) in
-                let left = (rw c.in-Some.is at (c.in-Ok.ensures.left i.0.rest i.0.rest_is)) refl in
+                let so_far = c.next_live.ensures.told.kept c.args.audience.now _
+                c.requires.settled i.3 in
+                let at = rw (c.in-Some-next.is, w.in-Sent.is) at
+                (here.exact i.0.ahead unread i.0.rest i.0.rest_is refl i.0.left) in
+                let left = (rw c.in-Some-next.is at (here.left i.0.rest i.0.rest_is)) refl in
                 let given = ap (λ x. let r : Result (Option NextPiece) CheckFault = Ok x in r)
-                (c.in-Some.is ∙ ap (λ (p : NextPiece). Some p) w.in-Sent.is) in
+                (c.in-Some-next.is ∙ ap (λ (p : NextPiece). Some p) w.in-Sent.is) in
                 let s : SentFrame = record {
                   frame = w.in-Sent.sending.frame;
-                  packets = packets_of_units c.next_piece.new.reader.frame.units;
+                  packets = packets_of_units c.next_live.new.reader.frame.units;
                 } in
                 let next : ReadsPiece c.args.options.now.origin c.pieces.pes i.0.rest i.0.ahead
                 unread (Sent s) = at.0 in
@@ -230,13 +254,13 @@ pieces-preserved g c =
                 let both = w.after_piece-sending.ensures.again e in
                 again_is (frames_of pieces) c.pieces.frames _ _ _ sent (i.2 both.1)
                 (ap packets_of_units
-                (sym (c.in-Ok.ensures.again w.in-Sent.sending given both.0)
+                (sym (here.again w.in-Sent.sending given both.0)
                 ∙ sym w.units_of-units.ensures.value))) in
                 let step = step_sent c.args.programme.now i.0 i.1 g.A.Audience.is_told _
-                c.next_piece.new.reader.frame w.in-Sent.sending.frame w.tell_sent-told.new.checker
+                c.next_live.new.reader.frame w.in-Sent.sending.frame w.tell_sent-told.new.checker
                 w.tell_sent-told.new.kept.trust w.tell_sent-told.new.kept.run _ _ _ left next at.1
-                (c.in-Ok.ensures.sent w.in-Sent.sending given) w.units_of-units.ensures.frame
-                go.1.0 go.1.1 go.0.run_is i.3 go.0.told in (
+                (here.sent w.in-Sent.sending given) w.units_of-units.ensures.frame
+                go.1.0 go.1.1 go.0.run_is so_far go.0.told in (
                   step.reads,
                   step.kept,
                   λ no some. ap (packets_of_frame (frames_of pieces)) (omega arith)
@@ -245,3 +269,41 @@ pieces-preserved g c =
                 );
           })
     ]
+
+-- It said stop before the next piece.
+pub returns-in_default-clause-exact : goal.returns-in_default-clause-exact
+returns-in_default-clause-exact g c = λ pieces unread bytes told reads.
+    let i = c.pieces.invariant.told pieces unread bytes told reads in
+    let task = task_of c.args.programme.now c.args.options.now unread in
+    told_before task pieces i.0.done i.0.ahead _ _ i.0.parts
+    (c.next_live.ensures.told.kept c.args.audience.now _ c.requires.settled i.3)
+
+-- ---- some was told
+
+pub returns-in-Err-clause-some : goal.returns-in-Err-clause-some
+returns-in-Err-clause-some g c =
+    TellsSome-trans _ _ _
+    (TellsSome-kept _ _ _ _ _ c.pieces.invariant.some c.requires.settled
+    c.next_live.ensures.told)
+    c.finish-end.ensures.some
+
+pub returns-in_default-next-clause-some : goal.returns-in_default-next-clause-some
+returns-in_default-next-clause-some g c =
+    TellsSome-trans _ _ _
+    (TellsSome-kept _ _ _ _ _ c.pieces.invariant.some c.requires.settled
+    c.next_live.ensures.told)
+    c.finish.ensures.some
+
+pub returns-in-Err-tell_passed-clause-some : goal.returns-in-Err-tell_passed-clause-some
+returns-in-Err-tell_passed-clause-some g c =
+    TellsSome-trans _ _ _
+    (TellsSome-kept _ _ _ _ _ c.pieces.invariant.some c.requires.settled
+    c.next_live.ensures.told)
+    c.in-Err-tell_passed.ensures.some
+
+pub returns-in-Err-told-clause-some : goal.returns-in-Err-told-clause-some
+returns-in-Err-told-clause-some g c =
+    TellsSome-trans _ _ _
+    (TellsSome-kept _ _ _ _ _ c.pieces.invariant.some c.requires.settled
+    c.next_live.ensures.told)
+    c.in-Err-told.ensures.some
