@@ -5,10 +5,14 @@ what is due is what `schedule` sends of it.
 """
 from __future__ import annotations
 
+import contextlib
 import dataclasses
 from typing import BinaryIO, Callable, Iterable
 
-from .pes import data_field, pes_packet, pes_packets, pts_in, teletext_packets
+from .files import Damaged
+from .pes import (
+    DATA, FIRST_LINE, UNIT, data_field, pes_packet, pes_packets, pts_bytes, pts_in,
+    teletext_packets)
 from .stl import DOUBLE_HEIGHT, GSI, TEXT, TTI, UNUSED
 from .teletext import (
     CODE_WORDS, CONTROL_BITS, ERASE, INHIBIT, NATIONAL, NEWSFLASH, NUMBER, SERIAL, SUBTITLE,
@@ -25,8 +29,8 @@ FIELDS = {16: (CS, 0), 18: (JC, 2), 19: (VP, 22)}
 
 @dataclasses.dataclass
 class Fault:
-    """A line `refused`: its number, the numbers of its place, and for 72, 73 and 77 the last frame
-    at whose end it stood."""
+    """A line `refused`: its number, and the numbers of its place. `until` is, for 72, 73 and 77,
+    the last frame at whose end it stood, and the last one of PES packets of which it is told."""
 
     number: int
     place: dict[str, int]
@@ -45,7 +49,7 @@ def faults_in(lines: Iterable[str]) -> list[Fault]:
         place = {name: (frame_of(value) or 0) if name == "frame" else int(value)
                  for name, value in zip(names, names)}
         if words[0] == "ended":
-            standing[number].until = place["frame"]
+            standing[number].until = place["frame"] if "frame" in place else place["pes"]
         else:
             standing[number] = Fault(number, place)
             found.append(standing[number])
@@ -87,6 +91,43 @@ def drop_byte(block: bytearray, at: int) -> None:
     block[TEXT_FIELD:] = text.ljust(TEXT, UNUSED)
 
 
+# PES packets
+
+# Bytes of a PES packet that have one value: flags, the length of its header, data_identifier.
+HEAD_BYTES = {33: (6, 0x84), 34: (7, 0x80), 35: (8, 0x24), 37: (DATA - 1, 0x10)}
+# The same of a data unit: its length, and its framing code.
+UNIT_BYTES = {38: (1, 0x2C), 39: (3, 0xE4)}
+
+
+def mended_pes_packets(packets: Iterable[bytes], faults: Iterable[Fault]) -> bytes:
+    """PES packets whose fields are mended by their list: those of one number in a row alike."""
+    mended = list(map(bytearray, packets))
+    for fault in faults:
+        first = fault.place["pes"]
+        for one in mended[first:max(first, fault.until) + 1]:
+            mend_fields(one, fault.number)
+    return b"".join(mended)
+
+
+def mend_fields(packet: bytearray, number: int) -> None:
+    """The field that a number names gets its value in a PES packet."""
+    units = [at for at in range(DATA, len(packet), UNIT) if packet[at] in (2, 3)]
+    if number in HEAD_BYTES:
+        at, value = HEAD_BYTES[number]
+        packet[at] = value
+    elif number in UNIT_BYTES:
+        at, value = UNIT_BYTES[number]
+        for unit in units:
+            packet[unit + at] = value
+    elif number == 40:
+        for line, unit in enumerate(units, FIRST_LINE):
+            packet[unit + 2] = 0xE0 | line
+    elif number in (36, 61):
+        packet[9:14] = pts_bytes(round(pts_in(packet) / TICKS) * TICKS)
+    else:
+        raise ValueError(f"no cure for {number}")
+
+
 # Transmissions
 
 @dataclasses.dataclass
@@ -102,8 +143,13 @@ class Sending:
 
 
 def sendings_in(file: BinaryIO) -> list[Sending]:
-    return [Sending(pts_in(one), list(map(bytearray, teletext_packets(data_field(one)))))
-            for one in pes_packets(file)]
+    """The sendings of a file. Bytes that are no PES packet are left out with all after them."""
+    found: list[Sending] = []
+    with contextlib.suppress(Damaged):
+        for one in pes_packets(file):
+            packets = list(map(bytearray, teletext_packets(data_field(one))))
+            found.append(Sending(pts_in(one), packets))
+    return found
 
 
 def joined(sendings: Iterable[Sending]) -> bytes:
@@ -144,9 +190,8 @@ class Transmission:
         begin = max(one.frame for one in self.sendings if one.frame <= fault.place["frame"])
         return [one for one in self.sendings if begin <= one.frame <= fault.until]
 
-    def round_time(self, fault: Fault) -> None:
-        one = self.sendings[fault.place["pes"]]
-        one.pts = round(one.pts / TICKS) * TICKS
+    def leave_out(self, fault: Fault) -> None:
+        """Bytes after the last PES packet are in no sending."""
 
     def drop_sending(self, fault: Fault) -> None:
         self.dropped_sendings.append(fault.place["pes"])
@@ -201,7 +246,7 @@ class Transmission:
 
 
 MENDS: dict[int, Callable[[Transmission, Fault], None]] = {
-    61: Transmission.round_time, 62: Transmission.drop_sending,
+    30: Transmission.leave_out, 62: Transmission.drop_sending,
     64: Transmission.correct_address, 65: Transmission.correct_header,
     66: Transmission.set_mode, 67: Transmission.set_control, 68: Transmission.set_parity,
     69: Transmission.drop_packet, 70: Transmission.drop_packet, 72: Transmission.send_row,

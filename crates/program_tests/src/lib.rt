@@ -30,6 +30,8 @@ mod packet;
 #[cfg(test)]
 mod packets;
 #[cfg(test)]
+mod passed_over;
+#[cfg(test)]
 mod reading_on;
 #[cfg(test)]
 mod refused_memory;

@@ -8,8 +8,9 @@ from __future__ import annotations
 from typing import Iterator, NamedTuple, Sequence
 
 from ..teletext import CODE_WORDS, Page, address_of, is_odd
-from ..times import frame_at, time_of
-from .reading import Header, Record, StlFault, found_in, header_of, pes_packets_of, records_of
+from ..times import time_of
+from .reading import (
+    Header, Record, StlFault, found_in, header_of, pieces_of, records_of, sending_in)
 from .rows import BLANK, COLUMNS, TextFault, drawn
 from .trust import Course, Event, Sent, lines_of
 
@@ -58,8 +59,8 @@ def refused(number: int, place: str = "") -> str:
     return f"refused {number} {NAMES[number]} {place}".rstrip()
 
 
-def ended(number: int, frame: int) -> str:
-    return f"ended {number} {NAMES[number]} frame {time_of(frame)}"
+def ended(number: int, place: str) -> str:
+    return f"ended {number} {NAMES[number]} {place}"
 
 
 # The subtitle file
@@ -212,7 +213,7 @@ class Ends:
             if now == before:
                 continue
             if before is not None:
-                yield number, ended(number, self.frame)
+                yield number, ended(number, f"frame {time_of(self.frame)}")
             if now is not None:
                 yield number, refused(number, self.place(number, frame, now))
         self.standing, self.frame = found, frame
@@ -226,11 +227,11 @@ class Ends:
     def after_the_last(self) -> Iterator[tuple[int, str]]:
         """The numbers and the lines of what still stands after the last end."""
         for number in sorted(self.standing):
-            yield number, ended(number, self.frame)
+            yield number, ended(number, f"frame {time_of(self.frame)}")
 
 
 class Transmission:
-    """The PES packets that were read, one after another, and what is told of them."""
+    """The pieces of a file, one after another, and what is told of them."""
 
     def __init__(self, due: Due, options: Options) -> None:
         self.due, self.options = due, options
@@ -238,9 +239,32 @@ class Transmission:
         self.frames: list[int] = []
         self.packets: list[Packet] = []
         self.headers: list[int] = []  # the frames with a header of the page
+        # The number of the pieces in a row that were passed over last, the first and the last one.
+        self.passed: tuple[int, int, int] | None = None
 
     def tell(self, number: int, place: str, pes: int | None) -> None:
-        self.course.events.append(Event(refused(number, place), number, pes))
+        self.add(Event(refused(number, place), number, pes))
+
+    def add(self, event: Event) -> None:
+        """The next event, with the end of the pieces before it that were passed over."""
+        self.end_passed()
+        self.course.events.append(event)
+
+    def pass_over(self, pes: int, number: int) -> None:
+        """A piece that is not read: the first of those in a row with one number is told."""
+        self.course.passed.append(pes)
+        if self.passed and self.passed[0] == number:
+            self.passed = number, self.passed[1], pes
+        else:
+            self.tell(number, f"pes {pes}", pes)
+            self.passed = number, pes, pes
+
+    def end_passed(self) -> None:
+        """Where a number was told of the first of some pieces, it ended with the last."""
+        if self.passed and self.passed[1] < self.passed[2]:
+            number, _, last = self.passed
+            self.course.events.append(Event(ended(number, f"pes {last}"), number, last))
+        self.passed = None
 
     def take(self, pes: int, frame: int, teletext: list[bytes]) -> None:
         """The next PES packet."""
@@ -276,44 +300,48 @@ class Transmission:
     def end(self, pes: int, frame: int) -> None:
         """The end of a frame, which comes before a PES packet or with it."""
         for number, line in self.ends.at(frame, self.packets, self.headers):
-            self.course.events.append(Event(line, number, pes, frame))
+            self.add(Event(line, number, pes, frame))
         if self.ends.standing:
             self.course.standing.append((pes, frame))
 
     def close(self, broken: int | None, pes: int) -> Course:
-        """The end of the list, at what ended reading, if anything did."""
+        """The end after so many pieces, and what is wrong with the bytes after them, if any are."""
+        self.end_passed()
         for number, line in self.ends.after_the_last():
-            self.course.events.append(Event(line, number, None))
+            self.add(Event(line, number, None))
         end = self.due.last()
         if broken is not None:
             self.course.is_left = True
             self.tell(broken, f"pes {pes}", None)
-        elif not self.frames:
+        elif pes == 0:
             self.tell(60, "", None)
-        elif end is not None and end > self.frames[-1]:
+        elif self.frames and end is not None and end > self.frames[-1]:
             self.tell(74, f"frame {time_of(self.frames[-1])}", None)
         return self.course
 
 
 def course_of(due: Due, data: bytes, options: Options) -> Course:
     """What is told of a transmission, and what was read of it."""
-    listed, broken = pes_packets_of(data)
+    pieces, broken = pieces_of(data)
     transmission = Transmission(due, options)
-    for pes, (pts, teletext) in enumerate(listed):
-        frame = frame_at(pts, options.origin)
-        if frame is None:
-            return transmission.close(61, pes)
-        transmission.take(pes, frame, teletext)
-    return transmission.close(broken, len(listed))
+    for pes, piece in enumerate(pieces):
+        sending = sending_in(piece, options.origin)
+        if isinstance(sending, int):
+            transmission.pass_over(pes, sending)
+        else:
+            transmission.take(pes, *sending)
+    return transmission.close(broken, len(pieces))
 
 
 def transmissions(data: bytes, options: Options) -> tuple[int, int]:
     """The frames and the headers of the page of a file that is accepted."""
     frames, count = [], 0
-    for pts, teletext in pes_packets_of(data)[0]:
-        frames.append(frame_at(pts, options.origin) or 0)
-        headers = [header_of(one) for one in teletext]
-        count += sum(header is not None and header[0] == options.page for header in headers)
+    for piece in pieces_of(data)[0]:
+        sending = sending_in(piece, options.origin)
+        if not isinstance(sending, int):
+            frames.append(sending[0])
+            headers = [header_of(one) for one in sending[1]]
+            count += sum(header is not None and header[0] == options.page for header in headers)
     return frames[-1] - frames[0] + 1, count
 
 

@@ -11,11 +11,11 @@ from typing import Iterator, NamedTuple, Optional
 from ..pes import pts_in
 from ..stl import GSI, LAST, TTI, USER_DATA
 from ..teletext import NUMBER, Page, address_of, mirrored
-from ..times import frame_of_code
+from ..times import frame_at, frame_of_code
 
 MOST_BLOCKS, MOST_BLOCKS_OF_ONE, MOST_PES_PACKETS = 99_999, 9, 2_160_000
 
-Listed = tuple[int, list[bytes]]  # a PES packet that is read: its PTS, and its Teletext packets
+Sending = tuple[int, list[bytes]]  # a PES packet that is read: its frame, its Teletext packets
 Header = tuple[Page, set[int]]  # the page of a header, and which of the control bits 4 to 14 it has
 
 
@@ -186,8 +186,8 @@ def units_of(packet: bytes) -> tuple[list[bytes], int | None]:
     return packets, None
 
 
-def pes_at(data: bytes, begin: int) -> int | tuple[int, int, list[bytes]]:
-    """The packet that begins there: its length, its PTS, its Teletext packets; or a number."""
+def piece_at(data: bytes, begin: int) -> bytes | int:
+    """The piece that begins there, as long as it says that it is; or a number."""
     head = data[begin:begin + 6]
     if len(head) < 6:
         return 30
@@ -196,26 +196,34 @@ def pes_at(data: bytes, begin: int) -> int | tuple[int, int, list[bytes]]:
     length = int.from_bytes(head[4:], "big") + 6
     if length not in range(184, 184 * 9 + 1, 184):
         return 32
-    packet = data[begin:begin + length]
-    if len(packet) < length:
-        return 30
-    number = head_fault(packet)
-    packets, broken = units_of(packet) if number is None else ([], number)
-    return broken or (length, pts_in(packet), packets)
+    piece = data[begin:begin + length]
+    return piece if len(piece) == length else 30
 
 
-def pes_packets_of(data: bytes) -> tuple[list[Listed], int | None]:
-    """The PES packets that can be read, each a PTS and Teletext packets; the number of the first
-    fault, or `None` where all bytes are read."""
-    found: list[Listed] = []
+def pieces_of(data: bytes) -> tuple[list[bytes], int | None]:
+    """The pieces with which a file begins, and the number of what is wrong with the bytes after
+    them; `None` where there are none."""
+    found: list[bytes] = []
     begin = 0
     while begin < len(data):
-        read = pes_at(data, begin) if len(found) < MOST_PES_PACKETS else 44
-        if isinstance(read, int):
-            return found, read
-        found.append(read[1:])
-        begin += read[0]
+        piece = piece_at(data, begin) if len(found) < MOST_PES_PACKETS else 44
+        if isinstance(piece, int):
+            return found, piece
+        found.append(piece)
+        begin += len(piece)
     return found, None
+
+
+def sending_in(piece: bytes, origin: int) -> Sending | int:
+    """The frame and the Teletext packets of a piece, or the number of what is wrong with it."""
+    number = head_fault(piece)
+    if number is not None:
+        return number
+    packets, number = units_of(piece)
+    if number is not None:
+        return number
+    frame = frame_at(pts_in(piece), origin)
+    return 61 if frame is None else (frame, packets)
 
 
 # Teletext packets

@@ -13,6 +13,7 @@ from ..times import time_of
 # What a PES packet may not be told for, if its frame is quiet; a receiver depends on these rules.
 OF_PACKETS = {64, 65, 67, 68, 69}
 ORDER = 62
+PASSED = {*range(33, 41), 61}  # what is told of a piece that is passed over
 
 
 class Event(NamedTuple):
@@ -46,12 +47,14 @@ class Run(NamedTuple):
 class Course:
     """What is told of a transmission, and what was read of it.
 
-    `standing` are the ends at which 72, 73 or 77 stands: the PES packet before which or with which
-    each end comes, and its frame. `is_left` says that something after the list was not read.
+    `passed` are the pieces that were passed over. `standing` are the ends at which 72, 73 or 77
+    stands: the PES packet before which or with which each end comes, and its frame. `is_left` says
+    that bytes are left after the pieces.
     """
 
     events: list[Event] = field(default_factory=list)
     sent: list[Sent] = field(default_factory=list)
+    passed: list[int] = field(default_factory=list)
     standing: list[tuple[int, int]] = field(default_factory=list)
     is_left: bool = False
 
@@ -68,8 +71,13 @@ class Trust:
         self.broken = {frames[one.pes] for one in course.events
                        if one.pes in frames and one.number in OF_PACKETS}
         self.broken |= {frame for pes, frame in course.standing if pes in frames}
-        # What comes after the last PES packet may have been sent in its frame.
+        # What comes after a PES packet and was not read may have been sent in its frame, or later.
         self.doubted = {self.last} if order is not None or course.is_left else set()
+        for pes in course.passed:
+            before = [one.frame for one in self.rising if one.pes < pes]
+            after = [one.frame for one in self.rising if one.pes > pes]
+            if before:
+                self.doubted |= set(range(before[-1], after[0] if after else self.last + 1))
 
     def runs(self) -> Iterator[Run]:
         """The runs of quiet frames that no quiet frame adjoins."""
@@ -100,8 +108,10 @@ class Trust:
                       if one.pes == pes and one.end == after]
             is_sent = any(one.frame == after for one in self.rising)
             return (of_packet if is_sent and of_packet else of_end)[0]
+        pes = [one.pes for one in self.rising if one.frame <= after][-1]
         return next((at for at, one in enumerate(events)
-                     if one.number == ORDER or one.pes is None), len(events))
+                     if one.number == ORDER or one.pes is None
+                     or one.number in PASSED and one.pes > pes), len(events))
 
 
 def lines_of(course: Course) -> Iterator[str]:
