@@ -144,6 +144,7 @@ fn tells_all_of_a_schedule_with_bytes_changed(rt: HostRuntime) {
         trusted frames 10:00:02:00 10:00:02:00\n\
         1 faults\n");
     // The first closing header becomes a stuffing unit.
+    assert_told(&rt, &changed(&rt, (138, 0xFF), (138, 0xFF)), &[], ACCEPTED);
     assert_told(&rt, &changed(&rt, (138, 0xFF), (138, 0xFF)), &["--complete"],
         "refused 77 Incomplete frame 10:00:00:00\n\
         ended 77 Incomplete frame 10:00:01:24\n\

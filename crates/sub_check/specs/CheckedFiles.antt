@@ -228,6 +228,7 @@ abbrev pub answer_by : Option CheckFault → Accepted → Result Accepted CheckF
 answer_by None a = Ok a
 answer_by (Some f) a = Err f
 
+-- The same by all that is told.
 abbrev pub first_answer : List Event → Accepted → Result Accepted CheckFault
 first_answer events a = answer_by (first_told events) a
 

@@ -1,4 +1,4 @@
-//! The device that `check` tells all events to.
+//! The device that `check` tells what is broken to.
 ghost use Rattle.std.specs.Prelude.{◌≡◌, Option, None, Some, IfSome, is_some, true};
 ghost use Rattle.sub_check.specs.FirstTold.{IsRuleFault, KeepsFirstFault, is_of_rule};
 ghost use Rattle.sub_rules.specs.declared.fault.CheckFault.{CheckFault};
@@ -8,9 +8,9 @@ use sub_io::{Audience, Stopped};
 use sub_rules::{CheckFault, Event};
 use ttx_pes::PesFault;
 
-// Keeps the first fault that a rule tells, and says stop at it. All else passes.
-//
-// Contracts see it as what it keeps.
+/// Keeps the first fault that a rule tells, and says stop at it. All else passes.
+///
+/// Contracts see it as what it keeps.
 #[derive(Drop)]
 pub struct FirstFault {
     fault: Option<CheckFault>,
@@ -25,14 +25,14 @@ impl Model for FirstFault {
 }
 
 impl FirstFault {
-    // One that was told nothing yet.
+    /// One that was told nothing yet.
     pub fn new() -> Self
         ensures { result ≡ None }
     {
         FirstFault { fault: None }
     }
 
-    // The fault that it keeps.
+    /// The fault that it keeps, once it said stop.
     pub fn into_fault(self) -> CheckFault
         requires { is_some self ≡ true }
         ensures kept { self ≡ Some result }

@@ -670,11 +670,14 @@ told_before g all done more {D} {IsTold} a b parts told =
   where
     each : List Event
     each = each_told g all done
+
     next : List Event
     next = told_of_each g (frames_of all) (length done) (length (frames_of done))
         (run_of g all done) more
+
     rest : List Event
     rest = last g all ++ closing g all
+
     front : all_of_pieces g all
         ≡ all_announced no_run each
         ++ (all_announced (passed_after_all no_run each) next

@@ -451,6 +451,7 @@ module _ (g : Task) (pieces : List Piece) (a b : ℕ) (can : CanStay g pieces a 
               let at = last_is (omega arith) in
               let place = ap (λ k. frame_at frames (k - 1)) all in
               omega arith
+
           end_later : m ≡ length frames → (u : Option Unread) → g.unread ≡ u
               → b < trust_end u (end_frame frames)
           end_later all None is = let low = last_low all in omega arith

@@ -101,11 +101,11 @@ module _ (g : Task) (frames : Transmission) where
       trusted_in_run StaysTo (frame_before frames n) kept (Told (unread_fault pes (Some u)) ∷ [])
       refl
       (λ x from e run l.
-          let at : x ≡ frame_before frames n =
-          let here = passed_doubt (frame_before frames n) pes u in cc in
-          let is = before from run in
-          let last = before_is frames n is.j is.below in
-          run_stays n x from within (omega arith) (λ there. omega arith) is l)
+      let at : x ≡ frame_before frames n =
+      let here = passed_doubt (frame_before frames n) pes u in cc in
+      let is = before from run in
+      let last = before_is frames n is.j is.below in
+      run_stays n x from within (omega arith) (λ there. omega arith) is l)
 
   -- Of pieces, the first of which, if it is sent, is frame n of the list.
   each_stays : (pes n : ℕ) (kept : Option ℕ) (pieces : List Piece)
@@ -152,9 +152,9 @@ module _ (g : Task) (frames : Transmission) where
   last_stays kept true before =
       each-put StaysTo kept (trust_end g.unread (end_frame frames))
       (λ from is l.
-          let low = end_low-trusted g.unread (end_frame frames) in
-          run_stays (length frames) (trust_end g.unread (end_frame frames)) from (omega arith)
-          (omega arith) (λ there. absurd (omega arith)) (before from is) l)
+      let low = end_low-trusted g.unread (end_frame frames) in
+      run_stays (length frames) (trust_end g.unread (end_frame frames)) from (omega arith)
+      (omega arith) (λ there. absurd (omega arith)) (before from is) l)
 
   -- What is told after them.
   plain_stays : (pes n : ℕ) → EachTrusted StaysTo (map (at_pes pes) (closing_events g frames n))

@@ -353,6 +353,7 @@ module _ (g : Task) (frames : Transmission) where
           let left = over-some (frame_before frames n) kept (frame_events g frames n) from
           (is ∙ ap (λ x. Some x) same) in
           goes_on n from there quiet (before from left.0) left.1
+
       by_quiet : (b : Bool) → is_quiet g frames n ≡ b → Run (suc n) from
       by_quiet true quiet =
           by_run quiet (run_over (frame_before frames n) kept (frame_events g frames n)) refl
