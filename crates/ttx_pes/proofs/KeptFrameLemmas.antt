@@ -1,10 +1,9 @@
 -- The units of a data field that is kept, and the value of a packet by them.
-use Rattle.std.proofs.Common.{◌≡◌, ℕ, ◌/◌, ◌<◌, List, ◌+◌, ◌*◌, ◌%◌, ◌≤◌, ◌++◌, [], length, drop}
+use Rattle.std.proofs.Common.{◌≡◌, ℕ, ◌/◌, ◌<◌, List, ◌+◌, ◌%◌, ◌≤◌, ◌++◌, [], length, drop}
 use Rattle.std.proofs.Common.{Ok}
 use Rattle.std.proofs.Common.{Err, refl, sym, arith}
 use Rattle.std.proofs.lemmas.List.{drop-drop}
 use Rattle.sub_io.specs.Reading.{AreBytes}
-use Rattle.ttx_pes.specs.DataUnit.{UnitValue}
 use Rattle.ttx_pes.specs.declared.fault.PesFault.{PesFault}
 use Rattle.ttx_pes.specs.PesPacket.{IsPesValue, PesValue}
 use Rattle.ttx_pes.specs.Reading.{pts_at, units_at, value_at}

@@ -15,3 +15,4 @@ pub mod TakenPackets
 pub mod PieceLemmas
 pub mod PieceListLemmas
 pub mod SentUnitLemmas
+pub mod HeadLemmas

@@ -1,9 +1,8 @@
 -- Units by the places of their data units: one more, `one_more`, those that are left,
 -- `places_left`, and one by its number, `unit_at_place`.
-use Rattle.std.proofs.Common.{◌≡◌, ℕ, suc, ◌+◌, ◌-◌, ◌*◌, ◌<◌, List, [], ◌∷◌, ◌++◌}
-use Rattle.std.proofs.Common.{length, take, drop, get_or, map, Ok, refl, sym, ap, subst, ◌∙◌, arith}
+use Rattle.std.proofs.Common.{◌≡◌, ℕ, ◌+◌, ◌-◌, ◌*◌, ◌<◌, List, [], ◌∷◌, ◌++◌}
+use Rattle.std.proofs.Common.{length, take, drop, get_or, map, sym, ap, subst, ◌∙◌, arith}
 use Rattle.std.specs.List.{AllByRecursion}
-use Rattle.std.proofs.lemmas.Bool.Decides.{nat_tests}
 use Rattle.std.proofs.lemmas.List.{drop-drop, map-append, get_or-map, length-map}
 use Rattle.std.proofs.lemmas.List.Elements.{All-from_recursion, All-push}
 use Rattle.ttx_packet.specs.BitOrder.{mirror}
@@ -12,6 +11,7 @@ use Rattle.ttx_pes.specs.DataUnit.{IsUnit, UnitValue}
 use Rattle.ttx_pes.specs.Reading.{unit_at, unit_of, units_at}
 use Rattle.ttx_pes.specs.SentUnits.{sent_units}
 use Rattle.ttx_pes.proofs.DataUnitLemmas.{units_next, units_none}
+use Rattle.ttx_pes.proofs.HeadLemmas.{placed_next, placed_none}
 use Rattle.ttx_pes.proofs.LineOrderLemmas.{last_place-push}
 
 -- One unit more.
@@ -38,7 +38,7 @@ places_next count k units field l =
     units_at (count - (k + 1)) more rest) behind
 
 -- For the loop of `take_places`.
-pub ruleset places_left = (places_next, units_none)
+pub ruleset places_left = (places_next, units_none, placed_next, placed_none)
 
 -- ---- a unit by its number
 

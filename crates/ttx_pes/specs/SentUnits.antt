@@ -1,6 +1,6 @@
 -- The Teletext units of a data field, bytes 45 (data_identifier) to the end of a PES packet, by the
 -- places of their data units.
-use Rattle.std.specs.Prelude.{ℕ, ◌+◌, ◌≤◌, All, Bool, true, false, List, length, take, drop, map}
+use Rattle.std.specs.Prelude.{ℕ, ◌+◌, ◌≤◌, All, Bool, true, false, List, take, drop, map}
 use Rattle.std.specs.Prelude.{Option, Some, None, Result, Ok, Err}
 use Rattle.ttx_pes.specs.declared.fault.PesFault.{PesFault}
 use Rattle.ttx_pes.specs.DataUnit.{UnitValue, data_unit_size}

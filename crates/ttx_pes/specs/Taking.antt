@@ -1,10 +1,10 @@
 -- How the bytes of a packet are taken from a source, in few pulls: words of private clauses alone.
-use Rattle.std.specs.Prelude.{◌≡◌, ℕ, ◌/◌, ◌<◌, List, [], ◌++◌, length, take, drop, Option}
-use Rattle.std.specs.Prelude.{Result, Ok}
+use Rattle.std.specs.Prelude.{◌≡◌, ℕ, zero, suc, ◌+◌, ◌*◌, ◌/◌, ◌<◌, ◌≤◌, List, [], ◌∷◌, ◌++◌}
+use Rattle.std.specs.Prelude.{length, take, drop, slice_index, if◌then◌else◌, Option, Result, Ok}
 use Rattle.std.specs.Io.KnownBytes.{Consumes, IsAtEnd}
 use Rattle.sub_io.specs.Reading.{◌>>=◌}
 use Rattle.ttx_pes.specs.declared.fault.PesFault.{PesFault}
-use Rattle.ttx_pes.specs.DataUnit.{UnitValue, data_unit_size}
+use Rattle.ttx_pes.specs.DataUnit.{UnitValue, data_unit_size, is_teletext}
 use Rattle.ttx_pes.specs.PesPacket.{PesValue}
 use Rattle.ttx_pes.specs.Reading.{packet_at, units_at}
 
@@ -35,6 +35,35 @@ abbrev pub HasUnits : List ℕ → List UnitValue → Type 0
 HasUnits field units =
     0 < length field
     → units_at (length (drop 1 field) / data_unit_size) [] (drop 1 field) ≡ Ok units
+
+-- The place of a data unit of a data field, if it has the number of a Teletext unit.
+abbrev pub teletext_place : ℕ → List ℕ → List ℕ
+teletext_place at field = if is_teletext (slice_index field at) then at ∷ [] else []
+
+-- The places of such among n data units of a data field, from a place on.
+unfoldable pub teletext_places : ℕ → ℕ → List ℕ → List ℕ
+teletext_places zero at field = []
+teletext_places (suc n) at field =
+    teletext_place at field ++ teletext_places n (at + data_unit_size) field
+
+-- These are all places of such in a data field.
+abbrev pub AreAllPlaces : List ℕ → List ℕ → Type 0
+AreAllPlaces field places =
+    places ≡ teletext_places (length (drop 1 field) / data_unit_size) 1 field
+
+-- Two data fields have the same head of the data unit at a place, its first four bytes:
+-- data_unit_id, data_unit_length, field_parity with line_offset, framing_code.
+pub record IsSameHead (a b : List ℕ) (at : ℕ) : Type 0 where
+  pub id : slice_index a at ≡ slice_index b at
+  pub size : slice_index a (at + 1) ≡ slice_index b (at + 1)
+  pub line : slice_index a (at + 2) ≡ slice_index b (at + 2)
+  pub framing : slice_index a (at + 3) ≡ slice_index b (at + 3)
+
+-- They have the same heads of all data units of the first.
+abbrev pub AreSameHeads : List ℕ → List ℕ → Type 0
+AreSameHeads a b =
+    (k : ℕ) → data_unit_size * k + 1 + data_unit_size ≤ length a
+    → IsSameHead a b (data_unit_size * k + 1)
 
 -- A frame and the data field that it was read from, which is empty where none is kept.
 pub record KeptValue : Type 0 where

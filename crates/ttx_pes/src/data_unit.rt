@@ -1,7 +1,8 @@
 //! Data units, read and written (EN 300 472, data unit syntax).
 ghost use Rattle.std.specs.Prelude.{◌≡◌, ◌+◌, ◌*◌, ◌≤◌, ◌++◌, true, length, Ok, Err, OnOk};
-ghost use Rattle.std.specs.Prelude.{IfErr, slice_index};
+ghost use Rattle.std.specs.Prelude.{IfErr, IfOk, slice_index};
 ghost use Rattle.ttx_pes.specs.DataUnit.{data_unit_size, teletext_unit, stuffing_unit};
+ghost use Rattle.ttx_pes.specs.DataUnit as data_unit_words;
 ghost use Rattle.ttx_pes.specs.PesPacket.{longest_packet, most_units};
 ghost use Rattle.ttx_pes.specs.Reading.{teletext_at, unit_at, unit_of, units_at, is_format_fault};
 ghost use Rattle.ttx_pes.specs.SentUnits.{unit_where};
@@ -29,6 +30,7 @@ pub(crate) fn is_teletext(block: &[u8]) -> Result<bool, PesFault>
     ensures exact { teletext_at block.now ≡ unit_where block.now result }
     ensures id { result ≡ Ok true
         → (2 ≤ slice_index block.now 0) × (slice_index block.now 0 ≤ 3) }
+    ensures which { IfOk result (λ is. is ≡ data_unit_words.is_teletext (slice_index block.now 0)) }
     ensures kind { IfErr result (λ fault. is_format_fault fault ≡ true) }
 {
     if block[1] != LENGTH {

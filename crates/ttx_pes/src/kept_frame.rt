@@ -1,13 +1,17 @@
 //! The PES packet that was read last, so that one that is sent again is compared and not read
 //! again.
-ghost use Rattle.std.specs.Prelude.{◌≡◌, ◌+◌, ◌%◌, ◌≤◌, ◌↔◌, true, Ok, Err, OnOk, IfOk, IfErr};
+ghost use Rattle.std.specs.Prelude.{◌≡◌, ◌+◌, ◌/◌, ◌%◌, ◌≤◌, ◌↔◌, true, Ok, Err, OnOk, IfOk, IfErr};
 ghost use Rattle.std.specs.Prelude.{length, drop, []};
+ghost use Rattle.ttx_pes.specs.DataUnit.{data_unit_size};
 ghost use Rattle.ttx_pes.specs.PesPacket.{IsPesValue, empty_value, longest_packet, payload_size};
-ghost use Rattle.ttx_pes.specs.Reading.{value_at, is_format_fault};
+ghost use Rattle.ttx_pes.specs.Reading.{units_at, value_at, is_format_fault};
+ghost use Rattle.ttx_pes.specs.SentUnits.{AreWithin, sent_units};
+ghost use Rattle.ttx_pes.specs.Taking.{AreAllPlaces, HasUnits};
 
 use crate::fault::PesFault;
 use crate::pes_header::{LONGEST_PACKET, pts_of};
 use crate::same_bytes::is_same;
+use crate::same_heads::are_same_heads;
 use crate::sent_units::SentUnits;
 use crate::unit_places::{UnitPlaces, take_places};
 use std::marker::Model;
@@ -29,7 +33,7 @@ impl Model for KeptFrame {
     ghost use Rattle.std.specs.Prelude.{◌+◌, ◌≤◌, take};
     ghost use Rattle.ttx_pes.specs.PesPacket.{IsPesValue, longest_packet};
     ghost use Rattle.ttx_pes.specs.SentUnits.{AreWithin, sent_units};
-    ghost use Rattle.ttx_pes.specs.Taking.{HasUnits, KeptValue};
+    ghost use Rattle.ttx_pes.specs.Taking.{AreAllPlaces, HasUnits, KeptValue};
 
     ghost Value = { KeptValue };
 
@@ -41,11 +45,37 @@ impl Model for KeptFrame {
     ghost invariant = { λ k. (k.count + 45 ≤ longest_packet)
         × AreWithin k.count k.places
         × HasUnits (take k.count k.field) (sent_units (take k.count k.field) k.places)
-        × IsPesValue (record { pts = k.pts; units = sent_units (take k.count k.field) k.places }) };
+        × IsPesValue (record { pts = k.pts; units = sent_units (take k.count k.field) k.places })
+        × AreAllPlaces (take k.count k.field) k.places };
+}
+
+// Makes the places, which are those of the data field that is kept, those of another. Mostly its
+// data units begin as those that are kept, on the same lines of each frame: then they stand.
+fn find_places(places: &mut UnitPlaces, kept: &[u8], field: &[u8]) -> Result<(), PesFault>
+    requires within { AreWithin (length kept.now) places.old }
+    requires units { HasUnits kept.now (sent_units kept.now places.old) }
+    requires all { AreAllPlaces kept.now places.old }
+    requires long { 139 ≤ length field.now }
+    requires short { length field.now + 45 ≤ longest_packet }
+    requires whole { (length field.now + 45) % payload_size ≡ 0 }
+    ensures within { OnOk result (AreWithin (length field.now) places.new) }
+    ensures all { OnOk result (AreAllPlaces field.now places.new) }
+    ensures ok { OnOk result (units_at (length (drop 1 field.now) / data_unit_size) []
+        (drop 1 field.now) ≡ Ok (sent_units field.now places.new)) }
+    ensures err { IfErr result (λ fault. units_at (length (drop 1 field.now) / data_unit_size) []
+        (drop 1 field.now) ≡ Err fault) }
+    ensures kind { IfErr result (λ fault. is_format_fault fault ≡ true) }
+{
+    if kept.len() == field.len() && are_same_heads(kept, field) {
+        return Ok(());
+    }
+    places.clear();
+    take_places(places, field)
 }
 
 impl KeptFrame {
     // The empty frame, and no data field.
+    #[tactic(auto, using(crate::proofs::HeadLemmas::no_places))]
     pub(crate) fn new() -> Self
         ensures { result ≡ record { frame = empty_value; data_field = [] } }
     {
@@ -73,6 +103,7 @@ impl KeptFrame {
     }
 
     // Makes it as `new` does.
+    #[tactic(auto, using(crate::proofs::HeadLemmas::no_places))]
     pub(crate) fn clear(&mut self)
         ensures { self.new ≡ record { frame = empty_value; data_field = [] } }
     {
@@ -92,7 +123,7 @@ impl KeptFrame {
 
     // Makes it the value of a packet's bytes from byte 6 on, with their data field, and answers
     // whether that is the one kept before.
-    #[tactic(auto, unfolding(crate::specs::Reading::value_at))]
+    #[tactic(auto, unfolding(crate::specs::Reading::value_at), using(crate::proofs::HeadLemmas::no_places))]
     pub(crate) fn take(&mut self, body: &[u8]) -> Result<bool, PesFault>
         requires short { length body.now + 6 ≤ longest_packet }
         requires whole { (length body.now + 6) % payload_size ≡ 0 }
@@ -110,9 +141,9 @@ impl KeptFrame {
             self.pts = pts;
             return Ok(true);
         }
-        self.count = 0;
-        self.places.clear();
-        if let Err(fault) = take_places(&mut self.places, field) {
+        let kept = &self.field[..self.count];
+        if let Err(fault) = find_places(&mut self.places, kept, field) {
+            self.count = 0;
             self.places.clear();
             return Err(fault);
         }

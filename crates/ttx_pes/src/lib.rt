@@ -29,6 +29,7 @@ mod progress;
 mod reader;
 mod repeated_packet;
 mod same_bytes;
+mod same_heads;
 mod sent_units;
 mod unit;
 mod unit_places;

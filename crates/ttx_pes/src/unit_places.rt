@@ -7,6 +7,7 @@ ghost use Rattle.ttx_pes.specs.LineOrder.{last_place, stands_after};
 ghost use Rattle.ttx_pes.specs.PesPacket.{longest_packet, most_units};
 ghost use Rattle.ttx_pes.specs.Reading.{is_format_fault, unit_at, unit_of, units_at};
 ghost use Rattle.ttx_pes.specs.SentUnits.{AreWithin, sent_units};
+ghost use Rattle.ttx_pes.specs.Taking.{AreAllPlaces, teletext_place};
 
 use crate::data_unit::{DATA_UNIT, is_teletext};
 use crate::fault::PesFault;
@@ -101,6 +102,8 @@ fn take_place(places: &mut UnitPlaces, last: u8, field: &[u8], place: u16) -> Re
         → AreWithin (length field.now) places.new }
     ensures ok { OnOk result (unit_at (sent_units field.now places.old)
         (take data_unit_size (drop place field.now)) ≡ Ok (sent_units field.now places.new)) }
+    ensures placed { OnOk result
+        (places.new ≡ places.old ++ teletext_place place field.now) }
     ensures last { IfOk result (λ next. next ≡ last_place 0 (sent_units field.now places.new)) }
     ensures small { IfOk result (λ next. next < 64) }
     ensures err { IfErr result (λ fault. unit_at (sent_units field.now places.old)
@@ -129,6 +132,7 @@ pub(crate) fn take_places(places: &mut UnitPlaces, field: &[u8]) -> Result<(), P
     ensures within { AreWithin (length field.now) places.new }
     ensures ok { OnOk result (units_at (length (drop 1 field.now) / data_unit_size) []
         (drop 1 field.now) ≡ Ok (sent_units field.now places.new)) }
+    ensures placed { OnOk result (AreAllPlaces field.now places.new) }
     ensures err { IfErr result (λ fault. units_at (length (drop 1 field.now) / data_unit_size) []
         (drop 1 field.now) ≡ Err fault) }
     ensures kind { IfErr result (λ fault. is_format_fault fault ≡ true) }

@@ -1,8 +1,9 @@
 -- The value of a packet from its header and its data field: by KeptFrameLemmas.
-use Rattle.std.proofs.Common.{◌≡◌, ◌+◌, ◌<◌, ◌≤◌, length, take, drop, ap, sym, ◌∙◌, arith, refl}
+use Rattle.std.proofs.Common.{◌≡◌, ◌<◌, length, take, drop, ap, sym, ◌∙◌, arith, refl, subst}
 use Rattle.std.proofs.Common.{rules}
 use Rattle.std.proofs.lemmas.List.{length-drop, take_at}
 use Rattle.ttx_pes.specs.SentUnits.{sent_units}
+use Rattle.ttx_pes.specs.Taking.{AreAllPlaces}
 use Rattle.ttx_pes.proofs.KeptFrameLemmas.{value_kept, value_of_kept, value_refused, value_taken}
 use Rattle.ttx_pes.proofs.PesHeaderLemmas.{value_with}
 use Rattle.ttx_pes.proofs.kept_frame.KeptFrame.take.Goals as goal
@@ -31,7 +32,7 @@ returns-clause-value c =
     let long : 0 < length c.split_at.result.1.now =
     omega (arith, ap length field, length-drop 39 body) in
     let copied = c.copy_from_slice.ensures.after in
-    (value_taken body c.split_at.result.1.now _ c.in_ok-pts.pts c.take_places.new.places
+    (value_taken body c.split_at.result.1.now _ c.in_ok-pts.pts c.find_places.new.places
     c.in_ok-pts.ensures.exact field
     (take_at c.copy_from_slice.new.self _ _ (ap length copied) ∙ copied) long
     c.in_default.ensures.ok).0
@@ -44,7 +45,7 @@ invariant_of-self-2 c =
     omega (arith, ap length field, length-drop 39 body) in
     let copied = c.copy_from_slice.ensures.after in
     let taken =
-    value_taken body c.split_at.result.1.now _ c.in_ok-pts.pts c.take_places.new.places
+    value_taken body c.split_at.result.1.now _ c.in_ok-pts.pts c.find_places.new.places
     c.in_ok-pts.ensures.exact field
     (take_at c.copy_from_slice.new.self _ _ (ap length copied) ∙ copied) long
     c.in_default.ensures.ok in (
@@ -53,4 +54,7 @@ invariant_of-self-2 c =
       taken.1,
       value_kept body _ c.requires.short c.requires.whole (omega arith)
           (λ i. let fits = c.type_inv.body i in omega (arith, fits)) taken.0,
+      subst (λ field. AreAllPlaces field c.find_places.new.places)
+          (sym (take_at c.copy_from_slice.new.self _ _ (ap length copied) ∙ copied))
+          c.in_default.ensures.all,
     )

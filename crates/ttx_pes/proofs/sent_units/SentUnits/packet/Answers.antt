@@ -1,5 +1,5 @@
 -- The packet of the data unit at its place: packet_at_place.
-use Rattle.std.proofs.Common.{◌≡◌, ◌+◌, ◌<◌, length, take, drop, get_or, rules, arith, sym, ap, ◌∙◌}
+use Rattle.std.proofs.Common.{◌≡◌, ◌<◌, length, take, drop, get_or, rules, arith, sym, ap, ◌∙◌}
 use Rattle.std.proofs.lemmas.List.{length-map}
 use Rattle.ttx_pes.specs.Reading.{unit_of}
 use Rattle.ttx_pes.proofs.SentUnitLemmas.{packet_at_place}

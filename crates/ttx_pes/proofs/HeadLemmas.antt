@@ -1,0 +1,229 @@
+-- Data units whose heads are those of others: one head, same_word, all of them, heads_more, and that
+-- the units stand at the same places, places_alike.
+use Rattle.std.proofs.Common.{◌≡◌, ℕ, zero, suc, ◌+◌, ◌-◌, ◌*◌, ◌/◌, ◌%◌, ◌<◌, ◌≤◌, List, [], ◌∷◌, ◌++◌}
+use Rattle.std.proofs.Common.{length, take, drop, get_or, cond, Ok, refl, sym, ap, subst, ◌∙◌}
+use Rattle.std.proofs.Common.{append_assoc, arith, inl, inr, length-drop}
+use Rattle.std.proofs.lemmas.Bool.{cases_lt}
+use Rattle.std.proofs.lemmas.Bool.Decides.{nat_tests}
+use Rattle.std.proofs.lemmas.List.{append-nil, drop-drop, get_or-drop, get_or-take, map-append}
+use Rattle.sub_io.specs.Reading.{◌>>=◌}
+use Rattle.ttx_pes.specs.DataUnit.{UnitValue, is_teletext}
+use Rattle.ttx_pes.specs.LineOrder.{last_place}
+use Rattle.ttx_pes.specs.Reading.{teletext_at, unit_at, unit_of, units_at}
+use Rattle.ttx_pes.specs.SentUnits.{sent_units}
+use Rattle.ttx_pes.specs.Taking.{AreAllPlaces, AreSameHeads, HasUnits, IsSameHead, teletext_place}
+use Rattle.ttx_pes.specs.Taking.{teletext_places}
+use Rattle.ttx_pes.proofs.LineOrderLemmas.{last_place-push}
+use Rattle.sub_io.proofs.ReadingLemmas.{step_gave}
+
+-- ---- heads
+
+-- Four bytes by their word. For `is_same_head`.
+pub same_word : (a b : List ℕ) (at : ℕ)
+    → ((i : ℕ) → get_or a i 0 < 256)
+    → ((i : ℕ) → get_or b i 0 < 256)
+    → get_or (drop at a) 0 0 + 256 * (get_or (drop at a) 1 0 + 256 * (get_or (drop at a) 2 0
+    + 256 * (get_or (drop at a) 3 0 + 256 * 0)))
+    ≡ get_or (drop at b) 0 0 + 256 * (get_or (drop at b) 1 0 + 256 * (get_or (drop at b) 2 0
+    + 256 * (get_or (drop at b) 3 0 + 256 * 0)))
+    → IsSameHead a b at
+same_word a b at a-fit b-fit e =
+    let none : at + 0 ≡ at = omega arith in
+    let a0 = get_or-drop at a 0 0 ∙ ap (λ n. get_or a n 0) none in let a1 = get_or-drop at a 1 0 in
+    let a2 = get_or-drop at a 2 0 in let a3 = get_or-drop at a 3 0 in
+    let b0 = get_or-drop at b 0 0 ∙ ap (λ n. get_or b n 0) none in let b1 = get_or-drop at b 1 0 in
+    let b2 = get_or-drop at b 2 0 in let b3 = get_or-drop at b 3 0 in
+    let fa0 = a-fit at in let fa1 = a-fit (at + 1) in
+    let fa2 = a-fit (at + 2) in let fa3 = a-fit (at + 3) in
+    let fb0 = b-fit at in let fb1 = b-fit (at + 1) in
+    let fb2 = b-fit (at + 2) in let fb3 = b-fit (at + 3) in
+    record { id = omega arith; size = omega arith; line = omega arith; framing = omega arith }
+
+-- Those of the first payload. For `are_same_heads`.
+pub heads_first : (a b : List ℕ)
+    → IsSameHead a b 1
+    → IsSameHead a b (1 + 46)
+    → IsSameHead a b (1 + 92)
+    → (k : ℕ)
+    → k < 3
+    → IsSameHead a b (46 * k + 1)
+heads_first a b h0 h1 h2 zero l = h0
+heads_first a b h0 h1 h2 (suc zero) l = h1
+heads_first a b h0 h1 h2 (suc (suc zero)) l = h2
+heads_first a b h0 h1 h2 (suc (suc (suc k))) l = absurd (omega arith)
+
+-- Those of all payloads. For `are_same_heads`.
+pub heads_all : (a b : List ℕ) (n : ℕ)
+    → (length a + 45) % 184 ≡ 0
+    → 139 ≤ length a
+    → (length a - 139) / 184 ≤ n
+    → ((k : ℕ) → k < 3 + 4 * n → IsSameHead a b (46 * k + 1))
+    → AreSameHeads a b
+heads_all a b n whole long all same k l = same k (omega arith)
+
+-- The heads of four data units more. For the loop of `are_same_heads`.
+pub heads_more : (a b : List ℕ) (i : ℕ)
+    → ((k : ℕ) → k < 3 + 4 * i → IsSameHead a b (46 * k + 1))
+    → IsSameHead a b (139 + 184 * i)
+    → IsSameHead a b (139 + 184 * i + 46)
+    → IsSameHead a b (139 + 184 * i + 92)
+    → IsSameHead a b (139 + 184 * i + 138)
+    → (k : ℕ)
+    → k < 3 + 4 * (i + 1)
+    → IsSameHead a b (46 * k + 1)
+heads_more a b i before h0 h1 h2 h3 k l = elim (cases_lt k (3 + 4 * i)) [
+  | inl m ↦ before k m
+  | inr m ↦ elim (cases_lt k (4 + 4 * i)) [
+    | inl n ↦ let e : 139 + 184 * i ≡ 46 * k + 1 = omega arith in subst (IsSameHead a b) e h0
+    | inr n ↦ elim (cases_lt k (5 + 4 * i)) [
+      | inl o ↦
+          let e : 139 + 184 * i + 46 ≡ 46 * k + 1 = omega arith in subst (IsSameHead a b) e h1
+      | inr o ↦ elim (cases_lt k (6 + 4 * i)) [
+        | inl p ↦
+            let e : 139 + 184 * i + 92 ≡ 46 * k + 1 = omega arith in subst (IsSameHead a b) e h2
+        | inr p ↦
+            let e : 139 + 184 * i + 138 ≡ 46 * k + 1 = omega arith in subst (IsSameHead a b) e h3
+      ]
+    ]
+  ]
+]
+
+-- ---- places
+
+-- The places of one data unit more. For the loop of `take_places`.
+pub placed_next : (count k at : ℕ) (field places more : List ℕ)
+    → k < count
+    → at ≡ 1 + 46 * k
+    → more ≡ places ++ teletext_place at field
+    → more ++ teletext_places (count - (k + 1)) (1 + 46 * (k + 1)) field
+    ≡ places ++ teletext_places (count - k) (1 + 46 * k) field
+unfolding teletext_places
+placed_next count k at field places more l is e =
+    let left : count - k ≡ suc (count - (k + 1)) = omega arith in
+    let next : 1 + 46 * (k + 1) ≡ 1 + 46 * k + 46 = omega arith in
+    rw (e, is, left, next)
+    (append_assoc places (teletext_place (1 + 46 * k) field)
+    (teletext_places (count - (k + 1)) (1 + 46 * k + 46) field))
+
+-- No data unit is left.
+pub placed_none : (count k at : ℕ) (field places : List ℕ)
+    → count ≤ k
+    → places ++ teletext_places (count - k) at field ≡ places
+unfolding teletext_places
+placed_none count k at field places l = grind (arith, nat_tests, append-nil)
+
+-- Nor is there a place where no data field is kept. For a `KeptFrame` without one.
+pub no_places : teletext_places 0 1 [] ≡ []
+unfolding teletext_places
+no_places = refl
+
+-- ---- units behind the same heads
+
+-- A byte of a data unit.
+block_byte : (a : List ℕ) (at r : ℕ) → r < 46 → get_or (take 46 (drop at a)) r 0 ≡ get_or a (at + r) 0
+block_byte a at r l = get_or-take 46 (drop at a) r 0 l ∙ get_or-drop at a r 0
+
+-- The unit that a data unit has.
+abbrev units_in : List ℕ → List UnitValue
+units_in b = cond (is_teletext (get_or b 0 0)) (unit_of b ∷ []) []
+
+-- A data unit with the head of one that is read is read.
+record IsAlike (us more : List UnitValue) (b : List ℕ) : Type 0 where
+  pub read : unit_at us b ≡ Ok (us ++ units_in b)
+  pub last : last_place 0 more ≡ last_place 0 (us ++ units_in b)
+
+unit_alike : (b c : List ℕ) (us vs more : List UnitValue)
+    → get_or b 0 0 ≡ get_or c 0 0
+    → get_or b 1 0 ≡ get_or c 1 0
+    → get_or b 2 0 ≡ get_or c 2 0
+    → get_or b 3 0 ≡ get_or c 3 0
+    → last_place 0 us ≡ last_place 0 vs
+    → unit_at us b ≡ Ok more
+    → IsAlike vs more c
+unfolding unit_at teletext_at
+unit_alike b c us vs more e0 e1 e2 e3 last e =
+    grind (arith, nat_tests, append-nil, last_place-push)
+
+-- The units of a data unit, by its place.
+sent_one : (field : List ℕ) (at : ℕ)
+    → units_in (take 46 (drop at field)) ≡ sent_units field (teletext_place at field)
+sent_one field at = grind (arith, nat_tests, block_byte field at 0)
+
+-- Data units with the heads of others that are read are read.
+units_alike : (n at : ℕ) (a b : List ℕ) (us vs all : List UnitValue)
+    → ((k : ℕ) → k < n → IsSameHead a b (46 * k + at))
+    → last_place 0 us ≡ last_place 0 vs
+    → units_at n us (drop at a) ≡ Ok all
+    → units_at n vs (drop at b) ≡ Ok (vs ++ sent_units b (teletext_places n at b))
+unfolding units_at teletext_places
+units_alike zero at a b us vs all same last e = ap (λ us. Ok us) (sym (append-nil vs))
+units_alike (suc n) at a b us vs all same last e =
+    let p =
+    step_gave (unit_at us (take 46 (drop at a))) (λ x. units_at n x (drop 46 (drop at a))) all e in
+    let first : 46 * 0 + at ≡ at = omega arith in
+    let head = subst (IsSameHead a b) first (same 0 (omega arith)) in
+    let none : at + 0 ≡ at = omega arith in
+    let here =
+    unit_alike (take 46 (drop at a)) (take 46 (drop at b)) us vs p.0
+    (block_byte a at 0 (omega arith) ∙ ap (λ n. get_or a n 0) none ∙ head.id
+    ∙ sym (block_byte b at 0 (omega arith) ∙ ap (λ n. get_or b n 0) none))
+    (block_byte a at 1 (omega arith) ∙ head.size ∙ sym (block_byte b at 1 (omega arith)))
+    (block_byte a at 2 (omega arith) ∙ head.line ∙ sym (block_byte b at 2 (omega arith)))
+    (block_byte a at 3 (omega arith) ∙ head.framing ∙ sym (block_byte b at 3 (omega arith)))
+    last p.1 in
+    let next : ((k : ℕ) → k < n → IsSameHead a b (46 * k + (at + 46))) = λ k l.
+    let e : 46 * suc k + at ≡ 46 * k + (at + 46) = omega arith in
+    subst (IsSameHead a b) e (same (suc k) (omega arith)) in
+    let behind : (c : List ℕ) → drop 46 (drop at c) ≡ drop (at + 46) c =
+    λ c. drop-drop 46 at c ∙ ap (λ n. drop n c) (omega arith) in
+    let rest =
+    units_alike n (at + 46) a b p.0 (vs ++ units_in (take 46 (drop at b))) all next here.last
+    (ap (units_at n p.0) (sym (behind a)) ∙ p.2) in
+    let joined =
+    append_assoc vs (sent_units b (teletext_place at b))
+    (sent_units b (teletext_places n (at + 46) b)) in
+    let mapped =
+    map-append (λ k. unit_of (take 46 (drop k b))) (teletext_place at b)
+    (teletext_places n (at + 46) b) in
+    ap (λ r. r >>= λ x. units_at n x (drop 46 (drop at b))) here.read
+    ∙ ap (units_at n (vs ++ units_in (take 46 (drop at b)))) (behind b)
+    ∙ rest
+    ∙ ap (λ us. Ok us) (ap (λ one. (vs ++ one) ++ sent_units b (teletext_places n (at + 46) b))
+    (sent_one b at) ∙ joined ∙ ap (λ us. vs ++ us) (sym mapped))
+
+-- Their places are the same.
+same_places : (n at : ℕ) (a b : List ℕ)
+    → ((k : ℕ) → k < n → IsSameHead a b (46 * k + at))
+    → teletext_places n at a ≡ teletext_places n at b
+unfolding teletext_places
+same_places zero at a b same = refl
+same_places (suc n) at a b same =
+    let first : 46 * 0 + at ≡ at = omega arith in
+    let head = subst (IsSameHead a b) first (same 0 (omega arith)) in
+    let next : ((k : ℕ) → k < n → IsSameHead a b (46 * k + (at + 46))) = λ k l.
+    let e : 46 * suc k + at ≡ 46 * k + (at + 46) = omega arith in
+    subst (IsSameHead a b) e (same (suc k) (omega arith)) in
+    let rest = same_places n (at + 46) a b next in
+    rw (head.id, rest) refl
+
+-- Where the units of a data field stand, those of one with the same heads do. For `find_places`.
+pub places_alike : (a b places : List ℕ)
+    → length a ≡ length b
+    → 0 < length a
+    → AreSameHeads a b
+    → AreAllPlaces a places
+    → HasUnits a (sent_units a places)
+    → AreAllPlaces b places
+    × (units_at (length (drop 1 b) / 46) [] (drop 1 b) ≡ Ok (sent_units b places))
+places_alike a b places size some same is units =
+    let n : ℕ = length (drop 1 a) / 46 in
+    let heads : ((k : ℕ) → k < n → IsSameHead a b (46 * k + 1)) =
+    λ k l. same k (omega (arith, length-drop 1 a)) in
+    let count : length (drop 1 b) / 46 ≡ n =
+    ap (λ n. n / 46) (length-drop 1 b ∙ ap (λ n. n - 1) (sym size) ∙ sym (length-drop 1 a)) in
+    let there = is ∙ same_places n 1 a b heads in
+    let read = units_alike n 1 a b [] [] (sent_units a places) heads refl (units some) in
+    rw count (there, read ∙ ap (λ ps. Ok (sent_units b ps)) (sym there))
+
+-- For the loop of `are_same_heads`.
+pub ruleset same_heads = (heads_first, heads_more, heads_all)

@@ -1,0 +1,60 @@
+//! Whether the data units of two data fields begin alike, so that where the Teletext units of the one
+//! stand those of the other do.
+ghost use Rattle.std.specs.Prelude.{◌≡◌, ◌+◌, ◌%◌, ◌≤◌, length, true};
+ghost use Rattle.ttx_pes.specs.PesPacket.{payload_size};
+ghost use Rattle.ttx_pes.specs.Taking.{AreSameHeads, IsSameHead};
+
+use crate::data_unit::DATA_UNIT;
+use crate::pes_header::PAYLOAD;
+use byteorder::{ByteOrder, LittleEndian};
+
+// The bytes of a data field in the first payload: data_identifier and three data units.
+const FIRST: usize = 1 + 3 * DATA_UNIT;
+
+// Whether two data fields have the same head of the data unit at a place, compared as one word.
+#[inline(always)]
+#[tactic(auto, using(crate::proofs::HeadLemmas::same_word))]
+fn is_same_head(a: &[u8], b: &[u8], place: usize) -> bool
+    requires a { place + 4 ≤ length a.now }
+    requires b { place + 4 ≤ length b.now }
+    ensures { result ≡ true → IsSameHead a.now b.now place }
+{
+    let (_, a_from) = a.split_at(place);
+    let (_, b_from) = b.split_at(place);
+    LittleEndian::read_u32(a_from) == LittleEndian::read_u32(b_from)
+}
+
+// Whether they have the same heads of three data units, the first of them at a place.
+#[inline(always)]
+fn are_same_three(a: &[u8], b: &[u8], place: usize) -> bool
+    requires a { place + 96 ≤ length a.now }
+    requires b { place + 96 ≤ length b.now }
+    ensures { result ≡ true → IsSameHead a.now b.now place
+        × IsSameHead a.now b.now (place + 46)
+        × IsSameHead a.now b.now (place + 92) }
+{
+    is_same_head(a, b, place)
+        && is_same_head(a, b, place + DATA_UNIT)
+        && is_same_head(a, b, place + 2 * DATA_UNIT)
+}
+
+// Whether two data fields of one length have the same heads of all data units. Four of them are
+// compared in each turn, those of a payload; the first payload has three.
+#[tactic(auto, using(crate::proofs::HeadLemmas::same_heads))]
+pub(crate) fn are_same_heads(a: &[u8], b: &[u8]) -> bool
+    requires long { 139 ≤ length a.now }
+    requires whole { (length a.now + 45) % payload_size ≡ 0 }
+    requires length { length a.now ≡ length b.now }
+    ensures { result ≡ true → AreSameHeads a.now b.now }
+{
+    if !are_same_three(a, b, 1) {
+        return false;
+    }
+    for i in 0..(a.len() - FIRST) / PAYLOAD {
+        let place = FIRST + PAYLOAD * i;
+        if !(are_same_three(a, b, place) && is_same_head(a, b, place + 3 * DATA_UNIT)) {
+            return false;
+        }
+    }
+    true
+}
