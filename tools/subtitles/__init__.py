@@ -11,6 +11,7 @@ listing    the PIDs with Teletext, and the pages of these
 extracting the PES packets of one PID, and in words what is missing
 multiplex  a transport stream with Teletext, written
 units      data units of a PES packet, found by their addresses
+batch      many PES packets, of which all data units are looked at in one step
 cutting    the PES packets of some frames
 parting    the subtitles of some frames
 sent       the PTS at which the text of a page changes

@@ -3,11 +3,13 @@ from __future__ import annotations
 
 from typing import Iterator, Sequence
 
-from .files import PIECE, Damaged, Source
+from .files import Damaged, Source
 from .teletext import mirrored
 
 START = b"\0\0\1\xbd"  # of a PES packet of private_stream_1
 HEAD = 6  # bytes of one up to its length and with it
+AT_A_TIME = 1 << 18  # bytes that are read, so that they stay near the processor
+AT_ONCE = 64  # PES packets that are looked for in one step
 FIRST_LINE = 7
 UNIT = 46  # bytes of a data unit
 DATA = 46  # where those that `subttx` writes begin: after 45 bytes and the data_identifier
@@ -41,34 +43,58 @@ def pes_packet(pts: int, packets: Sequence[bytes]) -> bytes:
     return made + STUFFING_UNIT * (4 * blocks - 1 - len(packets))
 
 
-def pes_batches(file: Source) -> Iterator[list[bytes]]:
-    """The PES packets of a file, as many at a time as have come; `Damaged` where it holds something
-    else, after those before it."""
+def pes_runs(file: Source) -> Iterator[tuple[bytes, list[int]]]:
+    """The PES packets of a file, as many at a time as have come: bytes, and where in these each
+    begins, then where the last ends. `Damaged` where the file holds something else, after those
+    before it."""
     rest, count = b"", 0
-    while piece := file.read(PIECE):
-        found, rest = whole_in(rest + piece)
-        if found:
-            yield found
-        count += len(found)
+    while piece := file.read(AT_A_TIME):
+        data = rest + piece
+        begins = begins_in(data)
+        if len(begins) > 1:
+            yield data, begins
+        count += len(begins) - 1
+        rest = data[begins[-1]:]
         if len(rest) >= HEAD and not rest.startswith(START):
             raise Damaged(f"PES packet {count} does not begin with 00 00 01 BD")
     if rest:
         raise Damaged(f"PES packet {count} is cut")
 
 
-def whole_in(data: bytes) -> tuple[list[bytes], bytes]:
-    """The PES packets with which some bytes begin, and the bytes after them."""
-    found: list[bytes] = []
+def pes_batches(file: Source) -> Iterator[list[bytes]]:
+    """The PES packets of a file, as many at a time as have come; `Damaged` where it holds something
+    else, after those before it."""
+    for data, begins in pes_runs(file):
+        yield sliced(data, begins)
+
+
+def whole_in(data: bytes) -> list[bytes]:
+    """The PES packets with which some bytes begin."""
+    return sliced(data, begins_in(data))
+
+
+def sliced(data: bytes, begins: Sequence[int]) -> list[bytes]:
+    """What begins at each of some places, but the last, and ends where the next one begins."""
+    return [data[begin:end] for begin, end in zip(begins, begins[1:])]
+
+
+def begins_in(data: bytes) -> list[int]:
+    """Where the PES packets begin with which some bytes do, and where the last one ends."""
+    begins: list[int] = []
     at, size = 0, len(data)
     while size - at >= HEAD and data.startswith(START, at):
-        head, length = data[at:at + HEAD], HEAD + (data[at + 4] << 8 | data[at + 5])
-        if at + length > size:
+        head = data[at:at + HEAD]
+        length = HEAD + (head[4] << 8 | head[5])
+        # Most have the length of the one before: of some, each byte is asked in one step.
+        count = min((size - at) // length, AT_ONCE)
+        for place in range(HEAD):
+            column = data[at + place:at + count * length:length]
+            count = len(column) - len(column.lstrip(head[place:place + 1]))
+        if count == 0:
             break
-        # Most have the length of the one before.
-        while at + length <= size and data.startswith(head, at):
-            found.append(data[at:at + length])
-            at += length
-    return found, data[at:]
+        begins.extend(range(at, at + count * length, length))
+        at += count * length
+    return [*begins, at]
 
 
 def pes_packets(file: Source) -> Iterator[bytes]:

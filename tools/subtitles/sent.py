@@ -5,14 +5,15 @@ import collections
 import itertools
 from typing import NamedTuple, Sequence
 
-from .pes import UNIT, data_field, has_pts, pts_in
-from .teletext import (
-    ERASE, MIRROR, SERIAL, SUBTITLE, Page, address_of, has_bit, is_odd, mirrored)
-from .units import ADDRESS, TELETEXT, TEXT, Units, header_in, of_magazine, with_headers
+from .batch import with_headers
+from .pes import data_field, has_pts, pts_in
+from .teletext import ERASE, SERIAL, SUBTITLE, Page, address_of, has_bit, is_odd
+from .units import Units, header_in, of_magazine
 
 ROWS = range(1, 25)
-# A byte of a row as it was sent: its code, a space where it has even parity.
-CODES = bytes(byte & 0x7F if is_odd(byte) else 0x20 for byte in MIRROR)
+TEXT = 2  # where the forty bytes of a row begin in its packet
+# A byte of a row: its code, a space where it has even parity.
+CODES = bytes(byte & 0x7F if is_odd(byte) else 0x20 for byte in range(256))
 NO_LETTERS = bytes(range(0x21))
 
 
@@ -75,17 +76,7 @@ class Sent:
 
     def hear(self, units: Units) -> None:
         """The steps of a receiver (EN 300 706)."""
-        headers, own = units.may_be_headers(), b""
-        number = -1
-        while True:
-            at = headers.find(1, number + 1)
-            if self.is_open:
-                own = own or units.marks(ADDRESS.start, self.own)
-                row = own.find(1, number + 1)
-                at = row if at < 0 or 0 <= row < at else at
-            if at < 0:
-                return
-            number = at
+        for number in units.heard(self.own, lambda: self.is_open):
             self.hear_unit(units, number)
 
     def hear_unit(self, units: Units, number: int) -> None:
@@ -94,11 +85,10 @@ class Sent:
         if header:
             self.hear_header(*header)
             return
-        at = units.first + UNIT * number
-        unit = units.data[at:at + UNIT]
-        address = address_of(mirrored(unit[ADDRESS])) if unit[0] in TELETEXT else None
+        packet = units.packet(number)
+        address = address_of(packet) if packet else None
         if self.is_open and address and address[0] == self.page[0] and address[1] in ROWS:
-            self.rows[address[1]] = unit[TEXT:].translate(CODES)
+            self.rows[address[1]] = packet[TEXT:].translate(CODES)
             self.is_new = True
 
     def hear_header(self, magazine: int, page: int, header: bytes) -> None:

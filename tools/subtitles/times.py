@@ -8,6 +8,7 @@ FRAMES_A_SECOND = 25
 FRAMES_OF_A_DAY = 2_160_000
 CLOCK = 2**33  # a PTS has 33 bits
 TICKS = 3600  # of a frame, at 90 kHz
+NO_FRAME = -1  # stands for a frame where there is none, before all others
 
 
 def frame_of(time: str) -> int | None:
@@ -44,5 +45,12 @@ def pts_of(frame: int, origin: int) -> int:
 
 def frame_at(pts: int, origin: int) -> int | None:
     """The frame of the day of a PTS, `None` where it is not the PTS of one."""
-    frame, rest = divmod((pts - origin) % CLOCK, TICKS)
-    return frame if rest == 0 and frame < FRAMES_OF_A_DAY else None
+    frame = frames_at([pts], origin)[0]
+    return None if frame == NO_FRAME else frame
+
+
+def frames_at(several: list[int], origin: int) -> list[int]:
+    """The frame of the day of each of several PTS, `NO_FRAME` where it is not the PTS of one."""
+    end = TICKS * FRAMES_OF_A_DAY
+    return [NO_FRAME if ticks % TICKS or ticks >= end else ticks // TICKS
+            for ticks in [(pts - origin) % CLOCK for pts in several]]

@@ -5,10 +5,8 @@ one step, so that those which are of no interest cost next to nothing.
 """
 from __future__ import annotations
 
-import bisect
 import functools
-import itertools
-from typing import Callable, Iterator, Sequence
+from typing import Callable, Iterator
 
 from .pes import UNIT
 from .teletext import MIRROR, NUMBER, Header, address_of, header_of, mirrored, page_in
@@ -17,13 +15,13 @@ LENGTH = 0x2C  # data_unit_length of a Teletext data unit
 TELETEXT = (2, 3)  # data_unit_id, not subtitles and subtitles
 ADDRESS = slice(4, 6)  # of a data unit: the address, and behind it
 CODED = slice(4, 14)  # the address and the eight coded bytes of a header
-TEXT = 6  # where the forty bytes of a row begin
 
 # By the first and by the second byte of an address: 1 where the packet number may be 0, a header's.
 IS_EVEN = bytes(number is not None and number < 8 for number in map(NUMBER.__getitem__, MIRROR))
 IS_LOW = bytes(NUMBER[byte] == 0 for byte in MIRROR)
 
 
+@functools.lru_cache(maxsize=None)
 def of_magazine(magazine: int) -> bytes:
     """By the first byte of an address: 1 where it is of a magazine, 0 for 8."""
     return bytes(number is not None and number & 7 == magazine
@@ -52,6 +50,22 @@ class Units:
         """1 for each of them that may be a page header."""
         return both(self.marks(ADDRESS.start, IS_EVEN), self.marks(ADDRESS.start + 1, IS_LOW))
 
+    def heard(self, own: bytes, is_open: Callable[[], bool]) -> Iterator[int]:
+        """The numbers, rising, of those that a receiver has to hear: what may be a page header,
+        and while its page is open what `own` marks as of its magazine."""
+        headers, rows = self.may_be_headers(), b""
+        number = -1
+        while True:
+            at = headers.find(1, number + 1)
+            if is_open():
+                rows = rows or self.marks(ADDRESS.start, own)
+                row = rows.find(1, number + 1)
+                at = row if at < 0 or 0 <= row < at else at
+            if at < 0:
+                return
+            number = at
+            yield number
+
     def coded_headers(self) -> Iterator[bytes]:
         """The coded bytes of those that may be a page header."""
         for number, is_one in enumerate(self.may_be_headers()):
@@ -66,6 +80,13 @@ class Units:
             return None
         return header_in(self.data[at + CODED.start:at + CODED.stop])
 
+    def packet(self, number: int) -> bytes:
+        """The Teletext packet of one of them, its bits in the order of EN 300 706; nothing where
+        it is something else."""
+        at = self.first + UNIT * number
+        is_one = self.data[at] in TELETEXT
+        return mirrored(self.data[at + ADDRESS.start:at + UNIT]) if is_one else b""
+
     def headers(self) -> Iterator[Header]:
         """The page headers among them."""
         marks = self.may_be_headers()
@@ -78,34 +99,9 @@ class Units:
 
 
 def both(marks: bytes, others: bytes) -> bytes:
-    """1 where it is 1 in both."""
+    """Of each byte the bits that are 1 in both."""
     joined = int.from_bytes(marks, "big") & int.from_bytes(others, "big")
     return joined.to_bytes(len(marks), "big")
-
-
-def with_headers(packets: Sequence[bytes], is_wanted: Callable[[bytes], bool]) -> Iterator[int]:
-    """The numbers, rising, of the PES packets in which a data unit may be a page header of which
-    the coded bytes are wanted, as they are sent.
-
-    By EN 300 472 the head of a PES packet is as long as a data unit, and each has whole data units:
-    then all of them are looked at in one step.
-    """
-    data = b"".join(packets)
-    is_regular = all(len(one) % UNIT == 0 and one[8] == UNIT - 10 for one in packets)
-    if not is_regular or data[1::UNIT].count(LENGTH) + len(packets) < len(data) // UNIT:
-        yield from (number for number, one in enumerate(packets)
-                    if any(map(is_wanted, Units(one).coded_headers())))
-        return
-    marks = both(data[ADDRESS.start::UNIT].translate(IS_EVEN),
-                 data[ADDRESS.start + 1::UNIT].translate(IS_LOW))
-    begins = list(itertools.accumulate((len(one) // UNIT for one in packets), initial=0))
-    at = marks.find(1)
-    while at >= 0:
-        if is_wanted(data[UNIT * at + CODED.start:UNIT * at + CODED.stop]):
-            number = bisect.bisect_right(begins, at) - 1
-            yield number
-            at = begins[number + 1] - 1
-        at = marks.find(1, at + 1)
 
 
 def units_one_by_one(packet: bytes, at: int) -> Iterator[bytes]:

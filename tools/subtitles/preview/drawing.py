@@ -7,6 +7,7 @@ from __future__ import annotations
 import functools
 import html
 import itertools
+import re
 from typing import Callable, Iterable, Iterator, NamedTuple, TypeVar
 
 from ..teletext import NEWSFLASH, SUBTITLE, has_bit
@@ -20,31 +21,47 @@ LOW_ROWS = 21, 23  # of a picture of a blank page
 HIDDEN = 'aria-hidden="true"'  # of a picture whose rows stand beside it as text
 
 Look = tuple[int, bool, bool, bool]  # the ink of letters, flash, boxed, double height
+Ground = tuple[int, bool]  # the paper, boxed
 Place = tuple[int, int]  # a row and a column
 Cut = tuple[int, int]  # the first and the last row of a picture
-Item = TypeVar("Item")
 Key = TypeVar("Key")
 
+PARTS = re.compile(rb"[\0-\x1f\x80-\x9f]|[^\0-\x1f\x80-\x9f]+")  # a spacing attribute, or letters
+MARKED = re.compile(bytes([HIT]) + b"+|" + bytes([OLD]) + b"+")
 
-class Cell(NamedTuple):
-    """How a cell looks; ink and paper are colours from 0 to 7."""
 
-    letter: str
+class Span(NamedTuple):
+    """How neighbouring cells look; ink and paper are colours from 0 to 7."""
+
+    letters: str
     ink: int
     paper: int
     flash: bool
     boxed: bool
     double: bool
 
+    def look(self) -> Look:
+        return self.ink, self.flash, self.boxed, self.double
 
-def cells_of(row: bytes, number: int, option: int, is_boxed_page: bool) -> list[Cell]:
-    """The look of each cell of a row, by the spacing attributes before it."""
+    def ground(self) -> Ground:
+        return self.paper, self.boxed
+
+
+@functools.lru_cache(maxsize=None)
+def drawn_letters(option: int, is_mosaic: bool) -> str:
+    """The letter of each byte."""
     table = letters(option)
+    return "".join("\u2592" if is_mosaic and byte & 0x20 and byte & 0x7F != SPACE
+                   else table[byte & 0x7F] for byte in range(256))
+
+
+def spans_of(row: bytes, number: int, option: int, is_boxed_page: bool) -> list[Span]:
+    """The look of the cells of a row, by the spacing attributes before them."""
     ink, paper, flash, boxed, double, mosaic = 7, 0, False, not is_boxed_page, False, False
-    cells: list[Cell] = []
-    last: int | None = None
-    for byte in row:
-        code = byte & 0x7F
+    spans: list[Span] = []
+    last = SPACE
+    for part in PARTS.findall(row):
+        code = part[0] & 0x7F
         # These hold from their own cell on, a box from between its two codes.
         if code == 0x09:
             flash = False
@@ -56,8 +73,8 @@ def cells_of(row: bytes, number: int, option: int, is_boxed_page: bool) -> list[
             paper = ink
         elif code in (0x0A, 0x0B) and code == last and is_boxed_page:
             boxed = code == 0x0B
-        letter = "\u2592" if mosaic and code & 0x20 and code != SPACE else table[code]
-        cells.append(Cell(letter, ink, paper, flash, boxed, double))
+        letters_ = part.decode("latin-1").translate(drawn_letters(option, mosaic))
+        spans.append(Span(letters_, ink, paper, flash, boxed, double))
         # These hold from the next cell on.
         if code < 8 or 0x10 <= code < 0x18:
             ink, mosaic = code & 7, code >= 0x10
@@ -66,22 +83,20 @@ def cells_of(row: bytes, number: int, option: int, is_boxed_page: bool) -> list[
         elif code == 0x0D:
             double = number < 23  # the last rows have none to reach into
         last = code
-    return cells
+    return spans
 
 
-def grouped(cells: Iterable[Item],
-            key: Callable[[Item], Key]) -> Iterator[tuple[Key, int, list[Item]]]:
-    """Neighbours with the same key, as the first column and the cells."""
+def grouped(spans: Iterable[Span], key: Callable[[Span], Key]) -> Iterator[tuple[Key, int, str]]:
+    """Neighbours with the same key, as the first column and the letters."""
     column = 0
-    for value, several in itertools.groupby(cells, key):
-        group = list(several)
-        yield value, column, group
-        column += len(group)
+    for value, several in itertools.groupby(spans, key):
+        letters_ = "".join(one.letters for one in several)
+        yield value, column, letters_
+        column += len(letters_)
 
 
-def text_of(look: Look, column: int, group: list[Cell]) -> str:
+def text_of(look: Look, column: int, letters_: str) -> str:
     """The letters of neighbours with one look; nothing where they are spaces."""
-    letters_ = "".join(cell.letter for cell in group)
     column += len(letters_) - len(letters_.lstrip(" "))
     letters_ = letters_.strip(" ")
     if not letters_:
@@ -97,20 +112,20 @@ def text_of(look: Look, column: int, group: list[Cell]) -> str:
 @functools.lru_cache(maxsize=4096)
 def row_drawing(row: bytes, number: int, option: int, is_boxed_page: bool) -> tuple[str, bool]:
     """A row as SVG, and whether it hides the row below: where a cell of it has double height."""
-    cells = cells_of(row, number, option, is_boxed_page)
-    is_tall = any(cell.double for cell in cells)
+    spans = spans_of(row, number, option, is_boxed_page)
+    is_tall = any(one.double for one in spans)
     height = HEIGHT * (2 if is_tall else 1)
     parts = [f'<g transform="translate(0 {(number - 1) * HEIGHT})">']
-    for (paper, boxed), column, group in grouped(cells, lambda cell: (cell.paper, cell.boxed)):
+    for (paper, boxed), column, letters_ in grouped(spans, Span.ground):
         if boxed:
-            parts.append(f'<rect class="p{paper}" x="{column * WIDTH}" width="{len(group) * WIDTH}"'
-                         f' height="{height}"/>')
-    for look, column, group in grouped(cells, lambda cell: cell[1:2] + cell[3:]):
-        parts.append(text_of(look, column, group))
-    for byte, column, bytes_ in grouped(row, lambda byte: byte):
-        if byte in (HIT, OLD):
-            parts.append(f'<rect class="{"hit" if byte == HIT else "old"}" x="{column * WIDTH + 1}"'
-                         f' y="1" width="{len(bytes_) * WIDTH - 2}" height="13"/>')
+            parts.append(f'<rect class="p{paper}" x="{column * WIDTH}" '
+                         f'width="{len(letters_) * WIDTH}" height="{height}"/>')
+    for look, column, letters_ in grouped(spans, Span.look):
+        parts.append(text_of(look, column, letters_))
+    for found in MARKED.finditer(row):
+        name, (begin, end) = "hit" if found[0][0] == HIT else "old", found.span()
+        parts.append(f'<rect class="{name}" x="{begin * WIDTH + 1}" y="1" '
+                     f'width="{(end - begin) * WIDTH - 2}" height="13"/>')
     parts.append(f'<text class="n" x="-4" y="11">{number}</text></g>')
     return "".join(parts), is_tall
 
@@ -176,10 +191,10 @@ def picture(rows: Rows, header: bytes, label: str, cut: Cut, different: Iterable
     """
     parts = [opened(kind, label, cut, 22 if kind == "page" else 2)]
     tall: set[int] = set()
-    for number, row in enumerate(rows, 1):
-        is_seen = row != BLANK_ROW or not is_boxed(header)
-        if is_seen and cut[0] <= number <= cut[1] and number - 1 not in tall:
-            drawn, is_tall = row_drawing(row, number, national_option(header), is_boxed(header))
+    option, has_boxes = national_option(header), is_boxed(header)
+    for number, row in enumerate(rows[cut[0] - 1:cut[1]], cut[0]):
+        if (row != BLANK_ROW or not has_boxes) and number - 1 not in tall:
+            drawn, is_tall = row_drawing(row, number, option, has_boxes)
             parts.append(drawn)
             tall |= {number} if is_tall else set()
     parts.append(frames_of(different, tall))
@@ -224,8 +239,8 @@ def label_of(words: str) -> str:
 
 def words_of(rows: Rows, option: int) -> str:
     """The letters of a page, row by row, for people who hear them."""
-    table = letters(option)
-    lines = (" ".join("".join(table[code & 0x7F] for code in row).split())
+    table = drawn_letters(option, False)
+    lines = (" ".join(row.decode("latin-1").translate(table).split())
              for row in rows if row != BLANK_ROW)
     return " / ".join(line for line in lines if line) or "blank"
 

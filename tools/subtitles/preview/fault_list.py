@@ -166,7 +166,7 @@ class FaultList:
         return "".join(parts)
 
     def packets(self, entry: Entry, frame: int) -> str:
-        known = self.held.units_at.get(frame)
+        known = self.held.pes_at(frame)
         if not known:
             return f"<p>No PES packet has frame {time_of(frame)}.</p>" if entry.index == 1 else ""
         if entry.index > 1 and entry.first.packet is None:

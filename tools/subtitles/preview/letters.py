@@ -4,6 +4,8 @@
 """
 from __future__ import annotations
 
+import functools
+
 ENGLISH, GERMAN = 0, 4  # C12, C13 and C14 of a page's header as a number
 
 PLACES = bytes.fromhex("23 24 40 5B 5C 5D 5E 5F 60 7B 7C 7D 7E")
@@ -12,6 +14,7 @@ NAMES = {ENGLISH: "English", GERMAN: "German"}
 UNKNOWN, BLOCK = "\u25a1", "\u25a0"  # a letter of another national option; code 7F
 
 
+@functools.lru_cache(maxsize=None)
 def letters(option: int) -> list[str]:
     """The character of each code; what has none, a spacing attribute, is a space."""
     table = [" "] * 32 + [chr(code) for code in range(32, 127)] + [BLOCK]

@@ -3,25 +3,20 @@ from __future__ import annotations
 
 import array
 import bisect
-import collections
 import itertools
-from typing import Iterable
+import operator
+from typing import Iterable, Iterator
 
-from ..teletext import Page
-from ..times import FRAMES_OF_A_DAY, frame_at
+from ..batch import Batch
+from ..pes import UNIT
+from ..teletext import SERIAL, Page, has_bit
+from ..times import FRAMES_OF_A_DAY, NO_FRAME, frames_at
+from ..units import header_in
+from .headers import Found, Headers
 from .program import Listing
-from .receiver import TUNED, Packet, Rows, State, control_words, hear, packets_of
+from .receiver import Receiver, Rows, State
 
-Place = tuple[int, "int | None"]  # a PTS and its frame, which may be none
-HeldUnits = tuple[int, bytes]  # the number of a PES packet, and the lines of its units
-
-
-class PageCount:
-    """The headers of one page in a file."""
-
-    def __init__(self, first: Place) -> None:
-        self.count, self.first, self.last = 0, first, first
-        self.bits: collections.Counter[str] = collections.Counter()
+NumberedPes = tuple[int, bytes]  # a PES packet with its number in the file
 
 
 class Changes:
@@ -44,117 +39,151 @@ class Changes:
         return spans
 
 
+class Followed(Receiver):
+    """A receiver that hears PES packets of a file, and the pages that it held."""
+
+    def __init__(self, page: Page) -> None:
+        super().__init__(page)
+        self.changes = Changes()
+        self.heard: NumberedPes = -1, b""  # the last one that it heard
+        self.is_settled = False
+
+    def hear(self, number: int, pes: bytes, frame: int) -> None:
+        """Hears a PES packet. The same units again, in the one after it, change nothing where they
+        changed nothing before."""
+        before, (last, known) = self.state, self.heard
+        self.heard = number, pes
+        if self.is_settled and number == last + 1 and pes[UNIT:] == known[UNIT:]:
+            return
+        self.hear_pes(pes)
+        self.is_settled = self.state == before
+        if self.state.rows is not before.rows:
+            self.changes.add(frame, self.state.rows)
+
+
+class Sendings:
+    """Of a batch the PES packets with a header of the page, and those that a receiver has to hear,
+    all by their numbers."""
+
+    def __init__(self, found: Found, page: Page) -> None:
+        self.batch, self.found, self.page = found.batch, found, page
+        self.headers = {coded: header_in(coded) for coded in set(found.coded)}
+        self.of_page = found.of({coded for coded, header in self.headers.items()
+                                 if header and header[:2] == page})
+        self.while_open: list[int] | None = None
+
+    def heard(self, receiver: Receiver, end: int) -> Iterator[int]:
+        """Those before `end` that the receiver has to hear, which it does meanwhile: while its page
+        is not open, nothing but a header of it changes what it holds."""
+        at = 0
+        while True:
+            numbers = self.near() if receiver.state.is_open else self.of_page
+            place = bisect.bisect_left(numbers, at)
+            if place == len(numbers) or numbers[place] >= end:
+                return
+            yield numbers[place]
+            at = numbers[place] + 1
+
+    def near(self) -> list[int]:
+        """Those with a packet of the page's magazine, or a header that closes all pages."""
+        if self.while_open is None:
+            own = set(self.batch.owners(self.batch.of_magazine(self.page[0])))
+            closing = {coded for coded, header in self.headers.items()
+                       if header and has_bit(header[2], SERIAL)}
+            self.while_open = sorted(own.union(self.found.of(closing)))
+        return self.while_open
+
+
 class Heard:
     """A listing, heard to its end, and the states at the ends of the frames asked for.
 
     The receiver hears PES packets while each is of a frame after the one before, as `listen` does;
     `halt` is the first that is not: its number and its PTS. What can't be seen for that reason, or
     since the file can't be read on, has no state. `changes` are the pages that it held, and `falls`
-    the frames of all PES packets whose frame is not after the one before. `units_at` are the PES
-    packets of the frames `seen`, and of the last one.
+    the frames of all PES packets whose frame is not after the one before. The PES packets of the
+    frames `seen` are kept, and that of the last one.
     """
 
     def __init__(self, listing: Listing, asked: Iterable[int], page: Page, origin: int,
                  seen: Iterable[int] = ()) -> None:
-        self.page, self.origin, self.seen = page, origin, set(seen)
+        self.page, self.origin = page, origin
         self.asked, self.next_asked = sorted(set(asked)), 0
+        self.seen, self.next_seen = sorted(set(seen)), 0
         self.states: dict[int, State] = {}
-        self.units_at: dict[int, HeldUnits] = {}
-        self.pages: dict[Page, PageCount] = {}
+        self.seen_pes: dict[int, NumberedPes] = {}
+        self.last_pes: NumberedPes | None = None
+        self.headers, self.receiver = Headers(), Followed(page)
         self.sendings, self.falls = array.array("I"), array.array("I")
-        self.changes = Changes()
-        self.halt: tuple[int, int, int | None] | None = None
-        self.last_frame: int | None = None
-        self.frame_before: int | None = None
-        self.last_heard: HeldUnits | None = None
-        self.count, self.state, self.is_settled = 0, TUNED, False
-        self.units: bytes | None = None
-        self.packets: list[Packet] | None = None
-        self.headers: list[tuple[Page, bytes]] = []
-        self.run, self.has_header = 0, False
-        for pts, units in listing:
-            self.take(pts, units)
-        self.close_run()
+        self.halt: tuple[int, int] | None = None
+        self.last = self.before = NO_FRAME  # of the last that was heard, of the one before
+        self.count = 0
+        for batch in listing:
+            self.take(batch)
+        self.changes, self.state = self.receiver.changes, self.receiver.state
+        self.pages = self.headers.pages()
         self.end = listing.last
-        if self.is_whole():
-            self.answer_before(FRAMES_OF_A_DAY + 1)
-        if self.last_frame is not None and self.last_heard is not None:
-            self.units_at[self.last_frame] = self.last_heard
+        self.answer_before(FRAMES_OF_A_DAY + 1 if self.is_whole() else self.last + 1)
 
-    def take(self, pts: int, units: bytes) -> None:
-        frame = frame_at(pts, self.origin)
-        if units != self.units:
-            self.open_run(units, (pts, frame))
-        self.run += 1
-        self.last = pts, frame
-        if self.halt is None:
-            if frame is None or (self.last_frame is not None and frame <= self.last_frame):
-                self.halt, self.frame_before = (self.count, pts, frame), self.last_frame
-            else:
-                self.hear_frame(frame)
-        if self.halt:
-            before = self.frame_before
-            if frame is not None and before is not None and frame <= before:
+    def take(self, batch: Batch) -> None:
+        """Hears the next PES packets, as far as their frames rise."""
+        pts, found = batch.pts(), Found(batch)
+        self.headers.take(found, self.count, pts)
+        frames = frames_at(pts, self.origin)
+        heard = [] if self.halt else self.rising(frames)
+        if heard:
+            self.hear(batch, heard, Sendings(found, self.page))
+        at = len(heard)
+        if at < len(frames) and self.halt is None:
+            self.halt, self.before = (self.count + at, pts[at]), self.last
+        for frame in frames[at:]:
+            if NO_FRAME < frame <= self.before:
                 self.falls.append(frame)
-            self.frame_before = frame
-        self.count += 1
+            self.before = frame
+        self.count += len(frames)
 
-    def hear_frame(self, frame: int) -> None:
-        if self.next_asked < len(self.asked) and self.asked[self.next_asked] < frame:
-            self.answer_before(frame)
-        self.last_frame, self.last_heard = frame, (self.count, self.units or b"")
-        if self.has_header:
-            self.sendings.append(frame)
-        # While the page is not open, nothing but a header of it changes what is held.
-        if not self.is_settled and (self.has_header or self.state.is_open):
-            before = self.state
-            if self.packets is None:
-                self.packets = packets_of(self.units or b"", self.page[0])
-            for packet in self.packets:
-                self.state = hear(self.state, packet, self.page)
-            # The same packets again change nothing where they changed nothing now.
-            self.is_settled = self.state == before
-            if self.state.rows is not before.rows:
-                self.changes.add(frame, self.state.rows)
-        if self.next_asked < len(self.asked) and self.asked[self.next_asked] == frame:
-            self.answer_before(frame + 1)
-            if frame in self.seen:
-                self.units_at[frame] = self.last_heard
+    def rising(self, frames: list[int]) -> list[int]:
+        """The first of some frames, as long as each is after the one before."""
+        rises = list(map(operator.lt, [self.last, *frames], frames))
+        return frames if all(rises) else frames[:rises.index(False)]
+
+    def hear(self, batch: Batch, frames: list[int], sendings: Sendings) -> None:
+        """Hears the first PES packets of a batch, whose frames rise."""
+        for number in sendings.heard(self.receiver, len(frames)):
+            self.answer_before(frames[number])
+            self.receiver.hear(self.count + number, batch.packet(number), frames[number])
+        self.sendings.extend(frames[number] for number in sendings.of_page
+                             if number < len(frames))
+        while self.next_seen < len(self.seen) and self.seen[self.next_seen] <= frames[-1]:
+            frame = self.seen[self.next_seen]
+            at = bisect.bisect_left(frames, frame)
+            if frames[at] == frame:
+                self.seen_pes[frame] = self.count + at, batch.packet(at)
+            self.next_seen += 1
+        at, self.last = len(frames) - 1, frames[-1]
+        self.last_pes = self.count + at, batch.packet(at)
 
     def answer_before(self, frame: int) -> None:
         """Gives the frames before `frame` that are still asked the state as it is."""
         while self.next_asked < len(self.asked) and self.asked[self.next_asked] < frame:
-            self.states[self.asked[self.next_asked]] = self.state
+            self.states[self.asked[self.next_asked]] = self.receiver.state
             self.next_asked += 1
-
-    def open_run(self, units: bytes, place: Place) -> None:
-        """Begins a run of PES packets with the same units."""
-        self.close_run()
-        self.units, self.run, self.begin, self.is_settled = units, 0, place, False
-        self.packets = None  # a receiver hears them only where the page is open, or is sent
-        self.headers = [((one.magazine, one.content[0] + 16 * one.content[1]), one.content)
-                        for one in packets_of(units, None)]
-        self.has_header = any(page == self.page for page, _ in self.headers)
-
-    def close_run(self) -> None:
-        """Counts the headers of the run that ends."""
-        if self.run:
-            for page, header in self.headers:
-                known = self.pages.get(page)
-                if known is None:
-                    known = self.pages[page] = PageCount(self.begin)
-                known.count += self.run
-                known.last = self.last
-                known.bits[control_words(header)] += self.run
-        self.run = 0
 
     def state_at(self, frame: int) -> State | None:
         """The state at the end of an asked frame; `None` where the file can't be read on."""
-        return self.state if frame == self.last_frame else self.states.get(frame)
+        return self.state if frame == self.last else self.states.get(frame)
+
+    def pes_at(self, frame: int) -> NumberedPes | None:
+        """The PES packet of one of the frames `seen`, or of the last one."""
+        return self.last_pes if frame == self.last else self.seen_pes.get(frame)
+
+    @property
+    def last_frame(self) -> int | None:
+        """The last frame that was heard, where any was."""
+        return None if self.last == NO_FRAME else self.last
 
     def is_after(self, frame: int) -> bool:
         """Whether a frame is after the last that was heard, where any was."""
-        return self.last_frame is not None and frame > self.last_frame
+        return NO_FRAME < self.last < frame
 
     def sendings_between(self, first: int, end: int) -> int:
         """How many frames from `first` to the one before `end` have a header of the page."""

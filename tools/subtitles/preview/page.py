@@ -26,9 +26,8 @@ BAD = ('<svg aria-hidden="true" viewBox="0 0 62 62"><path '
 MOST_PAGES, MOST_LINKS = 200, 100  # of the table of headers, and to subtitles
 
 SAYS = ("The verdict and the faults are lines that <code>subttx check --all</code> printed, and "
-        "nothing else on this page accepts or refuses. The pictures are drawn from what "
-        "<code>subttx</code> prints, by a script that is not proved; they show one receiver, tuned "
-        "in before the first packet.")
+        "nothing else on this page accepts or refuses. The pictures are drawn by a script that is "
+        "not proved; they show one receiver, tuned in before the first packet.")
 ACCEPTED = ("Frames are counted from the first PES packet's to the last one's, transmissions by "
             "the headers of the page.")
 
@@ -180,7 +179,7 @@ def pages_table(report: Report) -> str:
         words = "checked" if (magazine, page) == wanted else "closes others" if page == 0xFF else ""
         bits = "; ".join(f"{names} ({count})" for names, count in known.bits.most_common(4))
         cells = [f"{known.count:,}"]
-        for pts, _ in (known.first, known.last):
+        for pts in (known.first, known.last):
             cells += [str(pts), place_of_pts(pts, report.origin)]
         named = "".join(f'<td data-name="{name}">{cell}</td>'
                         for name, cell in zip(COLUMNS, [*cells, bits]))

@@ -2,21 +2,24 @@
 from __future__ import annotations
 
 import bisect
-from typing import TYPE_CHECKING
+from typing import TYPE_CHECKING, Iterator
 
+from ..pes import UNIT
 from ..teletext import CODE_WORDS, NUMBER
 from ..times import CLOCK, FRAMES_OF_A_DAY, TICKS, time_of
+from ..units import Units
 from .fits import frames_words
 from .manual import shown
 from .program import Program, Verdict
 from .receiver import HIT, STORED
 
 if TYPE_CHECKING:
-    from .listening import Heard, HeldUnits
+    from .listening import Heard, NumberedPes
 
 NAMED = ' class="named"'
 OFF_FRAME, ORDER = 61, 62
 PASSED_OVER = range(33, 41)  # the one PES packet can't be read, and its length is known
+FIRST_FIELD = 32  # field_parity
 BYTES_A_LINE = 14  # of a packet, at most
 
 
@@ -66,21 +69,20 @@ def around(held: Heard, frame: int, page: str) -> str:
     return f"<p>Headers of page {page} around frame {time_of(frame)}: {'; '.join(words)}.</p>"
 
 
-def units_table(program: Program, known: HeldUnits, frame: int, broken: int | None,
+def units_table(program: Program, known: NumberedPes, frame: int, broken: int | None,
                 has_all: bool) -> str:
-    """The Teletext packets of a PES packet as `packets` and `packet` print them, or the broken."""
-    number, units = known
+    """The Teletext packets of a PES packet as `packet` prints them, all or the broken one."""
+    number, pes = known
     rows = []
-    for index, line in enumerate(units.decode().splitlines()):
+    for index, (line, data) in enumerate(lines_and_packets(pes)):
         if not has_all and index != broken:
             continue
-        words = line.split(" ")
-        said = program.packet(words[-1])
+        said = program.packet(data.hex())
         name = f"<b>packet {index} &#9664; named by the refusal</b>" if index == broken \
             else f"packet {index}"
         rows.append(f'<tr{NAMED if index == broken else ""}><th scope="row">{name}<br/>'
-                    f"<small>field {words[5]} line {words[7]}</small></th><td><pre>"
-                    f"{shown(chr(10).join(said))}\n{marked_bytes(words[-1])}</pre></td></tr>")
+                    f"<small>field {1 if line & FIRST_FIELD else 2} line {line & 31}</small></th>"
+                    f"<td><pre>{shown(chr(10).join(said))}\n{marked_bytes(data)}</pre></td></tr>")
     body = "".join(rows) or "<tr><td>no Teletext packet</td></tr>"
     is_open = ' open="open"' if broken is not None else ""
     return (f"<details{is_open}><summary>PES packet {number}, of frame {time_of(frame)}</summary>"
@@ -88,12 +90,20 @@ def units_table(program: Program, known: HeldUnits, frame: int, broken: int | No
             f'<table class="packets">{body}</table></details>')
 
 
-def marked_bytes(digits: str) -> str:
+def lines_and_packets(pes: bytes) -> Iterator[tuple[int, bytes]]:
+    """The Teletext packets of a PES packet, each after its byte with the field and the line."""
+    units = Units(pes)
+    for number in range((units.end - units.first) // UNIT):
+        data = units.packet(number)
+        if data:
+            yield units.data[units.first + UNIT * number + 2], data
+
+
+def marked_bytes(data: bytes) -> str:
     """42 bytes in hexadecimal; those of the address, a header or a row with a wrong bit marked.
 
     There is room for a new line after some of them.
     """
-    data = bytes.fromhex(digits)
     low, high = NUMBER[data[0]], NUMBER[data[1]]
     number = None if low is None or high is None else low + 16 * high >> 3
     coded = 10 if number == 0 else 2

@@ -1,6 +1,7 @@
-"""What `subttx` is asked, and its lines as values. Nothing else is known of either file."""
+"""What `subttx` is asked, its lines as values, and the PES packets that it reads."""
 from __future__ import annotations
 
+import contextlib
 import dataclasses
 import hashlib
 import os
@@ -8,7 +9,10 @@ import re
 import subprocess
 from typing import Callable, Iterable, Iterator, NamedTuple, Protocol, TypeVar
 
-from ..times import frame_of
+from ..batch import Batch, first_refused, is_listed
+from ..files import Damaged, Input
+from ..pes import pes_runs
+from ..times import FRAMES_OF_A_DAY, frame_of
 from ..words import Stop
 
 ACCEPTED = re.compile(r"accepted \d+ frames \d+ transmissions$")
@@ -82,37 +86,29 @@ def subtitle_of(index: int, line: str) -> Subtitle:
 
 
 class Listing:
-    """The PES packets of a file as `packets` prints them, read while it runs.
+    """The PES packets of a file that `packets` lists, as many at a time as were read.
 
-    Iterating gives the PTS of each PES packet and the lines of its Teletext units as they are;
-    after that `last` is the last line, a count or a refusal.
+    After that `last` is where they end: the refusal that `packets` tells, or no line.
     """
 
-    def __init__(self, command: list[str]) -> None:
-        self.command = command
-        self.last = Verdict("", 2)
+    def __init__(self, program: Program, path: str) -> None:
+        self.program, self.path = program, path
+        self.last = Verdict("", 0)
 
-    def __iter__(self) -> Iterator[tuple[int, bytes]]:
-        with subprocess.Popen(self.command, stdin=subprocess.DEVNULL, stdout=subprocess.PIPE,
-                              stderr=subprocess.DEVNULL) as process:
-            assert process.stdout
-            rest = b"\n"
-            while chunk := process.stdout.read(1 << 20):
-                pieces = (rest + chunk).split(b"\npes ")
-                rest = pieces.pop()
-                for piece in pieces:
-                    if piece:
-                        yield self.split(piece)
-        # What is left is the last PES packet, if there is one, and the last line.
-        rest, _, last = rest.rstrip(b"\n").rpartition(b"\n")
-        if rest:
-            yield self.split(rest)
-        self.last = verdict_of(last.decode(), process.returncode)
-
-    @staticmethod
-    def split(piece: bytes) -> tuple[int, bytes]:
-        head, _, units = piece.partition(b"\n")
-        return int(head[head.rindex(b" ") + 1:]), units
+    def __iter__(self) -> Iterator[Batch]:
+        count = 0
+        with Input(self.path) as file, contextlib.suppress(Damaged):
+            for data, begins in pes_runs(file):
+                batch = Batch(data, begins[:FRAMES_OF_A_DAY - count + 1])
+                if not is_listed(batch):
+                    batch = Batch(data, begins[:first_refused(batch) + 1])
+                yield batch
+                count += len(batch)
+                if len(batch) < len(begins) - 1:
+                    break
+            else:
+                return
+        self.last = self.program.refusal_of_packets(self.path, count)
 
 
 class Program:
@@ -180,7 +176,23 @@ class Program:
         return self.answered("schedule", *words)[1]
 
     def packets(self, pes: str) -> Listing:
-        return Listing(self.command("packets", "--", pes))
+        return Listing(self, pes)
+
+    def refusal_of_packets(self, pes: str, count: int) -> Verdict:
+        """The last line of `packets`, which is a refusal of the PES packet with that number."""
+        try:
+            with subprocess.Popen(self.command("packets", "--", pes), stdin=subprocess.DEVNULL,
+                                  stdout=subprocess.PIPE) as process:
+                assert process.stdout
+                line = b""
+                for line in process.stdout:
+                    pass
+        except (OSError, ValueError) as error:
+            raise self.cannot_run(error) from None
+        verdict = verdict_of(line.decode("utf-8", "replace").rstrip("\n"), process.returncode)
+        if answered("packets", verdict).pes != count:
+            raise NoReport(f"packets says {verdict.line}, where PES packet {count} is refused here")
+        return verdict
 
     def packet(self, digits: str) -> list[str]:
         """What `packet` says of 84 hexadecimal digits, as lines."""

@@ -1,19 +1,19 @@
-"""The model receiver: one step of it, and what it reads of the lines of `packets`.
+"""The model receiver: one step of it, and what it reads of a PES packet.
 
 A cell is its 7-bit code. With bit 8 set it is one that says more than its code: 3F of the old page,
 which nobody sent since the receiver was tuned in, or a space whose byte had even parity.
 """
 from __future__ import annotations
 
-import collections
 import functools
-import re
 from typing import NamedTuple
 
-from ..teletext import (
-    CONTROL_BITS, ERASE, NUMBER, SERIAL, Page, address_of, has_bit, header_of, is_odd)
+from ..teletext import CONTROL_BITS, ERASE, SERIAL, Page, address_of, has_bit, is_odd
+from ..units import Units, of_magazine
 
 OLD, HIT = 0xBF, 0xA0
+ROWS = range(1, 25)
+NOWHERE = 0, 0  # for the address of a packet that has none
 
 Rows = tuple[bytes, ...]  # rows 1 to 24, a byte for each cell
 
@@ -50,65 +50,42 @@ class Packet(NamedTuple):
 def hear(state: State, packet: Packet, page: Page) -> State:
     """One step of a receiver that stores a space at a byte of even parity (EN 300 706)."""
     magazine, number, content = packet
+    _, is_open, header, rows, screen = state
     if number == 0:
         if (magazine, content[0] + 16 * content[1]) == page:
-            rows = BLANK_PAGE if has_bit(content, ERASE) else state.rows
-            return state._replace(is_heard=True, is_open=True, header=content, rows=rows)
-        is_closed = magazine == page[0] or has_bit(content, SERIAL)
-        if state.is_open and state.header and is_closed:
-            return state._replace(is_open=False, screen=(state.rows, state.header))
-    elif state.is_open and magazine == page[0]:
-        rows = state.rows[:number - 1] + (content,) + state.rows[number:]
-        return state._replace(rows=rows)
+            return State(True, True, content, BLANK_PAGE if has_bit(content, ERASE) else rows,
+                         screen)
+        if is_open and header and (magazine == page[0] or has_bit(content, SERIAL)):
+            return State(True, False, header, rows, (rows, header))
+    elif is_open and magazine == page[0]:
+        rows = rows[:number - 1] + (content,) + rows[number:]
+        return State(True, True, header, rows, screen)
     return state
 
 
-@functools.lru_cache(maxsize=1 << 16)
-def address_in(digits: bytes) -> tuple[int, int] | None:
-    """The magazine and the packet number of a packet's first two bytes in hexadecimal."""
-    return address_of(bytes.fromhex(digits.decode()))
+class Receiver:
+    """A receiver of a page, tuned in before the first packet."""
 
+    def __init__(self, page: Page) -> None:
+        self.page, self.own, self.state = page, of_magazine(page[0]), TUNED
 
-def digits_of(wanted: tuple[int, ...]) -> str:
-    """A pattern for the digits of bytes with some numbers: few choices, since each costs time."""
-    seconds: dict[str, str] = collections.defaultdict(str)
-    firsts: dict[str, str] = collections.defaultdict(str)
-    for byte, number in enumerate(NUMBER):
-        if number in wanted:
-            seconds[f"{byte >> 4:x}"] += f"{byte & 15:x}"
-    for first, some in seconds.items():
-        firsts[some] += first
-    return "|".join(f"[{some}][{second}]" for second, some in firsts.items())
+    def hear_pes(self, pes: bytes) -> None:
+        """Hears a PES packet."""
+        units = Units(pes)
+        for number in units.heard(self.own, lambda: self.state.is_open):
+            packet = self.packet(units, number)
+            if packet:
+                self.state = hear(self.state, packet, self.page)
 
-
-@functools.lru_cache(maxsize=None)
-def lines_with(magazine: int | None) -> re.Pattern[bytes]:
-    """A pattern for lines that may be of a header, or of a row of a magazine, `None` for none."""
-    rows = "" if magazine is None else f"|(?:{digits_of((magazine, magazine + 8))}).."
-    return re.compile(rf"line [0-9]+ (?:..(?:{digits_of((0,))}){rows}).{{80}}".encode())
-
-
-@functools.lru_cache(maxsize=1 << 12)
-def header_in(digits: bytes) -> bytes | None:
-    """The eight numbers of a header, by its first ten bytes in hexadecimal."""
-    return header_of(bytes.fromhex(digits.decode()))
-
-
-def packets_of(units: bytes, magazine: int | None) -> list[Packet]:
-    """The headers of a PES packet's units, and the rows of a magazine, of none for `None`."""
-    found = []
-    for line in lines_with(magazine).findall(units):
-        address = address_in(line[-84:-80])
-        if address is None:
-            continue
-        if address[1] == 0:
-            header = header_in(line[-84:-64])
-            if header:
-                found.append(Packet(*address, header))
-        elif address[0] == magazine and address[1] <= 24:
-            row = bytes.fromhex(line[-80:].decode()).translate(STORED)
-            found.append(Packet(*address, row))
-    return found
+    def packet(self, units: Units, number: int) -> Packet | None:
+        """A header, or a row of the page's magazine; nothing is done about other packets."""
+        header = units.header(number)
+        if header:
+            return Packet(header[0], 0, header[2])
+        data = units.packet(number)
+        magazine, row = data and address_of(data) or NOWHERE
+        is_row = magazine == self.page[0] and row in ROWS
+        return Packet(magazine, row, data[2:].translate(STORED)) if is_row else None
 
 
 def control_bits(header: bytes) -> list[str]:

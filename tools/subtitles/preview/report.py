@@ -21,7 +21,7 @@ from .letters import ENGLISH, GERMAN
 from .listening import Changes, Heard
 from .manual import meanings
 from .counts import place_words
-from .program import NoReport, Program, Subtitle, Verdict, answered, digest_of
+from .program import NoReport, Program, Subtitle, Verdict, digest_of
 from .receiver import Rows
 from .subtitles import Entries
 from .timeline import Timeline
@@ -105,7 +105,6 @@ class Report:
         firsts = [one.first for one in self.subtitles]
         self.frames = [] if self.is_refused_file else [*told, *firsts]
         self.held = Heard(program.packets(path), self.frames, asked.page, asked.origin, told)
-        answered("packets", self.held.end)
 
     def first_link(self, fault: Verdict) -> str:
         """The place of the first fault of a number, as a link where the list has it."""

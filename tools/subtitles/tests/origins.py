@@ -4,10 +4,11 @@ from __future__ import annotations
 import collections
 import random
 
+from ..batch import with_headers
 from ..pes import data_field, pes_packet, pts_in, teletext_packets
 from ..stl import gsi_block, subtitle_blocks
 from ..times import CLOCK, TICKS
-from ..units import Units, header_in, with_headers
+from ..units import Units, header_in
 from ..votes import differences
 from .bench import Case, example, example_bytes, moved, packets, random_subtitles
 
