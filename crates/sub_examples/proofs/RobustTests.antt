@@ -21,8 +21,7 @@ use Rattle.ttx_page.specs.PacketKind.{is_row, kind}
 use Rattle.ttx_page.specs.Receiver.{State}
 use Rattle.ttx_page.specs.Shown.{shown}
 use Rattle.ttx_page.specs.Span.{holds_header, span}
-use Rattle.ttx_page.specs.ComputedReceiver.{state_after}
-use Rattle.ttx_page.proofs.ComputedReceiver.{heard_so, near_packets, packets_tested}
+use Rattle.ttx_page.proofs.ComputedReceiver.{heard_so, near_packets, packets_tested, state_after}
 use Rattle.stl_rows.specs.Programme.{ProgrammeValue}
 use Rattle.sub_plan.specs.Options.{OptionsValue}
 use Rattle.sub_plan.specs.Schedule.{due_in}

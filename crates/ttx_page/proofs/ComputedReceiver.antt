@@ -1,7 +1,9 @@
--- A receiver that computes is one of the relation: `heard_so`. And a test of near packets:
--- `packets_tested`. For examples.
+-- A receiver that computes, for examples that are decided: of those of `Receiver` the one that
+-- keeps the cells of even bytes. It is one of the relation: `heard_so`. And a test of near packets:
+-- `packets_tested`.
 use Rattle.std.proofs.Common.{◌≡◌, ℕ, ◌-◌, Bool, true, false, ◌&&◌, List, [], ◌∷◌, map, get_or}
 use Rattle.std.proofs.Common.{refl, ap, ◌∙◌, arith, inl, inr}
+use Rattle.std.specs.Prelude.{◌==◌, if◌then◌else◌}
 use Rattle.std.specs.List.{range_with_len, AllZip}
 use Rattle.std.proofs.lemmas.Bool.{and_parts, cases_Bool}
 use Rattle.std.proofs.lemmas.Bool.Decides.{nat_tests}
@@ -9,12 +11,14 @@ use Rattle.std.proofs.lemmas.List.FromFn.{get_or-map-range_with_len}
 use Rattle.ttx_packet.specs.OneBit.{AreNear, is_near}
 use Rattle.ttx_packet.specs.PageId.{PageIdValue}
 use Rattle.ttx_packet.proofs.OneBitLemmas.{near_from_test}
-use Rattle.ttx_page.specs.ComputedReceiver.{code_stored, page_of_cells, row_stored, state_after}
-use Rattle.ttx_page.specs.ComputedReceiver.{state_at}
+use Rattle.ttx_packet.specs.PageHeader.{c4}
+use Rattle.ttx_packet.specs.RowPacket.{text_byte}
+use Rattle.ttx_page.specs.Memory.{code_after}
+use Rattle.ttx_page.specs.declared.memory.EvenByte.TheVariants.{KeepsCell}
 use Rattle.ttx_page.specs.declared.packet_kind.PacketKind.{PacketKind}
 use Rattle.ttx_page.specs.declared.packet_kind.PacketKind.TheVariants.{ThisPage, EndsPage, Row}
 use Rattle.ttx_page.specs.declared.packet_kind.PacketKind.TheVariants.{Other}
-use Rattle.ttx_page.specs.Page.{Rows, cell, IsCell}
+use Rattle.ttx_page.specs.Page.{Rows, blank, cell, IsCell}
 use Rattle.ttx_page.specs.PacketKind.{kind}
 use Rattle.ttx_page.specs.Receiver.{State, StepAt, Hears, StoresRow}
 
@@ -45,6 +49,37 @@ packets_tested (s ∷ sent) got e =
     grind (arith, nat_tests, and_parts, bytes_tested, packets_tested sent)
 
 -- ---- a receiver that keeps the cells of even bytes
+
+-- The page with these codes in its cells.
+abbrev pub page_of_cells : (ℕ → ℕ → ℕ) → Rows
+page_of_cells code =
+    map (λ row. map (λ column. code row column) (range_with_len 0 40)) (range_with_len 1 24)
+
+-- The code of a cell after row y was stored.
+abbrev pub code_stored : List ℕ → ℕ → Rows → ℕ → ℕ → ℕ
+code_stored packet y page row column =
+    if row == y
+    then code_after KeepsCell (text_byte packet column) (cell page row column)
+    else cell page row column
+
+-- The page then.
+abbrev pub row_stored : List ℕ → ℕ → Rows → Rows
+row_stored packet y page = page_of_cells (code_stored packet y page)
+
+-- The state after a packet of each kind.
+abbrev pub state_at : PacketKind → List ℕ → State → State
+state_at (ThisPage h) packet old =
+    record { heard = true; is_open = true; page = if c4 h then blank else old.page }
+state_at EndsPage packet old = record old { is_open = false }
+state_at (Row y) packet old =
+    if old.is_open then record old { page = row_stored packet y old.page } else old
+state_at Other packet old = old
+
+-- The state after a list of packets.
+abbrev pub state_after : PageIdValue → State → List (List ℕ) → State
+state_after w old [] = old
+state_after w old (packet ∷ packets) =
+    state_after w (state_at (kind w packet) packet old) packets
 
 cell-page_of_cells : (code : ℕ → ℕ → ℕ) (row column : ℕ)
     → IsCell row column

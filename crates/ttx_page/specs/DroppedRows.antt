@@ -23,12 +23,8 @@ LawOfDropping =
     → ShowsBy Dropping w old packets new
     ↔ Shows w old (without_dropped w packets) new)
 
--- What is said of some cell of the row.
-abbrev pub SomewhereInRow : (ℕ → ℕ → Type 0) → ℕ → ℕ → Type 0
-SomewhereInRow IsExcused row column = (other : ℕ) × (other < 40) × IsExcused row other
-
 -- What excuses a space in a receiver of the class, by what excuses it where rows are stored: where
 -- rows are dropped, one byte that was hit excuses each cell of its row.
 abbrev pub ExcusedBy : ReceiverClass → (ℕ → ℕ → Type 0) → ℕ → ℕ → Type 0
 ExcusedBy Storing IsExcused = IsExcused
-ExcusedBy Dropping IsExcused = SomewhereInRow IsExcused
+ExcusedBy Dropping IsExcused = λ row column. (other : ℕ) × (other < 40) × IsExcused row other

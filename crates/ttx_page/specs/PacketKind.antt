@@ -39,27 +39,19 @@ kind w packet = kind_at w (address packet) (header packet)
 -- A header of the page.
 abbrev pub is_this_page : PacketKind → Bool
 is_this_page (ThisPage h) = true
-is_this_page EndsPage = false
-is_this_page (Row y) = false
-is_this_page Other = false
+is_this_page _ = false
 
 -- A header that ends the page.
 abbrev pub ends_page : PacketKind → Bool
-ends_page (ThisPage h) = false
 ends_page EndsPage = true
-ends_page (Row y) = false
-ends_page Other = false
+ends_page _ = false
 
 -- A packet of this row.
 abbrev pub is_row : ℕ → PacketKind → Bool
-is_row row (ThisPage h) = false
-is_row row EndsPage = false
 is_row row (Row y) = y == row
-is_row row Other = false
+is_row row _ = false
 
 -- A packet of some row.
 abbrev pub is_some_row : PacketKind → Bool
-is_some_row (ThisPage h) = false
-is_some_row EndsPage = false
 is_some_row (Row y) = true
-is_some_row Other = false
+is_some_row _ = false
