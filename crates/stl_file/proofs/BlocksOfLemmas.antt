@@ -4,11 +4,11 @@ use Rattle.std.proofs.Common.{rules, ◌≡◌, ◌*◌, ℕ, true, List, [], �
 use Rattle.std.proofs.Common.{append_assoc, arith, length-append, take, drop, zero, suc, ◌+◌, ◌-◌}
 use Rattle.std.proofs.Common.{◌<◌, ◌≤◌, replicate, length-take}
 use Rattle.std.proofs.lemmas.Bool.Decides.{nat_tests}
-use Rattle.std.specs.List.{flat_map}
+use Rattle.std.specs.List.{flat_map, concat}
 use Rattle.std.proofs.lemmas.List.{append-nil, take-append-drop, length-replicate, length-drop}
 use Rattle.std.proofs.lemmas.List.{drop-replicate}
 use Rattle.stl_file.specs.Tti.{ebn, text_of, unused_space}
-use Rattle.stl_file.specs.SubtitleBlocks.{joined, BelongsTo, AreLinked, Begins, AreBlocksOf}
+use Rattle.stl_file.specs.SubtitleBlocks.{BelongsTo, AreLinked, Begins, AreBlocksOf}
 use Rattle.stl_file.specs.Subtitle.{SubtitleValue, IsSubtitle, has_no_unused}
 use Rattle.stl_file.specs.NormalForm.{block_head, block_of, blocks_from, full_pieces, blocks_of}
 use Rattle.stl_file.specs.TimeCode.{frame_in, is_time}
@@ -60,16 +60,16 @@ pieces_more text lt = omega (arith, length-drop 112 text)
 -- The bytes of a full block, and of the blocks after it.
 pub joined_more : (s : SubtitleValue) (ebn : ℕ) (text : List ℕ)
     → 112 < length text
-    → joined (blocks_from s (full_pieces text) ebn text)
+    → concat (blocks_from s (full_pieces text) ebn text)
     ≡ block_of s ebn (take 112 text)
-    ++ joined (blocks_from s (full_pieces (drop 112 text)) (ebn + 1) (drop 112 text))
+    ++ concat (blocks_from s (full_pieces (drop 112 text)) (ebn + 1) (drop 112 text))
 unfolding blocks_from
 joined_more s ebn text lt = rw (pieces_more text lt) refl
 
 -- The bytes of the last block.
 pub joined_end : (s : SubtitleValue) (ebn : ℕ) (text : List ℕ)
     → length text ≤ 112
-    → joined (blocks_from s (full_pieces text) ebn text) ≡ block_of s 255 text
+    → concat (blocks_from s (full_pieces text) ebn text) ≡ block_of s 255 text
 unfolding blocks_from
 joined_end s ebn text le = grind (arith, nat_tests, append-nil)
 

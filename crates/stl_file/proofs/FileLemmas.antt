@@ -7,9 +7,9 @@ use Rattle.std.proofs.lemmas.Bool.Decides.{nat_tests}
 use Rattle.std.specs.Prelude.{◌↔◌}
 use Rattle.std.proofs.lemmas.List.{take_all, take-take, drop-take, take-append-drop, drop_at}
 use Rattle.std.proofs.lemmas.Bool.{cases_lt, le-ltb}
+use Rattle.std.specs.List.{concat}
 use Rattle.stl_file.specs.declared.fault.StlFault.{StlFault}
 use Rattle.stl_file.specs.Tti.{most_blocks}
-use Rattle.stl_file.specs.SubtitleBlocks.{joined}
 use Rattle.stl_file.specs.Reader.{ReaderValue, outcome_left, outcome_of, outcome_opened, opened_at}
 use Rattle.stl_file.specs.Reader.{opened}
 use Rattle.stl_file.specs.Gsi.{gsi_at, IsGsi}
@@ -57,10 +57,10 @@ unfolding outcome_of opened_at
 file_complete s g ts h =
     let size = h.gsi.size in
     let whole = ap length h.bytes in
-    let parts = length-append g (joined h.blocks) in
+    let parts = length-append g (concat h.blocks) in
     let front = file_gsi s g ts h in
-    let back : drop 1024 s ≡ joined h.blocks =
-    ap (drop 1024) h.bytes ∙ drop_at g (joined h.blocks) 1024 size in
+    let back : drop 1024 s ≡ concat h.blocks =
+    ap (drop 1024) h.bytes ∙ drop_at g (concat h.blocks) 1024 size in
     let long : ltb (length s) 1024 ≡ false = le-ltb _ _ (omega arith) in (
       front,
       rw (long, front, back, gsi_complete g h.gsi)

@@ -11,7 +11,7 @@ use Rattle.stl_file.specs.declared.fault.StlFault.TheVariants as fault
 use Rattle.stl_file.specs.Tti.{most_blocks}
 use Rattle.stl_file.specs.Gsi.{gsi_at}
 use Rattle.stl_file.specs.Reader.{NamesFrom, opened, opened_at, outcome_of, outcome_opened}
-use Rattle.stl_file.specs.Reading.{Begun, BlockStep, Outcome, outcome_after, outcome_at, step_at}
+use Rattle.stl_file.specs.Reading.{Begun, BlockStep, Outcome, outcome_of_step, outcome_at, step_at}
 use Rattle.stl_file.specs.Resuming.{Findings, FindsFrom, breaks, finds, findings_after, findings_at}
 use Rattle.stl_file.specs.Resuming.{findings_of, findings_opened, no_more, refuses, stopped}
 use Rattle.stl_file.proofs.OutcomeLemmas.{outcome_end, outcome_full, outcome_short, outcome_step}
@@ -71,7 +71,7 @@ findings_block room next is begun b rest e size =
 stopped-after : (room : ℕ) (next : Bool → Option Begun → Findings) (then' : Option Begun → Outcome)
     (b : List ℕ) (r : Result BlockStep StlFault)
     → ((begun : Option Begun) → stopped (next false begun) ≡ then' begun)
-    → stopped (findings_after room next false b r) ≡ outcome_after room then' r
+    → stopped (findings_after room next false b r) ≡ outcome_of_step room then' r
 stopped-after room next then' b r same = grind arith
 
 -- Up to the first fault both are the same.

@@ -1,20 +1,22 @@
 -- `normal_counts` and `given`: a pass of `normal` over the blocks after the GSI block; main lemmas:
 -- left_is, took, counted_cons, written_cons.
 use Rattle.std.proofs.Common.{◌≡◌, ℕ, true, false, Bool, cond, List, length, arith, length-append}
-use Rattle.std.proofs.Common.{Option, Some, Result, ◌+◌, ◌≤◌, is_ok}
+use Rattle.std.proofs.Common.{Option, Some, Result, Ok, Err, ◌+◌, ◌≤◌, is_ok}
 use Rattle.std.proofs.lemmas.Bool.Decides.{nat_tests}
 use Rattle.std.specs.Io.KnownBytes.{Appends}
-use Rattle.std.proofs.lemmas.Grind.{flat_map-append}
+use Rattle.std.proofs.lemmas.List.Folds.{concat-append}
 use Rattle.std.proofs.lemmas.Option.{same_Some}
+use Rattle.std.specs.List.{concat}
 use Rattle.sub_io.specs.Device.{Writes}
 use Rattle.sub_io.proofs.DeviceLemmas.{Writes-after}
 use Rattle.stl_file.specs.declared.counts.Counts.{Counts}
+use Rattle.stl_file.specs.declared.fault.NormalFault.{NormalFault}
 use Rattle.stl_file.specs.declared.fault.StlFault.{StlFault}
-use Rattle.stl_file.specs.SubtitleBlocks.{joined}
-use Rattle.stl_file.specs.Reader.{ReaderValue, outcome_left, Answers, given_subtitle, TakesSubtitle}
+use Rattle.stl_file.specs.Reader.{GivesNext, ReaderValue, TakesSubtitle, given_subtitle}
+use Rattle.stl_file.specs.Reader.{outcome_left}
 use Rattle.stl_file.specs.Subtitle.{SubtitleValue}
 use Rattle.stl_file.specs.NormalForm.{Judged, all_blocks, subtitles_of, blocks_of, cons_all}
-use Rattle.stl_file.specs.NormalCounts.{counted_on, given, judged_on, normal_counts}
+use Rattle.stl_file.specs.NormalCounts.{given, judged_on, normal_counts}
 use Rattle.stl_file.proofs.SubtitleBlocksLemmas.{kept_few}
 use Rattle.stl_file.proofs.BlocksOfLemmas.{blocks_again, blocks_count}
 
@@ -27,7 +29,7 @@ no_failure b e = grind (arith, nat_tests)
 -- What was left, by the answer and what is left now.
 pub left_is : (old new : ReaderValue) (rest next : List ℕ) (r : Result Bool StlFault)
     (s : SubtitleValue)
-    → Answers old rest new (Some next) (given_subtitle r s)
+    → GivesNext old rest new (Some next) (given_subtitle r s)
     → subtitles_of (outcome_left old rest)
     ≡ judged_on r s new.block (subtitles_of (outcome_left new next))
 left_is old new rest next r s a = grind (arith, nat_tests, same_Some)
@@ -40,6 +42,11 @@ took from to old new s t =
     omega (arith, t.counted, kept_few t.blocks, (blocks_again s _ t.are_of).1)
 
 -- ---- the first pass
+
+-- Counts with those of what is left.
+abbrev pub counted_on : Counts → Result Counts NormalFault → Result Counts NormalFault
+counted_on c (Ok d) = Ok (record { tnb = c.tnb + d.tnb; tns = c.tns + d.tns })
+counted_on c (Err f) = Err f
 
 -- Counts before any subtitle.
 pub counted_none : (j : Judged)
@@ -65,7 +72,7 @@ ok_cons s j e = grind arith
 pub written_cons : {E : Type 0} (old mid new : Option (List ℕ)) (s : SubtitleValue) (j : Judged)
     (result : Result (Unit {0}) E)
     → is_ok (cons_all s j) ≡ true
-    → Appends old mid (joined (blocks_of s))
-    → Writes mid new (joined (all_blocks (given j))) result
-    → Writes old new (joined (all_blocks (given (cons_all s j)))) result
-written_cons old mid new s j result ok p q = grind (arith, nat_tests, flat_map-append, Writes-after)
+    → Appends old mid (concat (blocks_of s))
+    → Writes mid new (concat (all_blocks (given j))) result
+    → Writes old new (concat (all_blocks (given (cons_all s j)))) result
+written_cons old mid new s j result ok p q = grind (arith, nat_tests, concat-append, Writes-after)

@@ -3,7 +3,7 @@
 use Rattle.std.proofs.Common.{rules, ◌≡◌, ℕ, List, [], ◌∷◌, ◌++◌, length, refl, ap, ◌∙◌, arith}
 use Rattle.std.proofs.Common.{length-append, take, drop, Option, Ok, Err}
 use Rattle.std.specs.Prelude.{filter}
-use Rattle.std.specs.List.{AllByRecursion}
+use Rattle.std.specs.List.{AllByRecursion, concat, AllZip}
 use Rattle.std.specs.Io.KnownBytes.{Appends, Keeps}
 use Rattle.std.proofs.lemmas.List.Elements.{filter-append}
 use Rattle.std.proofs.lemmas.Bool.Decides.{nat_tests}
@@ -13,7 +13,7 @@ use Rattle.stl_file.specs.declared.fault.StlFault.{StlFault}
 use Rattle.stl_file.specs.declared.fault.NormalFault.{NormalFault}
 use Rattle.stl_file.specs.declared.fault.NormalFault.TheVariants.{Refused, Write}
 use Rattle.stl_file.specs.Tti.{is_kept, most_blocks}
-use Rattle.stl_file.specs.SubtitleBlocks.{IsBlock, joined, AreLinked, AreBlocksOfEach, IsRest}
+use Rattle.stl_file.specs.SubtitleBlocks.{IsBlock, AreLinked, IsRest, AreBlocksOf}
 use Rattle.stl_file.specs.Reader.{ReaderValue, outcome_from, outcome_of, opened_at}
 use Rattle.stl_file.specs.Gsi.{with_counts}
 use Rattle.stl_file.specs.Subtitle.{SubtitleValue}
@@ -49,7 +49,7 @@ each_append (x ∷ xs) ys h k = (h.0, each_append xs ys h.1 k)
 
 -- The subtitles of a file have blocks of their own, and no more than the file has.
 respelled : (ss : List SubtitleValue) (gs : List (List (List ℕ)))
-    → AreBlocksOfEach ss gs
+    → AllZip AreBlocksOf ss gs
     → IsRest (length (groups_of gs)) (all_blocks ss) ss
 respelled [] gs h = grind (arith, nat_tests)
 respelled (s ∷ ss) [] h = absurd h
@@ -128,7 +128,7 @@ record Accepted (s : List ℕ) (r : ReaderValue) (c : Counts) : Type 0 where
   is_file : IsFile s (take 1024 s) ts
   count : c.tns ≡ length ts
   form : with_counts c.tnb c.tns r.gsi
-      ++ joined (all_blocks (given (subtitles_of (outcome_from 0 (drop 1024 s)))))
+      ++ concat (all_blocks (given (subtitles_of (outcome_from 0 (drop 1024 s)))))
       ≡ normal_form (take 1024 s) ts
 
 -- The subtitles that were counted.
@@ -158,12 +158,12 @@ module _ (s : List ℕ) (r : ReaderValue) (c : Counts) (g : List ℕ) (opened : 
     (set : g ≡ with_counts c.tnb c.tns r.gsi) (old new : Option (List ℕ)) where
   -- All was written.
   pub whole_written : Appends old new
-      (g ++ joined (all_blocks (given (subtitles_of (outcome_from 0 (drop 1024 s))))))
+      (g ++ concat (all_blocks (given (subtitles_of (outcome_from 0 (drop 1024 s))))))
       → WritesNormal s old new c.tns
   whole_written w = grind (arith, nat_tests, accepted s r c opened judged)
 
   -- The sink failed.
   pub prefix_written : AppendsPrefix old new
-      (g ++ joined (all_blocks (given (subtitles_of (outcome_from 0 (drop 1024 s))))))
+      (g ++ concat (all_blocks (given (subtitles_of (outcome_from 0 (drop 1024 s))))))
       → WritesPrefix s old new
   prefix_written w = grind (arith, nat_tests, accepted s r c opened judged)

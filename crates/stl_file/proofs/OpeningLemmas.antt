@@ -5,11 +5,11 @@ use Rattle.std.proofs.Common.{take, drop, Option, Some, Result, Ok, Err, ◌<◌
 use Rattle.std.proofs.lemmas.List.{take_all, length-take-le, take_at, drop_at}
 use Rattle.std.proofs.lemmas.Bool.{le-ltb}
 use Rattle.std.proofs.lemmas.Bool.Decides.{nat_tests}
+use Rattle.std.specs.List.{concat}
 use Rattle.sub_io.specs.Device.{Fills, Told}
 use Rattle.stl_file.specs.declared.fault.StlFault.{StlFault}
 use Rattle.stl_file.specs.declared.fault.StlFault.TheVariants as fault
 use Rattle.stl_file.specs.declared.progress.Progress.TheVariants.{Reading}
-use Rattle.stl_file.specs.SubtitleBlocks.{joined}
 use Rattle.stl_file.specs.Reader.{ReaderValue, opened_at, opened, RefusesOpening}
 use Rattle.stl_file.specs.Gsi.{gsi_at, IsGsi}
 use Rattle.stl_file.specs.Subtitle.{SubtitleValue}
@@ -40,7 +40,7 @@ opened_sound s r e =
 
 -- A file begins with its GSI block.
 pub file_gsi : (s g : List ℕ) (ts : List SubtitleValue) → IsFile s g ts → take 1024 s ≡ g
-file_gsi s g ts h = ap (take 1024) h.bytes ∙ take_at g (joined h.blocks) 1024 h.gsi.size
+file_gsi s g ts h = ap (take 1024) h.bytes ∙ take_at g (concat h.blocks) 1024 h.gsi.size
 
 module _ {old new : Option (List ℕ)} {n : ℕ} {block : List ℕ} (f : Fills old n new block)
     (size : length block ≡ 1024) where

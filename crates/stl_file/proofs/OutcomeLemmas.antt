@@ -7,7 +7,7 @@ use Rattle.std.proofs.lemmas.Bool.{cases_lt}
 use Rattle.std.proofs.lemmas.Bool.Decides.{nat_tests}
 use Rattle.stl_file.specs.declared.fault.StlFault.TheVariants as fault
 use Rattle.stl_file.specs.Tti.{most_blocks}
-use Rattle.stl_file.specs.Reading.{Begun, Outcome, outcome_after, outcome_at}
+use Rattle.stl_file.specs.Reading.{Begun, Outcome, outcome_of_step, outcome_at}
 use Rattle.stl_file.specs.Reading.{step_at, ends, fails}
 
 -- ---- the function by cases
@@ -42,7 +42,7 @@ outcome_short room begun b h lt = grind (arith, nat_tests)
 pub outcome_step : (room : ℕ) (begun : Option Begun) (b : List ℕ)
     → 128 ≤ length b
     → outcome_at (suc room) begun b
-    ≡ outcome_after room (λ next. outcome_at room next (drop 128 b))
+    ≡ outcome_of_step room (λ next. outcome_at room next (drop 128 b))
     (step_at begun (take 128 b))
 unfolding outcome_at
 outcome_step room begun b le = grind (arith, nat_tests)
@@ -52,7 +52,7 @@ pub outcome_block : (room next : ℕ) (begun : Option Begun) (b rest : List ℕ)
     → room ≡ suc next
     → length b ≡ 128
     → outcome_at room begun (b ++ rest)
-    ≡ outcome_after next (λ begun'. outcome_at next begun' rest) (step_at begun b)
+    ≡ outcome_of_step next (λ begun'. outcome_at next begun' rest) (step_at begun b)
 outcome_block room next begun b rest e size =
     rw (e, outcome_step next begun (b ++ rest) (omega (arith, length-append b rest)))
     (rw (take_at b rest 128 size, drop_at b rest 128 size) refl)

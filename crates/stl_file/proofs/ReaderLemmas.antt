@@ -5,20 +5,20 @@ use Rattle.std.proofs.Common.{◌∙◌, append_assoc, arith, Option, Some, None
 use Rattle.std.proofs.Common.{length}
 use Rattle.std.proofs.lemmas.Bool.Decides.{nat_tests}
 use Rattle.std.specs.Prelude.{filter}
-use Rattle.std.specs.List.{AllByRecursion}
+use Rattle.std.specs.List.{AllByRecursion, concat, AllZip}
 use Rattle.std.proofs.lemmas.List.{append-nil}
 use Rattle.stl_file.specs.declared.fault.StlFault.{StlFault}
 use Rattle.stl_file.specs.declared.progress.Progress.TheVariants.{Reading}
 use Rattle.stl_file.specs.Tti.{is_kept, most_blocks}
-use Rattle.stl_file.specs.SubtitleBlocks.{IsBlock, joined, AreBlocksOf, AreBlocksOfEach}
+use Rattle.stl_file.specs.SubtitleBlocks.{IsBlock, AreBlocksOf}
 use Rattle.stl_file.specs.Reader.{Leads, LastIsKept, TakesSubtitle, given_subtitle, outcome_by}
 use Rattle.stl_file.specs.Reader.{TakesPassed, Refuses, FailsReading, EndsKept}
-use Rattle.stl_file.specs.Reader.{ReaderValue, Answers, progress_after, tells_end}
+use Rattle.stl_file.specs.Reader.{ReaderValue, GivesNext, progress_after_answer, tells_end}
 use Rattle.stl_file.specs.Subtitle.{SubtitleValue}
 use Rattle.stl_file.specs.Reading.{Begun}
 use Rattle.stl_file.specs.Resuming.{FailsFinding, LeadsOn, findings_by, finds_end, found_of}
 use Rattle.stl_file.specs.Resuming.{stopped}
-use Rattle.stl_file.proofs.SubtitleBlocksLemmas.{length-joined}
+use Rattle.stl_file.proofs.SubtitleBlocksLemmas.{length-concat}
 use Rattle.stl_file.proofs.FindingsLemmas.{names-stopped, stopped_is}
 use Rattle.stl_file.proofs.OutcomeLemmas.{outcome_end}
 use Rattle.stl_file.proofs.RestLemmas.{outcome_complete, outcome_sound, groups_of}
@@ -75,9 +75,9 @@ plain_fails {from} {to} f = record {
 pub answers : (old new : ReaderValue) (bytes : List ℕ) (now : Option (List ℕ))
     (r : Result (Option SubtitleValue) StlFault)
     → old.progress ≡ Reading
-    → new.progress ≡ progress_after Reading r
+    → new.progress ≡ progress_after_answer Reading r
     → Leads old.block new.block (Some bytes) now r
-    → Answers old bytes new now r
+    → GivesNext old bytes new now r
 answers old new bytes now r is goes l = grind (arith, nat_tests)
 
 -- No file goes on with a first fault.
@@ -96,28 +96,28 @@ refuses from to old new x l = record {
 
 -- One subtitle has one list of blocks.
 one_group : (s : SubtitleValue) (gs : List (List (List ℕ)))
-    → AreBlocksOfEach (s ∷ []) gs
+    → AllZip AreBlocksOf (s ∷ []) gs
     → AreBlocksOf s (groups_of gs)
 one_group s gs h = grind (arith, nat_tests, append-nil)
 
 -- And none has none.
-no_group : (gs : List (List (List ℕ))) → AreBlocksOfEach [] gs → groups_of gs ≡ []
+no_group : (gs : List (List (List ℕ))) → AllZip AreBlocksOf [] gs → groups_of gs ≡ []
 no_group gs h = grind (arith, nat_tests)
 
 -- Blocks whose last one is kept.
 ends_kept : (front b : List ℕ) (bs : List (List ℕ))
     → AllByRecursion IsBlock (b ∷ bs)
-    → LastIsKept (front ++ joined (b ∷ bs))
+    → LastIsKept (front ++ concat (b ∷ bs))
     → EndsKept (b ∷ bs)
 ends_kept front b [] h k = k front b (ap (λ (x : List ℕ). front ++ x) (append-nil b)) h.0
 ends_kept front b (c ∷ bs) h k = ends_kept (front ++ b) c bs h.1
-    (λ start last e size. k start last (sym (append_assoc front b (joined (c ∷ bs))) ∙ e) size)
+    (λ start last e size. k start last (sym (append_assoc front b (concat (c ∷ bs))) ∙ e) size)
 
 -- The blocks of a subtitle end with a kept one.
 ends_group : (s : SubtitleValue) (bs : List (List ℕ))
     → AreBlocksOf s (filter is_kept bs)
     → AllByRecursion IsBlock bs
-    → LastIsKept (joined bs)
+    → LastIsKept (concat bs)
     → EndsKept bs
 ends_group s [] a h k = absurd cc
 ends_group s (b ∷ bs) a h k = ends_kept [] b bs h k
@@ -133,7 +133,7 @@ takes_subtitle from to old new s l =
     rw r.kept (one_group s r.groups r.are_groups) in
     record {
       blocks = r.blocks;
-      counted = omega (arith, length-joined r.blocks r.each, ap length r.bytes);
+      counted = omega (arith, length-concat r.blocks r.each, ap length r.bytes);
       each = r.each;
       are_of = are_of;
       ends = ends_group s r.blocks are_of r.each (rw r.bytes at (l.kept s refl));
@@ -147,7 +147,7 @@ pub takes_passed : (from to : ℕ) (old new : Option (List ℕ))
 takes_passed from to old new l =
     let r = outcome_sound (most_blocks - from) None [] l.bytes [] refl
     (let o = l.outcome [] (λ _. refl) in grind (arith, append-nil)) in
-    grind (arith, nat_tests, outcome_sound, append-nil, length-joined, no_group)
+    grind (arith, nat_tests, outcome_sound, append-nil, length-concat, no_group)
 
 -- What bytes that lead to an answer say of it. For `next_into`.
 pub ruleset led = (answers, takes_subtitle, takes_passed, refuses)

@@ -4,18 +4,18 @@ use Rattle.std.proofs.Common.{◌≡◌, ℕ, cond, List, [], ◌∷◌, ◌++�
 use Rattle.std.proofs.Common.{append_assoc, arith, take, drop, Option, Some, None, Result, Ok, Err}
 use Rattle.std.proofs.Common.{subst, zero, suc, ◌+◌, ◌-◌, ◌<◌, ◌≤◌, length-append, inl, inr}
 use Rattle.std.specs.Prelude.{filter}
-use Rattle.std.specs.List.{AllByRecursion, flat_map}
-use Rattle.std.proofs.lemmas.Grind.{flat_map-append}
+use Rattle.std.specs.List.{AllByRecursion, flat_map, concat, AllZip}
+use Rattle.std.proofs.lemmas.List.Folds.{concat-append}
 use Rattle.std.proofs.lemmas.List.{append-nil, take-append-drop, length-take-le}
 use Rattle.std.proofs.lemmas.Bool.{cases_Bool}
 use Rattle.std.proofs.lemmas.Bool.Decides.{nat_tests}
 use Rattle.stl_file.specs.declared.fault.StlFault.{StlFault}
-use Rattle.stl_file.specs.Tti.{is_kept, ebn, text_of, is_passed}
-use Rattle.stl_file.specs.SubtitleBlocks.{IsBlock, joined, AreLinked, AreBlocksOfEach, IsRest}
+use Rattle.stl_file.specs.Tti.{is_kept, ebn, text_of, is_passed_block}
+use Rattle.stl_file.specs.SubtitleBlocks.{IsBlock, AreLinked, IsRest, AreBlocksOf}
 use Rattle.stl_file.specs.Subtitle.{SubtitleValue}
 use Rattle.stl_file.specs.NormalForm.{Judged, subtitles_of, cons_all}
-use Rattle.stl_file.specs.Reading.{Begun, BlockStep, More, Give, Outcome, outcome_after, outcome_at}
-use Rattle.stl_file.specs.Reading.{step_at, closed, kept_at}
+use Rattle.stl_file.specs.Reading.{Begun, BlockStep, More, Give, Outcome, outcome_at}
+use Rattle.stl_file.specs.Reading.{closed, kept_at, outcome_of_step, step_at}
 use Rattle.stl_file.proofs.SubtitleBlocksLemmas.{kept_few, first_linked}
 use Rattle.stl_file.proofs.StepLemmas.{first_kept, further_kept, step_kept, step_passed, Represents}
 use Rattle.stl_file.proofs.StepLemmas.{step_sound}
@@ -34,8 +34,8 @@ after_enough : (few room : ℕ) (f g : Option Begun → Outcome) (r : Result Blo
     → ((next : Option Begun) (ts : List SubtitleValue)
     → subtitles_of (f next) ≡ Ok ts
     → subtitles_of (g next) ≡ Ok ts)
-    → subtitles_of (outcome_after few f r) ≡ Ok ss
-    → subtitles_of (outcome_after room g r) ≡ Ok ss
+    → subtitles_of (outcome_of_step few f r) ≡ Ok ss
+    → subtitles_of (outcome_of_step room g r) ≡ Ok ss
 after_enough few room f g r ss same e = grind arith
 
 -- What the kept blocks give, they give with passed ones between them.
@@ -43,12 +43,12 @@ kept_enough : (bs : List (List ℕ)) (begun : Option Begun) (few room : ℕ) (ss
     → AllByRecursion IsBlock bs
     → length bs ≤ few
     → length bs ≤ room
-    → subtitles_of (outcome_at few begun (joined (filter is_kept bs))) ≡ Ok ss
-    → subtitles_of (outcome_at room begun (joined bs)) ≡ Ok ss
+    → subtitles_of (outcome_at few begun (concat (filter is_kept bs))) ≡ Ok ss
+    → subtitles_of (outcome_at room begun (concat bs)) ≡ Ok ss
 kept_enough [] begun few room ss h f le e = grind (arith, outcome_end)
 kept_enough (b ∷ bs) begun few room ss h f le e =
-    rw (outcome_block room (room - 1) begun b (joined bs) (omega arith) h.0)
-    (elim (cases_Bool (is_passed b)) [
+    rw (outcome_block room (room - 1) begun b (concat bs) (omega arith) h.0)
+    (elim (cases_Bool (is_passed_block b)) [
       | inl passed ↦
           rw (step_passed begun b passed)
           (kept_enough bs begun few (room - 1) ss h.1 (omega arith) (omega arith) (rw passed at e))
@@ -57,7 +57,7 @@ kept_enough (b ∷ bs) begun few room ss h f le e =
           (λ next ts. kept_enough bs next (few - 1) (room - 1) ts h.1 (omega arith) (omega arith))
           (rw (
             kept,
-            outcome_block few (few - 1) begun b (joined (filter is_kept bs)) (omega arith) h.0,
+            outcome_block few (few - 1) begun b (concat (filter is_kept bs)) (omega arith) h.0,
           ) at e)
     ])
 
@@ -68,7 +68,7 @@ blocks_give : (tail : List (List ℕ)) (room : ℕ) (begun : Option Begun) (b re
     → AreLinked s.sgn s.sn (b ∷ tail)
     → count + length tail ≤ 9
     → length tail < room
-    → subtitles_of (outcome_at room begun (b ++ (joined tail ++ rest)))
+    → subtitles_of (outcome_at room begun (b ++ (concat tail ++ rest)))
     ≡ cons_all (record s { text = s.text ++ flat_map text_of tail })
     (subtitles_of (outcome_at (room - length (b ∷ tail)) None rest))
 blocks_give [] room begun b rest s count step linked few le =
@@ -76,7 +76,7 @@ blocks_give [] room begun b rest s count step linked few le =
     grind (arith, nat_tests, step_kept, outcome_block, append-nil)
 blocks_give (c ∷ tail) room begun b rest s count step linked few le =
     let kept = step_kept begun b (inl linked.1) linked.0.is_subtitle in
-    let one = outcome_block room (room - 1) begun b (joined (c ∷ tail) ++ rest) (omega arith)
+    let one = outcome_block room (room - 1) begun b (concat (c ∷ tail) ++ rest) (omega arith)
     linked.0.size in
     let o : Begun = record { subtitle = s; blocks = count } in
     let next = further_kept o c (first_linked s.sgn s.sn c tail linked.2) (omega arith) in
@@ -87,9 +87,9 @@ blocks_give (c ∷ tail) room begun b rest s count step linked few le =
 
 -- The blocks of subtitles give them.
 groups_give : (ss : List SubtitleValue) (gs : List (List (List ℕ))) (room : ℕ)
-    → AreBlocksOfEach ss gs
+    → AllZip AreBlocksOf ss gs
     → length (groups_of gs) ≤ room
-    → subtitles_of (outcome_at room None (joined (groups_of gs))) ≡ Ok ss
+    → subtitles_of (outcome_at room None (concat (groups_of gs))) ≡ Ok ss
 groups_give [] gs room h le = grind (arith, nat_tests, outcome_end)
 groups_give (s ∷ ss) [] room h le = absurd h
 groups_give (s ∷ ss) (g ∷ gs) room h le =
@@ -97,15 +97,15 @@ groups_give (s ∷ ss) (g ∷ gs) room h le =
     let l = length-append g (groups_of gs) in
     let size = ap length i.blocks in
     let on = groups_give ss gs (room - length g) h.1 (omega arith) in
-    let one = blocks_give i.others room None i.first (joined (groups_of gs))
+    let one = blocks_give i.others room None i.first (concat (groups_of gs))
     (record s { text = text_of i.first }) 1 (first_kept s i.first i.begins)
     (rw i.blocks at i.linked) (omega arith) (omega arith) in
-    grind (arith, flat_map-append, append_assoc)
+    grind (arith, concat-append, append_assoc)
 
 -- The blocks of a file from where a subtitle may begin give its subtitles and no fault.
 pub outcome_complete : (bs : List (List ℕ)) (room : ℕ) (ss : List SubtitleValue)
     → IsRest room bs ss
-    → subtitles_of (outcome_at room None (joined bs)) ≡ Ok ss
+    → subtitles_of (outcome_at room None (concat bs)) ≡ Ok ss
 outcome_complete bs room ss r =
     let few : length (groups_of r.parts) ≤ room =
     omega (arith, r.few, kept_few bs, ap length r.kept) in
@@ -120,10 +120,10 @@ pub record Reads (room : ℕ) (before : List (List ℕ)) (b : List ℕ) (ss : Li
     pub blocks : List (List ℕ)
     pub each : AllByRecursion IsBlock blocks
     pub few : length blocks ≤ room
-    pub bytes : b ≡ joined blocks
+    pub bytes : b ≡ concat blocks
     pub groups : List (List (List ℕ))
     pub kept : before ++ filter is_kept blocks ≡ groups_of groups
-    pub are_groups : AreBlocksOfEach ss groups
+    pub are_groups : AllZip AreBlocksOf ss groups
 
 -- One block in front.
 in_front : (room : ℕ) (before k : List (List ℕ)) (b : List ℕ) (ss ts : List SubtitleValue)
@@ -132,7 +132,7 @@ in_front : (room : ℕ) (before k : List (List ℕ)) (b : List ℕ) (ss ts : Lis
     → (r : Reads room k (drop 128 b) ts)
     → (before ++ cond (is_kept (take 128 b)) (take 128 b ∷ []) []) ++ filter is_kept r.blocks
     ≡ groups_of groups
-    → AreBlocksOfEach ss groups
+    → AllZip AreBlocksOf ss groups
     → Reads (suc room) before b ss
 in_front room before k b ss ts groups le r kept are = record {
   blocks = take 128 b ∷ r.blocks;
@@ -158,7 +158,7 @@ step_reads : (room : ℕ) (begun : Option Begun) (before : List (List ℕ)) (b :
     → step_at begun (take 128 b) ≡ r
     → ((g : Option Begun) (k : List (List ℕ)) (ts : List SubtitleValue) → Represents g k
     → subtitles_of (outcome_at room g (drop 128 b)) ≡ Ok ts → Reads room k (drop 128 b) ts)
-    → subtitles_of (outcome_after room (λ next. outcome_at room next (drop 128 b)) r) ≡ Ok ss
+    → subtitles_of (outcome_of_step room (λ next. outcome_at room next (drop 128 b)) r) ≡ Ok ss
     → Reads (suc room) before b ss
 step_reads room begun before b ss (Err f) le rep e go all = absurd cc
 step_reads room begun before b ss (Ok (More next)) le rep e go all =
@@ -172,7 +172,7 @@ step_reads room begun before b ss (Ok (Give s)) le rep e go all =
     let own = before ++ cond (is_kept (take 128 b)) (take 128 b ∷ []) [] in
     in_front room before [] b ss c.0 (own ∷ r.groups) le r
     (ap (λ (x : List (List ℕ)). own ++ x) r.kept)
-    (subst (λ (x : List SubtitleValue). AreBlocksOfEach x (own ∷ r.groups)) (sym c.2)
+    (subst (λ (x : List SubtitleValue). AllZip AreBlocksOf x (own ∷ r.groups)) (sym c.2)
     (t, r.are_groups))
 
 -- Bytes that give subtitles and no fault are blocks of them.

@@ -9,7 +9,7 @@ use Rattle.std.proofs.lemmas.List.{append-nil}
 use Rattle.std.proofs.lemmas.Bool.Decides.{nat_tests}
 use Rattle.stl_file.specs.declared.fault.StlFault.{StlFault}
 use Rattle.stl_file.specs.Questions.{Questions, asked}
-use Rattle.stl_file.specs.Tti.{is_kept, ebn, cf, text_of, is_passed}
+use Rattle.stl_file.specs.Tti.{is_kept, ebn, cf, text_of, is_passed_block}
 use Rattle.stl_file.specs.SubtitleBlocks.{BelongsTo, AreLinked, Begins, AreBlocksOf}
 use Rattle.stl_file.specs.Subtitle.{SubtitleValue}
 use Rattle.stl_file.specs.Reading.{Begun, BlockStep, More, Give, step_at, closed, first_at, kept_at}
@@ -147,7 +147,7 @@ step_kept begun b e c = grind (arith, nat_tests)
 
 -- A comment or user data is passed over.
 pub step_passed : (begun : Option Begun) (b : List ℕ)
-    → is_passed b ≡ true
+    → is_passed_block b ≡ true
     → step_at begun b ≡ Ok (More begun)
 unfolding step_at
 step_passed begun b p = grind (arith, nat_tests)

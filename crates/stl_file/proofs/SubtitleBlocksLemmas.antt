@@ -1,14 +1,14 @@
--- The blocks of a subtitle, and lists of blocks; main lemmas: length-joined, linked_text,
+-- The blocks of a subtitle, and lists of blocks; main lemmas: length-concat, linked_text,
 -- blocks_subtitle.
 use Rattle.std.proofs.Common.{◌≡◌, ◌*◌, ℕ, List, [], ◌∷◌, length, refl, arith, length-append, ◌<◌}
 use Rattle.std.proofs.Common.{◌≤◌}
 use Rattle.std.proofs.lemmas.Bool.Decides.{nat_tests}
 use Rattle.std.proofs.lemmas.List.Sums.{count_by-le-length, length-filter}
 use Rattle.std.specs.Prelude.{filter}
-use Rattle.std.specs.List.{AllByRecursion, flat_map}
+use Rattle.std.specs.List.{AllByRecursion, flat_map, concat}
 use Rattle.std.proofs.lemmas.List.{append-nil}
 use Rattle.stl_file.specs.Tti.{is_kept, ebn, text_of}
-use Rattle.stl_file.specs.SubtitleBlocks.{IsBlock, joined, BelongsTo, AreLinked, AreBlocksOf}
+use Rattle.stl_file.specs.SubtitleBlocks.{IsBlock, BelongsTo, AreLinked, AreBlocksOf}
 use Rattle.stl_file.specs.Subtitle.{SubtitleValue, IsSubtitle}
 use Rattle.stl_file.proofs.TimeCodeLemmas.{in_day}
 use Rattle.stl_file.proofs.SubtitleLemmas.{text_short, has_no_unused-texts}
@@ -16,11 +16,11 @@ use Rattle.stl_file.proofs.SubtitleLemmas.{text_short, has_no_unused-texts}
 -- ---- lists of blocks
 
 -- Blocks have 128 bytes each.
-pub length-joined : (bs : List (List ℕ))
+pub length-concat : (bs : List (List ℕ))
     → AllByRecursion IsBlock bs
-    → length (joined bs) ≡ 128 * length bs
-length-joined [] h = refl
-length-joined (x ∷ bs) h = grind (arith, nat_tests, length-append, length-joined bs h.1)
+    → length (concat bs) ≡ 128 * length bs
+length-concat [] h = refl
+length-concat (x ∷ bs) h = grind (arith, nat_tests, length-append, length-concat bs h.1)
 
 -- No more blocks are kept than there are.
 pub kept_few : (bs : List (List ℕ)) → length (filter is_kept bs) ≤ length bs

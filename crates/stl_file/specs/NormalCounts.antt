@@ -18,11 +18,6 @@ abbrev pub normal_counts : Judged → Result Counts NormalFault
 normal_counts (Ok ts) = Ok (record { tnb = length (all_blocks ts); tns = length ts })
 normal_counts (Err f) = Err f
 
--- Counts with those of what is left.
-abbrev pub counted_on : Counts → Result Counts NormalFault → Result Counts NormalFault
-counted_on c (Ok d) = Ok (record { tnb = c.tnb + d.tnb; tns = c.tns + d.tns })
-counted_on c (Err f) = Err f
-
 -- All that was left to be given, by the next answer, the block that it names and what is left after
 -- it.
 abbrev pub judged_on : Result Bool StlFault → SubtitleValue → ℕ → Judged → Judged

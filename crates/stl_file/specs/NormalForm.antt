@@ -2,7 +2,7 @@
 -- subtitle in the fewest blocks, without comments and user data.
 use Rattle.std.specs.Prelude.{◌≡◌, ℕ, zero, suc, ◌-◌, ◌+◌, ◌/◌, ◌%◌, List, [], ◌∷◌, ◌++◌, length}
 use Rattle.std.specs.Prelude.{take, drop, replicate, Option, Result, Ok, Err}
-use Rattle.std.specs.List.{flat_map}
+use Rattle.std.specs.List.{flat_map, concat}
 use Rattle.std.specs.Io.KnownBytes.{Keeps, Appends}
 use Rattle.sub_io.specs.Device.{AppendsPrefix}
 use Rattle.stl_file.specs.declared.fault.NormalFault.{NormalFault}
@@ -10,7 +10,6 @@ use Rattle.stl_file.specs.declared.fault.NormalFault.TheVariants.{Refused, Write
 use Rattle.stl_file.specs.TimeCode.{time_bytes}
 use Rattle.stl_file.specs.Tti.{unused_space, last_block, not_cumulative, no_comment}
 use Rattle.stl_file.specs.Subtitle.{SubtitleValue}
-use Rattle.stl_file.specs.SubtitleBlocks.{joined}
 use Rattle.stl_file.specs.Gsi.{gsi_size, with_counts}
 use Rattle.stl_file.specs.Reading.{Outcome, ends, fails, gives}
 use Rattle.stl_file.specs.Reader.{outcome_of}
@@ -58,7 +57,7 @@ counted_gsi g ts = with_counts (length (all_blocks ts)) (length ts) g
 
 -- The normal form.
 abbrev pub normal_form : List ℕ → List SubtitleValue → List ℕ
-normal_form g ts = counted_gsi g ts ++ joined (all_blocks ts)
+normal_form g ts = counted_gsi g ts ++ concat (all_blocks ts)
 
 -- ---- what is given, as one list
 

@@ -3,7 +3,7 @@ use Rattle.std.specs.Prelude.{◌≡◌, ⊤, ℕ, ◌+◌, ◌-◌, ◌/◌, �
 use Rattle.std.specs.Prelude.{if◌then◌else◌, List, [], ◌∷◌, ◌++◌, length, take, drop, filter}
 use Rattle.std.specs.Prelude.{Option, Some, None, Result, Ok, Err}
 use Rattle.std.specs.Io.KnownBytes.{Consumes, IsAtEnd}
-use Rattle.std.specs.List.{AllByRecursion}
+use Rattle.std.specs.List.{AllByRecursion, concat}
 use Rattle.stl_file.specs.declared.fault.StlFault.{StlFault}
 use Rattle.stl_file.specs.declared.fault.StlFault.TheVariants as fault
 use Rattle.stl_file.specs.declared.progress.Progress.{Progress}
@@ -12,7 +12,7 @@ use Rattle.stl_file.specs.Fault.{is_cut}
 use Rattle.stl_file.specs.Gsi.{gsi_size, gsi_at}
 use Rattle.stl_file.specs.Tti.{most_blocks, is_kept}
 use Rattle.stl_file.specs.Subtitle.{SubtitleValue}
-use Rattle.stl_file.specs.SubtitleBlocks.{joined, IsBlock, AreBlocksOf, IsRest}
+use Rattle.stl_file.specs.SubtitleBlocks.{IsBlock, AreBlocksOf, IsRest}
 use Rattle.stl_file.specs.Reading.{Outcome, ends, fails, gives, outcome_at}
 use Rattle.stl_file.specs.File.{IsFile}
 
@@ -59,8 +59,10 @@ outcome_with r rest (Ok (Some s)) = gives s r.block (outcome_left r rest)
 
 -- The answer is the first thing that was left to be given, with its block, and what comes after it
 -- is what is left now.
-pub record Answers (old : ReaderValue) (bytes : List ℕ) (new : ReaderValue) (now : Option (List ℕ))
-    (result : Result (Option SubtitleValue) StlFault) : Type 0 where
+pub record GivesNext
+    (old : ReaderValue) (bytes : List ℕ) (new : ReaderValue) (now : Option (List ℕ))
+    (result : Result (Option SubtitleValue) StlFault)
+    : Type 0 where
   pub rest : List ℕ
   pub rest_is : now ≡ Some rest
   pub outcome : outcome_left old bytes ≡ outcome_with new rest result
@@ -128,7 +130,7 @@ pub record TakesSubtitle (from to : ℕ) (old new : Option (List ℕ)) (s : Subt
     pub each : AllByRecursion IsBlock blocks
     pub are_of : AreBlocksOf s (filter is_kept blocks)
     pub ends : EndsKept blocks
-    pub consumed : Consumes old new (joined blocks)
+    pub consumed : Consumes old new (concat blocks)
 
 -- The bytes taken are passed blocks alone, and the end of the file comes after them.
 pub record TakesPassed (from to : ℕ) (old new : Option (List ℕ)) : Type 0 where
@@ -136,7 +138,7 @@ pub record TakesPassed (from to : ℕ) (old new : Option (List ℕ)) : Type 0 wh
   pub counted : from + length blocks ≡ to
   pub each : AllByRecursion IsBlock blocks
   pub passed : filter is_kept blocks ≡ []
-  pub consumed : Consumes old new (joined blocks)
+  pub consumed : Consumes old new (concat blocks)
   pub ended : IsAtEnd new
 
 -- No file goes on with the bytes that were taken, after `from` TTI blocks that end where a
@@ -152,7 +154,7 @@ pub record Refuses (from to : ℕ) (old new : Option (List ℕ)) (f : StlFault) 
       → (bs : List (List ℕ))
       → (ts : List SubtitleValue)
       → IsRest (most_blocks - from) bs ts
-      → joined bs ≡ bytes ++ more
+      → concat bs ≡ bytes ++ more
       → ⊥
 
 -- What bytes give names this block or one after it, in each subtitle and in the fault at the end.
@@ -177,10 +179,10 @@ pub record FailsReading (from to : ℕ) (old new : Option (List ℕ)) : Type 0 w
   pub none : (more : List ℕ) → NamesFrom to (outcome_from from (bytes ++ more))
 
 -- How far a reader has come after an answer.
-abbrev pub progress_after : Progress → Result (Option SubtitleValue) StlFault → Progress
-progress_after p (Err f) = Broken
-progress_after p (Ok None) = AtEnd
-progress_after p (Ok (Some s)) = p
+abbrev pub progress_after_answer : Progress → Result (Option SubtitleValue) StlFault → Progress
+progress_after_answer p (Err f) = Broken
+progress_after_answer p (Ok None) = AtEnd
+progress_after_answer p (Ok (Some s)) = p
 
 -- ---- opening a file
 

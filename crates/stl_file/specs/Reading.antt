@@ -110,10 +110,10 @@ pub data Outcome : Type 0 where
   gives : SubtitleValue → ℕ → Outcome → Outcome
 
 -- What comes of a block after which `room` blocks may still follow.
-abbrev pub outcome_after : ℕ → (Option Begun → Outcome) → Result BlockStep StlFault → Outcome
-outcome_after room next (Err f) = fails f (most_blocks - room)
-outcome_after room next (Ok (Give s)) = gives s (most_blocks - room) (next None)
-outcome_after room next (Ok (More begun)) = next begun
+abbrev pub outcome_of_step : ℕ → (Option Begun → Outcome) → Result BlockStep StlFault → Outcome
+outcome_of_step room next (Err f) = fails f (most_blocks - room)
+outcome_of_step room next (Ok (Give s)) = gives s (most_blocks - room) (next None)
+outcome_of_step room next (Ok (More begun)) = next begun
 
 -- What bytes after the GSI block give, where `room` blocks may still follow and a subtitle was
 -- begun or not. The end inside a subtitle names the last whole block, every other fault the block
@@ -124,7 +124,7 @@ outcome_at room (Some begun) [] = fails fault.Unfinished (most_blocks - room)
 outcome_at zero begun (x ∷ b) = fails fault.TooManyBlocks (most_blocks + 1)
 outcome_at (suc room) begun (x ∷ b) =
     if nat_lt (length (x ∷ b)) block_size then fails fault.Truncated (most_blocks - room)
-    else outcome_after room (λ next. outcome_at room next (drop block_size (x ∷ b)))
+    else outcome_of_step room (λ next. outcome_at room next (drop block_size (x ∷ b)))
     (step_at begun (take block_size (x ∷ b)))
 
 -- ---- what a subtitle that was begun keeps

@@ -2,16 +2,12 @@
 -- nothing of how it is read (EBU Tech 3264, TTI blocks; the rules on one subtitle's blocks are
 -- (own)).
 use Rattle.std.specs.Prelude.{◌≡◌, ℕ, ◌<◌, ◌≤◌, true, List, [], ◌∷◌, length, filter}
-use Rattle.std.specs.List.{flat_map, AllByRecursion}
+use Rattle.std.specs.List.{flat_map, AllByRecursion, AllZip}
 use Rattle.stl_file.specs.TimeCode.{frame_in, is_time}
 use Rattle.stl_file.specs.Tti.{block_size, most_of_subtitle, first_reserved, last_block}
 use Rattle.stl_file.specs.Tti.{not_cumulative, no_comment, tci, tco}
 use Rattle.stl_file.specs.Tti.{sgn, sn, ebn, cs, vp, jc, cf, text_of, is_kept}
 use Rattle.stl_file.specs.Subtitle.{SubtitleValue}
-
--- The bytes of blocks, one after the other.
-abbrev pub joined : List (List ℕ) → List ℕ
-joined bs = flat_map (λ b. b) bs
 
 -- A block has 128 bytes.
 abbrev pub IsBlock : List ℕ → Type 0
@@ -61,13 +57,6 @@ pub record AreBlocksOf (s : SubtitleValue) (bs : List (List ℕ)) : Type 0 where
   pub linked : AreLinked s.sgn s.sn bs
   pub text_is : s.text ≡ flat_map text_of bs
 
--- One list of blocks for each subtitle, in order.
-abbrev pub AreBlocksOfEach : List SubtitleValue → List (List (List ℕ)) → Type 0
-AreBlocksOfEach [] [] = Unit {0}
-AreBlocksOfEach [] (g ∷ gs) = ⊥
-AreBlocksOfEach (s ∷ ss) [] = ⊥
-AreBlocksOfEach (s ∷ ss) (g ∷ gs) = AreBlocksOf s g × AreBlocksOfEach ss gs
-
 -- The blocks of a file from a place on where a subtitle may begin, `most` at most: where the
 -- passed blocks are taken out, the blocks of these subtitles are left, one subtitle after the
 -- other.
@@ -76,4 +65,4 @@ pub record IsRest (most : ℕ) (bs : List (List ℕ)) (ts : List SubtitleValue) 
   pub few : length bs ≤ most
   pub parts : List (List (List ℕ))
   pub kept : filter is_kept bs ≡ flat_map (λ part. part) parts
-  pub are_of : AreBlocksOfEach ts parts
+  pub are_of : AllZip AreBlocksOf ts parts

@@ -107,11 +107,11 @@ abbrev pub text_of : List ℕ → List ℕ
 text_of b = before_unused (tf b)
 
 -- User data, whatever its CF, and comments are passed over: they are no part of a subtitle.
-abbrev pub is_passed : List ℕ → Bool
-is_passed b =
+abbrev pub is_passed_block : List ℕ → Bool
+is_passed_block b =
     (ebn b == user_data)
     || ((nat_lt (ebn b) first_reserved || (ebn b == last_block)) && (cf b == is_comment))
 
 -- The blocks that are left where the passed ones are taken out.
 abbrev pub is_kept : List ℕ → Bool
-is_kept b = not (is_passed b)
+is_kept b = not (is_passed_block b)

@@ -2,6 +2,7 @@
 
 ghost use Rattle.std.specs.Prelude.{◌≡◌, ◌≢◌, ◌+◌, ◌<◌, ◌≤◌, ◌++◌, length, true};
 ghost use Rattle.std.specs.Prelude.{if◌then◌else◌, IfErr, IfOk, Ok, is_ok};
+ghost use Rattle.std.specs.List.{concat};
 ghost use Rattle.sub_io.specs.Device.{CanFail, CountsFailure, CountsIf, Writes, failed};
 ghost use Rattle.stl_file.specs.declared.fault.NormalFault.TheVariants.{Write};
 ghost use Rattle.stl_file.specs.declared.progress.Progress.TheVariants.{Reading};
@@ -9,7 +10,6 @@ ghost use Rattle.stl_file.specs.Fault.{is_write};
 ghost use Rattle.stl_file.specs.NormalForm.{NormalAnswers, all_blocks, blocks_of, subtitles_of};
 ghost use Rattle.stl_file.specs.NormalCounts.{given, judged_on, normal_counts};
 ghost use Rattle.stl_file.specs.Reader.{outcome_from, outcome_left};
-ghost use Rattle.stl_file.specs.SubtitleBlocks.{joined};
 ghost use Rattle.stl_file.specs.Tti.{most_blocks};
 
 use crate::counts::Counts;
@@ -108,7 +108,7 @@ fn put_normal<K: Sink>(gsi: Gsi, body: &[u8], sink: &mut K) -> Result<(), Failed
     requires accepted { is_ok (subtitles_of (outcome_from 0 body.now)) ≡ true }
     requires count { CanFail (K.failure_count sink.old) }
     ensures bytes { Writes (K.contents sink.old) (K.contents sink.new)
-        (gsi ++ joined (all_blocks (given (subtitles_of (outcome_from 0 body.now))))) result }
+        (gsi ++ concat (all_blocks (given (subtitles_of (outcome_from 0 body.now))))) result }
     ensures count { CountsFailure (K.failure_count sink.old) result (K.failure_count sink.new) }
 {
     put_all(sink, gsi.bytes().as_slice())?;
@@ -121,7 +121,7 @@ fn put_subtitles<K: Sink>(gsi: Gsi, body: &[u8], sink: &mut K) -> Result<(), Fai
     requires accepted { is_ok (subtitles_of (outcome_from 0 body.now)) ≡ true }
     requires count { CanFail (K.failure_count sink.old) }
     ensures bytes { Writes (K.contents sink.old) (K.contents sink.new)
-        (joined (all_blocks (given (subtitles_of (outcome_from 0 body.now))))) result }
+        (concat (all_blocks (given (subtitles_of (outcome_from 0 body.now))))) result }
     ensures count { CountsFailure (K.failure_count sink.old) result (K.failure_count sink.new) }
 {
     let mut source = MemSource::new(body);

@@ -11,8 +11,8 @@ ghost use Rattle.stl_file.specs.declared.fault.StlFault.TheVariants.{Ended};
 ghost use Rattle.stl_file.specs.Fault.{is_format, is_read};
 ghost use Rattle.stl_file.specs.Gsi.{IsGsi};
 ghost use Rattle.stl_file.specs.Reader.{Leads, block_after, block_by, opened_at, FailsReading};
-ghost use Rattle.stl_file.specs.Reader.{HasPlace, Answers, Refuses, RefusesOpening, TakesPassed};
-ghost use Rattle.stl_file.specs.Reader.{TakesSubtitle, given_subtitle, progress_after};
+ghost use Rattle.stl_file.specs.Reader.{HasPlace, GivesNext, Refuses, RefusesOpening, TakesPassed};
+ghost use Rattle.stl_file.specs.Reader.{TakesSubtitle, given_subtitle, progress_after_answer};
 ghost use Rattle.stl_file.specs.Reading.{begun_in};
 ghost use Rattle.stl_file.specs.Resuming.{FailsFinding, LeadsOn, found_of, refused_by};
 ghost use Rattle.stl_file.specs.Tti.{most_blocks};
@@ -133,7 +133,7 @@ impl StlReader {
         // Where the source tells its bytes and does not fail, they decide the answer, its block and
         // what is left.
         ensures exact { IfTold (S.remaining source.old) (λ bytes. failed is_read result ≡ false →
-            Answers self.old bytes self.new (S.remaining source.new) result) }
+            GivesNext self.old bytes self.new (S.remaining source.new) result) }
 
         // A subtitle is that of the blocks that were taken, with the passed blocks before and
         // inside them.
@@ -153,7 +153,7 @@ impl StlReader {
             FailsReading self.old.block self.new.block
             (S.remaining source.old) (S.remaining source.new) }
 
-        ensures progress { self.new.progress ≡ progress_after self.old.progress result }
+        ensures progress { self.new.progress ≡ progress_after_answer self.old.progress result }
         ensures place { HasPlace self.new.progress self.new.block }
         ensures gsi { self.new.gsi ≡ self.old.gsi }
         // After the end and after a fault nothing is taken, and the reader stays as it is.
@@ -191,7 +191,7 @@ impl StlReader {
         // Where the source tells its bytes and does not fail, they decide the answer, its block and
         // what is left.
         ensures exact { IfTold (S.remaining source.old) (λ bytes. failed is_read result ≡ false →
-            Answers self.old bytes self.new (S.remaining source.new)
+            GivesNext self.old bytes self.new (S.remaining source.new)
             (given_subtitle result subtitle.new)) }
 
         // A subtitle is that of the blocks that were taken, with the passed blocks before and
@@ -212,7 +212,7 @@ impl StlReader {
             FailsReading self.old.block self.new.block
             (S.remaining source.old) (S.remaining source.new) }
 
-        ensures progress { self.new.progress ≡ progress_after self.old.progress
+        ensures progress { self.new.progress ≡ progress_after_answer self.old.progress
             (given_subtitle result subtitle.new) }
         ensures place { HasPlace self.new.progress self.new.block }
         ensures gsi { self.new.gsi ≡ self.old.gsi }

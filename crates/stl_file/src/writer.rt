@@ -1,9 +1,9 @@
 //! Writing a subtitle's blocks (EBU Tech 3264, TTI block).
 
 ghost use Rattle.std.specs.Prelude.{◌≡◌, ◌+◌, ◌/◌, ◌%◌, ◌<◌, ◌≤◌, [], ◌∷◌, ◌++◌, length, IfOk};
+ghost use Rattle.std.specs.List.{concat};
 ghost use Rattle.sub_io.specs.Device.{CanFail, CountsFailure, Writes};
 ghost use Rattle.stl_file.specs.NormalForm.{block_head, block_of, blocks_of};
-ghost use Rattle.stl_file.specs.SubtitleBlocks.{joined};
 
 use crate::subtitle::Subtitle;
 use arrayvec::ArrayVec;
@@ -24,7 +24,7 @@ const UNUSED: [u8; 112] = [0x8f; 112];
 pub fn write_subtitle<K: Sink>(subtitle: &Subtitle, sink: &mut K) -> Result<u8, Failed>
     requires { CanFail (K.failure_count sink.old) }
     ensures bytes { Writes (K.contents sink.old) (K.contents sink.new)
-        (joined (blocks_of subtitle.now)) result }
+        (concat (blocks_of subtitle.now)) result }
     ensures number { IfOk result (λ n. n ≡ length (blocks_of subtitle.now)) }
     ensures count { CountsFailure (K.failure_count sink.old) result (K.failure_count sink.new) }
 {
@@ -36,7 +36,7 @@ pub fn write_subtitle<K: Sink>(subtitle: &Subtitle, sink: &mut K) -> Result<u8, 
 // The blocks of a subtitle, with how many they are.
 #[tactic(auto, using(crate::proofs::BlocksOfLemmas::spelled))]
 fn spell(subtitle: &Subtitle) -> (ArrayVec<u8, 1152>, u8)
-    ensures bytes { result.0.items ≡ joined (blocks_of subtitle.now) }
+    ensures bytes { result.0.items ≡ concat (blocks_of subtitle.now) }
     ensures count { result.1 ≡ length (blocks_of subtitle.now) }
 {
     let mut out = ArrayVec::new();

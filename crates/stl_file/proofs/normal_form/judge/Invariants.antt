@@ -1,10 +1,11 @@
 -- What the first pass keeps: the counts so far, with those of what is left, are those of the whole.
 use Rattle.std.proofs.Common.{◌≡◌, ◌≤◌, ◌-◌}
-use Rattle.stl_file.specs.NormalCounts.{normal_counts, counted_on}
+use Rattle.stl_file.specs.NormalCounts.{normal_counts}
 use Rattle.stl_file.specs.NormalForm.{subtitles_of}
 use Rattle.stl_file.specs.Reader.{outcome_from, outcome_left}
 use Rattle.stl_file.specs.Tti.{most_blocks}
 use Rattle.stl_file.specs.declared.progress.Progress.TheVariants.{Reading}
+use Rattle.stl_file.proofs.NormalCountsLemmas.{counted_on}
 use Rattle.stl_file.proofs.normal_form.judge.Given as goal
 
 abbrev pub invariant-subtitles : goal.invariant-subtitles

@@ -2,6 +2,7 @@
 use Rattle.std.proofs.Common.{arith}
 use Rattle.std.proofs.lemmas.Bool.Decides.{nat_tests}
 use Rattle.std.proofs.lemmas.Grind.{common_steps}
+use Rattle.std.proofs.lemmas.List.Folds.{concat-append}
 use Rattle.stl_file.proofs.NormalCountsLemmas.{ok_cons, written_cons}
 use Rattle.stl_file.proofs.normal_form.put_subtitles.Goals as goal
 
@@ -10,4 +11,5 @@ subtitles-preserved g c = grind (arith, nat_tests, ok_cons, written_cons)
 
 pub returns-in_err-write_subtitle-in-Ok-true-clause-bytes :
     goal.returns-in_err-write_subtitle-in-Ok-true-clause-bytes
-returns-in_err-write_subtitle-in-Ok-true-clause-bytes g c = grind (arith, common_steps)
+returns-in_err-write_subtitle-in-Ok-true-clause-bytes g c =
+    grind (arith, common_steps, concat-append)

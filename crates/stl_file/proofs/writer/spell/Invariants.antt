@@ -1,7 +1,7 @@
 -- What the loop keeps: the blocks so far, with those of the rest of the text, are all blocks.
 use Rattle.std.proofs.Common.{◌≡◌, ◌≤◌, ◌+◌, ◌*◌, ◌++◌, length}
+use Rattle.std.specs.List.{concat}
 use Rattle.stl_file.specs.NormalForm.{blocks_from, blocks_of, full_pieces}
-use Rattle.stl_file.specs.SubtitleBlocks.{joined}
 use Rattle.stl_file.proofs.writer.spell.Given as goal
 
 abbrev pub invariant-loop-rest : goal.invariant-loop-rest
@@ -9,8 +9,8 @@ invariant-loop-rest l = record {
   few : 112 * l.ebn + length l.rest ≤ 1008;
   counted : l.ebn + full_pieces l.rest ≡ full_pieces l.subtitle.text;
   size : length l.out.items ≡ 128 * l.ebn;
-  same : l.out.items ++ joined (blocks_from l.subtitle (full_pieces l.rest) l.ebn l.rest)
-      ≡ joined (blocks_of l.subtitle);
+  same : l.out.items ++ concat (blocks_from l.subtitle (full_pieces l.rest) l.ebn l.rest)
+      ≡ concat (blocks_of l.subtitle);
 }
 
 abbrev pub decreases-loop-rest : goal.decreases-loop-rest
