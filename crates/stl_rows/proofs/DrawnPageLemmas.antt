@@ -14,10 +14,11 @@ use Rattle.std.specs.Prelude.{IsOk, MatchOption, slice_set}
 use Rattle.ttx_page.specs.Page.{Rows, blank, blank_row}
 use Rattle.stl_file.specs.Subtitle.{SubtitleValue}
 use Rattle.stl_rows.specs.declared.national.National.{National}
-use Rattle.stl_rows.specs.DrawnPage.{drawn, faults, line_faults, line_on, lines, page_of_lines}
+use Rattle.stl_rows.specs.DrawnPage.{drawn, line_faults, line_on, lines, page_of_lines}
+use Rattle.stl_rows.specs.DrawnPage.{subtitle_faults}
 use Rattle.stl_rows.specs.Line.{code_in_column, prepared, row_of, start_column}
 use Rattle.stl_rows.specs.LineByLine.{FitsRow, put_line}
-use Rattle.stl_rows.specs.TextCode.{first_of, refusals, text_codes}
+use Rattle.stl_rows.specs.TextCode.{first_of, refused_codes, text_codes}
 use Rattle.stl_rows.proofs.LineByLineLemmas.{prepared_longer}
 use Rattle.stl_rows.proofs.FaultlessLemmas.{IsOnPage, empty_parts, on_page}
 
@@ -134,7 +135,7 @@ is_drawn-end h = rw (h.all_are, append-nil) (sym h.shown)
 -- ---- faults
 
 -- A subtitle that draws a page has no fault.
-no_faults : (n : National) (t : SubtitleValue) → IsOk (drawn n t) → faults n t ≡ []
+no_faults : (n : National) (t : SubtitleValue) → IsOk (drawn n t) → subtitle_faults n t ≡ []
 unfolding drawn
 no_faults n t ok = grind (arith, nat_tests)
 
@@ -142,7 +143,7 @@ no_faults n t ok = grind (arith, nat_tests)
 pub no_line_faults : (n : National) (t : SubtitleValue)
     → IsOk (drawn n t)
     → line_faults 0 t.vp false (lines n t) ≡ []
-no_line_faults n t ok = (empty_parts (refusals (text_codes n 0 t.text)) _ (no_faults n t ok)).1
+no_line_faults n t ok = (empty_parts (refused_codes (text_codes n 0 t.text)) _ (no_faults n t ok)).1
 
 -- It draws the page of its lines. For `drawn_page`.
 pub drawn-page : (n : National) (t : SubtitleValue)
@@ -153,6 +154,6 @@ drawn-page n t ok = rw (no_faults n t ok) refl
 
 -- The first of all faults is told. For `first_fault`.
 pub drawn-first : (n : National) (t : SubtitleValue)
-    → MatchOption (first_of (faults n t)) (IsOk (drawn n t)) (λ f. drawn n t ≡ Err f)
+    → MatchOption (first_of (subtitle_faults n t)) (IsOk (drawn n t)) (λ f. drawn n t ≡ Err f)
 unfolding drawn
 drawn-first n t = grind (arith, nat_tests)

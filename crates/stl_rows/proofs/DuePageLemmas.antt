@@ -13,7 +13,7 @@ use Rattle.std.specs.Prelude.{Contains}
 use Rattle.ttx_page.specs.Page.{Rows, blank}
 use Rattle.stl_file.specs.Subtitle.{SubtitleValue, IsSubtitle, empty_subtitle}
 use Rattle.stl_rows.specs.declared.national.National.{National}
-use Rattle.stl_rows.specs.DrawnPage.{drawn, faults, lines, page_of_lines}
+use Rattle.stl_rows.specs.DrawnPage.{drawn, subtitle_faults, lines, page_of_lines}
 use Rattle.stl_rows.specs.DuePage.{IsEdge, IsNextEdge, LawOfBlankPages, LawOfDueSubtitles}
 use Rattle.stl_rows.specs.DuePage.{LawOfEdges, drawn_or_blank, due, is_due}
 use Rattle.stl_rows.specs.Programme.{IsProgramme}
@@ -62,7 +62,7 @@ edges_alone n ts f first none = search (rules, find_same, get_or_default)
 -- page.
 pub due_has : (P : Rows → Type 0) (n : National) (ts : List SubtitleValue) (f : ℕ)
     → P blank
-    → ((t : SubtitleValue) → faults n t ≡ [] → P (page_of_lines t.jc t.vp (lines n t)))
+    → ((t : SubtitleValue) → subtitle_faults n t ≡ [] → P (page_of_lines t.jc t.vp (lines n t)))
     → P (due n ts f)
 unfolding due drawn
 due_has P n ts f none some = grind (arith, nat_tests)

@@ -9,7 +9,7 @@ use Rattle.stl_rows.specs.declared.national.National.{National}
 use Rattle.stl_rows.specs.DrawnPage.{line_faults, line_on, lines, page_of_lines}
 use Rattle.stl_rows.specs.DuePage.{due}
 use Rattle.stl_rows.specs.Line.{row_of}
-use Rattle.stl_rows.specs.TextCode.{refusals, text_codes}
+use Rattle.stl_rows.specs.TextCode.{refused_codes, text_codes}
 use Rattle.stl_rows.proofs.DrawnPageLemmas.{row_of-none}
 use Rattle.stl_rows.proofs.DuePageLemmas.{due_has}
 use Rattle.stl_rows.proofs.FaultlessLemmas.{empty_parts, on_page}
@@ -43,4 +43,4 @@ pub last_row_blank : (national : National) (records : List SubtitleValue) (frame
 last_row_blank national records frame =
     due_has (λ page. row_at page 24 ≡ blank_row) national records frame blank_free
     (λ t none. row_free t.jc t.vp (lines national t)
-    (empty_parts (refusals (text_codes national 0 t.text)) _ none).1)
+    (empty_parts (refused_codes (text_codes national 0 t.text)) _ none).1)

@@ -59,7 +59,7 @@ pub row_small : (jc : ℕ) (line : List ℕ) → Small line → Small (row_of jc
 unfolding row_of
 row_small jc line h = grind (arith, nat_tests, holds_map, cell_small)
 
--- The same, where the codes of the line are told column by column: for `row_codes`.
+-- A row that shows a line, where its codes are told column by column: for `row_codes`.
 pub row_of-codes : (jc : ℕ) (line : List ℕ) → AreCodes line → AreCodes (row_of jc line)
 row_of-codes jc line codes column =
     holds_at (λ c. c < 128) (row_of jc line) column 0 (lit< tt)

@@ -9,13 +9,14 @@ use Rattle.std.proofs.lemmas.List.Elements.{All-cons, All-nil}
 use Rattle.std.proofs.lemmas.Option.{slice_get-get_or}
 use Rattle.std.proofs.Math.Seq.{get_or-append_seam}
 use Rattle.std.specs.Prelude.{◌↔◌, All, IsOk}
+use Rattle.std.specs.List.{AllZip}
 use Rattle.ttx_page.specs.Page.{Rows}
 use Rattle.stl_file.specs.File.{IsFile}
 use Rattle.stl_file.specs.NormalForm.{cons_all, subtitles_of}
 use Rattle.stl_file.specs.Reader.{outcome_of}
 use Rattle.stl_file.specs.Reading.{Outcome, ends, fails, gives}
 use Rattle.stl_file.specs.Subtitle.{IsSubtitle, SubtitleValue}
-use Rattle.stl_file.specs.SubtitleBlocks.{AreBlocksOfEach}
+use Rattle.stl_file.specs.SubtitleBlocks.{AreBlocksOf}
 use Rattle.stl_file.proofs.RestLemmas.{cons_ok}
 use Rattle.stl_file.proofs.SubtitleBlocksLemmas.{blocks_subtitle}
 use Rattle.stl_rows.specs.declared.fault.LoadFault.{LoadFault}
@@ -120,7 +121,7 @@ given_loaded n records (gives t block o) ts h ok =
 
 -- Each subtitle of a file is one.
 all_subtitles : (ts : List SubtitleValue) (gs : List (List (List ℕ)))
-    → AreBlocksOfEach ts gs
+    → AllZip AreBlocksOf ts gs
     → All IsSubtitle ts
 all_subtitles [] gs e = All-nil IsSubtitle
 all_subtitles (t ∷ ts) [] e = λ k d h. absurd e

@@ -2,7 +2,7 @@
 use Rattle.std.proofs.Common.{ℕ, zero, suc, ◌+◌, ◌-◌, ◌<◌, List, [], ◌∷◌, ◌++◌, map, get_or, Option}
 use Rattle.std.proofs.Common.{refl, arith, lit<}
 use Rattle.std.specs.List.{range_with_len, AllByRecursion}
-use Rattle.std.specs.Prelude.{IfSome}
+use Rattle.std.specs.Prelude.{IfSome, option_map, unwrap_or}
 use Rattle.std.proofs.lemmas.Bool.{cond_both}
 use Rattle.std.proofs.lemmas.Bool.Decides.{nat_tests}
 use Rattle.std.proofs.lemmas.List.FromFn.{get_or-map-range_with_len, length-map-range_with_len}
@@ -10,13 +10,14 @@ use Rattle.ttx_page.specs.Page.{IsCode, IsPage}
 use Rattle.ttx_page.proofs.PageLemmas.{is_page_blank}
 use Rattle.stl_file.specs.Subtitle.{SubtitleValue}
 use Rattle.stl_rows.specs.declared.text_code.TextCode.{TextCode}
+use Rattle.stl_rows.specs.declared.text_code.TextCode.TheVariants.{Cell}
 use Rattle.stl_rows.specs.DrawnPage.{line_on, lines, page_of_lines}
 use Rattle.stl_rows.specs.DuePage.{due}
 use Rattle.stl_rows.specs.Line.{prepared, row_of}
 use Rattle.stl_rows.specs.TextCode.{CellEntry, HasSevenBits, cell_in, cell_of, cell_of_letter}
-use Rattle.stl_rows.specs.TextCode.{cell_of_pair, cell_or_other, cells, code_before, text_code}
+use Rattle.stl_rows.specs.TextCode.{cell_of_pair, cells, code_before, text_code}
 use Rattle.stl_rows.specs.TextCode.{code_of_other, codes_after, first_of}
-use Rattle.stl_rows.specs.TextCode.{lines_of_codes, pair_or_single}
+use Rattle.stl_rows.specs.TextCode.{lines_of_codes}
 use Rattle.stl_rows.specs.TextCode.{text_codes, with_code}
 use Rattle.stl_rows.specs.declared.national.National.{National}
 use Rattle.stl_rows.proofs.DuePageLemmas.{due_has}
@@ -54,7 +55,9 @@ other_small byte = grind (arith, nat_tests)
 code_small : (national : National) (byte : ℕ) → HasSevenBits (text_code national byte)
 code_small national byte = go (cell_of national byte) (cell_of-small national byte)
   where
-    go : (o : Option ℕ) → SmallCode o → HasSevenBits (cell_or_other byte o)
+    go : (o : Option ℕ)
+        → SmallCode o
+        → HasSevenBits (unwrap_or (option_map Cell o) (code_of_other byte))
     go o h = grind (arith, nat_tests, other_small)
 
 -- The cell of a pair is a code.
@@ -67,7 +70,8 @@ pair_small national b next = grind (arith, nat_tests, cell_in-small)
 by_small : (pair : Option ℕ) (alone : TextCode)
     → SmallCode pair
     → HasSevenBits alone
-    → HasSevenBits (pair_or_single pair alone).0
+    → HasSevenBits
+    (unwrap_or {T = TextCode × ℕ} (option_map (λ code. (Cell code, 1)) pair) (alone, 0)).0
 by_small pair alone h k = grind (arith, nat_tests)
 
 -- A text code before lines of codes.

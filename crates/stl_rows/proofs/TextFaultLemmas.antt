@@ -13,14 +13,20 @@ use Rattle.stl_rows.specs.declared.national.National.{National}
 use Rattle.stl_rows.specs.declared.text_code.TextCode.{TextCode}
 use Rattle.stl_rows.specs.declared.text_code.TextCode.TheVariants.{Cell, NoCell, NewLine, Refused}
 use Rattle.stl_rows.specs.declared.text_faults.OpenLine.{OpenLine}
-use Rattle.stl_rows.specs.DrawnPage.{faults, line_fault_kinds, line_faults}
+use Rattle.stl_rows.specs.DrawnPage.{line_fault_kinds, line_faults, subtitle_faults}
 use Rattle.stl_rows.specs.Line.{has_cells, is_boxed, is_double, prepared}
-use Rattle.stl_rows.specs.LineByLine.{HasShape, empty_line, line_under, prepared_lines}
+use Rattle.stl_rows.specs.LineByLine.{empty_line, line_under, prepared_lines}
 use Rattle.stl_rows.specs.LineByLine.{shape_fault_kinds, told, told_first, with_cell}
-use Rattle.stl_rows.specs.TextCode.{first_of, lines_of_codes, refusals, text_codes}
+use Rattle.stl_rows.specs.TextCode.{first_of, lines_of_codes, refused_codes, text_codes}
 use Rattle.stl_rows.proofs.LineByLineLemmas.{onto_code, onto_line_end}
 
 -- ---- shapes
+
+-- What of the cells of a line its faults depend on is as the open line has it.
+pub record HasShape (cells : List ℕ) (line : OpenLine) : Type 0 where
+  pub count : length cells ≡ line.len
+  pub box : is_boxed cells ≡ line.is_boxed
+  pub height : is_double cells ≡ line.is_double
 
 -- No cells.
 shape-none : (number row : ℕ) (under : Bool) → HasShape [] (empty_line number row under)
@@ -96,7 +102,7 @@ IsTold ss =
     (before : Option RowFault) (cells : List ℕ) (line : OpenLine)
     → HasShape cells line
     → told before line ss
-    ≡ option_or (first_of (refusals ss)) (option_or before (first_of
+    ≡ option_or (first_of (refused_codes ss)) (option_or before (first_of
     (line_faults line.number line.row line.is_under_double (prepared_lines cells ss))))
 
 -- Of one text code and those after it.
@@ -106,7 +112,7 @@ told-code at NoCell ss after before cells line h = after before cells line h
 told-code at NewLine ss after before cells line h =
     rw (onto_line_end cells (lines_of_codes ss))
     (after (told_first before line) [] (line_under line) (shape-none _ _ _)
-    ∙ ap (option_or (first_of (refusals ss)))
+    ∙ ap (option_or (first_of (refused_codes ss)))
     (told_line before cells line (prepared_lines [] ss) h))
 told-code at (Refused kind) ss after before cells line h = refl
 
@@ -117,7 +123,7 @@ told-is (c ∷ ss) before cells line h = told-code c.0 c.1 ss (told-is ss) befor
 
 -- The first fault of a subtitle. For `first_fault`.
 pub told-faults : (n : National) (t : SubtitleValue)
-    → told None (empty_line 0 t.vp false) (text_codes n 0 t.text) ≡ first_of (faults n t)
+    → told None (empty_line 0 t.vp false) (text_codes n 0 t.text) ≡ first_of (subtitle_faults n t)
 told-faults n t =
     told-is (text_codes n 0 t.text) None [] (empty_line 0 t.vp false) (shape-none 0 t.vp false)
-    ∙ sym (first_of-append (refusals (text_codes n 0 t.text)) _)
+    ∙ sym (first_of-append (refused_codes (text_codes n 0 t.text)) _)

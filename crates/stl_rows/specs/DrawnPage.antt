@@ -9,7 +9,7 @@ use Rattle.stl_rows.specs.declared.fault.RowFault.{RowFault}
 use Rattle.stl_rows.specs.declared.fault.RowFaultKind.{RowFaultKind}
 use Rattle.stl_rows.specs.declared.fault.RowFaultKind.TheVariants.{RowTooLong, PastBottom}
 use Rattle.stl_rows.specs.declared.fault.RowFaultKind.TheVariants.{DoubleRow, Hidden}
-use Rattle.stl_rows.specs.TextCode.{text_codes, refusals, lines_of_codes, fault_of}
+use Rattle.stl_rows.specs.TextCode.{text_codes, refused_codes, lines_of_codes, fault_of}
 use Rattle.stl_rows.specs.Line.{columns, has_cells, is_double, prepared, row_of}
 
 -- The last row that a subtitle may use: row 24 is kept free (own).
@@ -42,9 +42,9 @@ line_faults number row is_under_double (line ∷ lines) =
     ++ line_faults (number + 1) (row + 1) (is_double line) lines
 
 -- All that is wrong, in the order in which it is told: the text by byte, then line by line.
-abbrev pub faults : National → SubtitleValue → List RowFault
-faults national t =
-    refusals (text_codes national 0 t.text) ++ line_faults 0 t.vp false (lines national t)
+abbrev pub subtitle_faults : National → SubtitleValue → List RowFault
+subtitle_faults national t =
+    refused_codes (text_codes national 0 t.text) ++ line_faults 0 t.vp false (lines national t)
 
 -- ---- what is shown
 
@@ -63,4 +63,4 @@ unless (e ∷ es) value = Err e
 
 -- The drawn page of a subtitle, or its first fault.
 unfoldable pub drawn : National → SubtitleValue → Result Rows RowFault
-drawn national t = unless (faults national t) (page_of_lines t.jc t.vp (lines national t))
+drawn national t = unless (subtitle_faults national t) (page_of_lines t.jc t.vp (lines national t))

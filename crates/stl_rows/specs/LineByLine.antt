@@ -42,12 +42,6 @@ pub record FitsRow (row : ℕ) (cells : List ℕ) : Type 0 where
 
 -- ---- faults
 
--- What of the cells of a line its faults depend on is as the open line has it.
-pub record HasShape (cells : List ℕ) (line : OpenLine) : Type 0 where
-  pub count : length cells ≡ line.len
-  pub box : is_boxed cells ≡ line.is_boxed
-  pub height : is_double cells ≡ line.is_double
-
 -- The line with a cell more.
 abbrev pub with_cell : OpenLine → ℕ → OpenLine
 with_cell line code =

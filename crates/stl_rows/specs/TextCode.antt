@@ -1,7 +1,8 @@
 -- The text of a subtitle (EBU Tech 3264, TTI block, field TF) read as text codes: what its bytes
 -- give on a Teletext page of level 1 (EN 300 706, Latin G0 set with a national option sub-set).
 use Rattle.std.specs.Prelude.{ℕ, zero, suc, ◌+◌, ◌-◌, Bool, ◌&&◌, ◌||◌, List, [], ◌∷◌, ◌++◌, Option}
-use Rattle.std.specs.Prelude.{Some, None, option_and_then, ◌==◌, nat_lt, nat_le, if◌then◌else◌, ⊤}
+use Rattle.std.specs.Prelude.{Some, None, option_and_then, option_map, unwrap_or, ◌==◌, nat_lt}
+use Rattle.std.specs.Prelude.{nat_le, if◌then◌else◌, ⊤}
 use Rattle.std.specs.List.{filter_map, onto_first}
 use Rattle.ttx_page.specs.Page.{IsCode}
 use Rattle.stl_rows.specs.declared.text_code.TextCode.{TextCode}
@@ -133,14 +134,9 @@ code_of_other byte =
     else (if byte == new_line then NewLine
     else (if is_control byte then Refused Control else Refused Character))
 
--- What a byte says, where the table gives it that cell or none.
-abbrev pub cell_or_other : ℕ → Option ℕ → TextCode
-cell_or_other byte (Some code) = Cell code
-cell_or_other byte None = code_of_other byte
-
--- What a byte says by itself.
+-- What a byte says by itself: the cell that the table gives it, if any.
 abbrev pub text_code : National → ℕ → TextCode
-text_code national byte = cell_or_other byte (cell_of national byte)
+text_code national byte = unwrap_or (option_map Cell (cell_of national byte)) (code_of_other byte)
 
 -- The cell of a letter after C8.
 unfoldable pub cell_of_letter : ℕ → Option ℕ
@@ -159,15 +155,13 @@ abbrev pub first_of : {A : Type 0} → List A → Option A
 first_of [] = None
 first_of (x ∷ xs) = Some x
 
--- A pair of bytes gives its cell and takes one byte more; else a byte speaks by itself.
-abbrev pub pair_or_single : Option ℕ → TextCode → TextCode × ℕ
-pair_or_single None single = (single, 0)
-pair_or_single (Some code) single = (Cell code, 1)
-
--- The text code that begins with a byte, and how many of the bytes after it belong to it.
+-- The text code that begins with a byte, and how many of the bytes after it belong to it: a pair
+-- of bytes gives its cell and takes one byte more; else a byte speaks by itself.
 abbrev pub code_before : National → ℕ → List ℕ → TextCode × ℕ
 code_before national byte bytes =
-    pair_or_single (cell_of_pair national byte (first_of bytes)) (text_code national byte)
+    unwrap_or
+    (option_map (λ code. (Cell code, 1)) (cell_of_pair national byte (first_of bytes)))
+    (text_code national byte, 0)
 
 -- The text codes of bytes that begin at a place, each with its place. The first `taken` bytes
 -- belong to the text code before them.
@@ -187,29 +181,24 @@ abbrev pub fault_of : ℕ → RowFaultKind → RowFault
 fault_of place kind = record { kind = kind; at = place }
 
 -- A text code that is refused is a fault at the place of its byte.
-abbrev pub refusal : ℕ → TextCode → Option RowFault
-refusal place (Cell code) = None
-refusal place NoCell = None
-refusal place NewLine = None
-refusal place (Refused kind) = Some (fault_of place kind)
+abbrev pub refused_code : ℕ → TextCode → Option RowFault
+refused_code place (Refused kind) = Some (fault_of place kind)
+refused_code place _ = None
 
 -- The refused text codes, by byte.
-abbrev pub refusals : List (ℕ × TextCode) → List RowFault
-refusals codes = filter_map (λ (c : ℕ × TextCode). refusal c.0 c.1) codes
+abbrev pub refused_codes : List (ℕ × TextCode) → List RowFault
+refused_codes codes = filter_map (λ (c : ℕ × TextCode). refused_code c.0 c.1) codes
 
 -- The cell of a text code has 7 bits.
 abbrev pub HasSevenBits : TextCode → Type 0
 HasSevenBits (Cell code) = IsCode code
-HasSevenBits NoCell = ⊤
-HasSevenBits NewLine = ⊤
-HasSevenBits (Refused kind) = ⊤
+HasSevenBits _ = ⊤
 
 -- A text code put before lines of cells.
 abbrev pub with_code : TextCode → List (List ℕ) → List (List ℕ)
 with_code (Cell code) lines = onto_first code lines
-with_code NoCell lines = lines
 with_code NewLine lines = [] ∷ lines
-with_code (Refused kind) lines = lines
+with_code _ lines = lines
 
 -- The lines of cells that text codes give: cut at each new line, so one line more than these.
 abbrev pub lines_of_codes : List (ℕ × TextCode) → List (List ℕ)
