@@ -12,7 +12,7 @@ ghost use Rattle.sub_plan.specs.Steps.{packets_at, steps};
 
 use crate::fault::PlanFault;
 use crate::options::Options;
-use crate::sending::Sending;
+use crate::sending::PageSending;
 use stl_rows::{Programme, law_of_edges};
 use sub_io::{Failed, Sink};
 use ttx_packet::Packet;
@@ -147,13 +147,13 @@ fn send_all<K: Sink>(
     let mut page = programme.due_page(first);
     let mut count = 0;
     while frame < last {
-        let sending = Sending::of_page(options.page(), national, serial, &page);
+        let sending = PageSending::of_page(options.page(), national, serial, &page);
         let (end, next) = next_change(programme, frame, &page, last);
         count += send_steps(sink, options, frame, end, sending.packets())?;
         frame = end;
         page = next;
     }
-    let sending = Sending::of_page(options.page(), national, serial, &page);
+    let sending = PageSending::of_page(options.page(), national, serial, &page);
     put_at(sink, options, last, sending.packets())?;
     Ok(count + 1)
 }

@@ -14,13 +14,13 @@ const MOST_PACKETS: usize = 26;
 
 /// The packets of one sending, in the order in which they are sent.
 #[derive(Drop)]
-pub(crate) struct Sending {
+pub(crate) struct PageSending {
     // The first of them are the sending's; the others are not used.
     packets: [Packet; MOST_PACKETS],
     count: usize,
 }
 
-impl Model for Sending {
+impl Model for PageSending {
     ghost use Rattle.std.specs.Prelude.{ℕ, ◌≤◌, List, take};
 
     ghost Value = { List (List ℕ) };
@@ -30,12 +30,12 @@ impl Model for Sending {
     ghost invariant = { λ s. s.count ≤ 26 };
 }
 
-impl Sending {
+impl PageSending {
     // One packet.
-    fn of(packet: Packet) -> Sending
+    fn of(packet: Packet) -> PageSending
         ensures { result ≡ packet ∷ [] }
     {
-        Sending {
+        PageSending {
             packets: [packet; MOST_PACKETS],
             count: 1,
         }
@@ -60,12 +60,17 @@ impl Sending {
 
     /// The sending of a page: its header, the rows that hold a cell other than a space, rising, and
     /// the closing header.
-    pub(crate) fn of_page(watched: PageId, national: National, serial: bool, page: &Page) -> Sending
+    pub(crate) fn of_page(
+        watched: PageId,
+        national: National,
+        serial: bool,
+        page: &Page,
+    ) -> PageSending
         ensures { result ≡ sending watched national serial page.now }
     {
         let magazine = watched.magazine();
         let header = watched_header(watched, national, serial);
-        let mut sent = Sending::of(Packet::of_header(magazine, &header));
+        let mut sent = PageSending::of(Packet::of_header(magazine, &header));
         for row in 1..25u8 {
             let codes = page.row(row);
             if is_sent_row(codes) {

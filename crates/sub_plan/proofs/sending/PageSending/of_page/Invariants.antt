@@ -3,7 +3,7 @@
 use Rattle.std.proofs.Common.{◌≡◌, ◌-◌, ◌≤◌, ◌∷◌, ◌++◌, length}
 use Rattle.ttx_packet.specs.PageHeader.{header_packet}
 use Rattle.sub_plan.specs.Sending.{watched_header, rows_from}
-use Rattle.sub_plan.proofs.sending.Sending.of_page.Given as goal
+use Rattle.sub_plan.proofs.sending.PageSending.of_page.Given as goal
 
 abbrev pub invariant-loop-row : goal.invariant-loop-row
 invariant-loop-row l = record {

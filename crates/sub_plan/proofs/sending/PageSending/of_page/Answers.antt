@@ -3,8 +3,8 @@ use Rattle.std.proofs.Common.{arith, append_assoc, append-nil}
 use Rattle.std.proofs.lemmas.Bool.Decides.{nat_tests}
 use Rattle.std.proofs.lemmas.List.{length_push}
 use Rattle.sub_plan.proofs.SendingSize.{rows_next, sending_made}
-use Rattle.sub_plan.proofs.sending.Sending.of_page.Goals as goal
-use Rattle.sub_plan.proofs.sending.Sending.of_page.Goals.{then-is_sent_row, else-is_sent_row}
+use Rattle.sub_plan.proofs.sending.PageSending.of_page.Goals as goal
+use Rattle.sub_plan.proofs.sending.PageSending.of_page.Goals.{then-is_sent_row, else-is_sent_row}
 
 pub loop-row-preserved : goal.loop-row-preserved
 loop-row-preserved c =
