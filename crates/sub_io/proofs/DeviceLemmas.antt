@@ -65,7 +65,7 @@ Told-from_fills (Some xs) (Some ys) n buffer f bytes e =
       ended = f.end;
     }
 
--- The same of a result: the clause `told` of `fill`.
+-- What a result tells of the bytes: the clause `told` of `fill`.
 pub Told-from_result : (old new : Option (List ℕ)) (buffer : List ℕ) (r : Result ℕ Failed)
     → IfOk r (λ n. Fills old n new buffer)
     → IfTold old (λ bytes. IfOk r (λ n. Told bytes n new buffer))

@@ -1,14 +1,7 @@
 -- Steps of a reading that gave a value: what was asked of it held, and each step before it gave
 -- one. Main lemma: step_gave.
-use Rattle.std.proofs.Common.{◌≡◌, Bool, true, false, cond, not, Result, Ok, Err, refl}
+use Rattle.std.proofs.Common.{◌≡◌, Result, Ok, Err, refl}
 use Rattle.sub_io.specs.Reading.{◌>>=◌}
-
--- A test that let the reading go on: it held.
-pub test_held : {A E : Type 0} (b : Bool) (fault : E) (r : Result A E) (y : A)
-    → cond (not b) (Err fault) r ≡ Ok y
-    → (b ≡ true) × (r ≡ Ok y)
-test_held true fault r y e = (refl, e)
-test_held false fault r y e = absurd cc
 
 -- A step and what follows it: both gave a value.
 pub step_gave : {A B E : Type 0} (r : Result A E) (f : A → Result B E) (y : B)

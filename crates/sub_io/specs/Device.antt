@@ -53,8 +53,7 @@ pub record Fills
   pub bytes : Consumes old new (take n buffer)
   pub end : n < length buffer → IsAtEnd new
 
--- The same of a source that tells its bytes: n of them went to the front of the buffer, and the
--- rest is left.
+-- Of the bytes that a source tells, n went to the front of the buffer, and the rest is left.
 pub record Told
     (bytes : List ℕ) (n : ℕ) (new : Option (List ℕ)) (buffer : List ℕ) : Type 0 where
   pub rest : List ℕ
