@@ -101,6 +101,18 @@ def add_page(parser: Words) -> None:
                         help="the page, 888 where it is left out")
 
 
+def add_program(parser: Words) -> None:
+    """The option -p, the program that is tried."""
+    parser.add_argument("-p", dest="program", metavar="PROGRAM",
+                        help="the program, the one that ./subttx runs where it is left out")
+
+
+def add_verbose(parser: Words) -> None:
+    """The option -v."""
+    parser.add_argument("-v", dest="is_verbose", action="store_true",
+                        help="a line for each that passed too")
+
+
 def counted(count: int, thing: str) -> str:
     """`1 fault`, `2 faults`."""
     return f"{count} {thing}" if count == 1 else f"{count} {thing}s"

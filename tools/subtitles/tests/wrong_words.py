@@ -41,12 +41,21 @@ WRONG: dict[str, list[list[str]]] = {
     "dist": [["none"], [PES], ["--colour"]],
     "release": [["none"], ["--note", "none"], ["--keep", "--compare"], ["--colour"]],
     "reading-list": [[], ["none"], ["Good", "Robust"], ["Good", "--colour"]],
+    "slow-proofs": [[], ["none"]], "make-examples": [[], ["a", "b"]],
+    "check-manual": [["-p", "none"]], "check-preview": [["-p", "none"]],
+    "check-every-place": [["--count", "x"]], "faults": [["-v", "none"]],
 }
 
 
+def names() -> list[str]:
+    """All tools."""
+    return [name for name in sorted(os.listdir(os.path.join(TOP, "tools")))
+            if os.access(tool_path(name), os.X_OK) and os.path.isfile(tool_path(name))]
+
+
 def refuses_wrong_words(case: Case) -> None:
-    for name, calls in WRONG.items():
-        for words in calls:
+    for name in names():
+        for words in [*WRONG.get(name, []), ["--colour"], ["---"]]:
             before = sorted(os.listdir(case.folder))
             done = case.tool(name, *words)
             case.test(f"{name} {' '.join(words)}", done.status == 2 and not done.out
@@ -58,13 +67,13 @@ def helps(case: Case) -> None:
     """--help, and what it says first is what the script says first; --version."""
     with open(os.path.join(TOP, "VERSION"), encoding="utf-8") as file:
         version = file.read().strip()
-    for name in WRONG:
+    for name in names():
         done = case.tool(name, "--version")
         case.test(f"{name} --version", (done.status, done.out.decode()) ==
                   (0, f"{name} {version}\n"), done)
         done = case.tool(name, "--help")
         with open(tool_path(name), encoding="utf-8") as file:
-            first = file.read().split('"""')[1].splitlines()[0]
+            first = file.read().splitlines()[1].lstrip('"# ')
         case.test(name, done.status == 0 and done.out.decode().startswith(first), done)
 
 
