@@ -2,7 +2,7 @@
 -- lemmas: `read_whole`, `first_of_pieces`, `none_of_pieces`.
 use Rattle.std.proofs.lemmas.Bool.Decides.{nat_tests}
 use Rattle.std.proofs.lemmas.Bool.{ltb-true}
-use Rattle.std.proofs.Common.{◌≡◌, ℕ, zero, suc, ◌+◌, ◌<◌, ◌≤◌, ◌||◌, Bool, true, false, not}
+use Rattle.std.proofs.Common.{◌≡◌, ℕ, zero, suc, ◌+◌, ◌<◌, ◌||◌, Bool, true, false, not}
 use Rattle.std.proofs.Common.{nat_lt}
 use Rattle.std.proofs.Common.{List, [], ◌∷◌, ◌++◌, length, map, Option, None, refl, sym, ap, ◌∙◌}
 use Rattle.std.proofs.Common.{subst, arith}
@@ -22,6 +22,7 @@ use Rattle.sub_rules.specs.Trusted.{tells_none, with_run}
 use Rattle.sub_rules.specs.declared.event.Event.{Event}
 use Rattle.sub_rules.proofs.PieceEventLemmas.{first_told_is}
 use Rattle.sub_rules.proofs.PieceFileLemmas.{file_until}
+use Rattle.sub_checker.proofs.PieceWaysLemmas.{frames_few}
 use Rattle.sub_checker.specs.PieceTelling.{IsReadOn}
 use Rattle.sub_checker.specs.Telling.{IsRead}
 use Rattle.sub_checker.specs.declared.telling.Accepted.{Accepted}
@@ -96,14 +97,7 @@ none_each g frames (suc n) none k l =
         let same : k ≡ n = grind (arith, nat_tests) in
         ap (frame_events g frames) same ∙ last
 
--- No more frames are sent than there are pieces.
-fewer : (pieces : List Piece) → length (frames_of pieces) ≤ length pieces
-unfolding frames_of
-fewer [] = omega arith
-fewer (Sent s ∷ pieces) = let rest = fewer pieces in omega (arith, rest)
-fewer (Passed u ∷ pieces) = let rest = fewer pieces in omega (arith, rest)
-
--- So nothing is told of pieces that send them.
+-- So nothing is told of pieces that send these frames.
 each_none : (g : Task) (frames : Transmission) (i n : ℕ) (run : Option ℕ) (pieces : List Piece)
     → length (frames_of pieces) ≡ length pieces
     → i + length pieces ≡ n
@@ -117,7 +111,7 @@ each_none g frames i n run (Sent s ∷ pieces) all e none =
     (omega (arith, e)) none in
     rw (here, rest) refl
 each_none g frames i n run (Passed u ∷ pieces) all e none =
-    let most = fewer pieces in absurd (omega (arith, all, most))
+    let most = frames_few pieces in absurd (omega (arith, all, most))
 
 closing_none : (g : Task) (frames : Transmission) (n : ℕ) → closing_events g frames n ≡ []
     → closing_of_pieces g frames n n ≡ []

@@ -1,11 +1,10 @@
--- What each way out of the loop over pieces shows of the whole file: `tracks_sent`,
--- `tracks_passed`, `told_stop`, `told_end`.
+-- What each way out of the loop over pieces shows of the whole file: `step_sent`, `step_passed`,
+-- `told_stop`, `told_before`, `told_whole`.
 use Rattle.std.proofs.lemmas.Bool.Decides.{nat_tests}
-use Rattle.std.proofs.Common.{◌≡◌, ℕ, zero, suc, ◌+◌, ◌-◌, ◌<◌, ◌≤◌, ◌&&◌, ◌||◌, Bool, true, false}
+use Rattle.std.proofs.Common.{◌≡◌, ℕ, zero, suc, ◌+◌, ◌-◌, ◌<◌, ◌≤◌, ◌||◌, Bool, true, false}
 use Rattle.std.proofs.Common.{not, List, [], ◌∷◌, ◌++◌, length, map, take, Option, Some, None, Ok}
 use Rattle.std.proofs.Common.{refl, sym, ap, subst, ◌∙◌, append_assoc, arith, length-append}
 use Rattle.std.proofs.lemmas.List.{append-nil, map-append, take_at}
-use Rattle.std.proofs.Math.Seq.{get_or-append_seam}
 use Rattle.std.specs.Prelude.{IfSome}
 use Rattle.sub_io.specs.Telling.{Tells, TellsPrefix}
 use Rattle.sub_io.proofs.TellingLemmas.{Tells-trans, TellsPrefix-first, TellsPrefix-second}
@@ -22,11 +21,9 @@ use Rattle.sub_rules.specs.Pieces.{Piece, ReadsPiece, ReadsPieces, frames_of}
 use Rattle.sub_rules.specs.Pieces.Piece.{Passed, Sent}
 use Rattle.sub_plan.specs.Options.{OptionsValue}
 use Rattle.ttx_pes.specs.Pieces.{behind_piece}
-use Rattle.std.proofs.Common.{get_or}
-use Rattle.std.proofs.lemmas.List.{length-map}
 use Rattle.sub_rules.specs.Sendings.{IsFrameOf, IsSentFrame}
 use Rattle.sub_rules.specs.Transmission.{SentFrame, Transmission}
-use Rattle.sub_rules.specs.Trusted.{frame_before, tells_none, with_run}
+use Rattle.sub_rules.specs.Trusted.{tells_none, with_run}
 use Rattle.sub_rules.specs.declared.event.Event.{Event}
 use Rattle.sub_rules.specs.declared.event.Event.TheVariants.{Told}
 use Rattle.sub_rules.specs.declared.fault.CheckFault.{CheckFault}
@@ -89,12 +86,11 @@ pub record Tracks
       (not (tells_none (each_told g all done))) trust
   pub run_is : as_run run ≡ passed_after_all no_run (each_told g all done)
 
--- Of the pieces of a file the first ones are read, and the others are left.
+-- Of the pieces of a file these first ones are read, and the others are left.
 pub record ReadsOn
     (options : OptionsValue) (bytes : List ℕ) (all : List Piece) (unread : Option Unread)
-    (remaining : Option (List ℕ)) (pes : ℕ)
+    (remaining : Option (List ℕ)) (pes : ℕ) (done : List Piece)
     : Type 0 where
-  pub done : List Piece
   pub ahead : List Piece
   pub parts : all ≡ done ++ ahead
   pub count : length done ≡ pes
@@ -111,10 +107,9 @@ pub reads_on_none : (options : OptionsValue) (all : List Piece) (unread : Option
     (remaining : Option (List ℕ)) (bytes : List ℕ)
     → remaining ≡ Some bytes
     → ReadsPieces options.origin 0 bytes all unread
-    → ReadsOn options bytes all unread remaining 0
+    → ReadsOn options bytes all unread remaining 0 []
 unfolding frames_of
 reads_on_none options all unread remaining bytes told reads = record {
-  done = [];
   ahead = all;
   parts = refl;
   count = refl;
@@ -125,15 +120,8 @@ reads_on_none options all unread remaining bytes told reads = record {
   whole = tt;
 }
 
-pub done_none : (options : OptionsValue) (all : List Piece) (unread : Option Unread)
-    (remaining : Option (List ℕ)) (bytes : List ℕ) (told : remaining ≡ Some bytes)
-    (reads : ReadsPieces options.origin 0 bytes all unread)
-    → (reads_on_none options all unread remaining bytes told reads).done ≡ []
-unfolding reads_on_none
-done_none options all unread remaining bytes told reads = refl
-
 -- At most as many frames are sent as there are pieces.
-frames_few : (pieces : List Piece) → length (frames_of pieces) ≤ length pieces
+pub frames_few : (pieces : List Piece) → length (frames_of pieces) ≤ length pieces
 unfolding frames_of
 frames_few [] = omega arith
 frames_few (Sent s ∷ pieces) = let l = frames_few pieces in omega arith
@@ -176,91 +164,67 @@ whole_sent frames v frame before is =
 
 -- One more of them, which is sent or passed over.
 module _ (options : OptionsValue) (bytes : List ℕ) (all : List Piece) (unread : Option Unread)
-    (before after : Option (List ℕ)) (pes : ℕ) (at : ReadsOn options bytes all unread before pes)
+    (before after : Option (List ℕ)) (pes : ℕ) (done : List Piece)
+    (at : ReadsOn options bytes all unread before pes done)
     (left : after ≡ Some (behind_piece at.rest))
   where
-    parts_next : (p : Piece) (more : List Piece) → at.ahead ≡ p ∷ more
-        → all ≡ (at.done ++ p ∷ []) ++ more
-    parts_next p more first =
-        at.parts ∙ ap (λ (l : List Piece). at.done ++ l) first
-        ∙ sym (append_assoc at.done (p ∷ []) more)
-
-    count_next : (p : Piece) → length (at.done ++ p ∷ []) ≡ pes + 1
-    count_next p = length-append at.done (p ∷ []) ∙ ap (λ (k : ℕ). k + 1) at.count
-
-    abbrev pub sent_as : PesValue → ℕ → SentFrame
-    sent_as v frame = record { frame = frame; packets = packets_of_units v.units }
+    reads_on_more : (p : Piece)
+        → ReadsPiece options.origin pes at.rest at.ahead unread p
+        → (length (frames_of (done ++ p ∷ [])) ≡ length (done ++ p ∷ [])
+        → AreTaken options.origin bytes (frames_of (done ++ p ∷ [])) (behind_piece at.rest))
+        → AreWhole (frames_of (done ++ p ∷ []))
+        → ReadsOn options bytes all unread after (pes + 1) (done ++ p ∷ [])
+    reads_on_more p next taken whole = record {
+      ahead = next.more;
+      parts =
+          at.parts ∙ ap (λ (l : List Piece). done ++ l) next.first
+          ∙ sym (append_assoc done (p ∷ []) next.more);
+      count = length-append done (p ∷ []) ∙ ap (λ (k : ℕ). k + 1) at.count;
+      rest = behind_piece at.rest;
+      rest_is = left;
+      left = next.left;
+      taken = taken;
+      whole = whole;
+    }
 
     pub reads_on_sent : (v : PesValue) (frame : ℕ)
-        → ReadsPiece options.origin pes at.rest at.ahead unread (Sent (sent_as v frame))
+        → ReadsPiece options.origin pes at.rest at.ahead unread
+        (Sent (record { frame = frame; packets = packets_of_units v.units }))
         → IsFrameOf options.origin v.pts frame
         → TakesPesPacket before after v
         → IsPesValue v
         → ReadsOn options bytes all unread after (pes + 1)
+        (done ++ Sent (record { frame = frame; packets = packets_of_units v.units }) ∷ [])
     unfolding frames_of
     reads_on_sent v frame next of takes value =
-        let s = sent_as v frame in
-        let list : frames_of (at.done ++ Sent s ∷ []) ≡ frames_of at.done ++ s ∷ [] =
-        frames_of-append at.done (Sent s ∷ []) in
-        record {
-          done = at.done ++ Sent s ∷ [];
-          ahead = next.more;
-          parts = parts_next (Sent s) next.more next.first;
-          count = count_next (Sent s);
-          rest = behind_piece at.rest;
-          rest_is = left;
-          left = next.left;
-          taken = λ e.
-              subst (λ (fs : Transmission). AreTaken options.origin bytes fs
-              (behind_piece at.rest)) (sym list)
-              (taken_sent options.origin bytes at.rest (frames_of at.done) v frame before after
-              (at.taken (omega (
-                arith,
-                e,
-                ap length list,
-                length-append (frames_of at.done)
-                    (s ∷ []),
-                length-append at.done (Sent s ∷ []),
-              ))) at.rest_is left takes of);
-          whole =
-              subst AreWhole (sym list)
-              (whole_sent (frames_of at.done) v frame at.whole value);
-        }
-
-    pub done_sent : (v : PesValue) (frame : ℕ)
-        (next : ReadsPiece options.origin pes at.rest at.ahead unread (Sent (sent_as v frame)))
-        (of : IsFrameOf options.origin v.pts frame) (takes : TakesPesPacket before after v)
-        (value : IsPesValue v)
-        → (reads_on_sent v frame next of takes value).done ≡ at.done ++ Sent (sent_as v frame) ∷ []
-    unfolding reads_on_sent
-    done_sent v frame next of takes value = refl
+        let s : SentFrame = record { frame = frame; packets = packets_of_units v.units } in
+        let list : frames_of (done ++ Sent s ∷ []) ≡ frames_of done ++ s ∷ [] =
+        frames_of-append done (Sent s ∷ []) in
+        reads_on_more (Sent s) next
+        (λ e.
+        subst (λ (fs : Transmission). AreTaken options.origin bytes fs (behind_piece at.rest))
+        (sym list)
+        (taken_sent options.origin bytes at.rest (frames_of done) v frame before after
+        (at.taken (omega (
+          arith,
+          e,
+          ap length list,
+          length-append (frames_of done) (s ∷ []),
+          length-append done (Sent s ∷ []),
+        ))) at.rest_is left takes of))
+        (subst AreWhole (sym list) (whole_sent (frames_of done) v frame at.whole value))
 
     pub reads_on_passed : (u : Unread)
         → ReadsPiece options.origin pes at.rest at.ahead unread (Passed u)
-        → ReadsOn options bytes all unread after (pes + 1)
+        → ReadsOn options bytes all unread after (pes + 1) (done ++ Passed u ∷ [])
     unfolding frames_of
     reads_on_passed u next =
-        let list : frames_of (at.done ++ Passed u ∷ []) ≡ frames_of at.done =
-        frames_of-append at.done (Passed u ∷ []) ∙ append-nil (frames_of at.done) in
-        record {
-          done = at.done ++ Passed u ∷ [];
-          ahead = next.more;
-          parts = parts_next (Passed u) next.more next.first;
-          count = count_next (Passed u);
-          rest = behind_piece at.rest;
-          rest_is = left;
-          left = next.left;
-          taken = λ e.
-              let few = frames_few at.done in
-              absurd (omega (arith, e, ap length list, length-append at.done (Passed u ∷ [])));
-          whole = subst AreWhole (sym list) at.whole;
-        }
-
-    pub done_passed : (u : Unread)
-        (next : ReadsPiece options.origin pes at.rest at.ahead unread (Passed u))
-        → (reads_on_passed u next).done ≡ at.done ++ Passed u ∷ []
-    unfolding reads_on_passed
-    done_passed u next = refl
+        let list : frames_of (done ++ Passed u ∷ []) ≡ frames_of done =
+        frames_of-append done (Passed u ∷ []) ∙ append-nil (frames_of done) in
+        let few = frames_few done in
+        reads_on_more (Passed u) next
+        (λ e. absurd (omega (arith, e, few, ap length list, length-append done (Passed u ∷ []))))
+        (subst AreWhole (sym list) at.whole)
 
 -- Before the first piece nothing is kept.
 pub tracks_none : (g : Task) (all : List Piece) (c : CheckerValue) (trust : Trust)
@@ -279,51 +243,52 @@ tracks_none g all c trust run follows judges passed = record {
 
 -- ---- one piece more
 
--- A piece that is sent is the next of the frames.
-pub sent_next : (all done more : List Piece) (frames : ℕ) (s : SentFrame)
-    → all ≡ done ++ Sent s ∷ more
-    → length (frames_of done) ≡ frames
-    → IsSentFrame (frames_of all) frames s.frame s.packets
-unfolding frames_of
-sent_next all done more frames s parts count =
-    let list : frames_of all ≡ frames_of done ++ (s ∷ frames_of more) =
-    ap frames_of parts ∙ frames_of-append done (Sent s ∷ more) in
-    let d : SentFrame = record { frame = 0; packets = [] } in
-    record {
-      there = omega (arith, ap length list, length-append (frames_of done) (s ∷ frames_of more));
-      frame_is =
-          ap (λ (fs : Transmission). frame_at fs frames) list
-          ∙ ap (λ (k : ℕ). frame_at (frames_of done ++ (s ∷ frames_of more)) k) (sym count)
-          ∙ ap (λ (xs : List ℕ). get_or xs (length (frames_of done)) 0)
-          (map-append (λ (x : SentFrame). x.frame) (frames_of done) (s ∷ frames_of more))
-          ∙ seam (map (λ (x : SentFrame). x.frame) (frames_of done)) s.frame _ 0
-          (length (frames_of done)) (length-map (frames_of done) (λ (x : SentFrame). x.frame));
-      packets_are =
-          ap (λ (fs : Transmission). packets_of_frame fs frames) list
-          ∙ ap (λ (k : ℕ). packets_of_frame (frames_of done ++ (s ∷ frames_of more)) k) (sym count)
-          ∙ ap (λ (xs : List (List (List ℕ))). get_or xs (length (frames_of done)) [])
-          (map-append (λ (x : SentFrame). x.packets) (frames_of done) (s ∷ frames_of more))
-          ∙ seam (map (λ (x : SentFrame). x.packets) (frames_of done)) s.packets _ []
-          (length (frames_of done)) (length-map (frames_of done) (λ (x : SentFrame). x.packets));
-    }
-  where
-    seam : {A : Type 0} (xs : List A) (y : A) (ys : List A) (e : A) (n : ℕ) → length xs ≡ n
-        → get_or (xs ++ y ∷ ys) n e ≡ y
-    seam xs y ys e n is =
-        ap (λ (k : ℕ). get_or (xs ++ y ∷ ys) k e) (sym is) ∙ get_or-append_seam xs y ys e
+-- A frame of a list behind so many others.
+seam : (xs : Transmission) (s : SentFrame) (ys : Transmission) (n : ℕ) → length xs ≡ n
+    → (frame_at (xs ++ s ∷ ys) n ≡ s.frame) × (packets_of_frame (xs ++ s ∷ ys) n ≡ s.packets)
+seam [] s ys zero is = (refl, refl)
+seam [] s ys (suc n) is = absurd (omega (arith, is))
+seam (x ∷ xs) s ys zero is = absurd (omega (arith, is))
+seam (x ∷ xs) s ys (suc n) is = seam xs s ys n (omega (arith, is))
 
 module _ (g : Task) (all done : List Piece) (pes frames : ℕ) (count : length done ≡ pes)
     (sent : length (frames_of done) ≡ frames)
   where
-    -- What is told with a piece more.
-    more_told : (p : Piece)
-        → each_told g all (done ++ p ∷ [])
-        ≡ each_told g all done
-        ++ told_of_each g (frames_of all) pes frames (run_of g all done) (p ∷ [])
-    more_told p =
+    -- What is told with a piece more, of which this is told.
+    more_told : (p : Piece) (es : List Event)
+        → told_of_each g (frames_of all) pes frames (run_of g all done) (p ∷ []) ≡ es
+        → each_told g all (done ++ p ∷ []) ≡ each_told g all done ++ es
+    more_told p es of =
         told_of_each-append g (frames_of all) 0 pes 0 frames None done (p ∷ [])
         (omega (arith, count)) (omega (arith, sent))
+        ∙ ap (λ (l : List Event). each_told g all done ++ l) of
 
+    -- The run of pieces that were passed over then.
+    more_passed : (p : Piece) (es : List Event) (old new : PassedRun)
+        → told_of_each g (frames_of all) pes frames (run_of g all done) (p ∷ []) ≡ es
+        → as_run old ≡ passed_after_all no_run (each_told g all done)
+        → as_run new ≡ passed_after_all (as_run old) es
+        → as_run new ≡ passed_after_all no_run (each_told g all (done ++ p ∷ []))
+    more_passed p es old new of was is =
+        is
+        ∙ ap (λ (r : pieces.PassedRun). passed_after_all r es) was
+        ∙ sym (passed_after-append no_run (each_told g all done) es)
+        ∙ ap (passed_after_all no_run) (sym (more_told p es of))
+
+    -- All that is told then.
+    pub more_events : (p : Piece) (es : List Event) (run : PassedRun)
+        → told_of_each g (frames_of all) pes frames (run_of g all done) (p ∷ []) ≡ es
+        → as_run run ≡ passed_after_all no_run (each_told g all done)
+        → events_of_pieces g (frames_of all) (done ++ p ∷ [])
+        ≡ events_of_pieces g (frames_of all) done ++ all_announced (as_run run) es
+    unfolding events_of_pieces
+    more_events p es run of is =
+        ap (all_announced no_run) (more_told p es of)
+        ∙ all_announced-append no_run (each_told g all done) es
+        ∙ ap (λ (r : pieces.PassedRun). all_announced no_run (each_told g all done)
+        ++ all_announced r es) (sym is)
+
+    -- The run of quiet frames then.
     more_run : (p : Piece)
         → run_of g all (done ++ p ∷ [])
         ≡ run_after_each g (frames_of all) frames (run_of g all done) (p ∷ [])
@@ -356,30 +321,23 @@ module _ (g : Task) (all done : List Piece) (pes frames : ℕ) (count : length d
         (map (at_pes pes) (told_of_frame g (frames_of all) frames (run_of g all done)))
         → Tracks g all (done ++ Sent s ∷ []) (frames + 1) c trust new
     unfolding frames_of run_after_each
-    tracks_sent s c trust old new was follows judges is =
-        let told = more_told (Sent s) ∙ ap (λ (es : List Event). each_told g all done ++ es)
-        (sent_told s) in
-        record {
-          sent_is =
-              ap length (frames_of-append done (Sent s ∷ []))
-              ∙ length-append (frames_of done) (s ∷ []) ∙ ap (λ (k : ℕ). k + 1) sent;
-          follows = follows;
-          judges =
-              subst (λ (r : Option ℕ). JudgesWith g (frames_of all) (frames + 1) r
-              (not (tells_none (each_told g all (done ++ Sent s ∷ [])))) trust)
-              (sym (more_run (Sent s)))
-              (subst (λ (b : Bool). JudgesWith g (frames_of all) (frames + 1)
-              (run_at g (frames_of all) frames (run_of g all done)) b trust)
-              (any (each_told g all done) (frame_events g (frames_of all) frames) _
-              (tells_none-at pes _ ∙ tells_none-run _ _ (frame_events g (frames_of all) frames))
-              ∙ ap (λ (es : List Event). not (tells_none es)) (sym told)) judges);
-          run_is =
-              is
-              ∙ ap (λ (r : pieces.PassedRun). passed_after_all r
-              (map (at_pes pes) (told_of_frame g (frames_of all) frames (run_of g all done)))) was
-              ∙ sym (passed_after-append no_run (each_told g all done) _)
-              ∙ ap (passed_after_all no_run) (sym told);
-        }
+    tracks_sent s c trust old new was follows judges is = record {
+      sent_is =
+          ap length (frames_of-append done (Sent s ∷ []))
+          ∙ length-append (frames_of done) (s ∷ []) ∙ ap (λ (k : ℕ). k + 1) sent;
+      follows = follows;
+      judges =
+          subst (λ (r : Option ℕ). JudgesWith g (frames_of all) (frames + 1) r
+          (not (tells_none (each_told g all (done ++ Sent s ∷ [])))) trust)
+          (sym (more_run (Sent s)))
+          (subst (λ (b : Bool). JudgesWith g (frames_of all) (frames + 1)
+          (run_at g (frames_of all) frames (run_of g all done)) b trust)
+          (any (each_told g all done) (frame_events g (frames_of all) frames) _
+          (tells_none-at pes _ ∙ tells_none-run _ _ (frame_events g (frames_of all) frames))
+          ∙ ap (λ (es : List Event). not (tells_none es))
+          (sym (more_told (Sent s) _ (sent_told s)))) judges);
+      run_is = more_passed (Sent s) _ old new (sent_told s) was is;
+    }
       where
         any : (xs es ys : List Event) → tells_none ys ≡ tells_none es
             → (not (tells_none xs) || not (tells_none es)) ≡ not (tells_none (xs ++ ys))
@@ -397,75 +355,24 @@ module _ (g : Task) (all done : List Piece) (pes frames : ℕ) (count : length d
         (told_of_passed (frames_of all) pes frames (run_of g all done) u)
         → Tracks g all (done ++ Passed u ∷ []) frames c new then
     unfolding frames_of run_after_each
-    tracks_passed u c old new before then was follows judges is run =
-        let told = more_told (Passed u) ∙ ap (λ (es : List Event). each_told g all done ++ es)
-        (passed_told u) in
-        record {
-          sent_is = ap length (frames_of-append done (Passed u ∷ []) ∙ append-nil _) ∙ sent;
-          follows = follows;
-          judges =
-              subst (λ (r : Option ℕ). JudgesWith g (frames_of all) frames r
-              (not (tells_none (each_told g all (done ++ Passed u ∷ [])))) new)
-              (sym (more_run (Passed u)))
-              (subst (λ (b : Bool). JudgesWith g (frames_of all) frames None b new)
-              (some (each_told g all done) _ (tells_none-run _ _ _)
-              ∙ ap (λ (es : List Event). not (tells_none es)) (sym told))
-              (subst (JudgesWith g (frames_of all) frames None true) (sym is)
-              (judges_passed g (frames_of all) frames old pes u judges)));
-          run_is =
-              run
-              ∙ ap (λ (r : pieces.PassedRun). passed_after_all r
-              (told_of_passed (frames_of all) pes frames (run_of g all done) u)) was
-              ∙ sym (passed_after-append no_run (each_told g all done) _)
-              ∙ ap (passed_after_all no_run) (sym told);
-        }
+    tracks_passed u c old new before then was follows judges is run = record {
+      sent_is = ap length (frames_of-append done (Passed u ∷ []) ∙ append-nil _) ∙ sent;
+      follows = follows;
+      judges =
+          subst (λ (r : Option ℕ). JudgesWith g (frames_of all) frames r
+          (not (tells_none (each_told g all (done ++ Passed u ∷ [])))) new)
+          (sym (more_run (Passed u)))
+          (subst (λ (b : Bool). JudgesWith g (frames_of all) frames None b new)
+          (some (each_told g all done) _ (tells_none-run _ _ _)
+          ∙ ap (λ (es : List Event). not (tells_none es))
+          (sym (more_told (Passed u) _ (passed_told u))))
+          (subst (JudgesWith g (frames_of all) frames None true) (sym is)
+          (judges_passed g (frames_of all) frames old pes u judges)));
+      run_is = more_passed (Passed u) _ before then (passed_told u) was run;
+    }
       where
         some : (xs ys : List Event) → tells_none ys ≡ false → true ≡ not (tells_none (xs ++ ys))
         some xs ys is = let two = tells_none-two xs ys in grind (arith, nat_tests)
-
-    -- What was told then.
-    pub told_sent : (s : SentFrame) {D : Type 0} {IsTold : D → Event → D → Type 0} (a b c : D)
-        (run : PassedRun)
-        → as_run run ≡ passed_after_all no_run (each_told g all done)
-        → Tells IsTold a b (events_of_pieces g (frames_of all) done)
-        → Tells IsTold b c (all_announced (as_run run)
-        (map (at_pes pes) (told_of_frame g (frames_of all) frames (run_of g all done))))
-        → Tells IsTold a c (events_of_pieces g (frames_of all) (done ++ Sent s ∷ []))
-    unfolding events_of_pieces
-    told_sent s {D} {IsTold} a b c run is first second =
-        subst (Tells IsTold a c) (sym (parts (Sent s) _ (sent_told s) run is))
-        (Tells-trans a b c _ _ first second)
-      where
-        parts : (p : Piece) (es : List Event)
-            → told_of_each g (frames_of all) pes frames (run_of g all done) (p ∷ []) ≡ es
-            → (run : PassedRun)
-            → as_run run ≡ passed_after_all no_run (each_told g all done)
-            → all_announced no_run (each_told g all (done ++ p ∷ []))
-            ≡ all_announced no_run (each_told g all done) ++ all_announced (as_run run) es
-        parts p es e run is =
-            ap (all_announced no_run) (more_told p ∙ ap (λ (l : List Event).
-            each_told g all done ++ l) e)
-            ∙ all_announced-append no_run (each_told g all done) es
-            ∙ ap (λ (r : pieces.PassedRun). all_announced no_run (each_told g all done)
-            ++ all_announced r es) (sym is)
-
-    pub told_passed : (u : Unread) {D : Type 0} {IsTold : D → Event → D → Type 0} (a b c : D)
-        (run : PassedRun)
-        → as_run run ≡ passed_after_all no_run (each_told g all done)
-        → Tells IsTold a b (events_of_pieces g (frames_of all) done)
-        → Tells IsTold b c (all_announced (as_run run)
-        (told_of_passed (frames_of all) pes frames (run_of g all done) u))
-        → Tells IsTold a c (events_of_pieces g (frames_of all) (done ++ Passed u ∷ []))
-    unfolding events_of_pieces
-    told_passed u {D} {IsTold} a b c run is first second =
-        subst (Tells IsTold a c)
-        (sym (ap (all_announced no_run) (more_told (Passed u) ∙ ap (λ (l : List Event).
-        each_told g all done ++ l) (passed_told u))
-        ∙ all_announced-append no_run (each_told g all done) _
-        ∙ ap (λ (r : pieces.PassedRun). all_announced no_run (each_told g all done)
-        ++ all_announced r (told_of_passed (frames_of all) pes frames (run_of g all done) u))
-        (sym is)))
-        (Tells-trans a b c _ _ first second)
 
 -- What is told of a piece that is passed over, by what is kept.
 pub passed_as : (g : Task) (all done : List Piece) (pes frames : ℕ) (c : CheckerValue)
@@ -601,106 +508,30 @@ module _ (g : Task) (all : List Piece) where
       subst (TellsPrefix IsTold a c) (sym whole)
       (TellsPrefix-second a b c _ _ first (rw (is, same) at second))
 
--- A device that said stop at a piece was told a part of the whole.
-pub told_stop : (g : Task) (all done more : List Piece) (p : Piece) (pes frames : ℕ)
-    {D : Type 0} {IsTold : D → Event → D → Type 0} (a b c : D) (run : PassedRun) (es : List Event)
-    → all ≡ done ++ p ∷ more
-    → length done ≡ pes
-    → length (frames_of done) ≡ frames
-    → as_run run ≡ passed_after_all no_run (each_told g all done)
-    → told_of_each g (frames_of all) pes frames (run_of g all done) (p ∷ []) ≡ es
-    → Tells IsTold a b (events_of_pieces g (frames_of all) done)
-    → TellsPrefix IsTold b c (all_announced (as_run run) es)
-    → TellsPrefix IsTold a c (all_of_pieces g all)
-unfolding events_of_pieces
-told_stop g all done more p pes frames {D} {IsTold} a b c run es parts count sent is of first
-    second =
-    subst (TellsPrefix IsTold a c) (sym front)
-    (TellsPrefix-first a c _ _ (TellsPrefix-second a b c _ _ first
-    (subst (λ (r : pieces.PassedRun). TellsPrefix IsTold b c (all_announced r es)) is second)))
-  where
-    each : List Event
-    each = each_told g all done
-
-    next : List Event
-    next = told_of_each g (frames_of all) (pes + 1)
-        (frames + length (frames_of (p ∷ [])))
-        (run_after_each g (frames_of all) frames (run_of g all done) (p ∷ [])) more
-
-    told : each_told g all all ≡ each ++ (es ++ next)
-    told =
-        ap (each_told g all) parts
-        ∙ told_of_each-append g (frames_of all) 0 pes 0 frames None done (p ∷ more)
-        (omega (arith, count)) (omega (arith, sent))
-        ∙ ap (λ (l : List Event). each ++ l)
-        (told_of_each-append g (frames_of all) pes (pes + 1) frames
-        (frames + length (frames_of (p ∷ []))) (run_of g all done) (p ∷ []) more refl refl
-        ∙ ap (λ (l : List Event). l ++ next) of)
-
-    rest : List Event
-    rest = last g all ++ closing g all
-
-    front : all_of_pieces g all
-        ≡ (all_announced no_run each ++ all_announced (passed_after_all no_run each) es)
-        ++ (all_announced (passed_after_all (passed_after_all no_run each) es) next
-        ++ finished (passed_after_all no_run (each_told g all all)) rest)
-    front =
-        whole g all
-        ∙ ap (λ (l : List Event). all_announced no_run l
-        ++ finished (passed_after_all no_run (each_told g all all)) rest) told
-        ∙ ap (λ (l : List Event). l
-        ++ finished (passed_after_all no_run (each_told g all all)) rest)
-        (all_announced-append no_run each (es ++ next)
-        ∙ ap (λ (l : List Event). all_announced no_run each ++ l)
-        (all_announced-append (passed_after_all no_run each) es next)
-        ∙ sym (append_assoc (all_announced no_run each) _ _))
-        ∙ append_assoc (all_announced no_run each
-        ++ all_announced (passed_after_all no_run each) es) _ _
-
--- The same of one that said stop before the next piece.
-pub told_before : (g : Task) (all done more : List Piece)
-    {D : Type 0} {IsTold : D → Event → D → Type 0} (a b : D)
+-- What is told of the first pieces comes first.
+front_of : (g : Task) (all done more : List Piece)
     → all ≡ done ++ more
-    → Tells IsTold a b (events_of_pieces g (frames_of all) done)
-    → TellsPrefix IsTold a b (all_of_pieces g all)
+    → (rest : List Event)
+    × (all_of_pieces g all ≡ events_of_pieces g (frames_of all) done ++ rest)
 unfolding events_of_pieces
-told_before g all done more {D} {IsTold} a b parts told =
-    subst (TellsPrefix IsTold a b) (sym front)
-    (TellsPrefix-first a b _ _ (TellsPrefix-whole a b _ told))
-  where
-    each : List Event
-    each = each_told g all done
-
-    next : List Event
-    next = told_of_each g (frames_of all) (length done) (length (frames_of done))
-        (run_of g all done) more
-
-    rest : List Event
-    rest = last g all ++ closing g all
-
-    front : all_of_pieces g all
-        ≡ all_announced no_run each
-        ++ (all_announced (passed_after_all no_run each) next
-        ++ finished (passed_after_all no_run (each_told g all all)) rest)
-    front =
-        whole g all
-        ∙ ap (λ (l : List Event). all_announced no_run l
-        ++ finished (passed_after_all no_run (each_told g all all)) rest)
-        (ap (each_told g all) parts
-        ∙ told_of_each-append g (frames_of all) 0 (length done) 0 (length (frames_of done)) None
-        done more (omega arith) (omega arith))
-        ∙ ap (λ (l : List Event). l
-        ++ finished (passed_after_all no_run (each_told g all all)) rest)
-        (all_announced-append no_run each next)
-        ∙ append_assoc (all_announced no_run each) _ _
+front_of g all done more parts =
+    let each = each_told g all done in
+    let next =
+    told_of_each g (frames_of all) (length done) (length (frames_of done)) (run_of g all done)
+    more in
+    let end =
+    finished (passed_after_all no_run (each_told g all all)) (last g all ++ closing g all) in (
+      all_announced (passed_after_all no_run each) next ++ end,
+      whole g all
+          ∙ ap (λ (l : List Event). all_announced no_run l ++ end)
+          (ap (each_told g all) parts
+          ∙ told_of_each-append g (frames_of all) 0 (length done) 0 (length (frames_of done)) None
+          done more (omega arith) (omega arith))
+          ∙ ap (λ (l : List Event). l ++ end) (all_announced-append no_run each next)
+          ∙ append_assoc (all_announced no_run each) _ _,
+    )
 
 -- ---- the end of the loop
-
-no_cons : (p : Piece) (ps : List Piece) → [] ≡ p ∷ ps → ⊥
-no_cons p ps e = let size : 0 ≡ suc (length ps) = ap length e in omega arith
-
-no_some : (u : Unread) → None ≡ Some u → ⊥
-no_some u e = cc
 
 -- Where no piece is read of the bytes and nothing keeps them from being read on, none are left.
 rest_none : (origin n : ℕ) (rest : List ℕ)
@@ -716,16 +547,16 @@ rest_none origin n rest few reads = by (answer_at n rest) refl
         let none : [] ≡ piece_of origin (Ok v)
         ∷ (pieces_at origin (n + 1) (behind_piece rest)).pieces =
         ap (λ (f : PieceFileValue). f.pieces) whole in
-        absurd (no_cons _ _ none)
+        cc
     by (Err f) is = bad (is_of_piece f) refl
       where
         bad : (b : Bool) → is_of_piece f ≡ b → rest ≡ []
         bad true kind =
             let next = reads_bad origin n rest [] None f few reads is kind in
-            absurd (no_cons _ _ next.first)
+            let first = next.first in cc
         bad false kind =
             let stop = pieces_stop origin n rest [] None f few reads is kind in
-            absurd (no_some _ stop.1)
+            let some = stop.1 in cc
 
 -- Nothing was told yet.
 pub none_of_pieces : (g : Task) (list : Transmission) → events_of_pieces g list [] ≡ []
@@ -741,23 +572,72 @@ no_run_before g list (suc n) run quiet e = absurd (omega arith)
 module _ (programme : ProgrammeValue) {options : OptionsValue} {bytes : List ℕ}
     {all : List Piece} {unread : Option Unread} {remaining : Option (List ℕ)} {pes frames : ℕ}
     {c : CheckerValue} {trust : Trust} {run : PassedRun}
-    (at : ReadsOn options bytes all unread remaining pes)
-    (tracks : Tracks (task_of programme options unread) all at.done frames c trust run)
+    {done : List Piece}
+    (at : ReadsOn options bytes all unread remaining pes done)
+    (tracks : Tracks (task_of programme options unread) all done frames c trust run)
   where
     abbrev g : Task
     g = task_of programme options unread
 
     -- The pieces that were read are the first ones.
-    pub front : (pes ≤ length all) × (take pes all ≡ at.done)
+    pub front : (pes ≤ length all) × (take pes all ≡ done)
     front = (
-      omega (arith, ap length at.parts, length-append at.done at.ahead, at.count),
-      ap (take pes) at.parts ∙ take_at at.done at.ahead pes at.count,
+      omega (arith, ap length at.parts, length-append done at.ahead, at.count),
+      ap (take pes) at.parts ∙ take_at done at.ahead pes at.count,
     )
 
+    -- A piece that is sent is the next of the frames.
+    pub next_sent : (s : SentFrame) (more : List Piece)
+        → at.ahead ≡ Sent s ∷ more
+        → IsSentFrame (frames_of all) frames s.frame s.packets
+    unfolding frames_of
+    next_sent s more first =
+        let list : frames_of all ≡ frames_of done ++ (s ∷ frames_of more) =
+        ap frames_of (at.parts ∙ ap (λ (l : List Piece). done ++ l) first)
+        ∙ frames_of-append done (Sent s ∷ more) in
+        let here = seam (frames_of done) s (frames_of more) frames tracks.sent_is in
+        record {
+          there =
+              omega (
+                arith,
+                tracks.sent_is,
+                ap length list,
+                length-append (frames_of done) (s ∷ frames_of more),
+              );
+          frame_is = ap (λ (fs : Transmission). frame_at fs frames) list ∙ here.0;
+          packets_are = ap (λ (fs : Transmission). packets_of_frame fs frames) list ∙ here.1;
+        }
+
+    -- A device that said stop before the next piece was told a part of the whole.
+    pub told_before : {D : Type 0} {IsTold : D → Event → D → Type 0} (a b : D)
+        → Tells IsTold a b (events_of_pieces g (frames_of all) done)
+        → TellsPrefix IsTold a b (all_of_pieces g all)
+    told_before {D} {IsTold} a b told =
+        let front = front_of g all done at.ahead at.parts in
+        subst (TellsPrefix IsTold a b) (sym front.1)
+        (TellsPrefix-first a b _ _ (TellsPrefix-whole a b _ told))
+
+    -- So was one that said stop at it.
+    pub told_stop : {D : Type 0} {IsTold : D → Event → D → Type 0} (p : Piece)
+        (more : List Piece) (es : List Event) (a b d : D)
+        → at.ahead ≡ p ∷ more
+        → told_of_each g (frames_of all) pes frames (run_of g all done) (p ∷ []) ≡ es
+        → Tells IsTold a b (events_of_pieces g (frames_of all) done)
+        → TellsPrefix IsTold b d (all_announced (as_run run) es)
+        → TellsPrefix IsTold a d (all_of_pieces g all)
+    told_stop {D} {IsTold} p more es a b d first of told part =
+        let front = front_of g all (done ++ p ∷ []) more
+        (at.parts ∙ ap (λ (l : List Piece). done ++ l) first
+        ∙ sym (append_assoc done (p ∷ []) more)) in
+        subst (TellsPrefix IsTold a d)
+        (sym (front.1 ∙ ap (λ (l : List Event). l ++ front.0)
+        (more_events g all done pes frames at.count tracks.sent_is p es run of tracks.run_is)))
+        (TellsPrefix-first a d _ _ (TellsPrefix-second a b d _ _ told part))
+
     module _ (few : pes ≤ most_packets) (last_piece : at.ahead ≡ []) where
-      is_all : at.done ≡ all
-      is_all = sym (at.parts ∙ ap (λ (l : List Piece). at.done ++ l) last_piece
-          ∙ append-nil at.done)
+      is_all : done ≡ all
+      is_all = sym (at.parts ∙ ap (λ (l : List Piece). done ++ l) last_piece
+          ∙ append-nil done)
 
       long : length all ≡ pes
       long = ap length (sym is_all) ∙ at.count
@@ -767,13 +647,13 @@ module _ (programme : ProgrammeValue) {options : OptionsValue} {bytes : List ℕ
 
       -- What is told last.
       raw_is : map (at_pes pes)
-          (closing_raw g (frames_of all) pes frames (run_of g all at.done)
-          (not (tells_none (each_told g all at.done))))
+          (closing_raw g (frames_of all) pes frames (run_of g all done)
+          (not (tells_none (each_told g all done))))
           ≡ last g all ++ closing g all
       raw_is =
-          closing_is g (frames_of all) pes frames (run_of g all at.done)
-          (not (tells_none (each_told g all at.done)))
-          (no_run_before g (frames_of all) frames (run_of g all at.done) tracks.judges.quiet)
+          closing_is g (frames_of all) pes frames (run_of g all done)
+          (not (tells_none (each_told g all done)))
+          (no_run_before g (frames_of all) frames (run_of g all done) tracks.judges.quiet)
           ∙ ap (λ (l : List Piece).
           last_of_run g (frames_of all) (run_of g all l)
           (not (tells_none (each_told g all l))
@@ -825,10 +705,10 @@ module _ (programme : ProgrammeValue) {options : OptionsValue} {bytes : List ℕ
       -- The device was told the whole, or a part. For `tell_pieces`.
       pub told_whole : {D : Type 0} {IsTold : D → Event → D → Type 0} (a b d : D)
           (r : Option Accepted)
-          → Tells IsTold a b (events_of_pieces g (frames_of all) at.done)
+          → Tells IsTold a b (events_of_pieces g (frames_of all) done)
           → FinishesTelling IsTold b d (finished (as_run run)
-          (map (at_pes pes) (closing_raw g (frames_of all) pes frames (run_of g all at.done)
-          (not (tells_none (each_told g all at.done)))))) r
+          (map (at_pes pes) (closing_raw g (frames_of all) pes frames (run_of g all done)
+          (not (tells_none (each_told g all done)))))) r
           → IfSome r (AreCounted c frames)
           → TellsPieces g options.origin bytes all IsTold a d (Ok r)
       told_whole {D} {IsTold} a b d r first second counts =
@@ -842,12 +722,24 @@ module _ (programme : ProgrammeValue) {options : OptionsValue} {bytes : List ℕ
 
     -- What is read and told with one piece more.
     pub record Steps
-        {D : Type 0} (IsTold : D → Event → D → Type 0) (after : Option (List ℕ)) (sent : ℕ)
-        (d : CheckerValue) (new : Trust) (then : PassedRun) (a b : D)
+        {D : Type 0} (IsTold : D → Event → D → Type 0) (p : Piece) (after : Option (List ℕ))
+        (sent : ℕ) (d : CheckerValue) (new : Trust) (then : PassedRun) (a b : D)
         : Type 0 where
-      pub reads : ReadsOn options bytes all unread after (pes + 1)
-      pub kept : Tracks g all reads.done sent d new then
-      pub told : Tells IsTold a b (events_of_pieces g (frames_of all) reads.done)
+      pub reads : ReadsOn options bytes all unread after (pes + 1) (done ++ p ∷ [])
+      pub kept : Tracks g all (done ++ p ∷ []) sent d new then
+      pub told : Tells IsTold a b (events_of_pieces g (frames_of all) (done ++ p ∷ []))
+
+    told_more : {D : Type 0} {IsTold : D → Event → D → Type 0} (p : Piece) (es : List Event)
+        (a b d : D)
+        → told_of_each g (frames_of all) pes frames (run_of g all done) (p ∷ []) ≡ es
+        → Tells IsTold a b (events_of_pieces g (frames_of all) done)
+        → Tells IsTold b d (all_announced (as_run run) es)
+        → Tells IsTold a d (events_of_pieces g (frames_of all) (done ++ p ∷ []))
+    told_more {D} {IsTold} p es a b d of first second =
+        subst (Tells IsTold a d)
+        (sym (more_events g all done pes frames at.count tracks.sent_is p es run of
+        tracks.run_is))
+        (Tells-trans a b d _ _ first second)
 
     -- One that is passed over. For `tell_pieces`.
     pub step_passed : {D : Type 0} (IsTold : D → Event → D → Type 0) (after : Option (List ℕ))
@@ -859,28 +751,25 @@ module _ (programme : ProgrammeValue) {options : OptionsValue} {bytes : List ℕ
         → as_run then
         ≡ passed_after_all (as_run run)
         (map (at_pes pes) (with_run trust.last trust.run (Told f ∷ [])))
-        → Tells IsTold a b (events_of_pieces g (frames_of all) at.done)
+        → Tells IsTold a b (events_of_pieces g (frames_of all) done)
         → Tells IsTold b d
-        (all_announced (as_run run) (map (at_pes pes) (with_run trust.last trust.run (Told f ∷ []))))
-        → Steps IsTold after frames c new then a d
+        (all_announced (as_run run)
+        (map (at_pes pes) (with_run trust.last trust.run (Told f ∷ []))))
+        → Steps IsTold (Passed u) after frames c new then a d
     step_passed {D} IsTold after u f new then a b d left next is trust_is run_is first second =
-        let same = passed_as g all at.done pes frames c trust run f u tracks is in
-        let done = done_passed options bytes all unread remaining after pes at left u next in
+        let same = passed_as g all done pes frames c trust run f u tracks is in
         record {
-          reads = reads_on_passed options bytes all unread remaining after pes at left u next;
+          reads = reads_on_passed options bytes all unread remaining after pes done at left u next;
           kept =
-              subst (λ (l : List Piece). Tracks g all l frames c new then) (sym done)
-              (tracks_passed g all at.done pes frames at.count tracks.sent_is u c trust new run then
+              tracks_passed g all done pes frames at.count tracks.sent_is u c trust new run then
               tracks.run_is tracks.follows tracks.judges
               (trust_is ∙ ap (λ (x : CheckFault). after_event (Told x) trust) is)
-              (run_is ∙ ap (passed_after_all (as_run run)) same));
+              (run_is ∙ ap (passed_after_all (as_run run)) same);
           told =
-              subst (λ (l : List Piece). Tells IsTold a d (events_of_pieces g (frames_of all) l))
-              (sym done)
-              (told_passed g all at.done pes frames at.count tracks.sent_is u a b d run
-              tracks.run_is first
+              told_more (Passed u) _ a b d
+              (passed_told g all done pes frames at.count tracks.sent_is u) first
               (subst (λ (es : List Event). Tells IsTold b d (all_announced (as_run run) es)) same
-              second));
+              second);
         }
 
     -- One that is sent.
@@ -894,32 +783,28 @@ module _ (programme : ProgrammeValue) {options : OptionsValue} {bytes : List ℕ
         → IsPesValue v
         → Follows g (frames_of all) (frames + 1) e
         → JudgesWith g (frames_of all) (frames + 1)
-        (run_at g (frames_of all) frames (run_of g all at.done))
-        (not (tells_none (each_told g all at.done))
+        (run_at g (frames_of all) frames (run_of g all done))
+        (not (tells_none (each_told g all done))
         || not (tells_none (frame_events g (frames_of all) frames))) new
         → as_run then
         ≡ passed_after_all (as_run run)
-        (map (at_pes pes) (told_of_frame g (frames_of all) frames (run_of g all at.done)))
-        → Tells IsTold a b (events_of_pieces g (frames_of all) at.done)
+        (map (at_pes pes) (told_of_frame g (frames_of all) frames (run_of g all done)))
+        → Tells IsTold a b (events_of_pieces g (frames_of all) done)
         → Tells IsTold b d
         (all_announced (as_run run)
-        (map (at_pes pes) (told_of_frame g (frames_of all) frames (run_of g all at.done))))
-        → Steps IsTold after (frames + 1) e new then a d
+        (map (at_pes pes) (told_of_frame g (frames_of all) frames (run_of g all done))))
+        → Steps IsTold (Sent (record { frame = frame; packets = packets_of_units v.units })) after
+        (frames + 1) e new then a d
     step_sent {D} IsTold after v frame e new then a b d left next of takes value follows judges
         run_is first second =
         let s : SentFrame = record { frame = frame; packets = packets_of_units v.units } in
-        let done = done_sent options bytes all unread remaining after pes at left v frame next of
-        takes value in
         record {
-          reads = reads_on_sent options bytes all unread remaining after pes at left v frame next of
-              takes value;
+          reads = reads_on_sent options bytes all unread remaining after pes done at left v frame
+              next of takes value;
           kept =
-              subst (λ (l : List Piece). Tracks g all l (frames + 1) e new then) (sym done)
-              (tracks_sent g all at.done pes frames at.count tracks.sent_is s e new run then
-              tracks.run_is follows judges run_is);
+              tracks_sent g all done pes frames at.count tracks.sent_is s e new run then
+              tracks.run_is follows judges run_is;
           told =
-              subst (λ (l : List Piece). Tells IsTold a d (events_of_pieces g (frames_of all) l))
-              (sym done)
-              (told_sent g all at.done pes frames at.count tracks.sent_is s a b d run
-              tracks.run_is first second);
+              told_more (Sent s) _ a b d
+              (sent_told g all done pes frames at.count tracks.sent_is s) first second;
         }

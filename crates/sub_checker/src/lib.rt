@@ -4,12 +4,13 @@
 //! show. What its events mean for acceptance, and for receivers, `sub_check` says.
 //!
 //! ```text
-//! tell_all(&programme, &mut source, &options, &mut audience)?; // Accepted { frames: 51, .. }
+//! tell_pieces(&programme, &mut source, &options, &mut audience)?; // Accepted { frames: 51, .. }
 //! ```
 #![tactic(auto)]
 
 mod announcing;
 mod checker;
+mod closing_pieces;
 mod comparison;
 mod laws;
 mod lending;

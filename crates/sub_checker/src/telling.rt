@@ -41,7 +41,7 @@ pub struct Accepted {
 /// may stay on air as they are, until it says stop; and counts what was read. `None` where it said
 /// stop.
 ///
-/// `check` and `check_all` of `sub_check` call it, and say what its events and counts mean.
+/// `check` of `sub_check` calls it, and says what its events and counts mean.
 ///
 /// # Errors
 ///

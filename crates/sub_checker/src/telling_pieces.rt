@@ -1,36 +1,34 @@
 //! What is told of a PES file that is read on behind the pieces that are passed over.
-ghost use Rattle.std.specs.Prelude.{◌≡◌, ℕ, ◌+◌, ◌-◌, ◌*◌, ◌<◌, ◌≤◌, ◌||◌, ◌++◌, Bool, Err, List};
-ghost use Rattle.std.specs.Prelude.{[], ◌∷◌, Option, IfErr, IfOk, IfSome, OnOk, false, is_err};
-ghost use Rattle.std.specs.Prelude.{is_none};
-ghost use Rattle.std.specs.Prelude.{length, map, not, true};
+ghost use Rattle.std.specs.Prelude.{◌≡◌, ℕ, ◌+◌, ◌-◌, ◌*◌, ◌<◌, ◌≤◌, ◌||◌, [], ◌∷◌, Bool, Err};
+ghost use Rattle.std.specs.Prelude.{IfErr, IfOk, List, OnOk, Option, false, is_err, is_none};
+ghost use Rattle.std.specs.Prelude.{length, not, true};
 ghost use Rattle.sub_io.specs.Device.{CanFail, CountsIf, failed};
 ghost use Rattle.sub_io.specs.Reading.{IfTold};
 ghost use Rattle.sub_io.specs.Telling.{TellsSome, TellsUntilStopped};
 ghost use Rattle.ttx_pes.specs.PesPacket.{most_units};
+ghost use Rattle.ttx_pes.specs.Reading.{most_packets};
 ghost use Rattle.stl_file.specs.TimeCode.{day};
 ghost use Rattle.stl_rows.specs.Programme.{IsProgramme};
 ghost use Rattle.sub_plan.specs.Options.{IsOptions};
-ghost use Rattle.sub_rules.specs.Events.{closing_events, frame_events};
+ghost use Rattle.sub_rules.specs.Events.{frame_events};
 ghost use Rattle.sub_rules.specs.Fault.{is_pes_read};
 ghost use Rattle.sub_rules.specs.FrameRules.{Task, Unread, packets_of_frame, task_of};
 ghost use Rattle.sub_rules.specs.PacketRules.{packets_of_units};
-ghost use Rattle.sub_rules.specs.PieceEvents.{all_announced, at_pes, closing_of_pieces, ended_run};
-ghost use Rattle.sub_rules.specs.PieceEvents.{fault_at_pes, last_of_run, no_run, passed_after_all};
-ghost use Rattle.sub_rules.specs.PieceEvents.{run_at, told_of_frame};
+ghost use Rattle.sub_rules.specs.PieceEvents.{no_run, run_at, told_of_frame};
 ghost use Rattle.sub_rules.specs.Pieces.{FailsAtPiece, Piece, ReadsPieces};
 ghost use Rattle.sub_rules.specs.Sendings.{IsSentFrame};
 ghost use Rattle.sub_rules.specs.Transmission.{Transmission};
 ghost use Rattle.sub_rules.specs.Trusted.{tells_none, with_run};
 ghost use Rattle.sub_checker.specs.Announcing.{IsToldOf, as_run};
 ghost use Rattle.sub_checker.specs.Following.{Follows};
-ghost use Rattle.sub_checker.specs.PieceTelling.{TellsPieces, closing_raw, ending_at, finished};
-ghost use Rattle.sub_checker.specs.Steps.{AreCounted, FinishesTelling, ending_fault};
+ghost use Rattle.sub_checker.specs.PieceTelling.{TellsPieces};
 ghost use Rattle.sub_checker.specs.Trusting.{Judges, JudgesWith, after_event};
 
-use crate::announcing::{Announcing, PassedRun, fault_at_pes, tell_ended};
-use crate::checker::{Checker, tell_fault};
+use crate::announcing::{Announcing, PassedRun};
+use crate::checker::Checker;
+use crate::closing_pieces::finish;
 use crate::lending::next_live;
-use crate::telling::{Accepted, is_source_failure, tell_last};
+use crate::telling::{Accepted, is_source_failure};
 use crate::trusting::{Trust, Trusting};
 use stl_rows::Programme;
 use sub_io::{Ahead, Audience, LiveAudience, Stopped};
@@ -38,13 +36,17 @@ use sub_plan::Options;
 use sub_rules::{CheckFault, Event, NextPiece, Sending, units_of};
 use ttx_pes::{ComparingReader, PesFault, SentUnits};
 
-// What is kept beside the checker from one piece to the next.
+/// What is kept beside the checker from one piece to the next.
 #[derive(Drop)]
-struct Kept {
-    // The frames that may be trusted.
-    trust: Trust,
-    // The pieces that were passed over last.
-    run: PassedRun,
+pub(crate) struct Kept {
+    /// How many pieces were sent.
+    pub frames: u32,
+    /// The piece before was passed over.
+    pub passed: bool,
+    /// The frames that may be trusted.
+    pub trust: Trust,
+    /// The pieces that were passed over last.
+    pub run: PassedRun,
 }
 
 /// Tells all that is broken of a PES file to a device of the caller's, piece by piece, until it
@@ -85,9 +87,6 @@ pub fn tell_pieces<S: Ahead, A: LiveAudience<Event>>(
     let mut checker = Checker::new(programme, options);
     let mut kept = Kept::new();
     let mut pes = 0;
-    let mut frames = 0;
-    // The piece before was passed over.
-    let mut passed = false;
     'pieces: loop {
         let Some(read) = next_live(&mut reader, source, audience, options, pes) else {
             return Ok(None);
@@ -97,37 +96,23 @@ pub fn tell_pieces<S: Ahead, A: LiveAudience<Event>>(
                 if is_source_failure(&fault) {
                     return Err(fault);
                 }
-                let end = finish(&checker, pes, frames, Some(fault), &mut kept, audience);
-                return Ok(end);
+                return Ok(finish(&checker, pes, Some(fault), &mut kept, audience));
             }
             Ok(next) => next,
         };
         let Some(piece) = next else {
-            return Ok(finish(&checker, pes, frames, None, &mut kept, audience));
+            return Ok(finish(&checker, pes, None, &mut kept, audience));
         };
         match piece {
             NextPiece::Passed(fault) => match tell_passed(pes, fault, &mut kept, audience) {
                 Err(_) => return Ok(None),
-                Ok(()) => passed = true,
+                Ok(()) => {}
             },
             NextPiece::Sent(sending) => {
-                let sending = after_piece(passed, sending);
                 let units = units_of(&reader);
-                let told = tell_sent(
-                    &mut checker,
-                    pes,
-                    frames,
-                    sending,
-                    &units,
-                    &mut kept,
-                    audience,
-                );
-                match told {
+                match tell_sent(&mut checker, pes, sending, &units, &mut kept, audience) {
                     Err(_) => return Ok(None),
-                    Ok(()) => {
-                        frames += 1;
-                        passed = false;
-                    }
+                    Ok(()) => {}
                 }
             }
         }
@@ -149,11 +134,14 @@ fn after_piece(passed: bool, sending: Sending) -> Sending
 impl Kept {
     // Before the first piece.
     fn new() -> Self
+        ensures frames { result.frames ≡ 0 }
         ensures last { result.trust.last ≡ 0 }
         ensures judges { (g : Task) (list : Transmission) → Judges g list 0 result.trust }
         ensures passed { as_run result.run ≡ no_run }
     {
         Kept {
+            frames: 0,
+            passed: false,
             trust: Trust::new(),
             run: PassedRun::new(),
         }
@@ -164,7 +152,6 @@ impl Kept {
 fn tell_sent<A: Audience<Event>>(
     checker: &mut Checker<'_>,
     pes: u32,
-    frames: u32,
     sending: Sending,
     units: &SentUnits<'_>,
     kept: &mut Kept,
@@ -172,32 +159,38 @@ fn tell_sent<A: Audience<Event>>(
 ) -> Result<(), Stopped>
     requires goes_on { A.has_stopped audience.old ≡ false }
     requires few { length units.now ≤ most_units }
-    requires room { checker.old.headers ≤ 255 * frames }
+    requires fewer { kept.old.frames ≤ most_packets }
+    requires room { checker.old.headers ≤ 255 * kept.old.frames }
     requires day { sending.frame < day }
     ensures stopped { A.has_stopped audience.new ≡ is_err result }
     ensures some { TellsSome A.is_told audience.old audience.new }
-    ensures headers { OnOk result (checker.new.headers ≤ 255 * (frames + 1)) }
+    ensures frames { kept.new.frames ≡ kept.old.frames + 1 }
+    ensures headers { OnOk result (checker.new.headers ≤ 255 * (kept.old.frames + 1)) }
     ensures day { OnOk result (kept.new.trust.last < day) }
     ensures told { (g : Task) (list : Transmission) (run : Option ℕ) (told : Bool)
-        → Follows g list frames checker.old
-        → JudgesWith g list frames run told kept.old.trust
-        → IsSentFrame list frames sending.frame (packets_of_units units.now)
+        → Follows g list kept.old.frames checker.old
+        → JudgesWith g list kept.old.frames run told kept.old.trust
+        → IsSentFrame list kept.old.frames sending.frame (packets_of_units units.now)
         → (sending.again ≡ true
-        → packets_of_frame list (frames - 1) ≡ packets_of_units units.now)
+        → kept.old.passed ≡ false
+        → packets_of_frame list (kept.old.frames - 1) ≡ packets_of_units units.now)
         → IsToldOf A.is_told audience.old audience.new pes (as_run kept.old.run)
-        (told_of_frame g list frames run) result (as_run kept.new.run)
-        × OnOk result (Follows g list (frames + 1) checker.new
-        × JudgesWith g list (frames + 1) (run_at g list frames run)
-        (told || not (tells_none (frame_events g list frames))) kept.new.trust) }
+        (told_of_frame g list kept.old.frames run) result (as_run kept.new.run)
+        × OnOk result (Follows g list (kept.old.frames + 1) checker.new
+        × JudgesWith g list (kept.old.frames + 1) (run_at g list kept.old.frames run)
+        (told || not (tells_none (frame_events g list kept.old.frames))) kept.new.trust) }
 {
     let mut announcing = Announcing {
         audience,
         pes,
         run: kept.run,
     };
+    let sending = after_piece(kept.passed, sending);
     let trust = &mut kept.trust;
-    let told = announce_frame(checker, frames, sending, units, trust, &mut announcing);
+    let told = announce_frame(checker, kept.frames, sending, units, trust, &mut announcing);
     kept.run = announcing.run;
+    kept.frames += 1;
+    kept.passed = false;
     told
 }
 
@@ -287,6 +280,8 @@ fn tell_passed<A: Audience<Event>>(
         (with_run kept.old.trust.last kept.old.trust.run (Event.Told fault ∷ [])) result
         (as_run kept.new.run) }
     ensures trust { kept.new.trust ≡ after_event (Event.Told fault) kept.old.trust }
+    ensures frames { kept.new.frames ≡ kept.old.frames }
+    ensures passed { kept.new.passed ≡ true }
 {
     let mut announcing = Announcing {
         audience,
@@ -295,6 +290,7 @@ fn tell_passed<A: Audience<Event>>(
     };
     let told = announce_fault(fault, &mut kept.trust, &mut announcing);
     kept.run = announcing.run;
+    kept.passed = true;
     told
 }
 
@@ -338,172 +334,4 @@ fn hand_fault<A: Audience<Event>>(
     let told = trusting.pass(Event::Told(fault));
     *trust = trusting.trust;
     told
-}
-
-// Tells what is told after so many pieces and frames, where this fault ended reading, if one did.
-fn tell_closing<A: Audience<Event>>(
-    checker: &Checker<'_>,
-    pes: u32,
-    frames: u32,
-    fault: Option<CheckFault>,
-    kept: &mut Kept,
-    audience: &mut A,
-) -> Result<(), Stopped>
-    requires goes_on { A.has_stopped audience.old ≡ false }
-    requires day { kept.old.trust.last < day }
-    ensures stopped { A.has_stopped audience.new ≡ is_err result }
-    ensures some { TellsSome A.is_told audience.old audience.new }
-    ensures told { (g : Task) (list : Transmission) (run : Option ℕ) (told : Bool)
-        → Follows g list frames checker.now → JudgesWith g list frames run told kept.old.trust
-        → length list ≡ frames → fault ≡ ending_fault pes g.unread
-        → IsToldOf A.is_told audience.old audience.new pes (as_run kept.old.run)
-        (closing_raw g list pes frames run told) result (as_run kept.new.run) }
-{
-    let mut announcing = Announcing {
-        audience,
-        pes,
-        run: kept.run,
-    };
-    let told = announce_closing(checker, pes, frames, fault, kept.trust, &mut announcing);
-    kept.run = announcing.run;
-    told
-}
-
-// The same to a device that announces it.
-fn announce_closing<A: Audience<Event>>(
-    checker: &Checker<'_>,
-    pes: u32,
-    frames: u32,
-    fault: Option<CheckFault>,
-    trust: Trust,
-    announcing: &mut Announcing<'_, A>,
-) -> Result<(), Stopped>
-    requires goes_on { A.has_stopped announcing.old.audience.now ≡ false }
-    requires day { trust.last < day }
-    ensures same { announcing.new.audience.ghost_name ≡ announcing.old.audience.ghost_name }
-    ensures stopped { A.has_stopped announcing.new.audience.now ≡ is_err result }
-    ensures some { TellsSome A.is_told announcing.old.audience.now announcing.new.audience.now }
-    ensures told { (g : Task) (list : Transmission) (run : Option ℕ) (told : Bool)
-        → Follows g list frames checker.now → JudgesWith g list frames run told trust
-        → length list ≡ frames → fault ≡ ending_fault pes g.unread
-        → IsToldOf A.is_told announcing.old.audience.now announcing.new.audience.now
-        announcing.old.pes (as_run announcing.old.run)
-        (closing_raw g list pes frames run told) result (as_run announcing.new.run) }
-{
-    hand_closing(checker, pes, frames, fault, trust, announcing)
-}
-
-// The same to any device, with what is trusted.
-fn hand_closing<A: Audience<Event>>(
-    checker: &Checker<'_>,
-    pes: u32,
-    frames: u32,
-    fault: Option<CheckFault>,
-    trust: Trust,
-    audience: &mut A,
-) -> Result<(), Stopped>
-    requires goes_on { A.has_stopped audience.old ≡ false }
-    requires day { trust.last < day }
-    ensures stopped { A.has_stopped audience.new ≡ is_err result }
-    ensures some { TellsSome A.is_told audience.old audience.new }
-    ensures told { (g : Task) (list : Transmission) (run : Option ℕ) (told : Bool)
-        → Follows g list frames checker.now → JudgesWith g list frames run told trust
-        → length list ≡ frames → fault ≡ ending_fault pes g.unread
-        → TellsUntilStopped A.is_told audience.old audience.new
-        (closing_raw g list pes frames run told) result }
-{
-    let mut trusting = Trusting {
-        device: audience,
-        trust,
-    };
-    close(checker, pes, frames, fault, &mut trusting)
-}
-
-// The same to a device that tells which frames may be trusted: where there are pieces and none is
-// sent, the fault alone.
-fn close<A: Audience<Event>>(
-    checker: &Checker<'_>,
-    pes: u32,
-    frames: u32,
-    fault: Option<CheckFault>,
-    trusting: &mut Trusting<'_, A>,
-) -> Result<(), Stopped>
-    requires goes_on { A.has_stopped trusting.old.device.now ≡ false }
-    requires day { trusting.old.trust.last < day }
-    ensures same { trusting.new.device.ghost_name ≡ trusting.old.device.ghost_name }
-    ensures stopped { A.has_stopped trusting.new.device.now ≡ is_err result }
-    ensures some { TellsSome A.is_told trusting.old.device.now trusting.new.device.now }
-    ensures told { (g : Task) (list : Transmission) (run : Option ℕ) (told : Bool)
-        → Follows g list frames checker.now
-        → JudgesWith g list frames run told trusting.old.trust
-        → length list ≡ frames → fault ≡ ending_fault pes g.unread
-        → TellsUntilStopped A.is_told trusting.old.device.now trusting.new.device.now
-        (closing_raw g list pes frames run told) result }
-{
-    if frames == 0 && pes > 0 {
-        return tell_fault(fault, trusting);
-    }
-    tell_last(checker, frames, ending_at(frames, fault), trusting)
-}
-
-// The fault that ended reading, if one did, after so many PES packets.
-fn ending_at(pes: u32, fault: Option<CheckFault>) -> Option<CheckFault>
-    ensures { result ≡ ending_at pes fault }
-{
-    match fault {
-        Some(fault) => Some(fault_at_pes(pes, fault)),
-        None => None,
-    }
-}
-
-// Tells what is told last, and counts what was read. `None` where the audience said stop.
-fn finish<A: Audience<Event>>(
-    checker: &Checker<'_>,
-    pes: u32,
-    frames: u32,
-    fault: Option<CheckFault>,
-    kept: &mut Kept,
-    audience: &mut A,
-) -> Option<Accepted>
-    requires goes_on { A.has_stopped audience.old ≡ false }
-    requires day { kept.old.trust.last < day }
-    ensures stopped { A.has_stopped audience.new ≡ is_none result }
-    ensures some { TellsSome A.is_told audience.old audience.new }
-    ensures told { (g : Task) (list : Transmission) (run : Option ℕ) (told : Bool)
-        → Follows g list frames checker.now → JudgesWith g list frames run told kept.old.trust
-        → length list ≡ frames → fault ≡ ending_fault pes g.unread
-        → FinishesTelling A.is_told audience.old audience.new
-        (finished (as_run kept.old.run) (map (at_pes pes) (closing_raw g list pes frames run told)))
-        result }
-    ensures counts { IfSome result (AreCounted checker.now frames) }
-{
-    match tell_end(checker, pes, frames, fault, kept, audience) {
-        Ok(()) => Some(checker.counts(frames)),
-        Err(_) => None,
-    }
-}
-
-// Tells it.
-#[tactic(auto, using(sub_io::proofs::TellingLemmas::some))]
-fn tell_end<A: Audience<Event>>(
-    checker: &Checker<'_>,
-    pes: u32,
-    frames: u32,
-    fault: Option<CheckFault>,
-    kept: &mut Kept,
-    audience: &mut A,
-) -> Result<(), Stopped>
-    requires goes_on { A.has_stopped audience.old ≡ false }
-    requires day { kept.old.trust.last < day }
-    ensures stopped { A.has_stopped audience.new ≡ is_err result }
-    ensures some { TellsSome A.is_told audience.old audience.new }
-    ensures told { (g : Task) (list : Transmission) (run : Option ℕ) (told : Bool)
-        → Follows g list frames checker.now → JudgesWith g list frames run told kept.old.trust
-        → length list ≡ frames → fault ≡ ending_fault pes g.unread
-        → TellsUntilStopped A.is_told audience.old audience.new
-        (finished (as_run kept.old.run) (map (at_pes pes) (closing_raw g list pes frames run told)))
-        result }
-{
-    tell_closing(checker, pes, frames, fault, kept, audience)?;
-    tell_ended(&kept.run, audience)
 }

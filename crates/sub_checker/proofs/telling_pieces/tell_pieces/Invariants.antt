@@ -14,26 +14,28 @@ use Rattle.sub_checker.proofs.telling_pieces.tell_pieces.Given as goal
 abbrev pub invariant-pieces : goal.invariant-pieces
 invariant-pieces g l = record {
   few : l.pes ≤ most_packets;
-  fewer : l.frames ≤ l.pes;
+  fewer : l.kept.frames ≤ l.pes;
   reading : l.reader.progress ≡ Reading l.pes;
   taken : TakesPieces l.pes (g.S.Source.remaining l.fn.source) (g.S.Source.remaining l.source);
   failures : g.S.Source.failure_count l.source ≡ g.S.Source.failure_count l.fn.source;
   goes_on : g.A.Audience.has_stopped l.audience ≡ false;
   day : l.kept.trust.last < day;
   some : TellsSome g.A.Audience.is_told l.fn.audience l.audience;
-  headers : l.checker.headers ≤ 255 * l.frames;
+  headers : l.checker.headers ≤ 255 * l.kept.frames;
   told :
       (pieces : List Piece) (unread : Option Unread) (bytes : List ℕ)
       → g.S.Source.remaining l.fn.source ≡ Some bytes
       → ReadsPieces l.options.origin 0 bytes pieces unread
-      → (at : ReadsOn l.options bytes pieces unread (g.S.Source.remaining l.source) l.pes)
-      × Tracks (task_of l.programme l.options unread) pieces at.done l.frames l.checker
+      → (done : List Piece)
+      × ReadsOn l.options bytes pieces unread (g.S.Source.remaining l.source) l.pes done
+      × Tracks (task_of l.programme l.options unread) pieces done l.kept.frames l.checker
       l.kept.trust l.kept.run
-      × (l.passed ≡ false
-      → 0 < l.frames
-      → packets_of_frame (frames_of pieces) (l.frames - 1) ≡ packets_of_units l.reader.frame.units)
+      × (l.kept.passed ≡ false
+      → 0 < l.kept.frames
+      → packets_of_frame (frames_of pieces) (l.kept.frames - 1)
+      ≡ packets_of_units l.reader.frame.units)
       × Tells g.A.Audience.is_told l.fn.audience l.audience
-      (events_of_pieces (task_of l.programme l.options unread) (frames_of pieces) at.done);
+      (events_of_pieces (task_of l.programme l.options unread) (frames_of pieces) done);
 }
 
 abbrev pub decreases-pieces : goal.decreases-pieces

@@ -1,6 +1,6 @@
 -- What is handed on: by AnnouncingLemmas.
 use Rattle.sub_checker.proofs.AnnouncingLemmas.{announces_result, announces_some}
-use Rattle.sub_checker.proofs.telling_pieces.announce_closing.Goals as goal
+use Rattle.sub_checker.proofs.closing_pieces.announce_closing.Goals as goal
 
 pub returns-clause-same : goal.returns-clause-same
 returns-clause-same g c =

@@ -1,10 +1,10 @@
 -- What is told last, and then up to which piece a run goes.
-use Rattle.std.proofs.Common.{subst, ap}
+use Rattle.std.proofs.Common.{subst}
 use Rattle.std.proofs.lemmas.Result.{err_from_is_err_and}
 use Rattle.sub_io.proofs.TellingLemmas.{TellsPrefix-first, TellsUntilStopped-after}
 use Rattle.sub_rules.specs.PieceEvents.{PassedRun, ended_run}
 use Rattle.sub_io.specs.Telling.{TellsUntilStopped}
-use Rattle.sub_checker.proofs.telling_pieces.tell_end.Goals as goal
+use Rattle.sub_checker.proofs.closing_pieces.tell_end.Goals as goal
 
 pub returns-in_err-tell_closing-clause-told : goal.returns-in_err-tell_closing-clause-told
 returns-in_err-tell_closing-clause-told g c = λ task list run told follows judges all is.

@@ -1,16 +1,14 @@
 -- The fault alone, where there are pieces and none is sent; else what is trusted of the last run
 -- and what the checker tells: by PieceWaysLemmas.
-use Rattle.std.proofs.Common.{◌≡◌, ◌≤◌, ◌∙◌, sym, ap, subst, arith, List, Option}
+use Rattle.std.proofs.Common.{◌≡◌, ◌≤◌, ◌∙◌, sym, ap, arith}
 use Rattle.sub_io.proofs.TellingLemmas.{TellsSome-until}
-use Rattle.sub_rules.specs.declared.event.Event.{Event}
-use Rattle.sub_rules.specs.declared.fault.CheckFault.{CheckFault}
 use Rattle.sub_checker.specs.PieceTelling.{ending_at}
 use Rattle.sub_checker.specs.Steps.{fault_events}
 use Rattle.sub_checker.proofs.PieceWaysLemmas.{ending_named, no_run_before, raw_closing, raw_unread}
 use Rattle.sub_checker.proofs.TellingLemmas.{told_same}
 use Rattle.sub_checker.proofs.TrustingLemmas.{passes_alone, passes_same, passes_some}
-use Rattle.sub_checker.proofs.telling_pieces.close.Goals as goal
-use Rattle.sub_checker.proofs.telling_pieces.close.Goals.{
+use Rattle.sub_checker.proofs.closing_pieces.close.Goals as goal
+use Rattle.sub_checker.proofs.closing_pieces.close.Goals.{
   else-frames-eq0-via-then-frames-eq0+else-pes-gt0,
   else-frames-eq0-via-else-frames-eq0,
 }
