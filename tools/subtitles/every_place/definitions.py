@@ -253,7 +253,7 @@ class Transmission:
     def pass_over(self, pes: int, number: int) -> None:
         """A piece that is not read: the first of those in a row with one number is told."""
         self.course.passed.append(pes)
-        if self.passed and self.passed[0] == number:
+        if self.passed and (self.passed[0], self.passed[2]) == (number, pes - 1):
             self.passed = number, self.passed[1], pes
         else:
             self.tell(number, f"pes {pes}", pes)
@@ -319,9 +319,20 @@ class Transmission:
             self.tell(74, f"frame {time_of(self.frames[-1])}", None)
         return self.course
 
+    def fail(self, pes: int) -> Course:
+        """The source failed after so many pieces: nothing more is told, and nothing ends."""
+        self.course.failed = pes
+        return self.course
 
-def course_of(due: Due, data: bytes, options: Options) -> Course:
-    """What is told of a transmission, and what was read of it."""
+
+CUT = 30  # where the bytes end before a piece does
+
+
+def course_of(due: Due, data: bytes, options: Options, is_failing: bool = False) -> Course:
+    """What is told of a transmission, and what was read of it.
+
+    A source that is failing fails where the bytes end.
+    """
     pieces, broken = pieces_of(data)
     transmission = Transmission(due, options)
     for pes, piece in enumerate(pieces):
@@ -330,6 +341,8 @@ def course_of(due: Due, data: bytes, options: Options) -> Course:
             transmission.pass_over(pes, sending)
         else:
             transmission.take(pes, *sending)
+    if is_failing and broken in (None, CUT):
+        return transmission.fail(len(pieces))
     return transmission.close(broken, len(pieces))
 
 
@@ -345,18 +358,21 @@ def transmissions(data: bytes, options: Options) -> tuple[int, int]:
     return frames[-1] - frames[0] + 1, count
 
 
-def check_all(stl: bytes, pes: bytes, options: Options) -> Iterator[str]:
-    """The lines of `check --all`, as they are found."""
-    count = 0
+def check_all(stl: bytes, pes: bytes, options: Options, is_failing: bool = False) -> Iterator[str]:
+    """The lines of `check --all`, as they are found. A PES file may fail where its bytes end."""
+    count, failed = 0, None
     for line in stl_faults(stl, options.option):
         count += 1
         yield line
     if not count:
-        due = Due(records_of(stl), options.option)
-        for line in lines_of(course_of(due, pes, options)):
+        course = course_of(Due(records_of(stl), options.option), pes, options, is_failing)
+        failed = course.failed
+        for line in lines_of(course):
             count += line.startswith("refused")
             yield line
-    if count:
+    if failed is not None:
+        yield f"fault 41 Read pes {failed}"
+    elif count:
         yield f"{count} faults"
     else:
         yield "accepted {} frames {} transmissions".format(*transmissions(pes, options))

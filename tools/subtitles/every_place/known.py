@@ -9,13 +9,15 @@ from ..stl import GSI, TTI, subtitle_blocks
 
 
 class Known(NamedTuple):
-    """`words` are the options of `check`, `lines` what it prints."""
+    """`words` are the options of `check`, `lines` what it prints. A PES file that is failing fails
+    where its bytes end."""
 
     name: str
     stl: bytes
     pes: bytes
     words: str
     lines: list[str]
+    is_failing: bool = False
 
 
 def example(name: str) -> bytes:
@@ -33,6 +35,7 @@ def poked(data: bytes, changes: dict[int, int]) -> bytes:
 # One subtitle from 10:00:00:00 to 10:00:02:00, sent at these two frames.
 HELLO, SENT = example("hello.stl"), example("hello.pes")
 SENT_25 = example("hello-25.pes")  # also at the frame between them
+BLANK = SENT_25[368:]  # the last of these: a page without rows
 EVEN_H = {117: 0x12}  # the row's H with even parity
 NO_ERASE = {55: 0xA8}  # C4 clear in the first header
 NO_END = {138: 0xFF}  # the first closing header a stuffing unit
@@ -119,6 +122,24 @@ KNOWN = [
           poked(SENT_25, {229: 0x20, 413: 0x20}) + b"\0", "",
           ["refused 37 DataId pes 1", "ended 37 DataId pes 2", "refused 30 Truncated pes 3",
            "2 faults"]),
+    Known("one that can't be read on both sides of one that can", HELLO,
+          poked(SENT_25, {45: 0x20, 413: 0x20}), "",
+          ["refused 37 DataId pes 0", "refused 63 Early frame 10:00:01:00",
+           "refused 37 DataId pes 2", "refused 74 Late frame 10:00:01:00", "4 faults"]),
+    Known("the same, and nothing is told of that one", HELLO[:GSI],
+          poked(BLANK * 3, {45: 0x20, 413: 0x20}), "",
+          ["refused 37 DataId pes 0", "refused 37 DataId pes 2", "2 faults"]),
+    Known("a source that fails after the first PES packet", HELLO, SENT[:184], "",
+          ["fault 41 Read pes 1"], True),
+    Known("another page, from such a source", HELLO, SENT[:184], "--page 100",
+          ["refused 71 NoFirstHeader frame 10:00:00:00",
+           "refused 72 Content frame 10:00:00:00 row 22 column 16", "fault 41 Read pes 1"], True),
+    Known("two that can't be read, and a source that fails after them", HELLO,
+          poked(SENT_25, {229: 0x20, 413: 0x20}), "",
+          ["refused 37 DataId pes 1", "fault 41 Read pes 3"], True),
+    Known("one that can't be read, from a source that fails later", HELLO,
+          poked(SENT_25, {413: 0x20}), "",
+          [trusted("00:00", "00:24"), "refused 37 DataId pes 2", "fault 41 Read pes 3"], True),
     Known("no PES packet", HELLO, b"", "", ["refused 60 Empty", "1 faults"]),
     Known("no erase, an even byte, cut", HELLO, poked(SENT, {**EVEN_H, **NO_ERASE})[:-1], "",
           ["refused 67 Control frame 10:00:00:00 packet 0",

@@ -20,12 +20,14 @@ Change = Callable[[Random, bytearray], None]  # of a PES packet
 
 
 class Pair(NamedTuple):
-    """Two files, and the words of a check."""
+    """Two files, and the words of a check. `is_failing` asks for a PES file that also fails where
+    its bytes end."""
 
     seed: int
     stl: bytes
     pes: bytes
     words: list[str]
+    is_failing: bool
 
 
 class Shown(NamedTuple):
@@ -289,12 +291,65 @@ def change_some(chance: Random, packets: list[bytearray]) -> None:
                 way(Random(seed), packet)
 
 
+# What keeps a PES packet from being read: bits of a byte of its head, or of its data units.
+HEAD_BITS = [(6, 0xC0), (7, 0x40), (7, 0x80), (8, 1), (9, 0x10), (11, 1), (13, 1), (DATA - 1, 0x30)]
+UNIT_BITS = [(1, 1), (1, 0x80), (3, 1), (2, 0x1E), (2, 0x20)]
+
+
+def damage(chance: Random, packet: bytearray) -> None:
+    """A PES packet that, most often, can't be read any more, or has no frame; now and then for two
+    reasons."""
+    for _ in range(chance.choice([1, 1, 1, 1, 2])):
+        way = chance.random()
+        if way < 0.25:
+            ticks = chance.choice([1, 90, TICKS // 2, TICKS * FRAMES_OF_A_DAY])
+            packet[9:14] = pts_bytes((pts_in(packet) + ticks) % CLOCK)
+        elif way < 0.65:
+            at, bits = chance.choice(HEAD_BITS)
+            packet[at] ^= bits
+        else:
+            at, bits = chance.choice(UNIT_BITS)
+            packet[chance.choice(range(DATA, len(packet), UNIT)) + at] ^= bits
+
+
+def damage_some(chance: Random, packets: list[bytearray]) -> None:
+    """Some PES packets after each other are damaged, in one way or each in its own; some between
+    are not, and a packet of before may stand beside them, where frames then don't rise."""
+    first = chance.randrange(len(packets))
+    count = chance.choice([1, 1, 2, 3, 4, 8, len(packets)])
+    seed = chance.random() if chance.random() < 0.6 else None
+    if chance.random() < 0.15:
+        packets.insert(min(first + chance.randrange(count + 1), len(packets)),
+                       bytearray(packets[max(0, first - chance.randrange(1, 4))]))
+    for packet in packets[first:first + count]:
+        if chance.random() < 0.85:
+            damage(Random(chance.random() if seed is None else seed), packet)
+
+
+def damage_head(chance: Random, packets: list[bytearray]) -> None:
+    """Another start code, or another length: one that no PES packet has, or that of a shorter or a
+    longer one, whose end is then within a packet, or at the end of another."""
+    packet = chance.choice(packets)
+    if chance.random() < 0.3:
+        packet[chance.randrange(4)] ^= 1 << chance.randrange(8)
+    elif chance.random() < 0.4:
+        packet[chance.choice([4, 5])] ^= 1 << chance.randrange(8)
+    else:
+        packet[4:6] = (chance.choice([*range(11)]) * 184 - 6 & 0xFFFF).to_bytes(2, "big")
+
+
 def break_pes(chance: Random, data: bytes) -> bytes:
     """A transmission with some of its packets, their order, or its length otherwise."""
     packets = list(map(bytearray, pes_packets(io.BytesIO(data))))
     for _ in range(chance.choice([0, 1, 1, 2, 3, 6, 12])):
         if packets:
             (change_order if chance.random() < 0.12 else change_some)(chance, packets)
+    if chance.random() < 0.5:
+        for _ in range(chance.choice([1, 1, 2, 3])):
+            if packets:
+                damage_some(chance, packets)
+    if packets and chance.random() < 0.06:
+        damage_head(chance, packets)
     data = b"".join(packets)
     way = chance.random()
     if way < 0.05:
@@ -345,4 +400,4 @@ def random_pair(seed: int, schedule: Schedule) -> Pair:
     asked = listed(other_words(chance, words))
     if chance.random() < 0.4:
         asked.append("--complete")
-    return Pair(seed, stl, pes, asked)
+    return Pair(seed, stl, pes, asked, chance.random() < 0.25)

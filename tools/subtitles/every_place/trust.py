@@ -49,7 +49,8 @@ class Course:
 
     `passed` are the pieces that were passed over. `standing` are the ends at which 72, 73 or 77
     stands: the PES packet before which or with which each end comes, and its frame. `is_left` says
-    that bytes are left after the pieces.
+    that bytes are left after the pieces. `failed` is the piece in which the source failed: then no
+    event comes after the last end.
     """
 
     events: list[Event] = field(default_factory=list)
@@ -57,6 +58,7 @@ class Course:
     passed: list[int] = field(default_factory=list)
     standing: list[tuple[int, int]] = field(default_factory=list)
     is_left: bool = False
+    failed: int | None = None
 
 
 class Trust:
@@ -115,7 +117,10 @@ class Trust:
 
 
 def lines_of(course: Course) -> Iterator[str]:
-    """The lines of a course, and of what may be trusted where anything is told."""
+    """The lines of a course, and of what may be trusted where anything is told.
+
+    Where the source failed nobody knows how far the last run goes.
+    """
     before: dict[int, list[str]] = {}
     if course.events and course.sent:
         trust = Trust(course)
@@ -125,4 +130,5 @@ def lines_of(course: Course) -> Iterator[str]:
     for at, event in enumerate(course.events):
         yield from before.get(at, [])
         yield event.line
-    yield from before.get(len(course.events), [])
+    if course.failed is None:
+        yield from before.get(len(course.events), [])
