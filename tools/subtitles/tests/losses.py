@@ -197,9 +197,8 @@ def is_trusted_nowhere_around(case: Case) -> None:
         line = f"refused 38 UnitLength pes {number}"
         case.test(f"{place}: told", status == 1 and line in lines, lines)
         after = lines[lines.index(line) + 1:-1] if line in lines else []
-        case.test(f"{place}: reads on", not after
-                  or after[-1].startswith("trusted ") and after[-1].endswith(time_of(frames[-1])),
-                  lines)
+        case.test(f"{place}: reads on", after and after[-1].startswith("trusted ")
+                  and after[-1].endswith(time_of(frames[-1])), lines)
         before = frames[number - 1] if number else frames[0]
         spans = [[frame_of(time) or 0 for time in line.split()[2:]] for line in lines
                  if line.startswith("trusted ")]

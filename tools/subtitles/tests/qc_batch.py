@@ -149,14 +149,22 @@ def takes_lines_of_every_kind(case: Case) -> None:
               [("38", "", "2"), ("72", "20:15:06:24", "")], rows)
 
 
-def agrees_with_the_schema(case: Case) -> None:
+def agrees(case: Case, verdict: Any, name: str = "the schema") -> None:
+    """Tests an object against the schema, where there is what does that."""
     try:
         import jsonschema
     except ImportError:
-        case.bench.over.append("docs/verdict.schema.json, since there is no python3-jsonschema")
+        over = "docs/verdict.schema.json, since there is no python3-jsonschema"
+        if over not in case.bench.over:
+            case.bench.over.append(over)
         return
     schema = json.loads(read(SCHEMA) or "")
     jsonschema.Draft7Validator.check_schema(schema)
+    wrong = [error.message for error in jsonschema.Draft7Validator(schema).iter_errors(verdict)]
+    case.test(name, not wrong, wrong)
+
+
+def agrees_with_the_schema(case: Case) -> None:
     case.write("list", f"{STORY} {FIVE}\n{STORY}\n{STORY} none.ts\n".encode())
     for name, words in {
         "accepted": [STORY, RECORDING], "refused": [STORY, FIVE, "--every", "25"],
@@ -164,9 +172,7 @@ def agrees_with_the_schema(case: Case) -> None:
         "refused subtitles": [example("accent.stl")], "a batch": ["--batch", "list"],
     }.items():
         qc(case, *words, "--json", "one.json")
-        wrong = [error.message for error in
-                 jsonschema.Draft7Validator(schema).iter_errors(loaded(case, "one.json"))]
-        case.test(name, not wrong, wrong)
+        agrees(case, loaded(case, "one.json"), name)
         os.remove(case.path("one.json"))
 
 
