@@ -277,6 +277,14 @@ some_counts page frames (suc n) is =
       },
     )
 
+-- Where the source of the PES file failed, the fault names the piece within which it did. It stands
+-- apart since `cc` refutes its cases quickly only where little else is known.
+read_at : (f : CheckFault)
+    → is_pes_read f ≡ true
+    → (n : ℕ) × (f ≡ fault.Pes n pes_fault.Read)
+read_at (fault.Pes n pes_fault.Read) is = (n, refl)
+read_at f is = cc
+
 module _ {D N : Type 0} (IsTold : D → Event → D → Type 0) (name : D → N)
     (value : D → PrinterValue)
     (one : (s t : D) (x : Event) → IsTold s x t
@@ -354,11 +362,14 @@ module _ {D N : Type 0} (IsTold : D → Event → D → Type 0) (name : D → N)
       ≡ Err (fault.Pes index pes_fault.Read)
       → FailsAtPiece index pes.told pes.left)
       → TellsBoth national options stl pes (value old) (value new) (Err f)
-  after_pes_error (fault.Pes n pes_fault.Read) is quiet some told count fails =
-      go_pes pes.told n refl quiet some told count
-      (λ index e. fails index (ap (λ m. let r : Result (Option Accepted) CheckFault
-      = Err (fault.Pes m pes_fault.Read) in r) e))
-  after_pes_error f is quiet some told count fails = cc
+  after_pes_error f is quiet some told count fails = go (read_at f is).0 (read_at f is).1
+    where
+      go : (n : ℕ) → f ≡ fault.Pes n pes_fault.Read
+          → TellsBoth national options stl pes (value old) (value new) (Err f)
+      go n same = rw same
+          (go_pes pes.told n refl quiet some (rw same at told) (rw same at count)
+          (λ index e. fails index (ap (λ m. let r : Result (Option Accepted) CheckFault
+          = Err m in r) (same ∙ ap (λ m. fault.Pes m pes_fault.Read) e))))
 
   -- These are the events of the PES file, of which the sink may have a part.
   read_pes : (items : List Event) (a : Accepted) (given : Result (Option Accepted) CheckFault)
