@@ -67,6 +67,7 @@ fn reads_a_header_as_it_is_sent(rt: HostRuntime) {
         &SentPacket::new(&sent).exact_header(),
         &packet.header(),
     );
+    assert_same(&rt, &SentPacket::new(&sent).exact_page(), &Some(0x88));
     // A bit of the first address byte, and of the last coded byte: corrected by a `Packet` alone.
     sent[0] ^= 0x01;
     sent[9] ^= 0x80;

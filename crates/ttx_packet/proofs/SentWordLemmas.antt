@@ -1,5 +1,6 @@
 -- The table of code words in the order of transmission: word_from_sent, no_word_from_sent.
-use Rattle.std.proofs.Common.{◌≡◌, ℕ, ◌<◌, Bool, ◌||◌, ◌&&◌, true, not, nat_eq, nat_lt, get_or}
+use Rattle.std.proofs.Common.{◌≡◌, ℕ, ◌<◌, Bool, ◌||◌, ◌&&◌, true, nat_eq, nat_le, nat_lt}
+use Rattle.std.proofs.Common.{◌≤◌, get_or}
 use Rattle.std.proofs.Common.{Some}
 use Rattle.std.proofs.Common.{◌+◌, ◌*◌, ◌/◌, ◌%◌, inl, inr, zero, suc, List, map, length}
 use Rattle.std.proofs.Common.{slice_index, refl, sym, ap, ◌∙◌, arith, eqb-true}
@@ -15,20 +16,27 @@ use Rattle.ttx_packet.specs.declared.sent_packet.TheConstants.{SENT_WORDS}
 use Rattle.ttx_packet.proofs.BitOrderLemmas.{mirror-mirror}
 use Rattle.ttx_packet.proofs.Hamming84Lemmas.{decoded-code_word}
 
+-- No entry is greater than 256. For `sent_entry`.
+pub entry_small : (b : ℕ) → b < 0x100 → get_or SENT_WORDS b 0 ≤ 256
+entry_small b l =
+    let passes = agree_below_at (λ b. nat_le (get_or SENT_WORDS b 0) 256) (λ b. true) 0x100 b refl l
+    in
+    grind (arith, nat_tests)
+
 -- An entry that is a number is that of the code word: 256 cases, computed.
-word_of_entry : (b : ℕ) → b < 0x100 → (get_or SENT_WORDS b 0 ≡ 255 → ⊥)
+word_of_entry : (b : ℕ) → b < 0x100 → (get_or SENT_WORDS b 0 ≡ 256 → ⊥)
     → (get_or SENT_WORDS b 0 < 16) × (mirror b ≡ code_word (get_or SENT_WORDS b 0))
 unfolding mirror
 word_of_entry b l some =
-    let test : ℕ → Bool = λ b. nat_eq (get_or SENT_WORDS b 0) 255
+    let test : ℕ → Bool = λ b. nat_eq (get_or SENT_WORDS b 0) 256
     || (nat_lt (get_or SENT_WORDS b 0) 16 && nat_eq (mirror b) (code_word (get_or SENT_WORDS b 0)))
     in
     let passes = agree_below_at test (λ b. true) 0x100 b refl l in
     grind (arith, nat_tests)
 
--- What an entry that is a number says of its byte. For `sent_number`.
+-- What an entry that is a number says of its byte. For `sent_entry`.
 pub word_from_sent : (b : ℕ) → b < 0x100
-    → (get_or SENT_WORDS b 0 ≡ 255 → ⊥)
+    → (get_or SENT_WORDS b 0 ≡ 256 → ⊥)
     → (get_or SENT_WORDS b 0 < 16) × IsCodeWord (mirror b)
     × (decoded (mirror b) ≡ Some (get_or SENT_WORDS b 0))
 word_from_sent b l some =
@@ -38,8 +46,8 @@ word_from_sent b l some =
       rw word.1 (decoded-code_word (get_or SENT_WORDS b 0) word.0),
     )
 
--- The entry of a code word is its number: 16 cases, computed. For `sent_number`.
-pub no_word_from_sent : (b : ℕ) → b < 0x100 → get_or SENT_WORDS b 0 ≡ 255
+-- The entry of a code word is its number: 16 cases, computed. For `sent_entry`.
+pub no_word_from_sent : (b : ℕ) → b < 0x100 → get_or SENT_WORDS b 0 ≡ 256
     → IsCodeWord (mirror b) → ⊥
 unfolding mirror
 no_word_from_sent b l none (n, small, is) =
@@ -112,3 +120,12 @@ unfolding coded_header
 coded_header_of p units tens s1 s2_c4 s3 s4_c6 c7_c10 c11_c14 h
     a b c d e f g i page subcode control =
     rw (a, b, c, d, e, f, g, i, ← page, ← subcode, ← control) refl
+
+-- The page number, where the others of the eight bytes say anything.
+pub page_of : (p : List ℕ) (units tens : ℕ) (h : Header)
+    → decoded_at p 2 ≡ Some units
+    → decoded_at p 3 ≡ Some tens
+    → coded_header p ≡ Some h
+    → Some (units + 0x10 * tens) ≡ Some h.page
+unfolding coded_header
+page_of p units tens h a b says = grind (arith, nat_tests)

@@ -1,5 +1,5 @@
 //! A packet as a data unit carries it, read without turning its bits round.
-ghost use Rattle.std.specs.Prelude.{◌≡◌, ◌<◌, MatchOption, Some, map};
+ghost use Rattle.std.specs.Prelude.{◌≡◌, ◌≢◌, ◌<◌, ◌≤◌, MatchOption, Some, map};
 ghost use Rattle.ttx_packet.specs.BitOrder.{mirror};
 ghost use Rattle.ttx_packet.specs.Hamming84.{IsCodeWord, decoded};
 ghost use Rattle.ttx_packet.specs.PacketAddress.{HasExactAddress, address};
@@ -9,44 +9,55 @@ use crate::header::Header;
 use crate::packet::{Packet, header_of};
 use std::marker::Model;
 
-/// What stands in `SENT_WORDS` at a byte that is no code word.
-const NOTHING: u8 = 255;
+/// What stands in `SENT_WORDS` at a byte that is no code word: more than two numbers make.
+const NOTHING: u32 = 256;
 
 /// The number of the Hamming 8/4 code word that each byte is, where the bit that is sent first is
 /// the highest. Made from the code words; the check computes the definitions over all 256 bytes and
 /// compares.
 #[rattlefmt::skip]
-const SENT_WORDS: [u8; 256] = [
-    255, 255, 255, 255, 255, 255, 255, 255, 255, 255, 255,   8, 255, 255, 255, 255,
-    255, 255, 255, 255, 255, 255, 255, 255, 255, 255, 255, 255,   6, 255, 255, 255,
-    255, 255, 255, 255, 255, 255,   4, 255, 255, 255, 255, 255, 255, 255, 255, 255,
-    255,  10, 255, 255, 255, 255, 255, 255, 255, 255, 255, 255, 255, 255, 255, 255,
-      1, 255, 255, 255, 255, 255, 255, 255, 255, 255, 255, 255, 255, 255, 255, 255,
-    255, 255, 255, 255, 255, 255, 255,  15, 255, 255, 255, 255, 255, 255, 255, 255,
-    255, 255, 255, 255, 255, 255, 255, 255, 255, 255, 255, 255, 255,  13, 255, 255,
-    255, 255, 255, 255, 255, 255, 255, 255, 255, 255,   3, 255, 255, 255, 255, 255,
-    255, 255, 255, 255, 255,  12, 255, 255, 255, 255, 255, 255, 255, 255, 255, 255,
-    255, 255,   2, 255, 255, 255, 255, 255, 255, 255, 255, 255, 255, 255, 255, 255,
-    255, 255, 255, 255, 255, 255, 255, 255,   0, 255, 255, 255, 255, 255, 255, 255,
-    255, 255, 255, 255, 255, 255, 255, 255, 255, 255, 255, 255, 255, 255, 255,  14,
-    255, 255, 255, 255, 255, 255, 255, 255, 255, 255, 255, 255, 255, 255,   5, 255,
-    255, 255, 255, 255, 255, 255, 255, 255, 255,  11, 255, 255, 255, 255, 255, 255,
-    255, 255, 255,   9, 255, 255, 255, 255, 255, 255, 255, 255, 255, 255, 255, 255,
-    255, 255, 255, 255,   7, 255, 255, 255, 255, 255, 255, 255, 255, 255, 255, 255,
+const SENT_WORDS: [u16; 256] = [
+    256, 256, 256, 256, 256, 256, 256, 256, 256, 256, 256,   8, 256, 256, 256, 256,
+    256, 256, 256, 256, 256, 256, 256, 256, 256, 256, 256, 256,   6, 256, 256, 256,
+    256, 256, 256, 256, 256, 256,   4, 256, 256, 256, 256, 256, 256, 256, 256, 256,
+    256,  10, 256, 256, 256, 256, 256, 256, 256, 256, 256, 256, 256, 256, 256, 256,
+      1, 256, 256, 256, 256, 256, 256, 256, 256, 256, 256, 256, 256, 256, 256, 256,
+    256, 256, 256, 256, 256, 256, 256,  15, 256, 256, 256, 256, 256, 256, 256, 256,
+    256, 256, 256, 256, 256, 256, 256, 256, 256, 256, 256, 256, 256,  13, 256, 256,
+    256, 256, 256, 256, 256, 256, 256, 256, 256, 256,   3, 256, 256, 256, 256, 256,
+    256, 256, 256, 256, 256,  12, 256, 256, 256, 256, 256, 256, 256, 256, 256, 256,
+    256, 256,   2, 256, 256, 256, 256, 256, 256, 256, 256, 256, 256, 256, 256, 256,
+    256, 256, 256, 256, 256, 256, 256, 256,   0, 256, 256, 256, 256, 256, 256, 256,
+    256, 256, 256, 256, 256, 256, 256, 256, 256, 256, 256, 256, 256, 256, 256,  14,
+    256, 256, 256, 256, 256, 256, 256, 256, 256, 256, 256, 256, 256, 256,   5, 256,
+    256, 256, 256, 256, 256, 256, 256, 256, 256,  11, 256, 256, 256, 256, 256, 256,
+    256, 256, 256,   9, 256, 256, 256, 256, 256, 256, 256, 256, 256, 256, 256, 256,
+    256, 256, 256, 256,   7, 256, 256, 256, 256, 256, 256, 256, 256, 256, 256, 256,
 ];
 
 // The number of the code word that a byte is, where the bit that is sent first is the highest.
-// `None` for any other byte.
+// `NOTHING` for any other byte.
+#[inline(always)]
+fn sent_entry(byte: u8) -> u32
+    ensures small { result ≤ 256 }
+    ensures none { result ≡ 256 → IsCodeWord (mirror byte) → ⊥ }
+    ensures word { result ≢ 256 → (result < 16) × IsCodeWord (mirror byte)
+        × (decoded (mirror byte) ≡ Some result) }
+{
+    SENT_WORDS[byte as usize] as u32
+}
+
+// The same. `None` for any other byte.
 #[inline(always)]
 fn sent_number(byte: u8) -> Option<u8>
     ensures { MatchOption result (IsCodeWord (mirror byte) → ⊥)
         (λ n. (n < 16) × IsCodeWord (mirror byte) × (decoded (mirror byte) ≡ Some n)) }
 {
-    let number = SENT_WORDS[byte as usize];
+    let number = sent_entry(byte);
     if number == NOTHING {
         None
     } else {
-        Some(number)
+        Some(number as u8)
     }
 }
 
@@ -74,6 +85,7 @@ impl<'a> Model for SentPacket<'a> {
 
 impl<'a> SentPacket<'a> {
     ghost use Rattle.ttx_packet.specs.PageHeader.{HasExactHeader, coded_header};
+    ghost use Rattle.ttx_packet.specs.declared.header.Header.{Header};
 
     /// The packet that a data unit carries as these 42 bytes.
     #[inline(always)]
@@ -103,10 +115,30 @@ impl<'a> SentPacket<'a> {
             (λ a. HasExactAddress self.now × (address self.now
             ≡ Some (record { magazine = a.0; packet_number = a.1 }))) }
     {
-        let low = sent_number(self.bytes[0])?;
-        let high = sent_number(self.bytes[1])?;
+        // It is asked of each packet of a service, so the two are compared at once.
+        let low = sent_entry(self.bytes[0]);
+        let high = sent_entry(self.bytes[1]);
         let number = low + 16 * high;
-        Some((number % 8, number / 8))
+        if number >= NOTHING {
+            None
+        } else {
+            Some((number as u8 % 8, number as u8 / 8))
+        }
+    }
+
+    /// The page number that a header says, page tens above page units, where its eight coded bytes
+    /// are code words (EN 300 706, page header). The address is not looked at.
+    ///
+    /// It looks at two of the eight bytes, which most often tell whose header it is.
+    #[inline(always)]
+    #[tactic(auto, unfolding(crate::specs::PageHeader::coded_header))]
+    pub fn exact_page(&self) -> Option<u8>
+        ensures { (h : Header) → HasExactHeader self.now
+            → coded_header self.now ≡ Some h → result ≡ Some h.page }
+    {
+        let units = sent_number(self.bytes[2])?;
+        let tens = sent_number(self.bytes[3])?;
+        Some(units + 0x10 * tens)
     }
 
     /// What the eight coded bytes of a header say, where they are code words, with no bit to

@@ -1,26 +1,25 @@
--- Each byte is the code word of its number, or none: SentWordLemmas.
+-- Each byte is the code word of its number, or one of them is none: SentWordLemmas.
 use Rattle.std.proofs.Common.{arith}
-use Rattle.ttx_packet.proofs.SentWordLemmas.{address_of, exact_words, no_word_at, word_at}
+use Rattle.ttx_packet.proofs.SentWordLemmas.{address_of, exact_words, sent_at, word_at}
 use Rattle.ttx_packet.proofs.sent_packet.SentPacket.exact_address.Goals as goal
 
-pub returns-in_err-low : goal.returns-in_err-low
-returns-in_err-low c =
-    rw c.from_residual.ensures (λ exact.
-    no_word_at _ _ c.self.view_is c.self.invariant 0 (omega arith) c.in_err-low.ensures
-    (exact 0 (omega arith)))
+pub returns-then-number-ge-NOTHING : goal.returns-then-number-ge-NOTHING
+returns-then-number-ge-NOTHING c exact =
+    let at = sent_at _ _ c.self.view_is c.self.invariant in
+    let low = c.sent_entry-low.ensures in
+    let high = c.sent_entry-high.ensures in
+    let first = low.word (λ e. low.none e (rw (at 0 (omega arith)) (exact 0 (omega arith)))) in
+    let second = high.word (λ e. high.none e (rw (at 1 (omega arith)) (exact 1 (omega arith)))) in
+    omega (arith, first.0, second.0, c.if-number-ge-NOTHING.true)
 
-pub returns-in_err-high : goal.returns-in_err-high
-returns-in_err-high c =
-    rw c.from_residual-in_err-high.ensures (λ exact.
-    no_word_at _ _ c.self.view_is c.self.invariant 1 (omega arith) c.in_err-high.ensures
-    (exact 1 (omega arith)))
-
-pub returns : goal.returns
-returns c =
-    let low = word_at _ _ c.self.view_is c.self.invariant 0 c.in_ok-low.low (omega arith)
-    c.in_ok-low.ensures in
-    let high = word_at _ _ c.self.view_is c.self.invariant 1 c.in_ok-high.high (omega arith)
-    c.in_ok-high.ensures in (
+pub returns-else-number-ge-NOTHING : goal.returns-else-number-ge-NOTHING
+returns-else-number-ge-NOTHING c =
+    let small = c.if-number-ge-NOTHING.false in
+    let first = c.sent_entry-low.ensures.word (λ e. omega (arith, e, small)) in
+    let second = c.sent_entry-high.ensures.word (λ e. omega (arith, e, small)) in
+    let at = word_at _ _ c.self.view_is c.self.invariant in
+    let low = at 0 _ (omega arith) first in
+    let high = at 1 _ (omega arith) second in (
       exact_words c.args.self.now low.0 high.0,
-      address_of c.args.self.now c.in_ok-low.low c.in_ok-high.high low.1 high.1,
+      address_of c.args.self.now _ _ low.1 high.1,
     )
