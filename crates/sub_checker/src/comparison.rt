@@ -42,10 +42,9 @@ impl Comparison {
     pub fn new(due: Page) -> Self
         ensures { result ≡ record { page = blank; due = due } }
     {
-        let page = Page::blank();
-        let wrong = page.differing_cells(&due);
+        let wrong = due.cells_not_blank();
         Comparison {
-            page,
+            page: Page::blank(),
             due,
             wrong: Some(wrong),
             blank_wrong: wrong,
@@ -57,7 +56,7 @@ impl Comparison {
         ensures { self.new ≡ record self.old { due = due } }
     {
         self.wrong = None;
-        self.blank_wrong = Page::blank().differing_cells(&due);
+        self.blank_wrong = due.cells_not_blank();
         self.due = due;
     }
 

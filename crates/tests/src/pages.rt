@@ -81,6 +81,6 @@ fn counts_cells(rt: HostRuntime) {
     let mut page = blank;
     page.set_row(1, &codes);
     page.set_row(24, &codes);
-    assert_same(&rt, &page.differing_cells(&blank), &4);
-    assert_same(&rt, &page.differing_cells(&page), &0);
+    assert_same(&rt, &page.cells_not_blank(), &4);
+    assert_same(&rt, &blank.cells_not_blank(), &0);
 }

@@ -3,7 +3,8 @@ use Rattle.std.proofs.Common.{◌≡◌, ℕ, zero, suc, ◌+◌, ◌*◌, ◌<�
 use Rattle.std.proofs.Common.{get_or, set, refl, arith, get_or-set_same, get_or-set_other, add-one}
 use Rattle.std.proofs.lemmas.Bool.Decides.{nat_tests}
 use Rattle.ttx_page.specs.Differing.{columns_differing, row_differing, rows_differing, differing}
-use Rattle.ttx_page.specs.Page.{cell, IsCell}
+use Rattle.std.proofs.lemmas.List.{get_or-replicate}
+use Rattle.ttx_page.specs.Page.{blank, blank_row, cell, IsCell}
 
 -- At most as many columns differ as are counted.
 pub columns_le : (n : ℕ) (xs ys : List ℕ) → columns_differing n xs ys ≤ n
@@ -22,6 +23,13 @@ pub columns_more : (n : ℕ) (xs ys : List ℕ)
     ≡ columns_differing n xs ys + cond (get_or xs n 0 == get_or ys n 0) 0 1
 unfolding columns_differing
 columns_more n xs ys = rw add-one refl
+
+-- One row more, beside the blank page. For `cells_not_blank`.
+pub blank-more : (n : ℕ) (ys : List (List ℕ)) → n < 24
+    → rows_differing (n + 1) blank ys
+    ≡ rows_differing n blank ys + row_differing blank_row (get_or ys n [])
+unfolding rows_differing blank
+blank-more n ys l = rw (add-one, get_or-replicate 24 n blank_row [] l) refl
 
 -- At most 40 cells of each row differ.
 pub rows_le : (n : ℕ) (xs ys : List (List ℕ)) → rows_differing n xs ys ≤ 40 * n

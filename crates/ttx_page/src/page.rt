@@ -2,7 +2,8 @@
 ghost use Rattle.std.specs.Prelude.{◌≡◌, ◌≢◌, ℕ, ◌-◌, ◌<◌, ◌≤◌, slice_index, slice_set};
 ghost use Rattle.std.specs.Prelude.{MatchOption};
 ghost use Rattle.ttx_page.specs.Differing.{differing};
-ghost use Rattle.ttx_page.specs.Page.{blank, cell, row_at, AreCodes, DiffersFirst, IsCell, IsCode};
+ghost use Rattle.ttx_page.specs.Page.{blank, blank_row, cell, row_at, AreCodes, DiffersFirst};
+ghost use Rattle.ttx_page.specs.Page.{IsCell, IsCode};
 ghost use Rattle.ttx_page.specs.Page.{IsPage, IsRow};
 
 mod lanes;
@@ -90,18 +91,28 @@ impl Page {
         None
     }
 
-    /// How many of the 960 cells of two pages differ.
+    /// How many of the 960 cells hold another code than a space: in how many the blank page is
+    /// another.
     #[tactic(auto, unfolding(crate::specs::Differing::rows_differing))]
-    pub fn differing_cells(&self, other: &Page) -> u16
-        ensures value { result ≡ differing self.now other.now }
+    pub fn cells_not_blank(&self) -> u16
+        ensures value { result ≡ differing blank self.now }
         ensures range { result ≤ 960 }
     {
         let mut count = 0;
         for row in 0..24 {
-            count += differing_columns(&self.rows[row], &other.rows[row]);
+            count += differing_columns(&spaces(), &self.rows[row]);
         }
         count
     }
+}
+
+// The columns of a row of spaces.
+#[inline(always)]
+#[tactic(auto, unfolding(crate::specs::Page::blank_row))]
+fn spaces() -> [u8; 40]
+    ensures { result ≡ blank_row }
+{
+    [0x20; 40]
 }
 
 // The least column in which two rows differ.

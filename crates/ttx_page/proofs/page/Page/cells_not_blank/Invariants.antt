@@ -1,8 +1,9 @@
 use Rattle.std.proofs.Common.{◌≡◌, ◌≤◌, ◌*◌}
 use Rattle.ttx_page.specs.Differing.{rows_differing}
-use Rattle.ttx_page.proofs.page.Page.differing_cells.Given as goal
+use Rattle.ttx_page.specs.Page.{blank}
+use Rattle.ttx_page.proofs.page.Page.cells_not_blank.Given as goal
 
 -- The count of the rows above.
 abbrev pub invariant-loop-row : goal.invariant-loop-row
 invariant-loop-row l =
-    (l.count ≤ 40 * l.row) × (l.count ≡ rows_differing l.row l.self-inside.rows l.other-inside.rows)
+    (l.count ≤ 40 * l.row) × (l.count ≡ rows_differing l.row blank l.self-inside.rows)

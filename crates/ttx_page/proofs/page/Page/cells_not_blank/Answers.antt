@@ -1,0 +1,10 @@
+-- A row more: rows_differing-blank.
+use Rattle.std.proofs.Common.{arith}
+use Rattle.std.proofs.lemmas.Bool.Decides.{nat_tests}
+use Rattle.ttx_page.proofs.DifferingLemmas.{blank-more}
+use Rattle.ttx_page.proofs.page.Page.cells_not_blank.Goals as goal
+
+pub loop-row-preserved : goal.loop-row-preserved
+loop-row-preserved c =
+    let more = blank-more c.loop-row.row c.self.inside.rows (omega arith) in
+    grind (arith, nat_tests)
