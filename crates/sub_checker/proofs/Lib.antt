@@ -12,3 +12,4 @@ pub mod WaysOutLemmas
 pub mod WrongCellLemmas
 pub mod TrustingLemmas
 pub mod PassedLemmas
+pub mod PassedRunLemmas

@@ -2,7 +2,7 @@
 -- break no rule, `packet_events-none`.
 use Rattle.std.proofs.lemmas.Bool.Decides.{nat_tests}
 use Rattle.std.proofs.Common.{◌≡◌, ℕ, zero, suc, ◌+◌, ◌<◌, ◌≤◌, List, [], ◌++◌, map, take}
-use Rattle.std.proofs.Common.{get_or, refl, arith}
+use Rattle.std.proofs.Common.{◌∙◌, append-nil, arith, get_or, refl}
 use Rattle.std.specs.List.{filter}
 use Rattle.std.proofs.lemmas.Bool.{cases_eq}
 use Rattle.sub_io.specs.Telling.{Tells, TellsPrefix}
@@ -36,6 +36,15 @@ module _ (w : Watched) (frame : ℕ) (before ps : List (List ℕ)) where
       ≡ packet_events w frame before ps k ++ told_by w frame k (before ++ take k ps) p
   unfolding packet_events
   packet_events-more k p e = grind (arith, nat_tests, told_by-is)
+
+  -- Nothing is told of a packet that breaks no rule.
+  pub packet_events-passed : (k : ℕ)
+      → rule_set (λ r. breaks r w (before ++ take k ps) (get_or ps k [])) ≡ 0
+      → packet_events w frame before ps (k + 1) ≡ packet_events w frame before ps k
+  packet_events-passed k empty =
+      packet_events-more k (get_or ps k []) refl
+      ∙ rw (no_rules (λ r. breaks r w (before ++ take k ps) (get_or ps k [])) empty)
+      (append-nil (packet_events w frame before ps k))
 
   -- What is told of some packets is a prefix of what is told of more.
   packet_events-prefix : (n m : ℕ) → n ≤ m

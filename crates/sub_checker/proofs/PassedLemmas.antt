@@ -28,7 +28,8 @@ no_header_mode (Some true) = refl
 no_header_mode (Some false) = refl
 
 -- A header of the mode of the first one agrees with it.
-same_mode : (serial : Option Bool) (b : Bool) → serial ≡ Some b → is_other_mode serial (Some b) ≡ false
+same_mode : (serial : Option Bool) (b : Bool) → serial ≡ Some b
+    → is_other_mode serial (Some b) ≡ false
 same_mode serial true e = rw e refl
 same_mode serial false e = rw e refl
 

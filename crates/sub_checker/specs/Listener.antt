@@ -7,7 +7,7 @@ use Rattle.std.specs.Prelude.{slice_index_or, take}
 use Rattle.ttx_packet.specs.PageHeader.{c11}
 use Rattle.ttx_packet.specs.declared.header.Header.{Header}
 use Rattle.ttx_page.specs.Page.{blank_row, row_at}
-use Rattle.ttx_page.specs.PacketKind.{kind}
+use Rattle.ttx_page.specs.PacketKind.{is_this_page, kind}
 use Rattle.ttx_page.specs.Span.{is_open_after, span}
 use Rattle.sub_rules.specs.PacketRules.{codes_of, first_header, header_count}
 use Rattle.sub_rules.specs.PacketTests.{breaks, broken_rules, first_of_row, is_same_bit}
@@ -106,3 +106,9 @@ is_passed_header magazine h s =
 pub record IsPassed (heard : List (List ℕ)) (p : List ℕ) (s : Listener) : Type 0 where
   pub breaks_none : rule_set (λ r. breaks r s.watched heard p) ≡ 0
   pub knows : Knows (heard ++ p ∷ []) s
+
+-- Whenever the packet comes it is no header of the page, breaks no rule, and leaves what is kept as
+-- it is.
+pub record IsAlwaysPassed (p : List ℕ) (s : Listener) : Type 0 where
+  pub no_header : is_this_page (kind s.watched.page p) ≡ false
+  pub passed : (heard : List (List ℕ)) → Knows heard s → IsPassed heard p s

@@ -1,5 +1,6 @@
 //! What is kept of the packets that were heard, and the rules that the next packet breaks.
-ghost use Rattle.std.specs.Prelude.{◌≡◌, ℕ, ◌+◌, ◌-◌, ◌<◌, ◌≤◌, ◌++◌, List, [], ◌∷◌, MatchResult};
+ghost use Rattle.std.specs.Prelude.{◌≡◌, ◌≢◌, ℕ, ◌+◌, ◌-◌, ◌<◌, ◌≤◌, ◌++◌, List, [], ◌∷◌};
+ghost use Rattle.std.specs.Prelude.{MatchResult};
 ghost use Rattle.std.specs.Prelude.{length, IfOk, IsTrue, OnOk, true, false, is_err, map};
 ghost use Rattle.std.specs.Prelude.{replicate};
 ghost use Rattle.std.specs.Prelude.{if◌then◌else◌, ◌&&◌, ◌==◌, not, Some, None, is_some};
@@ -7,14 +8,13 @@ ghost use Rattle.std.specs.Prelude.{slice_index_or, slice_set};
 ghost use Rattle.std.specs.List.{filter};
 ghost use Rattle.sub_io.specs.Telling.{Tells, TellsPrefix, TellsSome, TellsUntilStopped};
 ghost use Rattle.ttx_packet.specs.PacketAddress.{address};
-ghost use Rattle.ttx_packet.specs.PageHeader.{header};
+ghost use Rattle.ttx_packet.specs.PageHeader.{HasExactHeader, coded_header, header};
 ghost use Rattle.ttx_packet.specs.RowPacket.{first_even_byte};
 ghost use Rattle.ttx_page.specs.Differing.{row_differing};
 ghost use Rattle.ttx_page.specs.Page.{AreCodes, IsPage, IsRow, blank, row_at};
 ghost use Rattle.ttx_page.specs.PacketKind.{is_this_page, kind};
 ghost use Rattle.ttx_page.specs.Span.{is_open_after};
 ghost use Rattle.ttx_pes.specs.PesPacket.{most_units};
-ghost use Rattle.sub_checker.specs.Listener.{is_of_mode};
 ghost use Rattle.sub_rules.specs.Events.{packet_events, wrong_after};
 ghost use Rattle.sub_rules.specs.PacketRules.{codes_of, header_count, packets_of_units};
 ghost use Rattle.sub_rules.specs.Events.{packet_fault};
@@ -22,8 +22,8 @@ ghost use Rattle.sub_rules.specs.PacketTests.{breaks, is_of_enhancement, packet_
 
 use crate::comparison::Comparison;
 use crate::packet_rules::{
-    first_serial, has_even_byte, has_wrong_address, has_wrong_codes, is_enhancement, is_other_mode,
-    is_same_bit, is_serial, is_subtitle_header, text_codes,
+    first_serial, has_even_byte, has_wrong_address, has_wrong_codes, is_enhancement, is_of_mode,
+    is_other_mode, is_serial, is_subtitle_header, text_codes,
 };
 use crate::rule_set::{RuleSet, tell_rules};
 use sub_io::{Audience, Stopped};
@@ -57,7 +57,7 @@ struct Heard {
 }
 
 impl Listener {
-    ghost use Rattle.sub_checker.specs.Listener.{IsPassed, Knows, KnowsLast};
+    ghost use Rattle.sub_checker.specs.Listener.{IsPassed, Knows, KnowsLast, IsAlwaysPassed};
     ghost use Rattle.sub_checker.specs.Listener.{is_passed_header, later_set, rule_set};
 
     /// Nothing was heard, and this page is due.
@@ -181,58 +181,50 @@ impl Listener {
         let mut headers = 0;
         let mut begins = false;
         let mut is_clean = true;
-        for k in 0..units.len() {
-            let heard = self.hear_packet(&units.packet(k), frame, k as u32, audience)?;
-            begins = begins_with(begins, k, heard.is_header);
-            headers = counted(headers, heard.is_header);
-            is_clean = stays_clean(is_clean, heard.is_clean);
+        let mut k = 0;
+        while k < units.len() {
+            let sent = units.packet(k);
+            if self.is_passed(self.is_open, &sent) {
+                k = self.next_heard(units, k + 1);
+            } else {
+                let heard = self.judge(&sent.packet(), frame, k as u32, audience)?;
+                begins = begins_with(begins, k, heard.is_header);
+                headers = counted(headers, heard.is_header);
+                is_clean = stays_clean(is_clean, heard.is_clean);
+                k += 1;
+            }
         }
         self.last = last_headers(begins, is_clean, headers);
         Ok(headers)
     }
 
-    // Hears a packet of a frame, tells which rules it breaks, and says what it was.
+    // The number of the first packet that is not passed, from a number on; how many packets there
+    // are, where each is passed.
     //
-    // What is passed is of another page: most packets of a service are.
-    #[inline(always)]
-    #[tactic(auto, using(sub_io::proofs::TellingLemmas::some))]
-    fn hear_packet<A: Audience<Event>>(
-        &mut self,
-        packet: &SentPacket<'_>,
-        frame: u32,
-        number: u32,
-        audience: &mut A,
-    ) -> Result<Heard, Stopped>
-        requires goes_on { A.has_stopped audience.old ≡ false }
-        ensures watched { self.new.watched ≡ self.old.watched }
-        ensures due { self.new.comparison.due ≡ self.old.comparison.due }
-        ensures stopped { A.has_stopped audience.new ≡ is_err result }
-        ensures some { TellsSome A.is_told audience.old audience.new }
-        ensures header { IfOk result (λ was. was.is_header
-            ≡ is_this_page (kind self.old.watched.page packet.now)) }
-        ensures clean { (heard : List (List ℕ)) → Knows heard self.old → IfOk result (λ was.
-            was.is_clean ≡ true
-            → rule_set (λ r. breaks r self.old.watched heard packet.now) ≡ 0) }
-        ensures told { (heard : List (List ℕ)) → Knows heard self.old
-            → TellsUntilStopped A.is_told audience.old audience.new
-            (map (λ r. Event.Told (packet_fault r frame number))
-            (filter (λ r. breaks r self.old.watched heard packet.now) packet_rules)) result }
-        ensures knows { (heard : List (List ℕ)) → Knows heard self.old
-            → OnOk result (Knows (heard ++ packet.now ∷ []) self.new) }
+    // Most packets of a service are passed. So that is a function of its own, whose loop keeps what
+    // it asks in registers, and is compiled for a page that is open and for one that is not.
+    #[inline(never)]
+    fn next_heard(&self, units: &SentUnits<'_>, from: usize) -> usize
+        requires { from ≤ length units.now }
+        ensures from { from ≤ result }
+        ensures within { result ≤ length units.now }
+        ensures passed { (k : ℕ) → from ≤ k → k < result
+            → IsAlwaysPassed (slice_index_or (packets_of_units units.now) k []) self.now }
     {
-        if self.is_passed(packet) {
-            return Ok(Heard {
-                is_header: false,
-                is_clean: true,
-            });
+        let is_open = self.is_open;
+        for k in from..units.len() {
+            if !self.is_passed(is_open, &units.packet(k)) {
+                return k;
+            }
         }
-        self.judge(&packet.packet(), frame, number, audience)
+        units.len()
     }
 
     // Whether a packet breaks no rule and changes nothing of what is kept, as its first two bytes
     // tell, or of a page header the first ten.
     #[inline(always)]
-    fn is_passed(&self, packet: &SentPacket<'_>) -> bool
+    fn is_passed(&self, is_open: bool, packet: &SentPacket<'_>) -> bool
+        requires { is_open ≡ self.now.is_open }
         ensures no_header { IsTrue result
             → is_this_page (kind self.now.watched.page packet.now) ≡ false }
         ensures passed { (heard : List (List ℕ)) → Knows heard self.now → IsTrue result
@@ -242,24 +234,47 @@ impl Listener {
             return false;
         };
         if packet_number != 0 {
-            return self.is_closed_to(magazine);
+            return self.is_closed_to(is_open, magazine);
         }
+        if self.is_for_page(is_open, magazine, packet) {
+            return false;
+        }
+        self.passes_header(magazine, packet)
+    }
+
+    // Whether a page header is of the page or ends it, by its magazine and its page number alone.
+    #[inline(always)]
+    fn is_for_page(&self, is_open: bool, magazine: u8, packet: &SentPacket<'_>) -> bool
+        ensures { magazine ≢ self.now.watched.page.magazine → result ≡ false }
+    {
+        magazine == self.watched.page.magazine()
+            && (is_open || packet.exact_page() == Some(self.watched.page.page()))
+    }
+
+    // Whether the page is not open, or a packet is of another magazine.
+    #[inline(always)]
+    fn is_closed_to(&self, is_open: bool, magazine: u8) -> bool
+        ensures { result ≡ not (is_open && magazine == self.now.watched.page.magazine) }
+    {
+        !(is_open && magazine == self.watched.page.magazine())
+    }
+
+    // Whether a page header of a magazine breaks no rule and changes nothing of what is kept.
+    //
+    // Apart from `is_passed`, which would else keep less in registers for packets of other kinds.
+    #[inline(never)]
+    fn passes_header(&self, magazine: u8, packet: &SentPacket<'_>) -> bool
+        ensures { IsTrue result → HasExactHeader packet.now × ((h : Header)
+            × (coded_header packet.now ≡ Some h)
+            × (is_passed_header magazine h self.now ≡ true)) }
+    {
         match packet.exact_header() {
             Some(header) => self.is_passed_header(magazine, &header),
             None => false,
         }
     }
 
-    // Whether the page is not open, or a packet is of another magazine.
-    #[inline(always)]
-    fn is_closed_to(&self, magazine: u8) -> bool
-        ensures { result ≡ not (self.now.is_open && magazine == self.now.watched.page.magazine) }
-    {
-        !(self.is_open && magazine == self.watched.page.magazine())
-    }
-
-    // Whether a page header of a magazine, in code words, breaks no rule and changes nothing of
-    // what is kept.
+    // The same, of what the header says, in code words.
     #[inline(always)]
     fn is_passed_header(&self, magazine: u8, header: &Header) -> bool
         ensures { result ≡ is_passed_header magazine header.now self.now }
@@ -470,16 +485,6 @@ fn stays_clean(is_clean: bool, breaks_none: bool) -> bool
     ensures { result ≡ (is_clean && breaks_none) }
 {
     is_clean && breaks_none
-}
-
-// Whether a header with this C11 is of the mode of the first header.
-fn is_of_mode(serial: Option<bool>, is_serial: bool) -> bool
-    ensures { result ≡ is_of_mode serial is_serial }
-{
-    match serial {
-        Some(first) => is_same_bit(first, is_serial),
-        None => false,
-    }
 }
 
 // How many headers there are, where the first packet is one and none breaks a rule.

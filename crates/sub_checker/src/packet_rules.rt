@@ -6,6 +6,7 @@ ghost use Rattle.ttx_packet.specs.PageHeader.{c11, header, is_set};
 ghost use Rattle.ttx_packet.specs.RowPacket.{first_even_byte};
 ghost use Rattle.ttx_packet.specs.declared.header.Header.{Header};
 ghost use Rattle.ttx_page.specs.Page.{AreCodes};
+ghost use Rattle.sub_checker.specs.Listener.{is_of_mode};
 ghost use Rattle.sub_plan.specs.Sending.{has_c14};
 ghost use Rattle.sub_rules.specs.PacketRules.{codes_of};
 ghost use Rattle.sub_rules.specs.PacketTests.{are_code_words, is_of_enhancement, is_of_header};
@@ -104,6 +105,16 @@ pub(crate) fn is_same_bit(one: bool, other: bool) -> bool
     ensures { result ≡ is_same_bit one other }
 {
     one == other
+}
+
+/// Whether a header with this C11 is of the mode of the first header.
+pub(crate) fn is_of_mode(serial: Option<bool>, is_serial: bool) -> bool
+    ensures { result ≡ is_of_mode serial is_serial }
+{
+    match serial {
+        Some(first) => is_same_bit(first, is_serial),
+        None => false,
+    }
 }
 
 /// Whether a header is a subtitle's: C4, C6 and C7 are set, C5 and C10 are clear, and C12, C13 and

@@ -1,10 +1,12 @@
 -- Packets that are passed leave a receiver as it is, `passed_packet`, `passed_header`, and what is
--- run through then, `run_passed`. The packets that are left, one on: `next_packet`.
-use Rattle.std.proofs.Common.{◌≡◌, ◌≢◌, ℕ, ◌+◌, ◌<◌, ◌&&◌, ◌==◌, Bool, true, false, cond, not, List}
+-- run through then, `run_passed`, `run_through`. The packets that are left, one on: `next_packet`.
+use Rattle.std.proofs.Common.{◌≡◌, ◌≢◌, ℕ, ◌+◌, ◌-◌, ◌<◌, ◌≤◌, ◌&&◌, ◌==◌, Bool, true, false, cond}
+use Rattle.std.proofs.Common.{filter, inl, inr, not, List, subst, suc, zero}
 use Rattle.std.proofs.Common.{◌∷◌, [], Option, Some, None, option_map, length, get_or, drop, refl}
 use Rattle.std.proofs.Common.{sym}
 use Rattle.std.proofs.Common.{ap, ◌∙◌, arith}
 use Rattle.std.proofs.lemmas.Bool.Decides.{nat_tests}
+use Rattle.std.proofs.lemmas.Bool.{cases_lt}
 use Rattle.std.proofs.lemmas.List.{drop_more}
 use Rattle.ttx_packet.specs.PacketAddress.{PacketAddress, address}
 use Rattle.ttx_packet.specs.PageHeader.{coded_header, header}
@@ -39,7 +41,7 @@ module _ (w : PageIdValue) (is_open : Bool) (p : List ℕ) (a : PacketAddress)
     cells = λ leaves held is row column within opened is_row even. grind (arith, nat_tests);
   }
 
--- A packet that leaves all is run through where it is taken, and where it is not. For `hear_sent`.
+-- A packet that leaves all is run through where it is taken, and where it is not. For `run_from`.
 pub run_passed : (asks : Bool) (leaves : ℕ → ℕ) (w : PageIdValue) (old end : Display) (p : List ℕ)
     (packets : List (List ℕ)) (taken : Bool)
     → LeavesAll w old.held.is_open p
@@ -62,6 +64,43 @@ pub next_packet : (ps : List (List ℕ)) (k : ℕ) (p : List ℕ)
     → p ≡ get_or ps k []
     → drop k ps ≡ p ∷ drop (k + 1) ps
 next_packet ps k p l is = drop_more ps k [] l ∙ ap (λ (x : List ℕ). x ∷ drop (k + 1) ps) (sym is)
+
+module _ (asks : Bool) (leaves : ℕ → ℕ) (w : PageIdValue) (old end : Display)
+    (takes : List ℕ → Bool) (ps : List (List ℕ)) (a : ℕ) where
+  -- Packets that leave all, from a number on, are run through.
+  run_from : (n : ℕ) → n + a ≤ length ps
+      → ((k : ℕ) → a ≤ k → k < n + a → LeavesAll w old.held.is_open (get_or ps k []))
+      → RunsThrough asks leaves w old (filter takes (drop (n + a) ps)) end
+      → RunsThrough asks leaves w old (filter takes (drop a ps)) end
+  run_from zero l passes run =
+      let none : 0 + a ≡ a = omega arith in
+      subst (λ k. RunsThrough asks leaves w old (filter takes (drop k ps)) end) none run
+  run_from (suc n) l passes run =
+      let p = get_or ps (n + a) [] in
+      let next : suc n + a ≡ n + a + 1 = omega arith in
+      let one =
+      run_passed asks leaves w old end p (filter takes (drop (n + a + 1) ps)) (takes p)
+      (passes (n + a) (omega arith) (omega arith))
+      (subst (λ k. RunsThrough asks leaves w old (filter takes (drop k ps)) end) next run) in
+      run_from n (omega arith) (λ k low high. passes k low (omega arith))
+      (rw (next_packet ps (n + a) p (omega arith) refl) one)
+
+  -- One of them and those after it. For `hear_untouched`.
+  pub run_through : LeavesAll w old.held.is_open (get_or ps a [])
+      → (b : ℕ) → a + 1 ≤ b → b ≤ length ps
+      → ((k : ℕ) → a + 1 ≤ k → k < b → LeavesAll w old.held.is_open (get_or ps k []))
+      → RunsThrough asks leaves w old (filter takes (drop b ps)) end
+      → RunsThrough asks leaves w old (filter takes (drop a ps)) end
+  run_through first b low high later run =
+      let to : b ≡ b - a + a = omega arith in
+      let each : (k : ℕ) → a ≤ k → k < b → LeavesAll w old.held.is_open (get_or ps k []) =
+      λ k from before.
+      elim (cases_lt a k) [
+        | inl after ↦ later k (omega arith) before
+        | inr here ↦ let same : k ≡ a = omega arith in rw same first
+      ] in
+      run_from (b - a) (omega arith) (λ k l h. each k l (omega arith))
+      (subst (λ k. RunsThrough asks leaves w old (filter takes (drop k ps)) end) to run)
 
 -- Places that are counted on.
 place_on : (k : ℕ) (found : Option ℕ)

@@ -1,10 +1,10 @@
 //! What a receiver gets of the packets of a file, and hears: packets passed over, lost packets,
 //! flips, dropped rows.
-ghost use Rattle.std.specs.Prelude.{◌≡◌, ℕ, ◌+◌, ◌-◌, ◌^◌, ◌<◌, ◌≤◌, ◌&&◌, ◌∷◌, List, length};
-ghost use Rattle.std.specs.Prelude.{◌==◌, not, true};
+ghost use Rattle.std.specs.Prelude.{◌≡◌, ◌≢◌, ℕ, ◌+◌, ◌-◌, ◌^◌, ◌<◌, ◌≤◌, ◌&&◌, [], ◌∷◌, List};
+ghost use Rattle.std.specs.Prelude.{◌==◌, IsTrue, false, length, not, slice_index_or, true};
 ghost use Rattle.std.specs.List.{filter};
 ghost use Rattle.ttx_packet.specs.PacketAddress.{address};
-ghost use Rattle.ttx_packet.specs.PageHeader.{c11};
+ghost use Rattle.ttx_packet.specs.PageHeader.{c11, coded_header};
 ghost use Rattle.ttx_page.specs.Screen.{Display, display};
 ghost use Rattle.ttx_pes.specs.PesPacket.{most_units};
 ghost use Rattle.sub_rules.specs.PacketRules.{packets_of_units};
@@ -76,33 +76,37 @@ pub fn hear_untouched<R: Receiver>(
         (display (R.state receiver.new) screen.new) }
     ensures tuned { R.tuned_to receiver.new ≡ R.tuned_to receiver.old }
 {
-    for k in 0..units.len() {
-        hear_sent(receiver, screen, listening, &units.packet(k));
+    let mut k = 0;
+    while k < units.len() {
+        let sent = units.packet(k);
+        if is_passed(receiver.watched(), receiver.open(), &sent) {
+            k = next_heard(receiver.watched(), receiver.open(), units, k + 1);
+        } else {
+            take(receiver, screen, listening, &sent.packet());
+            k += 1;
+        }
     }
 }
 
-// Lets a receiver hear a packet that it gets as it was sent, if it takes it. A packet that leaves
-// it as it is, as most of a service do, is not turned round.
-#[inline(always)]
-fn hear_sent<R: Receiver>(
-    receiver: &mut R,
-    screen: &mut Option<Page>,
-    listening: &Listening,
-    packet: &SentPacket<'_>,
-)
-    ensures run { (packets : List (List ℕ)) (end : Display)
-        → RunsThrough listening.now.options.asks_complete R.leaves
-        (R.tuned_to receiver.old) (display (R.state receiver.new) screen.new)
-        (filter (is_taken listening.now.receiver listening.now.options.page) packets) end
-        → RunsThrough listening.now.options.asks_complete R.leaves
-        (R.tuned_to receiver.old) (display (R.state receiver.old) screen.old)
-        (filter (is_taken listening.now.receiver listening.now.options.page)
-        (packet.now ∷ packets)) end }
-    ensures tuned { R.tuned_to receiver.new ≡ R.tuned_to receiver.old }
+// The number of the first packet that does not leave a receiver of a page as it is, from a number
+// on; how many packets there are, where each does.
+//
+// Most packets of a service do. So they are passed in a function of its own, which keeps all that
+// it asks in registers, and are not turned round.
+#[inline(never)]
+fn next_heard(page: PageId, is_open: bool, units: &SentUnits<'_>, from: usize) -> usize
+    requires { from ≤ length units.now }
+    ensures from { from ≤ result }
+    ensures within { result ≤ length units.now }
+    ensures passed { (k : ℕ) → from ≤ k → k < result
+        → LeavesAll page is_open (slice_index_or (packets_of_units units.now) k []) }
 {
-    if !is_passed(receiver.watched(), receiver.open(), packet) {
-        take(receiver, screen, listening, &packet.packet());
+    for k in from..units.len() {
+        if !is_passed(page, is_open, &units.packet(k)) {
+            return k;
+        }
     }
+    units.len()
 }
 
 // Whether a packet leaves a receiver of a page as it is, as its first two bytes tell, or of a page
@@ -117,10 +121,19 @@ fn is_passed(page: PageId, is_open: bool, packet: &SentPacket<'_>) -> bool
     if packet_number != 0 {
         return is_closed_to(page, is_open, magazine);
     }
-    match packet.exact_header() {
-        Some(header) => is_passed_header(page, is_open, magazine, &header),
-        None => false,
+    if is_for_page(page, is_open, magazine, packet) {
+        return false;
     }
+    passes_header(page, is_open, magazine, packet)
+}
+
+// Whether a page header, by its magazine and its page number alone, is one of the page or ends it:
+// it is heard, so nothing else of it is looked at before.
+#[inline(always)]
+fn is_for_page(page: PageId, is_open: bool, magazine: u8, packet: &SentPacket<'_>) -> bool
+    ensures { magazine ≢ page.magazine → result ≡ false }
+{
+    magazine == page.magazine() && (is_open || packet.exact_page() == Some(page.page()))
 }
 
 // Whether the page is not open, or a packet is of another magazine.
@@ -131,7 +144,22 @@ fn is_closed_to(page: PageId, is_open: bool, magazine: u8) -> bool
     !(is_open && magazine == page.magazine())
 }
 
-// Whether a page header of a magazine is none of the page, and does not end it while it is open.
+// Whether a page header of a magazine, in code words, is none of the page, and does not end it
+// while it is open.
+//
+// Apart from `is_passed`, which would else keep less in registers for packets of other kinds.
+#[inline(never)]
+fn passes_header(page: PageId, is_open: bool, magazine: u8, packet: &SentPacket<'_>) -> bool
+    ensures { IsTrue result → (h : Header) × (coded_header packet.now ≡ Some h)
+        × (is_passed_header page is_open magazine h ≡ true) }
+{
+    match packet.exact_header() {
+        Some(header) => is_passed_header(page, is_open, magazine, &header),
+        None => false,
+    }
+}
+
+// The same, of what the header says.
 #[inline(always)]
 fn is_passed_header(page: PageId, is_open: bool, magazine: u8, header: &Header) -> bool
     ensures { result ≡ is_passed_header page is_open magazine header.now }

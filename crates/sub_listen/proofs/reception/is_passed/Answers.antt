@@ -8,8 +8,8 @@ returns-then-packet_number-ne0 c is =
     passed_packet c.args.page c.args.is_open c.args.packet.now _ c.in-Some.ensures.1
     c.if-packet_number-ne0.true (not-true _ (rw c.is_closed_to.ensures at is))
 
-pub returns-in-Some-exact_header : goal.returns-in-Some-exact_header
-returns-in-Some-exact_header c is =
-    passed_header c.args.page c.args.is_open c.args.packet.now _ c.in-Some.ensures.1
-    c.in-Some-exact_header.header c.if-packet_number-ne0.false c.in-Some-exact_header.ensures.1
-    (rw c.is_passed_header.ensures at is)
+pub returns : goal.returns
+returns c is =
+    let header = c.passes_header.ensures is in
+    passed_header c.args.page c.args.is_open c.args.packet.now _ c.in-Some.ensures.1 header.0
+    c.if-packet_number-ne0.false header.1 header.2

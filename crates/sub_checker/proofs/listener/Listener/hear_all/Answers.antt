@@ -1,6 +1,6 @@
 -- One packet on: PacketEventLemmas.
 use Rattle.std.proofs.lemmas.Bool.Decides.{nat_tests}
-use Rattle.std.proofs.Common.{◌≡◌, ℕ, ◌+◌, ◌<◌, ◌++◌, ◌&&◌, ◌==◌, List, [], ◌∷◌, length, take}
+use Rattle.std.proofs.Common.{◌≡◌, ℕ, ◌+◌, ◌<◌, ◌≤◌, ◌++◌, ◌&&◌, ◌==◌, List, [], ◌∷◌, length, take}
 use Rattle.std.proofs.Common.{get_or, cond, true, refl, sym, ap, ap₂, ◌∙◌, subst, rules}
 use Rattle.std.proofs.Common.{append_assoc, append-nil, arith}
 use Rattle.std.proofs.Common.{map}
@@ -17,6 +17,7 @@ use Rattle.sub_rules.specs.Events.{packet_fault}
 use Rattle.sub_rules.specs.PacketTests.{breaks, packet_rules}
 use Rattle.sub_rules.specs.declared.event.Event.TheVariants.{Told}
 use Rattle.sub_checker.proofs.PacketEventLemmas.{clean_one, told_one, told_part}
+use Rattle.sub_checker.proofs.PassedRunLemmas.{no_headers_passed, passed_run, passes_from}
 use Rattle.sub_rules.proofs.PacketLists.{header_count-push}
 use Rattle.sub_checker.proofs.RuleSetLemmas.{stopped}
 use Rattle.sub_checker.proofs.SentAgainLemmas.{kept_last}
@@ -29,6 +30,7 @@ loop-k-init g c = record {
   due = refl;
   goes_on = c.requires.goes_on;
   some = TellsSome-none c.args.audience.now;
+  within = omega arith;
   few = omega arith;
   header = refl;
   begins = λ e. cc;
@@ -39,6 +41,43 @@ loop-k-init g c = record {
   );
 }
 
+pub loop-k-preserved-then-is_passed : goal.loop-k-preserved-then-is_passed
+loop-k-preserved-then-is_passed g c =
+    let w = c.args.self.now.watched in
+    let k : ℕ = c.loop-k.k in
+    let i = c.loop-k.invariant in
+    let units = c.args.units.now in
+    let ps = packets_of_units units in
+    let next = c.next_heard-k.ensures in
+    let long : length ps ≡ length units = length-map units (λ (u : UnitValue). u.packet) in
+    let low : k ≤ c.next_heard-k.result = omega (arith, next.from) in
+    let high : c.next_heard-k.result ≤ length ps = omega (arith, next.within, long) in
+    let passes = passes_from k c.next_heard-k.result ps c.loop-k.self
+    (rw (← c.packet-sent.ensures) (record {
+      no_header = c.is_passed.ensures.no_header c.if-is_passed.true;
+      passed = λ heard known. c.is_passed.ensures.passed heard known c.if-is_passed.true;
+    })) next.passed in
+    let none =
+    no_headers_passed w ps c.loop-k.self i.same k c.next_heard-k.result low high passes in
+    record {
+      same = i.same;
+      due = i.due;
+      goes_on = i.goes_on;
+      some = i.some;
+      within = next.within;
+      few = omega (arith, i.few, low);
+      header = i.header ∙ sym none;
+      begins = λ e. let b = i.begins e in (omega (arith, b.0, low), b.1);
+      known = λ heard known.
+          let before = i.known heard known in
+          let run = passed_run w ps c.loop-k.self i.same k c.next_heard-k.result low high passes
+          c.args.frame heard before.0 in (
+            run.knows,
+            rw run.told before.1,
+            λ e. run.clean (before.2 e),
+          );
+    }
+
 pub loop-k-preserved : goal.loop-k-preserved
 loop-k-preserved g c =
     let w = c.args.self.now.watched in
@@ -47,7 +86,7 @@ loop-k-preserved g c =
     let i = c.loop-k.invariant in
     let units = c.args.units.now in
     let ps = packets_of_units units in
-    let at : get_or ps k [] ≡ p = sym c.packet.ensures in
+    let at : get_or ps k [] ≡ p = sym (c.packet.ensures ∙ c.packet-sent.ensures) in
     let l : k < length units = search rules in
     let long : length ps ≡ length units = length-map units (λ (u : UnitValue). u.packet) in
     let more : take (k + 1) ps ≡ take k ps ++ p ∷ [] =
@@ -60,6 +99,7 @@ loop-k-preserved g c =
       due = heard_one.due ∙ i.due;
       goes_on = grind arith;
       some = TellsSome-trans _ _ _ i.some heard_one.some;
+      within = omega (arith, l);
       few = search rules;
       header =
           one
@@ -69,12 +109,12 @@ loop-k-preserved g c =
       known = λ heard known.
           let before = i.known heard known in
           let told =
-          subst (λ v. Tells g.A.Audience.is_told c.loop-k.audience c.hear_packet.new.audience
+          subst (λ v. Tells g.A.Audience.is_told c.loop-k.audience c.judge.new.audience
           (map (λ r. Told (packet_fault r c.args.frame k))
           (filter (λ r. breaks r v (heard ++ take k ps) p) packet_rules)))
           i.same (heard_one.told (heard ++ take k ps) before.0) in
           let new = heard_one.knows (heard ++ take k ps) before.0 in (
-            subst (λ xs. Knows xs c.hear_packet.new.self)
+            subst (λ xs. Knows xs c.judge.new.self)
                 (append_assoc heard (take k ps) (p ∷ []) ∙ ap (λ xs. heard ++ xs) (sym more)) new,
             told_one w c.args.frame heard ps k p _ _ _ at before.1 told,
             λ e.
@@ -97,10 +137,10 @@ returns-in_err-heard-clause-knows g c heard known =
     let ps = packets_of_units units in
     let l : k < length units = search rules in
     let long : length ps ≡ length units = length-map units (λ (u : UnitValue). u.packet) in
-    let at : get_or ps k [] ≡ p = sym c.packet.ensures in
+    let at : get_or ps k [] ≡ p = sym (c.packet.ensures ∙ c.packet-sent.ensures) in
     let before = i.known heard known in
     let told =
-    subst (λ v. TellsPrefix g.A.Audience.is_told c.loop-k.audience c.hear_packet.new.audience
+    subst (λ v. TellsPrefix g.A.Audience.is_told c.loop-k.audience c.judge.new.audience
     (map (λ r. Told (packet_fault r c.args.frame k))
     (filter (λ r. breaks r v (heard ++ take k ps) p) packet_rules)))
     i.same (c.in_err-heard.ensures.told (heard ++ take k ps) before.0) in

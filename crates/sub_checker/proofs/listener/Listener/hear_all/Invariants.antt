@@ -1,5 +1,6 @@
 -- The rules that the packets so far break are told, and what is kept is what they say.
-use Rattle.std.proofs.Common.{◌≡◌, ◌≤◌, ◌<◌, ℕ, List, [], ◌++◌, take, get_or, true, false}
+use Rattle.std.proofs.Common.{◌≡◌, ◌≤◌, ◌<◌, ℕ, List, [], ◌++◌, take, get_or, length}
+use Rattle.std.proofs.Common.{◌-◌, true, false}
 use Rattle.ttx_page.specs.PacketKind.{is_this_page, kind}
 use Rattle.sub_io.specs.Telling.{Tells, TellsSome}
 use Rattle.sub_rules.specs.Events.{packet_events}
@@ -7,12 +8,16 @@ use Rattle.sub_checker.specs.Listener.{BreakNone, Knows}
 use Rattle.sub_rules.specs.PacketRules.{header_count, packets_of_units}
 use Rattle.sub_checker.proofs.listener.Listener.hear_all.Given as goal
 
+abbrev pub decreases-loop-k : goal.decreases-loop-k
+decreases-loop-k g l = length l.units - l.k
+
 abbrev pub invariant-loop-k : goal.invariant-loop-k
 invariant-loop-k g l = record {
   same : l.self.watched ≡ l.initial.self.watched;
   due : l.self.comparison.due ≡ l.initial.self.comparison.due;
   goes_on : g.A.Audience.has_stopped l.audience ≡ false;
   some : TellsSome g.A.Audience.is_told l.initial.audience l.audience;
+  within : l.k ≤ length l.units;
   few : l.headers ≤ l.k;
   header :
       l.headers ≡ header_count l.initial.self.watched.page (take l.k (packets_of_units l.units));
