@@ -2,16 +2,14 @@
 -- `first_header-append`.
 use Rattle.std.proofs.lemmas.Bool.Decides.{nat_tests}
 use Rattle.std.proofs.Common.{◌≡◌, ℕ, Bool, true, false, ◌||◌, List, [], ◌∷◌, ◌++◌, refl, ap}
-use Rattle.std.proofs.Common.{◌∙◌, arith, cond, find, nat_lt, length, take}
-use Rattle.std.proofs.Common.{get_or, ◌+◌, ◌<◌, Some, None, Option}
+use Rattle.std.proofs.Common.{◌∙◌, ◌+◌, arith, cond, find, nat_lt, Some, None, Option}
 use Rattle.std.specs.List.{AllByRecursion, list_any}
 use Rattle.std.proofs.lemmas.Bool.{or_parts, eq-eqb, both_ways}
-use Rattle.std.proofs.lemmas.List.{take_more, get_or-map, length-append, length-map}
+use Rattle.std.proofs.lemmas.List.{length-append}
 use Rattle.std.proofs.lemmas.List.Elements.{filter-append}
 use Rattle.ttx_packet.specs.PageId.{PageIdValue}
 use Rattle.ttx_page.specs.Span.{holds_header}
-use Rattle.ttx_pes.specs.DataUnit.{UnitValue}
-use Rattle.sub_rules.specs.PacketRules.{header_count, packets_of_units, first_header}
+use Rattle.sub_rules.specs.PacketRules.{header_count, first_header}
 use Rattle.ttx_page.specs.declared.packet_kind.PacketKind.{PacketKind}
 use Rattle.ttx_page.specs.declared.packet_kind.PacketKind.TheVariants.{Row}
 use Rattle.ttx_page.specs.PacketKind.{is_row, is_this_page, kind}
@@ -54,32 +52,11 @@ module _ {X : Type 0} where
           → (x : X) × (cond b (Some y) (find f ys) ≡ Some x) × (f x ≡ true) × P x
       go b p d ih = grind arith
 
-  -- An element that passes the test, with what holds of each.
-  pub Each-pick : (f : X → Bool) (P : X → Type 0) (xs : List X) → list_any f xs ≡ true
-      → AllByRecursion P xs → (x : X) × (f x ≡ true) × P x
-  Each-pick f P xs e h = let found = Each-find f P xs e h in (found.0, found.2, found.3)
-
 -- One that fails it is not.
 pub no_row : (row : ℕ) (k : PacketKind) → is_row row k ≡ false → k ≡ Row row → ⊥
 no_row row k e s = both_ways (is_row row k) e (ap (is_row row) s ∙ eq-eqb row row refl)
 
--- ---- the packets of units
-
--- The packet of a unit.
-pub unit_at :
-    (units : List UnitValue) (k : ℕ) (u : UnitValue)
-    → k < length units
-    → u ≡ get_or units k u
-    → get_or (packets_of_units units) k [] ≡ u.packet
-unit_at units k u l e = grind (arith, get_or-map)
-
--- One unit more.
-pub units_more :
-    (units : List UnitValue) (k : ℕ) (u : UnitValue)
-    → k < length units
-    → u ≡ get_or units k u
-    → take (k + 1) (packets_of_units units) ≡ take k (packets_of_units units) ++ u.packet ∷ []
-units_more units k u l e = grind (arith, length-map, take_more, unit_at)
+-- ---- headers
 
 -- The headers of the page in two lists, joined.
 pub header_count-append :

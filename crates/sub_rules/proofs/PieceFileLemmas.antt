@@ -14,7 +14,7 @@ use Rattle.ttx_pes.proofs.PieceListLemmas.{behind_packet, pieces_after-next}
 use Rattle.ttx_pes.specs.Comparing.{TakesDataField}
 use Rattle.ttx_pes.specs.Fault.{is_of_piece, is_read}
 use Rattle.ttx_pes.specs.PesPacket.{PesValue, IsPesPacket}
-use Rattle.ttx_pes.specs.Pieces.{IsPiece, PiecesValue, TakesPiece, behind_piece, piece_then}
+use Rattle.ttx_pes.specs.Pieces.{IsPiece, PiecesValue, behind_piece, piece_then}
 use Rattle.ttx_pes.specs.Pieces.{pieces_after}
 use Rattle.ttx_pes.specs.Reading.{answer_at, most_packets, rest_after}
 use Rattle.ttx_pes.specs.declared.fault.PesFault.{PesFault}
@@ -275,16 +275,6 @@ packet_taken old new v field t = record {
   bytes = t.packet.bytes;
   is_piece = packet_is_piece v t.packet.bytes t.packet.is_packet;
   consumed = t.packet.consumed;
-}
-
--- A piece that is passed over.
-pub piece_taken : (old new : Option (List ℕ)) (f : PesFault)
-    → TakesPiece old new f
-    → TakesOnePiece old new
-piece_taken old new f t = record {
-  bytes = t.bytes;
-  is_piece = t.is_piece;
-  consumed = t.consumed;
 }
 
 -- One piece more, for a loop over them.

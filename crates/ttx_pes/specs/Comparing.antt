@@ -30,6 +30,7 @@ abbrev pub going_on : ComparingValue → Option ℕ → ComparingValue
 going_on c None = c
 going_on c (Some given) = record c { progress = Reading given; behind = None }
 
+-- It goes on where the last answer was such a fault; else it stays as it is.
 abbrev pub passed_over : ComparingValue → ComparingValue
 passed_over c = going_on c c.behind
 
