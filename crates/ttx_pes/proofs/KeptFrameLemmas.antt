@@ -1,15 +1,17 @@
--- The units of a data field that is kept, and the value of a packet by them.
+-- What is known of a packet by its header and its data field: of one whose units are read, held_anew,
+-- and of one whose data field is that of a packet before, held_again.
 use Rattle.std.proofs.Common.{◌≡◌, ℕ, ◌/◌, ◌<◌, List, ◌+◌, ◌%◌, ◌≤◌, ◌++◌, [], length, drop}
-use Rattle.std.proofs.Common.{Ok}
-use Rattle.std.proofs.Common.{Err, refl, sym, arith}
-use Rattle.std.proofs.lemmas.List.{drop-drop}
+use Rattle.std.proofs.Common.{take, Ok, Err, refl, sym, ap, subst, arith, length-drop}
+use Rattle.std.proofs.Common.{◌∙◌}
+use Rattle.std.proofs.lemmas.List.{drop-drop, drop-take}
 use Rattle.sub_io.specs.Reading.{AreBytes}
 use Rattle.ttx_pes.specs.declared.fault.PesFault.{PesFault}
 use Rattle.ttx_pes.specs.PesPacket.{IsPesValue, PesValue}
 use Rattle.ttx_pes.specs.Reading.{pts_at, units_at, value_at}
-use Rattle.ttx_pes.specs.SentUnits.{sent_units}
-use Rattle.ttx_pes.specs.Taking.{HasUnits}
-use Rattle.ttx_pes.proofs.PesHeaderLemmas.{body_sound, frame_made, six_of, value_with}
+use Rattle.ttx_pes.specs.SentUnits.{AreWithin, sent_units}
+use Rattle.ttx_pes.specs.Taking.{AreAllPlaces, HeldValue, IsHeld, field_in, held_frame, no_packet}
+use Rattle.ttx_pes.proofs.HeadLemmas.{no_places}
+use Rattle.ttx_pes.proofs.PesHeaderLemmas.{body_sound, frame_made, six_of}
 use Rattle.ttx_pes.proofs.PesPacketLemmas.{value_of_packet}
 
 -- A fault of the units of a packet's data field is the packet's.
@@ -23,33 +25,8 @@ value_refused b field t f e same bad =
     let there = rw (same, drop-drop 1 39 b) at bad in
     rw (e, there) refl
 
--- Units that were read before, of the same data field.
-pub value_of_kept : (b field : List ℕ) (t : ℕ) (old new : PesValue)
-    → pts_at b ≡ Ok t
-    → drop 39 b ≡ field
-    → HasUnits field old.units
-    → 0 < length field
-    → new ≡ value_with t old.units
-    → value_at b ≡ Ok new
-value_of_kept b field t old new e same has some is =
-    let there = rw (← same, drop-drop 1 39 b) at (has some) in
-    rw is (frame_made b t _ old.units e refl there)
-
--- Units that are read now, where the data field is kept.
-pub value_taken : (b field kept : List ℕ) (t : ℕ) (places : List ℕ)
-    → pts_at b ≡ Ok t
-    → field ≡ drop 39 b
-    → kept ≡ field
-    → 0 < length field
-    → units_at (length (drop 1 field) / 46) [] (drop 1 field) ≡ Ok (sent_units field places)
-    → (value_at b ≡ Ok (value_with t (sent_units kept places)))
-    × HasUnits kept (sent_units kept places)
-value_taken b field kept t places e same is some read =
-    let old : PesValue = value_with t (sent_units field places) in
-    rw is (value_of_kept b field t old old e (sym same) (λ l. read) some refl, λ l. read)
-
 -- What is read of the bytes of a packet from byte 6 on is a value that a packet carries.
-pub value_kept : (body : List ℕ) (v : PesValue)
+value_kept : (body : List ℕ) (v : PesValue)
     → length body + 6 ≤ 1656
     → (length body + 6) % 184 ≡ 0
     → 0 < length body
@@ -60,3 +37,81 @@ value_kept body v short whole some fit e =
     let n : ℕ = (length body + 6) / 184 in
     value_of_packet v (six_of n ++ body)
     (body_sound n body v (omega arith) (omega arith) (omega arith) fit e)
+
+-- The bytes of a packet from byte 6 on, by their number.
+pub record IsBody (body : List ℕ) : Type 0 where
+  pub short : length body + 6 ≤ 1656
+  pub whole : (length body + 6) % 184 ≡ 0
+  pub long : 184 ≤ length body + 6
+  pub fit : AreBytes body
+
+-- What is known of a packet by these bytes.
+pub record IsKnown (body : List ℕ) (h : HeldValue) : Type 0 where
+  pub value : value_at body ≡ Ok (held_frame (drop 39 body) h)
+  pub held : IsHeld (drop 39 body) h
+
+-- Where the units of its data field are read.
+pub held_anew : (body field : List ℕ) (h : HeldValue)
+    → IsBody body
+    → pts_at body ≡ Ok h.pts
+    → field ≡ drop 39 body
+    → length field ≡ h.count
+    → AreWithin (length field) h.places
+    → AreAllPlaces field h.places
+    → units_at (length (drop 1 field) / 46) [] (drop 1 field) ≡ Ok (sent_units field h.places)
+    → IsKnown body h
+held_anew body field h is time same count within all read =
+    let there = rw (same, drop-drop 1 39 body) at read in
+    let value : value_at body ≡ Ok (held_frame (drop 39 body) h) =
+    frame_made body h.pts (length (drop 40 body) / 46) (sent_units (drop 39 body) h.places) time
+    refl there in
+    record {
+      value = value;
+      held = record {
+        count = rw (← same) count;
+        short = omega (arith, is.short, is.long, count, ap length same, length-drop 39 body);
+        within = rw (← same) within;
+        units = rw (← same) (λ _. read);
+        all = rw (← same) all;
+        value = value_kept body _ is.short is.whole (omega (arith, is.long)) is.fit value;
+      };
+    }
+
+-- Where it is that of a packet of which this is known.
+pub held_again : (body field before : List ℕ) (old h : HeldValue)
+    → IsBody body
+    → pts_at body ≡ Ok h.pts
+    → field ≡ drop 39 body
+    → field ≡ before
+    → IsHeld before old
+    → h.count ≡ old.count
+    → h.places ≡ old.places
+    → IsKnown body h
+held_again body field before old h is time same kept held count places =
+    let there : IsHeld field old = subst (λ f. IsHeld f old) (sym kept) held in
+    let some : 0 < length field =
+    omega (arith, is.long, ap length same, length-drop 39 body) in
+    held_anew body field h is time same (there.count ∙ sym count) (rw places there.within)
+    (rw places there.all) (rw places (there.units some))
+
+-- The data field in a packet's room, by the packet's bytes from byte 6 on. For `read_compared`.
+pub field_of_body : (size count : ℕ) (room body : List ℕ)
+    → body ≡ drop 6 (take size room)
+    → count + 45 ≡ size
+    → field_in count room ≡ drop 39 body
+field_of_body size count room body is e =
+    let sum : 45 + count ≡ size = omega arith in
+    sym (ap (drop 39) is ∙ drop-drop 39 6 (take size room)
+    ∙ ap (λ n. drop 45 (take n room)) (sym sum) ∙ drop-take 45 count room)
+
+-- What is known of no packet is so of an empty data field. For a `KeptFrame` without one.
+pub none_held : IsHeld [] no_packet
+unfolding units_at
+none_held = record {
+  count = refl;
+  short = omega arith;
+  within = λ k d l. absurd (omega arith);
+  units = λ l. absurd (omega arith);
+  all = sym no_places;
+  value = grind arith;
+}

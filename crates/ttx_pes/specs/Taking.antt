@@ -1,12 +1,14 @@
 -- How the bytes of a packet are taken from a source, in few pulls: words of private clauses alone.
 use Rattle.std.specs.Prelude.{◌≡◌, ℕ, zero, suc, ◌+◌, ◌*◌, ◌/◌, ◌<◌, ◌≤◌, List, [], ◌∷◌, ◌++◌}
-use Rattle.std.specs.Prelude.{length, take, drop, slice_index, if◌then◌else◌, Option, Result, Ok}
+use Rattle.std.specs.Prelude.{length, take, drop, slice_index, if◌then◌else◌, Bool, Option, Result}
+use Rattle.std.specs.Prelude.{Ok}
 use Rattle.std.specs.Io.KnownBytes.{Consumes, IsAtEnd}
 use Rattle.sub_io.specs.Reading.{◌>>=◌}
 use Rattle.ttx_pes.specs.declared.fault.PesFault.{PesFault}
 use Rattle.ttx_pes.specs.DataUnit.{UnitValue, data_unit_size, is_teletext}
-use Rattle.ttx_pes.specs.PesPacket.{PesValue}
+use Rattle.ttx_pes.specs.PesPacket.{IsPesValue, PesValue, longest_packet}
 use Rattle.ttx_pes.specs.Reading.{packet_at, units_at}
+use Rattle.ttx_pes.specs.SentUnits.{AreWithin, sent_units}
 
 -- Where the bytes held were all that was taken since some time before, the bytes taken are so now.
 abbrev pub TakesOn : Option (List ℕ) → List ℕ → Option (List ℕ) → List ℕ → Type 0
@@ -64,6 +66,38 @@ abbrev pub AreSameHeads : List ℕ → List ℕ → Type 0
 AreSameHeads a b =
     (k : ℕ) → data_unit_size * k + 1 + data_unit_size ≤ length a
     → IsSameHead a b (data_unit_size * k + 1)
+
+-- What is known of the packet at the front of a room: its PTS, how many bytes its data field has, and
+-- where the data units of its Teletext units begin in it.
+pub record HeldValue : Type 0 where
+  pub pts : ℕ
+  pub count : ℕ
+  pub places : List ℕ
+
+-- The same of no packet, whose data field is empty.
+abbrev pub no_packet : HeldValue
+no_packet = record { pts = 0; count = 0; places = [] }
+
+-- The data field of so many bytes of the packet at the front of a room.
+abbrev pub field_in : ℕ → List ℕ → List ℕ
+field_in count room = take count (drop 45 room)
+
+-- The value of a packet with that data field.
+abbrev pub held_frame : List ℕ → HeldValue → PesValue
+held_frame field h = record { pts = h.pts; units = sent_units field h.places }
+
+-- What is known is so of a packet with that data field.
+pub record IsHeld (field : List ℕ) (h : HeldValue) : Type 0 where
+  pub count : length field ≡ h.count
+  pub short : h.count + 45 ≤ longest_packet
+  pub within : AreWithin (length field) h.places
+  pub units : HasUnits field (sent_units field h.places)
+  pub all : AreAllPlaces field h.places
+  pub value : IsPesValue (held_frame field h)
+
+-- The room of two in which the packet stands that is kept.
+abbrev pub kept_room : Bool → List ℕ → List ℕ → List ℕ
+kept_room in_second first second = if in_second then second else first
 
 -- A frame and the data field that it was read from, which is empty where none is kept.
 pub record KeptValue : Type 0 where

@@ -13,8 +13,6 @@ ghost use Rattle.ttx_pes.specs.Reader.{TellsPacket, given_frame, progress_after}
 
 use crate::fault::PesFault;
 use crate::kept_frame::KeptFrame;
-use crate::packet_bytes::{Room, body_of, take_packet};
-use crate::pes_header::LONGEST_PACKET;
 use crate::progress::Progress;
 use crate::sent_units::SentUnits;
 use std::marker::Model;
@@ -43,7 +41,6 @@ pub struct ComparingReader {
     progress: Progress,
     // Directly after the fault of a piece, how many pieces were taken with it.
     behind: Option<u32>,
-    room: Room,
     kept: KeptFrame,
 }
 
@@ -66,39 +63,6 @@ impl Model for ComparingReader {
         × IfSome r.behind (λ given. given ≤ most_packets) };
 }
 
-// Takes the next packet, and compares it with the one that is kept.
-fn read_compared<S: Source>(
-    given: u32,
-    source: &mut S,
-    room: &mut Room,
-    kept: &mut KeptFrame,
-) -> Result<Compared, PesFault>
-    requires { CanFail (S.failure_count source.old) }
-    ensures tells { TellsPacket (Reading given) (S.remaining source.old) (S.remaining source.new)
-        (given_frame (as_given result) kept.new.frame) }
-    ensures taken { as_given result ≡ Ok true → TakesDataField
-        (S.remaining source.old) (S.remaining source.new) kept.new.frame kept.new.data_field }
-    ensures same { result ≡ Ok Same → kept.new.data_field ≡ kept.old.data_field }
-    ensures units { result ≡ Ok Same → kept.new.frame.units ≡ kept.old.frame.units }
-    ensures other { result ≡ Ok Other → kept.new.data_field ≢ kept.old.data_field }
-    ensures below { as_given result ≡ Ok true → given ≢ most_packets }
-    ensures piece { IfErr result (λ fault. is_of_piece fault ≡ true
-        → TakesPiece (S.remaining source.old) (S.remaining source.new) fault) }
-    ensures before_piece { IfErr result (λ fault. is_of_piece fault ≡ true
-        → given ≢ most_packets) }
-    ensures pulls { PullsSome S.is_pull source.old source.new }
-    ensures count { CountsIf S.failure_count source.old (failed is_read result) source.new }
-{
-    let Some(size) = take_packet(given, source, room)? else {
-        return Ok(Compared::End);
-    };
-    if kept.take(body_of(room, size))? {
-        Ok(Compared::Same)
-    } else {
-        Ok(Compared::Other)
-    }
-}
-
 impl ComparingReader {
     /// A reader at the start of a file, with a frame of PTS 0 and no units.
     pub fn new() -> Self
@@ -108,7 +72,6 @@ impl ComparingReader {
         ComparingReader {
             progress: Progress::Reading(0),
             behind: None,
-            room: [0; LONGEST_PACKET],
             kept: KeptFrame::new(),
         }
     }
@@ -182,7 +145,7 @@ impl ComparingReader {
                 return Err(PesFault::Ended);
             }
         };
-        match read_compared(given, source, &mut self.room, &mut self.kept) {
+        match self.kept.read_next(given, source) {
             Ok(Compared::End) => {
                 self.progress = Progress::AtEnd;
                 self.kept.clear();

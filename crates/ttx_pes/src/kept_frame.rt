@@ -1,89 +1,122 @@
-//! The PES packet that was read last, so that one that is sent again is compared and not read
-//! again.
-ghost use Rattle.std.specs.Prelude.{◌≡◌, ◌+◌, ◌/◌, ◌%◌, ◌≤◌, ◌↔◌, true, Ok, Err, OnOk, IfOk, IfErr};
-ghost use Rattle.std.specs.Prelude.{length, drop, []};
-ghost use Rattle.ttx_pes.specs.DataUnit.{data_unit_size};
-ghost use Rattle.ttx_pes.specs.PesPacket.{IsPesValue, empty_value, longest_packet, payload_size};
-ghost use Rattle.ttx_pes.specs.Reading.{units_at, value_at, is_format_fault};
-ghost use Rattle.ttx_pes.specs.SentUnits.{AreWithin, sent_units};
-ghost use Rattle.ttx_pes.specs.Taking.{AreAllPlaces, HasUnits};
+//! The PES packet that was read last, and room for the next.
+ghost use Rattle.std.specs.Prelude.{◌≡◌, ◌≢◌, ◌+◌, ◌≤◌, true, [], Ok, IfErr, if◌then◌else◌};
+ghost use Rattle.sub_io.specs.Calls.{PullsSome};
+ghost use Rattle.sub_io.specs.Device.{CanFail, CountsIf, failed};
+ghost use Rattle.ttx_pes.specs.Comparing.{as_given, TakesDataField};
+ghost use Rattle.ttx_pes.specs.Fault.{is_of_piece, is_read};
+ghost use Rattle.ttx_pes.specs.PesPacket.{IsPesValue, empty_value};
+ghost use Rattle.ttx_pes.specs.Pieces.{TakesPiece};
+ghost use Rattle.ttx_pes.specs.Reader.{TellsPacket, given_frame};
+ghost use Rattle.ttx_pes.specs.Reading.{most_packets};
+ghost use Rattle.ttx_pes.specs.SentUnits.{sent_units};
+ghost use Rattle.ttx_pes.specs.Taking.{IsHeld, field_in, held_frame};
+ghost use Rattle.ttx_pes.specs.declared.comparing_reader.Compared.TheVariants.{Same, Other};
+ghost use Rattle.ttx_pes.specs.declared.progress.Progress.TheVariants.{Reading};
 
+use crate::comparing_reader::Compared;
 use crate::fault::PesFault;
-use crate::pes_header::{LONGEST_PACKET, pts_of};
-use crate::same_bytes::is_same;
-use crate::same_heads::are_same_heads;
+use crate::held_packet::HeldPacket;
+use crate::packet_bytes::{Room, body_of, take_packet};
+use crate::pes_header::LONGEST_PACKET;
 use crate::sent_units::SentUnits;
-use crate::unit_places::{UnitPlaces, take_places};
 use std::marker::Model;
-
-// The bytes of the longest data field.
-const LONGEST_FIELD: usize = LONGEST_PACKET - 45;
+use sub_io::Source;
 
 /// A PTS and a data field, bytes 45 to the end of a packet, with its Teletext units.
 #[derive(Drop)]
 pub(crate) struct KeptFrame {
-    pts: u64,
-    // The first `count` bytes are kept.
-    field: [u8; LONGEST_FIELD],
-    count: usize,
-    places: UnitPlaces,
+    // The packet that is kept stands in one of them, and the next is read into the other: so none
+    // is copied.
+    first: Room,
+    second: Room,
+    in_second: bool,
+    held: HeldPacket,
 }
 
 impl Model for KeptFrame {
-    ghost use Rattle.std.specs.Prelude.{◌+◌, ◌≤◌, take};
-    ghost use Rattle.ttx_pes.specs.PesPacket.{IsPesValue, longest_packet};
-    ghost use Rattle.ttx_pes.specs.SentUnits.{AreWithin, sent_units};
-    ghost use Rattle.ttx_pes.specs.Taking.{AreAllPlaces, HasUnits, KeptValue};
+    ghost use Rattle.ttx_pes.specs.Taking.{IsHeld, KeptValue, field_in, held_frame, kept_room};
 
     ghost Value = { KeptValue };
 
     ghost view = { λ k. record {
-      frame = record { pts = k.pts; units = sent_units (take k.count k.field) k.places };
-      data_field = take k.count k.field;
+      frame = held_frame (field_in k.held.count (kept_room k.in_second k.first k.second)) k.held;
+      data_field = field_in k.held.count (kept_room k.in_second k.first k.second);
     } };
 
-    ghost invariant = { λ k. (k.count + 45 ≤ longest_packet)
-        × AreWithin k.count k.places
-        × HasUnits (take k.count k.field) (sent_units (take k.count k.field) k.places)
-        × IsPesValue (record { pts = k.pts; units = sent_units (take k.count k.field) k.places })
-        × AreAllPlaces (take k.count k.field) k.places };
+    ghost invariant = { λ k.
+        IsHeld (field_in k.held.count (kept_room k.in_second k.first k.second)) k.held };
 }
 
-// Makes the places, which are those of the data field that is kept, those of another. Mostly its
-// data units begin as those that are kept, on the same lines of each frame: then they stand.
-fn find_places(places: &mut UnitPlaces, kept: &[u8], field: &[u8]) -> Result<(), PesFault>
-    requires within { AreWithin (length kept.now) places.old }
-    requires units { HasUnits kept.now (sent_units kept.now places.old) }
-    requires all { AreAllPlaces kept.now places.old }
-    requires long { 139 ≤ length field.now }
-    requires short { length field.now + 45 ≤ longest_packet }
-    requires whole { (length field.now + 45) % payload_size ≡ 0 }
-    ensures within { OnOk result (AreWithin (length field.now) places.new) }
-    ensures all { OnOk result (AreAllPlaces field.now places.new) }
-    ensures ok { OnOk result (units_at (length (drop 1 field.now) / data_unit_size) []
-        (drop 1 field.now) ≡ Ok (sent_units field.now places.new)) }
-    ensures err { IfErr result (λ fault. units_at (length (drop 1 field.now) / data_unit_size) []
-        (drop 1 field.now) ≡ Err fault) }
-    ensures kind { IfErr result (λ fault. is_format_fault fault ≡ true) }
+// Takes the next packet into a room, and compares it with the one that is held in another.
+fn read_compared<S: Source>(
+    given: u32,
+    source: &mut S,
+    room: &mut Room,
+    before: &Room,
+    held: &mut HeldPacket,
+) -> Result<Compared, PesFault>
+    requires count { CanFail (S.failure_count source.old) }
+    requires held { IsHeld (field_in held.old.count before.now) held.old }
+    ensures held { IsHeld (field_in held.new.count room.new) held.new }
+    ensures tells { TellsPacket (Reading given) (S.remaining source.old) (S.remaining source.new)
+        (given_frame (as_given result)
+        (held_frame (field_in held.new.count room.new) held.new)) }
+    ensures taken { as_given result ≡ Ok true → TakesDataField
+        (S.remaining source.old) (S.remaining source.new)
+        (held_frame (field_in held.new.count room.new) held.new)
+        (field_in held.new.count room.new) }
+    ensures same { result ≡ Ok Same
+        → field_in held.new.count room.new ≡ field_in held.old.count before.now }
+    ensures units { result ≡ Ok Same → sent_units (field_in held.new.count room.new) held.new.places
+        ≡ sent_units (field_in held.old.count before.now) held.old.places }
+    ensures other { result ≡ Ok Other
+        → field_in held.new.count room.new ≢ field_in held.old.count before.now }
+    ensures below { as_given result ≡ Ok true → given ≢ most_packets }
+    ensures piece { IfErr result (λ fault. is_of_piece fault ≡ true
+        → TakesPiece (S.remaining source.old) (S.remaining source.new) fault) }
+    ensures before_piece { IfErr result (λ fault. is_of_piece fault ≡ true
+        → given ≢ most_packets) }
+    ensures pulls { PullsSome S.is_pull source.old source.new }
+    ensures count { CountsIf S.failure_count source.old (failed is_read result) source.new }
 {
-    if kept.len() == field.len() && are_same_heads(kept, field) {
-        return Ok(());
+    let size = match take_packet(given, source, room) {
+        Ok(Some(size)) => size,
+        Ok(None) => {
+            held.clear();
+            return Ok(Compared::End);
+        }
+        Err(fault) => {
+            held.clear();
+            return Err(fault);
+        }
+    };
+    match held.take(before, body_of(room, size)) {
+        Ok(true) => Ok(Compared::Same),
+        Ok(false) => Ok(Compared::Other),
+        Err(fault) => {
+            held.clear();
+            Err(fault)
+        }
     }
-    places.clear();
-    take_places(places, field)
+}
+
+// The room in which the packet stands that is kept.
+fn kept_in<'a>(in_second: bool, first: &'a Room, second: &'a Room) -> &'a Room
+    ensures { result.now ≡ (if in_second then second.now else first.now) }
+{
+    if in_second { second } else { first }
 }
 
 impl KeptFrame {
     // The empty frame, and no data field.
-    #[tactic(auto, using(crate::proofs::HeadLemmas::no_places))]
     pub(crate) fn new() -> Self
         ensures { result ≡ record { frame = empty_value; data_field = [] } }
     {
         KeptFrame {
-            pts: 0,
-            field: [0; LONGEST_FIELD],
-            count: 0,
-            places: UnitPlaces::new(),
+            first: [0; LONGEST_PACKET],
+            second: [0; LONGEST_PACKET],
+            in_second: false,
+            held: HeldPacket::new(),
         }
     }
 
@@ -91,7 +124,7 @@ impl KeptFrame {
     pub(crate) fn pts(&self) -> u64
         ensures { result ≡ self.now.frame.pts }
     {
-        self.pts
+        self.held.pts()
     }
 
     // The Teletext units.
@@ -99,57 +132,45 @@ impl KeptFrame {
         ensures value { result ≡ self.now.frame.units }
         ensures frame { IsPesValue self.now.frame }
     {
-        SentUnits::new(&self.field[..self.count], self.places.as_slice())
+        self.held
+            .units(kept_in(self.in_second, &self.first, &self.second))
     }
 
     // Makes it as `new` does.
-    #[tactic(auto, using(crate::proofs::HeadLemmas::no_places))]
     pub(crate) fn clear(&mut self)
         ensures { self.new ≡ record { frame = empty_value; data_field = [] } }
     {
-        self.pts = 0;
-        self.count = 0;
-        self.places.clear();
+        self.held.clear();
     }
 
-    // Whether a data field is the one that is kept.
-    fn is_kept(&self, field: &[u8]) -> bool
-        requires { 139 ≤ length field.now }
-        ensures { (result ≡ true) ↔ (field.now ≡ self.now.data_field) }
+    // Takes the next packet, and compares it with the one that is kept.
+    pub(crate) fn read_next<S: Source>(
+        &mut self,
+        given: u32,
+        source: &mut S,
+    ) -> Result<Compared, PesFault>
+        requires { CanFail (S.failure_count source.old) }
+        ensures tells { TellsPacket (Reading given) (S.remaining source.old)
+            (S.remaining source.new) (given_frame (as_given result) self.new.frame) }
+        ensures taken { as_given result ≡ Ok true → TakesDataField (S.remaining source.old)
+            (S.remaining source.new) self.new.frame self.new.data_field }
+        ensures same { result ≡ Ok Same → self.new.data_field ≡ self.old.data_field }
+        ensures units { result ≡ Ok Same → self.new.frame.units ≡ self.old.frame.units }
+        ensures other { result ≡ Ok Other → self.new.data_field ≢ self.old.data_field }
+        ensures below { as_given result ≡ Ok true → given ≢ most_packets }
+        ensures piece { IfErr result (λ fault. is_of_piece fault ≡ true
+            → TakesPiece (S.remaining source.old) (S.remaining source.new) fault) }
+        ensures before_piece { IfErr result (λ fault. is_of_piece fault ≡ true
+            → given ≢ most_packets) }
+        ensures pulls { PullsSome S.is_pull source.old source.new }
+        ensures count { CountsIf S.failure_count source.old (failed is_read result) source.new }
     {
-        let kept = &self.field[..self.count];
-        kept.len() == field.len() && is_same(field, kept)
-    }
-
-    // Makes it the value of a packet's bytes from byte 6 on, with their data field, and answers
-    // whether that is the one kept before.
-    #[tactic(auto, unfolding(crate::specs::Reading::value_at), using(crate::proofs::HeadLemmas::no_places))]
-    pub(crate) fn take(&mut self, body: &[u8]) -> Result<bool, PesFault>
-        requires short { length body.now + 6 ≤ longest_packet }
-        requires whole { (length body.now + 6) % payload_size ≡ 0 }
-        ensures value { OnOk result (value_at body.now ≡ Ok self.new.frame) }
-        ensures field { OnOk result (self.new.data_field ≡ drop 39 body.now) }
-        ensures same { IfOk result (λ same.
-            (same ≡ true) ↔ (drop 39 body.now ≡ self.old.data_field)) }
-        ensures units { result ≡ Ok true → self.new.frame.units ≡ self.old.frame.units }
-        ensures err { IfErr result (λ fault. value_at body.now ≡ Err fault) }
-        ensures kind { IfErr result (λ fault. is_format_fault fault ≡ true) }
-    {
-        let pts = pts_of(body)?;
-        let (_, field) = body.split_at(39);
-        if self.is_kept(field) {
-            self.pts = pts;
-            return Ok(true);
+        if self.in_second {
+            self.in_second = false;
+            read_compared(given, source, &mut self.first, &self.second, &mut self.held)
+        } else {
+            self.in_second = true;
+            read_compared(given, source, &mut self.second, &self.first, &mut self.held)
         }
-        let kept = &self.field[..self.count];
-        if let Err(fault) = find_places(&mut self.places, kept, field) {
-            self.count = 0;
-            self.places.clear();
-            return Err(fault);
-        }
-        self.pts = pts;
-        self.field[..field.len()].copy_from_slice(field);
-        self.count = field.len();
-        Ok(false)
     }
 }

@@ -19,6 +19,7 @@
 mod comparing_reader;
 mod data_unit;
 mod fault;
+mod held_packet;
 mod kept_frame;
 mod laws;
 mod line_numbers;

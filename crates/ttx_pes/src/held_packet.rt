@@ -1,0 +1,151 @@
+//! What is known of the PES packet in a room, so that one that is sent again is compared and not read
+//! again.
+ghost use Rattle.std.specs.Prelude.{◌≡◌, ◌+◌, ◌/◌, ◌%◌, ◌≤◌, ◌↔◌, true, Ok, Err, OnOk, IfOk, IfErr};
+ghost use Rattle.std.specs.Prelude.{length, drop, []};
+ghost use Rattle.ttx_pes.specs.DataUnit.{data_unit_size};
+ghost use Rattle.ttx_pes.specs.PesPacket.{IsPesValue, longest_packet, payload_size};
+ghost use Rattle.ttx_pes.specs.Reading.{units_at, value_at, is_format_fault};
+ghost use Rattle.ttx_pes.specs.SentUnits.{AreWithin, sent_units};
+ghost use Rattle.ttx_pes.specs.Taking.{AreAllPlaces, HasUnits, IsHeld, field_in, held_frame};
+ghost use Rattle.ttx_pes.specs.Taking.{no_packet};
+
+use crate::fault::PesFault;
+use crate::packet_bytes::Room;
+use crate::pes_header::pts_of;
+use crate::same_bytes::is_same;
+use crate::same_heads::are_same_heads;
+use crate::sent_units::SentUnits;
+use crate::unit_places::{UnitPlaces, take_places};
+use std::marker::Model;
+
+// Where the data field begins in a packet.
+const FIELD: usize = 45;
+
+/// What is known of the PES packet at the front of a room: its PTS, how many bytes its data field has,
+/// bytes 45 to the end, and where the Teletext units stand in it.
+#[derive(Drop)]
+pub(crate) struct HeldPacket {
+    pts: u64,
+    count: usize,
+    places: UnitPlaces,
+}
+
+impl Model for HeldPacket {
+    ghost use Rattle.ttx_pes.specs.Taking.{HeldValue};
+
+    ghost Value = { HeldValue };
+
+    ghost view = { λ h. record { pts = h.pts; count = h.count; places = h.places } };
+}
+
+// Makes the places, which are those of the data field that is kept, those of another. Mostly its
+// data units begin as those that are kept, on the same lines of each frame: then they stand.
+fn find_places(places: &mut UnitPlaces, kept: &[u8], field: &[u8]) -> Result<(), PesFault>
+    requires within { AreWithin (length kept.now) places.old }
+    requires units { HasUnits kept.now (sent_units kept.now places.old) }
+    requires all { AreAllPlaces kept.now places.old }
+    requires long { 139 ≤ length field.now }
+    requires short { length field.now + 45 ≤ longest_packet }
+    requires whole { (length field.now + 45) % payload_size ≡ 0 }
+    ensures within { OnOk result (AreWithin (length field.now) places.new) }
+    ensures all { OnOk result (AreAllPlaces field.now places.new) }
+    ensures ok { OnOk result (units_at (length (drop 1 field.now) / data_unit_size) []
+        (drop 1 field.now) ≡ Ok (sent_units field.now places.new)) }
+    ensures err { IfErr result (λ fault. units_at (length (drop 1 field.now) / data_unit_size) []
+        (drop 1 field.now) ≡ Err fault) }
+    ensures kind { IfErr result (λ fault. is_format_fault fault ≡ true) }
+{
+    if kept.len() == field.len() && are_same_heads(kept, field) {
+        return Ok(());
+    }
+    places.clear();
+    take_places(places, field)
+}
+
+// Whether a data field is the one that is kept.
+fn is_kept(kept: &[u8], field: &[u8]) -> bool
+    requires { 139 ≤ length field.now }
+    ensures { (result ≡ true) ↔ (field.now ≡ kept.now) }
+{
+    kept.len() == field.len() && is_same(field, kept)
+}
+
+impl HeldPacket {
+    // What is known of no packet.
+    pub(crate) fn new() -> Self
+        ensures { result ≡ no_packet }
+    {
+        HeldPacket {
+            pts: 0,
+            count: 0,
+            places: UnitPlaces::new(),
+        }
+    }
+
+    // Makes it as `new` does.
+    pub(crate) fn clear(&mut self)
+        ensures { self.new ≡ no_packet }
+    {
+        self.pts = 0;
+        self.count = 0;
+        self.places.clear();
+    }
+
+    // The PTS.
+    pub(crate) fn pts(&self) -> u64
+        ensures { result ≡ self.now.pts }
+    {
+        self.pts
+    }
+
+    // The data field, in the packet's room.
+    fn field<'a>(&self, room: &'a Room) -> &'a [u8]
+        requires { self.now.count + 45 ≤ longest_packet }
+        ensures { result.now ≡ field_in self.now.count room.now }
+    {
+        let (_, behind) = room.split_at(FIELD);
+        let (field, _) = behind.split_at(self.count);
+        field
+    }
+
+    // The Teletext units, in the packet's room.
+    pub(crate) fn units<'a>(&'a self, room: &'a Room) -> SentUnits<'a>
+        requires { IsHeld (field_in self.now.count room.now) self.now }
+        ensures value { result
+            ≡ (held_frame (field_in self.now.count room.now) self.now).units }
+    {
+        SentUnits::new(self.field(room), self.places.as_slice())
+    }
+
+    // Makes it what is known of a packet by its bytes from byte 6 on, and answers whether their data
+    // field is the one of the packet before, in that one's room.
+    #[tactic(auto, unfolding(crate::specs::Reading::value_at))]
+    pub(crate) fn take(&mut self, before: &Room, body: &[u8]) -> Result<bool, PesFault>
+        requires held { IsHeld (field_in self.old.count before.now) self.old }
+        requires long { payload_size ≤ length body.now + 6 }
+        requires short { length body.now + 6 ≤ longest_packet }
+        requires whole { (length body.now + 6) % payload_size ≡ 0 }
+        ensures value { OnOk result
+            (value_at body.now ≡ Ok (held_frame (drop 39 body.now) self.new)) }
+        ensures held { OnOk result (IsHeld (drop 39 body.now) self.new) }
+        ensures count { OnOk result (self.new.count + 39 ≡ length body.now) }
+        ensures same { IfOk result (λ same.
+            (same ≡ true) ↔ (drop 39 body.now ≡ field_in self.old.count before.now)) }
+        ensures units { result ≡ Ok true → sent_units (drop 39 body.now) self.new.places
+            ≡ sent_units (field_in self.old.count before.now) self.old.places }
+        ensures err { IfErr result (λ fault. value_at body.now ≡ Err fault) }
+        ensures kind { IfErr result (λ fault. is_format_fault fault ≡ true) }
+    {
+        let pts = pts_of(body)?;
+        let (_, field) = body.split_at(39);
+        let kept = self.field(before);
+        if is_kept(kept, field) {
+            self.pts = pts;
+            return Ok(true);
+        }
+        find_places(&mut self.places, kept, field)?;
+        self.pts = pts;
+        self.count = field.len();
+        Ok(false)
+    }
+}
