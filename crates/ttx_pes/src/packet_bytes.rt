@@ -28,7 +28,8 @@ const HEAD: usize = 6;
 
 // Pulls into the room, of which the first bytes are held already, until it holds the least number
 // of bytes or the source is at its end, and answers how many it holds. It asks for the most that
-// the room may hold.
+// the room may hold. (A call of it costs more than its test, where the bytes are held already.)
+#[inline(always)]
 fn fill_on<S: Source>(
     source: &mut S,
     room: &mut [u8],
