@@ -23,14 +23,14 @@ class Extractor:
     def __init__(self, pid: int) -> None:
         self.pid, self.joiner, self.told = pid, Joiner(Stream(pid)), 0
 
-    def take(self, piece: Piece) -> bytes:
-        """The PES packets that end in a piece of the file, joined."""
-        data = b"".join(self.joiner.ended(piece))
+    def ended(self, piece: Piece) -> list[bytes]:
+        """The PES packets that end in a piece of the file; `NoTeletext` where they are others."""
+        found = list(self.joiner.ended(piece))
         beginning = self.joiner.beginning
         if beginning is not None and not START.startswith(beginning):
             raise NoTeletext(f"{pid_name(self.pid)} has no PES packets of private_stream_1, as "
                              "Teletext has")
-        return data
+        return found
 
     def is_damaged(self) -> bool:
         """Whether something is missing, or was sent more than twice."""

@@ -2,6 +2,7 @@
 from __future__ import annotations
 
 import contextlib
+import errno
 import os
 import select
 import stat
@@ -61,6 +62,24 @@ def naming(name: str) -> Iterator[None]:
     except OSError as error:
         error.filename, error.filename2 = name, None
         raise
+
+
+def as_file(name: str) -> str:
+    """A name that no tool takes for an option; it has to be UTF-8, as the program asks."""
+    try:
+        name.encode()
+    except UnicodeEncodeError:
+        raise Stop(f"{name}: a name of a file has to be UTF-8") from None
+    return os.path.join(".", name) if name.startswith("-") else name
+
+
+def refuse_name(name: str) -> None:
+    """A name under which nothing can be written is refused, before anything is done for it."""
+    target = os.path.realpath(name)
+    if name != STANDARD and not os.path.isdir(os.path.dirname(target)):
+        raise Stop(f"{name}: {os.strerror(errno.ENOENT)}")
+    if name != STANDARD and os.path.isdir(target):
+        raise Stop(f"{name}: {os.strerror(errno.EISDIR)}")
 
 
 def whole_bytes(name: str) -> bytes:

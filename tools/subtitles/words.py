@@ -12,6 +12,7 @@ from .teletext import page_of
 from .times import CLOCK, frame_of
 
 INSTALLED = "subttx-"  # before the names of tools that are installed
+MOST_EVERY = 1500  # frames of a repeat bound
 NO_PID = 0x1FFF  # of the packets of a transport stream that hold nothing
 HOME = os.path.dirname(os.path.dirname(os.path.dirname(os.path.realpath(__file__))))
 
@@ -76,6 +77,15 @@ def origin_word(text: str) -> int:
     is_number = text.isascii() and text.isdecimal() and len(digits) <= len(str(CLOCK))
     if not is_number or int(digits) >= CLOCK:
         raise argparse.ArgumentTypeError(f"{text} is no PTS: 0 to {CLOCK - 1}")
+    return int(digits)
+
+
+def every_word(text: str) -> int:
+    """The repeat bound in frames."""
+    digits = text.lstrip("0")
+    is_number = text.isascii() and text.isdecimal() and len(digits) <= len(str(MOST_EVERY))
+    if not is_number or not 1 <= int(digits or "0") <= MOST_EVERY:
+        raise argparse.ArgumentTypeError(f"{text} is no repeat bound: 1 to {MOST_EVERY} frames")
     return int(digits)
 
 

@@ -3,13 +3,11 @@ from __future__ import annotations
 
 import argparse
 import dataclasses
-import os
 from typing import Sequence
 
+from ..files import as_file
 from ..teletext import page_name
-from ..words import Stop, Words, add_page, origin_word, pid_word
-
-MOST_EVERY = 1500  # frames
+from ..words import Stop, Words, add_page, every_word, origin_word, pid_word
 
 
 @dataclasses.dataclass
@@ -48,13 +46,6 @@ class Asked:
                 *(["--complete"] if self.is_complete else [])]
 
 
-def every_word(text: str) -> int:
-    """The repeat bound in frames."""
-    if not (text.isascii() and text.isdecimal() and 1 <= int(text) <= MOST_EVERY):
-        raise argparse.ArgumentTypeError(f"{text} is no repeat bound: 1 to {MOST_EVERY} frames")
-    return int(text)
-
-
 def add_pair_options(parser: Words) -> None:
     """The options that a pair may have, on the command line or on a line of a list."""
     add_page(parser)
@@ -88,15 +79,6 @@ def asked_with(stl: str, recording: str | None, options: argparse.Namespace) -> 
     """A pair, and options that are read."""
     named = recording and (recording if recording == "-" else as_file(recording))
     return Asked(as_file(stl), named, **{name: getattr(options, name) for name in pair_options()})
-
-
-def as_file(name: str) -> str:
-    """A name that no tool takes for an option; it has to be UTF-8, as the program asks."""
-    try:
-        name.encode()
-    except UnicodeEncodeError:
-        raise Stop(f"{name}: a name of a file has to be UTF-8") from None
-    return os.path.join(".", name) if name.startswith("-") else name
 
 
 def asked_of_line(line: Sequence[str], defaults: argparse.Namespace) -> Asked:

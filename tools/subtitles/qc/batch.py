@@ -10,7 +10,7 @@ import tempfile
 import time
 from typing import Any, Callable, Iterator, NamedTuple
 
-from ..files import whole_file
+from ..files import refuse_name, whole_file
 from ..words import counted, line_of
 from . import junit, table
 from .asked import Asked
@@ -107,6 +107,9 @@ def words_of(asked: Asked) -> list[str]:
 def judge(words: argparse.Namespace, called: str) -> int:
     """Judges all pairs; answers the status."""
     typed, date = Typed(called, words.program), now()
+    for path in (words.json, words.csv, words.junit):
+        if path is not None:
+            refuse_name(path)
     items = pairs_at(words.batch, words)
     with tempfile.TemporaryDirectory(prefix="subttx-qc-") as folder:
         batch = Batch(words, typed, folder)
@@ -164,10 +167,10 @@ def table_of(results: list[Result]) -> Iterator[str]:
 
 
 def first_fault(result: Result) -> str:
-    """The place of the first fault, or why the pair was not judged."""
-    if result.verdict == ACCEPTED_WORD:
+    """The place of the first fault, or why the pair was not judged, as far as one line has it."""
+    if result.verdict == ACCEPTED_WORD or not result.line:
         return ""
-    return result.line.splitlines()[0].removeprefix("refused ") if result.line else ""
+    return result.line.splitlines()[0].removeprefix("refused ").partition("; ")[0]
 
 
 def put(path: str | None, pieces: Callable[[], Iterator[bytes]]) -> None:

@@ -4,7 +4,7 @@ from __future__ import annotations
 import os
 from typing import BinaryIO, Iterator
 
-from ..extracting import Extractor
+from ..extracting import Extractor, NoTeletext
 from ..files import Damaged
 from ..joining import Place
 from ..listing import Listing
@@ -104,7 +104,8 @@ class Carriers:
         for piece in reader:
             opening.is_found = True
             self.listing.find(piece)
-            for pid in self.listing.streams.keys() | self.by_pid.keys():
+            pids = self.listing.streams.keys() | self.by_pid.keys()
+            for pid in sorted(pids, key=lambda pid: pid == self.pid):  # the list hears it before
                 yield from self.packets_of(pid, piece)
         self.skipped = reader.skipped
 
@@ -117,7 +118,13 @@ class Carriers:
             if listed:
                 listed.take(piece)
             return
-        for data in carrier.extractor.joiner.ended(piece):
+        try:
+            found = carrier.extractor.ended(piece)
+        except NoTeletext:  # whatever is announced
+            if self.pid is not None:
+                raise
+            found = []
+        for data in found:
             if listed:
                 listed.hear(data)
             yield carrier, carrier.keep(data)

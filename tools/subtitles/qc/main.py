@@ -10,7 +10,7 @@ from .asked import add_pair_options
 
 def jobs_word(text: str) -> int:
     """How many pairs are judged at a time."""
-    if not (text.isascii() and text.isdecimal() and int(text)):
+    if not (text.isascii() and text.isdecimal() and len(text) < 5 and int(text)):
         raise argparse.ArgumentTypeError(f"{text} is no number of pairs at a time")
     return int(text)
 

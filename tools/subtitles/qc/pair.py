@@ -39,7 +39,8 @@ class Pair:
         """Judges the pair; `Unclear` where a step is not clear."""
         asked = self.asked
         if not os.path.isfile(asked.stl):
-            raise Unclear(f"{asked.stl} is no file, or is not there")
+            name = asked.stl.removeprefix("./") if asked.stl.startswith("./-") else asked.stl
+            raise Unclear(f"{name or 'an empty name'} is no file, or is not there")
         if is_recording(asked.stl):
             raise Unclear(f"{asked.stl} is a recording: the subtitle file stands before it")
         if asked.recording is not None and asked.recording != STANDARD_INPUT:

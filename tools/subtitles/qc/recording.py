@@ -4,6 +4,7 @@ from __future__ import annotations
 import os
 from typing import Iterator
 
+from ..extracting import NoTeletext
 from ..files import Damaged
 from ..pes import pes_packets
 from ..words import counted, pid_name
@@ -94,11 +95,15 @@ class Recording:
     def take_out(self, source: Source, feed: Feed) -> None:
         """Takes the PES packets of the PID that carries the page out of a transport stream."""
         carriers = Carriers(source, self.asked.page, self.asked.pid, self.names.folder)
-        if source.is_feed:
-            feed.follow(carriers.packets(), lambda: self.show(source, feed))
-        else:
-            for _ in carriers.packets():
-                self.show(source, feed)
+        try:
+            if source.is_feed:
+                feed.follow(carriers.packets(), lambda: self.show(source, feed))
+            else:
+                for _ in carriers.packets():
+                    self.show(source, feed)
+        except NoTeletext as reason:
+            raise Unclear(said(f"{self.name}: {reason}", carriers),
+                          self.again("--pid", "PID")) from None
         carriers.close()
         self.carrier = carrier = self.chosen(carriers)
         if not feed.live:

@@ -10,10 +10,10 @@ import tempfile
 import time
 from typing import Iterator
 
-from ..files import OWN_OUTPUT, whole_file
+from ..files import OWN_OUTPUT, as_file, refuse_name, whole_file
 from ..words import Stop, line_of
 from . import junit, machine, table
-from .asked import Asked, as_file, asked_of
+from .asked import Asked, asked_of
 from .faults import faults_of
 from .made_with import program_at
 from .names import Names
@@ -89,16 +89,19 @@ class Files:
         """Makes the folder, and takes away what an earlier call left of this pair."""
         if self.names.out:
             os.makedirs(self.names.out, exist_ok=True)
-        for path in [*self.of_pair, self.words.json, self.words.csv, self.words.junit]:
+        written = [path for path in (self.words.json, self.words.csv, self.words.junit) if path]
+        for path in [*self.of_pair, *written]:
             self.refuse_input(path)
+        for path in written:
+            refuse_name(path)
         for path in self.of_pair:
             if os.path.lexists(path):
                 os.unlink(path)
 
-    def refuse_input(self, path: str | None) -> None:
+    def refuse_input(self, path: str) -> None:
         for one in (self.verdict.asked.stl, self.verdict.asked.recording):
-            is_there = path and one and os.path.exists(path) and os.path.exists(one)
-            if path and one and is_there and os.path.samefile(path, one):
+            is_there = one and os.path.exists(path) and os.path.exists(one)
+            if one and is_there and os.path.samefile(path, one):
                 raise Stop(f"{path} is an input too")
 
     def write(self, seconds: float) -> None:

@@ -173,6 +173,11 @@ def guesses_nothing(case: Case) -> None:
         case.test(line, again.status == 0, again)
     done = qc(case, STORY, both, "--page", "801")
     case.test("no page", done.status == 2 and "PID 0x101: " in done.told[1], done)
+    done = qc(case, STORY, RECORDING, "--pid", "0x100")
+    case.test("a PID with something else", done.status == 2 and done.told[:2] == [
+        f"qc: {RECORDING}: PID 0x100 has no PES packets of private_stream_1, as Teletext has",
+        "qc: PID 0x101: announced 888 eng subtitles in programme 1; subtitle pages sent: 888"],
+        done)
     done = qc(case, STORY, both, "--pid", "0x200")
     case.test("no PID", done.status == 2 and "PID 0x200" in done.told[0], done)
     other = case.write("other.stl", random_subtitles(7)[0])
