@@ -1,4 +1,4 @@
-"""A line on the terminal that rewrites itself, and says how far it is."""
+"""A line on the terminal that rewrites itself, and shows how much is done."""
 from __future__ import annotations
 
 import shutil
