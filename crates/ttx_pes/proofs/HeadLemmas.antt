@@ -1,6 +1,7 @@
--- Data units whose heads are those of others: one head, same_word, all of them, heads_more, and that
--- the units stand at the same places, places_alike.
-use Rattle.std.proofs.Common.{◌≡◌, ℕ, zero, suc, ◌+◌, ◌-◌, ◌*◌, ◌/◌, ◌%◌, ◌<◌, ◌≤◌, List, [], ◌∷◌, ◌++◌}
+-- Data units whose heads are those of others: one head, same_word, all of them, heads_more, and
+-- that the units stand at the same places, places_alike.
+use Rattle.std.proofs.Common.{◌≡◌, ℕ, zero, suc, ◌+◌, ◌-◌, ◌*◌, ◌/◌, ◌%◌, ◌<◌, ◌≤◌, List, []}
+use Rattle.std.proofs.Common.{◌∷◌, ◌++◌}
 use Rattle.std.proofs.Common.{length, take, drop, get_or, cond, Ok, refl, sym, ap, subst, ◌∙◌}
 use Rattle.std.proofs.Common.{append_assoc, arith, inl, inr, length-drop}
 use Rattle.std.proofs.lemmas.Bool.{cases_lt}
@@ -120,7 +121,9 @@ no_places = refl
 -- ---- units behind the same heads
 
 -- A byte of a data unit.
-block_byte : (a : List ℕ) (at r : ℕ) → r < 46 → get_or (take 46 (drop at a)) r 0 ≡ get_or a (at + r) 0
+block_byte : (a : List ℕ) (at r : ℕ)
+    → r < 46
+    → get_or (take 46 (drop at a)) r 0 ≡ get_or a (at + r) 0
 block_byte a at r l = get_or-take 46 (drop at a) r 0 l ∙ get_or-drop at a r 0
 
 -- The unit that a data unit has.

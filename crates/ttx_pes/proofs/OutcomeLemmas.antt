@@ -15,7 +15,7 @@ packets_from-room : (room given : ℕ) (bytes : List ℕ)
 unfolding packets_from answer_at
 packets_from-room room given bytes e = grind (arith, nat_tests)
 
--- The same after `given` of them, by the answer.
+-- What the bytes that are left after `given` PES packets give, by the next answer.
 pub outcome_after-next : (given : ℕ) (bytes : List ℕ) (answer : Result (Option PesValue) PesFault)
     → given ≤ most_packets
     → answer_at given bytes ≡ answer

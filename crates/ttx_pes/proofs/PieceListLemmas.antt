@@ -15,7 +15,7 @@ use Rattle.ttx_pes.specs.DataUnit.{UnitValue}
 use Rattle.ttx_pes.specs.Fault.{is_of_piece}
 use Rattle.ttx_pes.specs.Laws.{LawOfPieces}
 use Rattle.ttx_pes.specs.PesPacket.{PesValue}
-use Rattle.ttx_pes.specs.Pieces.{FallInto, IsPiece, IsReadAs, PiecesValue, TakesPiece}
+use Rattle.ttx_pes.specs.Pieces.{FallInto, IsPiece, IsPieceOf, PiecesValue, TakesPiece}
 use Rattle.ttx_pes.specs.Pieces.{answer_left, behind_piece, no_piece, piece_then, pieces_after}
 use Rattle.ttx_pes.specs.Pieces.{pieces_from, with_piece}
 use Rattle.ttx_pes.specs.Reading.{answer_at, most_packets, packet_at, pts_at, rest_after, size_at}
@@ -196,7 +196,7 @@ record Falls (given : ℕ) (bytes : List ℕ) (value : PiecesValue) : Type 0 whe
   pub packets : List (List ℕ)
   pub rest : List ℕ
   pub each : AllByRecursion IsPiece packets
-  pub read : AllZip IsReadAs packets value.pieces
+  pub read : AllZip IsPieceOf packets value.pieces
   pub few : given + length packets ≤ most_packets
   pub joined : bytes ≡ concat packets ++ rest
   pub longest :
@@ -239,7 +239,7 @@ falls_more : (given size : ℕ) (bytes : List ℕ) (piece : Result PesValue PesF
     (more_pieces : PiecesValue)
     → given < most_packets
     → StandsInFront bytes size
-    → IsReadAs (take size bytes) piece
+    → IsPieceOf (take size bytes) piece
     → Falls (given + 1) (drop size bytes) more_pieces
     → Falls given bytes (with_piece piece more_pieces)
 falls_more given size bytes piece more_pieces below s is h = record {

@@ -86,7 +86,7 @@ whole_settles old new taken h le sized =
     let six = length-take 6 taken in let others = length-drop 6 taken in
     grind (arith, nat_tests, take-append-drop 6 taken, append_assoc, packet_parts)
 
--- The same by what was read of the packet's bytes from byte 6 on.
+-- What was read of the packet's bytes from byte 6 on settles what was taken.
 pub settles_as : (old new : Option (List ℕ)) (taken body : List ℕ) (r : Result PesValue PesFault)
     → Settles old new taken (value_at (drop 6 taken))
     → body ≡ drop 6 taken
@@ -131,7 +131,7 @@ settled_packet old new taken v h fit =
       consumed = h.consumed;
     }
 
--- The same with its data field, bytes 39 on of the body. For `read_compared`.
+-- A value that is settled, with its data field, bytes 39 on of the body. For `read_compared`.
 pub settled_field : (old new : Option (List ℕ)) (taken body field : List ℕ) (v : PesValue)
     → Settles old new taken (Ok v)
     → AreBytes taken

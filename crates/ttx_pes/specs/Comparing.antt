@@ -25,7 +25,7 @@ abbrev pub behind_after : Progress → Result Compared PesFault → Option ℕ
 behind_after (Reading given) (Err f) = if is_of_piece f then Some (given + 1) else None
 behind_after _ _ = None
 
--- Directly after the fault of a piece reading goes on behind it.
+-- Directly after the fault of a piece reading goes on after the piece.
 abbrev pub going_on : ComparingValue → Option ℕ → ComparingValue
 going_on c None = c
 going_on c (Some given) = record c { progress = Reading given; behind = None }

@@ -51,7 +51,7 @@ LawOfGrammar =
 
 -- Where no packet is read, the fault is that of the first question in which the bytes fail: some
 -- packet of the grammar agrees with them in all that is asked before, none in what is asked there.
--- And where they fail in a question no packet is read.
+-- Where they fail in a question no packet is read.
 -- So the numbers of refusals can be told from the grammar and the order of the questions alone.
 abbrev pub LawOfRefusal : Type 0
 LawOfRefusal =

@@ -71,9 +71,9 @@ pieces_after given bytes = pieces_from (most_packets - given) given bytes
 -- ---- what that is by the grammar
 
 -- A piece is read as the value whose PES packet it is; one that is none has the fault of its bytes.
-abbrev pub IsReadAs : List ℕ → Result PesValue PesFault → Type 0
-IsReadAs b (Ok v) = IsPesPacket v b
-IsReadAs b (Err f) = (is_of_piece f ≡ true) × (packet_at b ≡ Err f)
+abbrev pub IsPieceOf : List ℕ → Result PesValue PesFault → Type 0
+IsPieceOf b (Ok v) = IsPesPacket v b
+IsPieceOf b (Err f) = (is_of_piece f ≡ true) × (packet_at b ≡ Err f)
 
 -- What a reader answers where no piece is left.
 abbrev pub answer_left : Option PesFault → Result (Option PesValue) PesFault
@@ -86,7 +86,7 @@ pub record FallInto (bytes : List ℕ) (value : PiecesValue) : Type 0 where
   pub packets : List (List ℕ)
   pub rest : List ℕ
   pub each : AllByRecursion IsPiece packets
-  pub read : AllZip IsReadAs packets value.pieces
+  pub read : AllZip IsPieceOf packets value.pieces
   pub few : length packets ≤ most_packets
   pub joined : bytes ≡ concat packets ++ rest
   pub longest :

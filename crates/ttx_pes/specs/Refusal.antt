@@ -30,7 +30,7 @@ packet_faults =
     fault.Truncated ∷ fault.Start ∷ fault.Length ∷ fault.Truncated ∷ fault.Flags ∷ fault.NoTime
     ∷ fault.HeaderLength ∷ fault.Time ∷ fault.DataId ∷ []
 
--- The same of the fields of each data unit.
+-- What is refused of the fields of each data unit, in the order of the questions.
 abbrev pub unit_faults : List PesFault
 unit_faults = fault.UnitLength ∷ fault.Framing ∷ fault.LineOrder ∷ []
 

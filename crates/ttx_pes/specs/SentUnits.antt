@@ -10,9 +10,9 @@ use Rattle.ttx_pes.specs.Reading.{unit_of}
 abbrev pub sent_units : List ℕ → List ℕ → List UnitValue
 sent_units field places = map (λ at. unit_of (take data_unit_size (drop at field))) places
 
--- The packets of units.
-abbrev pub packets_of : List UnitValue → List (List ℕ)
-packets_of units = map (λ (u : UnitValue). u.packet) units
+-- The packets that Teletext units carry.
+abbrev pub packets_of_units : List UnitValue → List (List ℕ)
+packets_of_units units = map (λ (u : UnitValue). u.packet) units
 
 -- The data units that begin at these places end within so many bytes.
 abbrev pub AreWithin : ℕ → List ℕ → Type 0

@@ -1,5 +1,5 @@
-//! Whether the data units of two data fields begin alike, so that where the Teletext units of the one
-//! stand those of the other do.
+//! Whether the data units of two data fields begin alike, so that where the Teletext units of the
+//! one stand those of the other do.
 ghost use Rattle.std.specs.Prelude.{◌≡◌, ◌+◌, ◌%◌, ◌≤◌, length, true};
 ghost use Rattle.ttx_pes.specs.PesPacket.{payload_size};
 ghost use Rattle.ttx_pes.specs.Taking.{AreSameHeads, IsSameHead};

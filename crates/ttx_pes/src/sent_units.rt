@@ -3,7 +3,7 @@ ghost use Rattle.std.specs.Prelude.{◌≡◌, ◌<◌, ◌≤◌, [], length, s
 ghost use Rattle.std.specs.List.{AllByRecursion};
 ghost use Rattle.ttx_pes.specs.DataUnit.{IsUnit, UnitValue};
 ghost use Rattle.ttx_pes.specs.PesPacket.{most_units};
-ghost use Rattle.ttx_pes.specs.SentUnits.{AreWithin, packets_of, sent_units};
+ghost use Rattle.ttx_pes.specs.SentUnits.{AreWithin, packets_of_units, sent_units};
 
 use crate::data_unit::{DATA_UNIT, unit_in};
 use crate::unit::Unit;
@@ -62,7 +62,7 @@ impl<'a> SentUnits<'a> {
     #[inline(always)]
     pub fn packet(&self, number: usize) -> SentPacket<'a>
         requires { number < length self.now }
-        ensures { result ≡ slice_index_or (packets_of self.now) number [] }
+        ensures { result ≡ slice_index_or (packets_of_units self.now) number [] }
     {
         let (_, from) = self.field.split_at(self.places[number] as usize);
         let (block, _) = from.split_at(DATA_UNIT);
