@@ -15,8 +15,8 @@ use Rattle.sub_rules.specs.FrameRules.{Task, frame_at, packets_before, packets_o
 use Rattle.sub_rules.specs.PacketTests.{breaks, broken_rules, packet_rules}
 use Rattle.sub_rules.specs.Transmission.{Transmission}
 use Rattle.sub_rules.specs.Trusted.{doubted, frame_before, own_events, stands_none}
-use Rattle.sub_rules.specs.declared.event.EndRule.{EndRule}
-use Rattle.sub_rules.specs.declared.event.EndRule.TheVariants as end
+use Rattle.sub_rules.specs.declared.end_rule.EndRule.{EndRule}
+use Rattle.sub_rules.specs.declared.end_rule.EndRule.TheVariants as end
 use Rattle.sub_rules.specs.declared.event.Event.{Event}
 use Rattle.sub_rules.specs.declared.event.Event.TheVariants.{Told}
 use Rattle.sub_rules.specs.declared.fault.CheckFault.{CheckFault}

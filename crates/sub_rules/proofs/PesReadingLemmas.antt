@@ -13,7 +13,7 @@ use Rattle.ttx_pes.specs.declared.fault.PesFault.{PesFault}
 use Rattle.ttx_pes.proofs.OutcomeLemmas.{outcome_after-next}
 use Rattle.sub_rules.specs.Sendings.{IsFrameOf, IsSentFrame}
 use Rattle.sub_rules.specs.FrameRules.{Unread}
-use Rattle.sub_rules.specs.PacketRules.{packets_of_units}
+use Rattle.ttx_pes.specs.SentUnits.{packets_of_units}
 use Rattle.stl_file.specs.TimeCode.{day}
 use Rattle.sub_plan.specs.FrameTime.{pts_of}
 use Rattle.sub_rules.specs.PesFrames.{IsSentAs}

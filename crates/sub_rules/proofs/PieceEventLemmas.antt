@@ -22,8 +22,8 @@ use Rattle.sub_rules.specs.Pieces.{Piece, frames_of, read_until_passed}
 use Rattle.sub_rules.specs.Pieces.Piece.{Passed, Sent}
 use Rattle.sub_rules.specs.Transmission.{SentFrame, Transmission}
 use Rattle.sub_rules.specs.Trusted.{doubted, kept, tells_none, trusted, trusted_before, with_run}
-use Rattle.sub_rules.specs.declared.event.EndRule.{EndRule}
-use Rattle.sub_rules.specs.declared.event.EndRule.TheVariants as end
+use Rattle.sub_rules.specs.declared.end_rule.EndRule.{EndRule}
+use Rattle.sub_rules.specs.declared.end_rule.EndRule.TheVariants as end
 use Rattle.sub_rules.specs.declared.event.Event.{Event}
 use Rattle.sub_rules.specs.declared.event.Event.TheVariants.{Ended, PassedUntil, Told, Trusted}
 use Rattle.sub_rules.specs.declared.fault.CheckFault.{CheckFault}

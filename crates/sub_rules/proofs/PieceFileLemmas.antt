@@ -22,7 +22,7 @@ use Rattle.stl_file.specs.TimeCode.{day}
 use Rattle.sub_plan.specs.FrameTime.{pts_of}
 use Rattle.sub_rules.specs.FrameRules.{Unread}
 use Rattle.sub_rules.specs.FrameRules.Unread.{BadPacket, NoFrame}
-use Rattle.sub_rules.specs.PacketRules.{packets_of_units}
+use Rattle.ttx_pes.specs.SentUnits.{packets_of_units}
 use Rattle.sub_rules.specs.Pieces.{Piece, PieceFileValue, ReadsPiece, ReadsPieces, file_of_pieces}
 use Rattle.sub_rules.specs.PesReading.{PesFileValue, file_at, file_with, frame_of_pts}
 use Rattle.sub_rules.specs.Pieces.{TakesOnePiece, TakesPieces, piece_of, piece_with, pieces_at}
@@ -133,7 +133,7 @@ pieces_end origin n bytes pieces unread few reads is =
     let whole = sym reads ∙ pieces_at-next origin n bytes (Ok None) few is in
     (ap (λ (f : PieceFileValue). f.pieces) whole, ap (λ (f : PieceFileValue). f.unread) whole)
 
--- The same where bytes are left.
+-- Where bytes are left that are no piece, no piece is left.
 pub pieces_stop : (origin n : ℕ) (bytes : List ℕ) (pieces : List Piece) (unread : Option Unread)
     (f : PesFault)
     → n ≤ most_packets
@@ -203,7 +203,7 @@ until_step origin given bytes r rest few is same rest_is =
     ∙ ap (λ (f : PieceFileValue). read_until_passed f.pieces f.unread)
     (sym (pieces_at-next origin given bytes r few is))
 
--- The same, by what is read behind a PES packet.
+-- A file is read up to the first piece that is passed over, by what is read after a PES packet.
 until_one : (origin given : ℕ) (bytes : List ℕ)
     → given ≤ most_packets
     → ((v : PesValue)
@@ -244,7 +244,7 @@ until_from origin (suc room) given bytes e =
     ap (file_at origin (given + 1)) (behind_packet given bytes v is)
     ∙ until_from origin room (given + 1) (behind_piece bytes) (omega arith))
 
--- The same of the whole.
+-- A whole file is read up to the first piece that is passed over.
 pub file_until : (origin : ℕ) (bytes : List ℕ)
     → file_at origin 0 bytes
     ≡ read_until_passed (pieces_at origin 0 bytes).pieces (pieces_at origin 0 bytes).unread

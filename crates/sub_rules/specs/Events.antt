@@ -22,8 +22,8 @@ use Rattle.sub_rules.specs.FrameRules.{packets_of_frame}
 use Rattle.sub_rules.specs.FrameRules.Unread.{BadPacket, NoFrame}
 use Rattle.sub_rules.specs.PacketTests.{broken_rules}
 use Rattle.sub_rules.specs.Transmission.{SentFrame, Transmission}
-use Rattle.sub_rules.specs.declared.event.EndRule.{EndRule}
-use Rattle.sub_rules.specs.declared.event.EndRule.TheVariants as end
+use Rattle.sub_rules.specs.declared.end_rule.EndRule.{EndRule}
+use Rattle.sub_rules.specs.declared.end_rule.EndRule.TheVariants as end
 use Rattle.sub_rules.specs.declared.event.Event.{Event}
 use Rattle.sub_rules.specs.declared.event.Event.TheVariants.{Ended, PassedUntil, Told, Trusted}
 use Rattle.sub_rules.specs.declared.fault.CheckFault.{CheckFault}
@@ -97,7 +97,8 @@ content_events (Some old) before (Some new) f =
     then []
     else Ended end.Content before ∷ Told (fault.Content f new.0 new.1) ∷ []
 
--- The same of a rule without a place in the frame.
+-- What is told of a rule without a place in the frame, by whether it stood broken at the end
+-- before, of frame `before`, and stands broken now.
 abbrev pub rule_events : EndRule → CheckFault → Bool → ℕ → Bool → List Event
 rule_events rule told false before true = Told told ∷ []
 rule_events rule told true before false = Ended rule before ∷ []
@@ -232,7 +233,7 @@ late_events None frame = []
 late_events (Some last_out) frame =
     if nat_le last_out frame then [] else Told (fault.Late frame) ∷ []
 
--- The same, by what keeps the file from being read to its end.
+-- What is told where frames were read, by what keeps the file from being read to its end.
 abbrev pub rest_events : Task → Transmission → Option Unread → List Event
 rest_events g frames (Some unread) = Told (unread_fault (length frames) (Some unread)) ∷ []
 rest_events g frames None = late_events g.last_out (end_frame frames)

@@ -6,8 +6,8 @@ use Rattle.stl_rows.specs.Fault as load
 use Rattle.stl_rows.specs.Fault.{load_code}
 use Rattle.stl_rows.specs.declared.fault.LoadFaultKind.{LoadFaultKind}
 use Rattle.stl_rows.specs.declared.fault.LoadFaultKind.TheVariants.{Memory, Row}
-use Rattle.sub_rules.specs.declared.event.EndRule.{EndRule}
-use Rattle.sub_rules.specs.declared.event.EndRule.TheVariants as end
+use Rattle.sub_rules.specs.declared.end_rule.EndRule.{EndRule}
+use Rattle.sub_rules.specs.declared.end_rule.EndRule.TheVariants as end
 use Rattle.sub_rules.specs.declared.fault.CheckFault.{CheckFault}
 use Rattle.sub_rules.specs.declared.fault.CheckFault.TheVariants as fault
 use Rattle.sub_rules.specs.declared.fault_place.FaultPlace.{FaultPlace}

@@ -8,17 +8,17 @@ use Rattle.ttx_packet.specs.PacketAddress.{PacketAddress, address, HasExactAddre
 use Rattle.ttx_packet.specs.PacketAddress.{IsPacket}
 use Rattle.ttx_packet.specs.PageHeader.{c11, header, HasExactHeader}
 use Rattle.ttx_packet.specs.Parity.{code_of}
-use Rattle.ttx_packet.specs.RowPacket.{HasOddText}
 use Rattle.ttx_packet.specs.declared.header.Header.{Header}
-use Rattle.ttx_page.specs.declared.packet_kind.PacketKind.TheVariants.{ThisPage, Row}
+use Rattle.ttx_page.specs.declared.packet_kind.PacketKind.TheVariants.{Row}
 use Rattle.ttx_packet.specs.PageId.{PageIdValue}
+use Rattle.ttx_page.specs.Noise.{IsOddRow}
 use Rattle.ttx_page.specs.PacketKind.{is_this_page, kind}
 use Rattle.ttx_page.specs.Span.{is_open_after, span}
-use Rattle.ttx_pes.specs.DataUnit.{UnitValue}
-use Rattle.sub_rules.specs.Good.{IsSubtitleHeader, IsEnhancement}
+use Rattle.sub_rules.specs.Good.{IsControlled, IsEnhancement}
 use Rattle.sub_rules.specs.declared.packet_rule.PacketRule.{PacketRule}
 use Rattle.sub_rules.specs.declared.packet_rule.PacketRule.TheVariants as rule
 use Rattle.sub_rules.specs.declared.packet_rule.Watched.{Watched}
+pub use Rattle.ttx_pes.specs.SentUnits.{packets_of_units}
 
 -- The first page header of a list of packets, of any page.
 abbrev pub first_header : List (List ℕ) → Option Header
@@ -28,10 +28,6 @@ first_header (p ∷ ps) = option_or (header p) (first_header ps)
 -- The 40 codes of a packet's text.
 abbrev pub codes_of : List ℕ → List ℕ
 codes_of packet = map code_of (drop 2 packet)
-
--- The packets that Teletext units carry.
-abbrev pub packets_of_units : List UnitValue → List (List ℕ)
-packets_of_units units = map (λ (u : UnitValue). u.packet) units
 
 -- How many of these packets are headers of the page.
 abbrev pub header_count : PageIdValue → List (List ℕ) → ℕ
@@ -51,14 +47,10 @@ KeepsRule rule.Mode w before p =
     → first_header before ≡ Some first
     → c11 h ≡ c11 first
 -- A header of the page is a subtitle's.
-KeepsRule rule.Control w before p =
-    (h : Header) → kind w.page p ≡ ThisPage h → IsSubtitleHeader w.national h
+KeepsRule rule.Control w before p = IsControlled w.national w.page p
 -- While the page is open a row of it has 40 bytes of odd parity.
 KeepsRule rule.Parity w before p =
-    IsTrue (is_open_after (kind w.page) before)
-    → (row : ℕ)
-    → kind w.page p ≡ Row row
-    → HasOddText p
+    IsTrue (is_open_after (kind w.page) before) → IsOddRow w.page p
 -- While the page is open a row equals each packet of its row since the last header of the page.
 KeepsRule rule.RowChanged w before p =
     IsTrue (is_open_after (kind w.page) before)
@@ -70,8 +62,8 @@ KeepsRule rule.Enhancement w before p =
     IsTrue (is_open_after (kind w.page) before) → IsEnhancement w.page p → ⊥
 
 -- It keeps all seven.
-abbrev pub IsClean : Watched → List (List ℕ) → List ℕ → Type 0
-IsClean w before p = (f : PacketRule) → KeepsRule f w before p
+abbrev pub KeepsAllRules : Watched → List (List ℕ) → List ℕ → Type 0
+KeepsAllRules w before p = (f : PacketRule) → KeepsRule f w before p
 
 -- These packets are whole, and each keeps all seven, sent after those before it.
 abbrev pub AreClean : Watched → List (List ℕ) → Type 0
@@ -79,4 +71,4 @@ AreClean w packets =
     (k : ℕ)
     → k < length packets
     → IsPacket (slice_index_or packets k [])
-    × IsClean w (take k packets) (slice_index_or packets k [])
+    × KeepsAllRules w (take k packets) (slice_index_or packets k [])

@@ -14,8 +14,7 @@ use Rattle.ttx_page.specs.Differing.{row_differing}
 use Rattle.ttx_page.specs.PacketKind.{is_row, is_some_row, kind}
 use Rattle.ttx_page.specs.Span.{is_open_after, span}
 use Rattle.ttx_page.specs.declared.packet_kind.PacketKind.{PacketKind}
-use Rattle.ttx_page.specs.declared.packet_kind.PacketKind.TheVariants.{EndsPage, Other, Row}
-use Rattle.ttx_page.specs.declared.packet_kind.PacketKind.TheVariants.{ThisPage}
+use Rattle.ttx_page.specs.declared.packet_kind.PacketKind.TheVariants.{Row, ThisPage}
 use Rattle.stl_rows.specs.declared.national.National.{National}
 use Rattle.sub_plan.specs.Sending.{has_c14}
 use Rattle.sub_rules.specs.PacketRules.{codes_of, first_header}
@@ -60,9 +59,7 @@ is_subtitle_header national h =
 -- A header of the page, and no subtitle's.
 abbrev pub is_wrong_header : National → PacketKind → Bool
 is_wrong_header national (ThisPage h) = not (is_subtitle_header national h)
-is_wrong_header national EndsPage = false
-is_wrong_header national (Row row) = false
-is_wrong_header national Other = false
+is_wrong_header national _ = false
 
 -- The codes of a packet, where there is one, are others than these.
 abbrev pub is_other_text : Option (List ℕ) → List ℕ → Bool
@@ -76,9 +73,7 @@ first_of_row page packets row = find (λ q. is_row row (kind page q)) packets
 -- The codes of a row are others than those of the first packet of its row among these.
 abbrev pub is_other_row : PageIdValue → List (List ℕ) → List ℕ → PacketKind → Bool
 is_other_row page packets p (Row row) = is_other_text (first_of_row page packets row) (codes_of p)
-is_other_row page packets p (ThisPage h) = false
-is_other_row page packets p EndsPage = false
-is_other_row page packets p Other = false
+is_other_row page packets p _ = false
 
 -- The address is that of a packet X/25 to X/28 of the page's magazine.
 abbrev pub is_of_enhancement : PageIdValue → Option PacketAddress → Bool

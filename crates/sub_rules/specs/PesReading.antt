@@ -6,11 +6,11 @@ use Rattle.sub_io.specs.Reading.{AreBytes}
 use Rattle.ttx_pes.specs.PesPacket.{PesValue}
 use Rattle.ttx_pes.specs.Outcome.{PesOutcome, ends, fails, gives, outcome_after}
 use Rattle.ttx_pes.specs.Reading.{answer_at}
+use Rattle.ttx_pes.specs.SentUnits.{packets_of_units}
 use Rattle.stl_file.specs.TimeCode.{day}
 use Rattle.sub_plan.specs.FrameTime.{pts_of}
 use Rattle.sub_rules.specs.FrameRules.{Unread}
 use Rattle.sub_rules.specs.FrameRules.Unread.{BadPacket, NoFrame}
-use Rattle.sub_rules.specs.PacketRules.{packets_of_units}
 use Rattle.sub_rules.specs.PesFrames.{Carries}
 use Rattle.sub_rules.specs.Transmission.{IsRising, Transmission}
 

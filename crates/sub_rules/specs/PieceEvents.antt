@@ -1,4 +1,4 @@
--- What is told of a PES file that is read on behind the pieces that are passed over (own): of the
+-- What is told of a PES file that is read on after the pieces that are passed over (own): of the
 -- frames that are sent what is told of a transmission, and in its place the number of each piece
 -- that is passed over. Of such pieces one directly after the other with one number the first is
 -- told, and up to which one they go, directly before whatever is told next.
@@ -146,7 +146,7 @@ abbrev pub until : Option CheckFault → List Event
 until None = []
 until (Some refusal) = PassedUntil refusal ∷ []
 
--- The same, where the run has more than one.
+-- Up to which piece a run goes: told where it has more than one.
 abbrev pub ended_run : PassedRun → List Event
 ended_run run = if run.many then until run.last else []
 
@@ -154,7 +154,7 @@ ended_run run = if run.many then until run.last else []
 unfoldable pub announced : PassedRun → Event → List Event
 announced run event = if joins run event then [] else ended_run run ++ event ∷ []
 
--- The same of events, one after another.
+-- What is told by events, one after another, the first of them after the run.
 unfoldable pub all_announced : PassedRun → List Event → List Event
 all_announced run [] = []
 all_announced run (e ∷ es) = announced run e ++ all_announced (passed_after run e) es
@@ -179,7 +179,7 @@ told_of_pieces g pieces =
     let any = not (tells_none each) || not (tells_none closing) in
     each ++ last_of_run g frames (run_after_each g frames 0 None pieces) any ++ closing
 
--- All that is told of a PES file that is read on behind the pieces that are passed over.
+-- All that is told of a PES file that is read on after the pieces that are passed over.
 unfoldable pub all_of_pieces : Task → List Piece → List Event
 all_of_pieces g pieces =
     let told = told_of_pieces g pieces in

@@ -8,10 +8,10 @@ use Rattle.ttx_pes.specs.declared.fault.PesFault.{PesFault}
 use Rattle.ttx_pes.specs.PesPacket.{PesValue}
 use Rattle.ttx_pes.specs.Pieces.{IsPiece, PiecesValue, behind_piece, pieces_after}
 use Rattle.ttx_pes.specs.Reader.{FailsWithin}
+use Rattle.ttx_pes.specs.SentUnits.{packets_of_units}
 use Rattle.sub_rules.specs.Events.{unread_fault}
 use Rattle.sub_rules.specs.FrameRules.{Unread}
 use Rattle.sub_rules.specs.FrameRules.Unread.{BadPacket, NoFrame}
-use Rattle.sub_rules.specs.PacketRules.{packets_of_units}
 use Rattle.sub_rules.specs.PesReading.{PesFileValue, frame_of_pts}
 use Rattle.sub_rules.specs.Sendings.{IsFrameOf}
 use Rattle.sub_rules.specs.Transmission.{SentFrame, Transmission}
@@ -55,7 +55,7 @@ file_of_pieces origin value = record {
 unfoldable pub pieces_at : ℕ → ℕ → List ℕ → PieceFileValue
 pieces_at origin given bytes = file_of_pieces origin (pieces_after given bytes)
 
--- What the bytes of a PES file are read as, where reading goes on behind a piece that is passed
+-- What the bytes of a PES file are read as, where reading goes on after a piece that is passed
 -- over.
 abbrev pub piece_file_of : ℕ → List ℕ → PieceFileValue
 piece_file_of origin bytes = pieces_at origin 0 bytes
@@ -65,7 +65,7 @@ abbrev pub ReadsPieces : ℕ → ℕ → List ℕ → List Piece → Option Unre
 ReadsPieces origin given bytes pieces unread =
     pieces_at origin given bytes ≡ record { pieces = pieces; unread = unread }
 
--- The first of the pieces that are left after n pieces, and those behind it.
+-- The first of the pieces that are left after n pieces, and those that follow it.
 pub record ReadsPiece
     (origin n : ℕ) (bytes : List ℕ) (pieces : List Piece) (unread : Option Unread) (piece : Piece)
     : Type 0 where

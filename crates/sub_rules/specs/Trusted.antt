@@ -41,7 +41,7 @@ doubted_by last (fault.Gap frame) = Some frame
 doubted_by last (fault.Incomplete frame) = Some frame
 doubted_by last refusal = None
 
--- The same of any event.
+-- The frame that is quiet no more where this event is told: a refusal may end one, nothing else.
 unfoldable pub doubted : ℕ → Event → Option ℕ
 doubted last (Told refusal) = doubted_by last refusal
 doubted last event = None
@@ -133,7 +133,7 @@ abbrev pub all_frame_events : Task → Transmission → ℕ → List Event
 all_frame_events g frames i =
     with_run (frame_before frames i) (run_after g frames i) (frame_events g frames i)
 
--- The same of the first n frames of the list.
+-- What is told of the first n frames of the list, and what is trusted before each.
 unfoldable pub all_events_of_first : Task → Transmission → ℕ → List Event
 all_events_of_first g frames zero = []
 all_events_of_first g frames (suc n) =

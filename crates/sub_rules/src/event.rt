@@ -1,34 +1,6 @@
 //! What is told of a PES file, one event after another.
-ghost use Rattle.std.specs.Prelude.{◌≡◌};
-
+use crate::end_rule::EndRule;
 use crate::fault::CheckFault;
-use sub_io::FaultCode;
-
-/// A rule that is asked at the end of each frame. Once it is broken it may stay so for some frames.
-#[derive(Clone, Copy, Debug, PartialEq, Eq)]
-pub enum EndRule {
-    /// The page that is shown is the page that is due.
-    Content,
-    /// A header of the page is not too long ago.
-    Gap,
-    /// Where complete pages are asked for, the page is not open.
-    Incomplete,
-}
-
-impl EndRule {
-    ghost use Rattle.sub_rules.specs.Fault.{rule_code};
-
-    /// The number and the name of the fault that tells where the rule is broken (own).
-    pub fn code(self) -> FaultCode
-        ensures { result ≡ rule_code self }
-    {
-        match self {
-            EndRule::Content => FaultCode::new(72, "Content"),
-            EndRule::Gap => FaultCode::new(73, "Gap"),
-            EndRule::Incomplete => FaultCode::new(77, "Incomplete"),
-        }
-    }
-}
 
 /// What is told of a PES file that is checked: a rule that is broken, or one that is so no more;
 /// and frames that may stay on air as they are.

@@ -1,7 +1,7 @@
 //! Why a pair of files is refused, and where.
 ghost use Rattle.std.specs.Prelude.{◌≡◌};
 
-use crate::event::EndRule;
+use crate::end_rule::EndRule;
 use crate::fault_place::FaultPlace;
 use stl_rows::{LoadFault, LoadFaultKind};
 use sub_io::FaultCode;

@@ -12,6 +12,7 @@
 //! ```
 #![tactic(auto)]
 
+mod end_rule;
 mod event;
 mod fault;
 mod fault_place;
@@ -19,7 +20,8 @@ mod packet_rule;
 mod piece;
 mod sending;
 
-pub use event::{EndRule, Event};
+pub use end_rule::EndRule;
+pub use event::Event;
 pub use fault::CheckFault;
 pub use fault_place::FaultPlace;
 pub use packet_rule::{PacketRule, Watched};

@@ -30,7 +30,7 @@ pub enum NextPiece {
     Passed(CheckFault),
 }
 
-/// Reads the next piece, the one of this number from 0, as `next_sending` does, and goes on behind
+/// Reads the next piece, the one of this number from 0, as `next_sending` does, and goes on after
 /// one that is passed over: `None` at the end of the source.
 ///
 /// The reader lends what was read. After a piece that is passed over `again` says nothing of what
