@@ -17,15 +17,25 @@ use Rattle.ttx_page.specs.PacketKind.{kind}
 use Rattle.stl_rows.specs.DuePage.{due}
 use Rattle.sub_laws.specs.CleanStretch.Part.{DueContent, ExactAddresses, ExactHeaders, FramesRise}
 use Rattle.sub_laws.specs.CleanStretch.Part.{OddRows, HeadersInTime, SameRows, SubtitleHeaders}
-use Rattle.sub_examples.specs.Examples.{ExamplesOfNeededParts, header_888, header_with_wrong_units}
-use Rattle.sub_examples.specs.Examples.{closing, header_with_two_wrong_bits, header_without_c4}
-use Rattle.sub_examples.specs.Examples.{row_1}
+use Rattle.sub_examples.specs.Examples.{ExamplesOfNeededParts, closing, header_888}
+use Rattle.sub_examples.specs.Examples.{header_without_c4, row_1, x0}
 use Rattle.sub_examples.proofs.RobustTests.{needed}
 
 -- The header, row 1 with an exclamation mark, and the closing header.
 abbrev mark : List (List ℕ)
 mark = header_888 ∷ row_1 0xA1 ∷ closing ∷ []
 
+-- The header of page 888, with one wrong bit in its page units.
+abbrev header_with_wrong_units : List ℕ
+header_with_wrong_units =
+    x0 (0x15 ∷ 0x15 ∷ 0xD1 ∷ 0xD0 ∷ 0x15 ∷ 0xD0 ∷ 0x15 ∷ 0xD0 ∷ 0x02 ∷ 0x15 ∷ [])
+
+-- The header of page 888, with two wrong bits in its first address byte, which decodes to nothing.
+abbrev header_with_two_wrong_bits : List ℕ
+header_with_two_wrong_bits =
+    x0 (0x16 ∷ 0x15 ∷ 0xD0 ∷ 0xD0 ∷ 0x15 ∷ 0xD0 ∷ 0x15 ∷ 0xD0 ∷ 0x02 ∷ 0x15 ∷ [])
+
+-- What each part is needed for.
 pub examples_of_needed_parts : ExamplesOfNeededParts
 unfolding are_code_words is_word_below first_even_byte breaks columns_differing is_gap
     kind address header coded_header decoded is_near is_odd count_ones ones_in due blank

@@ -25,7 +25,8 @@ use Rattle.ttx_page.proofs.ComputedReceiver.{heard_so, near_packets, packets_tes
 use Rattle.stl_rows.specs.Programme.{ProgrammeValue}
 use Rattle.sub_plan.specs.Options.{OptionsValue}
 use Rattle.sub_plan.specs.Schedule.{due_in}
-use Rattle.sub_laws.specs.CleanStretch.{AtEnds, AtPackets, IsClean, IsKeptWithin, Part, number_of}
+use Rattle.sub_laws.specs.CleanStretch.{AtEnds, AtPackets, IsCleanStretch, IsKeptWithin, Part}
+use Rattle.sub_laws.specs.CleanStretch.{number_of}
 use Rattle.sub_laws.specs.CleanStretch.Part.{DueContent, ExactAddresses, ExactHeaders, FramesRise}
 use Rattle.sub_laws.specs.CleanStretch.Part.{OddRows, HeadersInTime, SameRows, SubtitleHeaders}
 use Rattle.sub_rules.specs.Events.{is_gap}
@@ -355,7 +356,7 @@ is_clean_stretch g frames a b =
 pub clean_by_test :
     (g : Task) (frames : Transmission) (a b : ℕ)
     → is_clean_stretch g frames a b ≡ true
-    → IsClean g frames a b
+    → IsCleanStretch g frames a b
 clean_by_test g frames a b e =
     let test : Part → Bool = λ part. keeps_part part g frames a b in
     let parts = and_parts (all_parts test) _ e in

@@ -20,7 +20,7 @@ use Rattle.stl_rows.specs.DrawnPage.{drawn, page_of_lines, line_fault_kinds}
 use Rattle.stl_rows.specs.DuePage.{due}
 use Rattle.stl_rows.specs.Line.{is_boxed, is_double, prepared, row_of}
 use Rattle.stl_rows.specs.TextCode.{cell_of, cell_of_pair}
-use Rattle.sub_laws.specs.CleanStretch.{IsClean}
+use Rattle.sub_laws.specs.CleanStretch.{IsCleanStretch}
 use Rattle.sub_examples.specs.Examples.{ExampleOfCleanStretch, closing, damaged_first, each}
 use Rattle.sub_examples.specs.Examples.{header_888, later_subtitle, row_22}
 use Rattle.sub_rules.specs.FrameRules.{task_of}
@@ -37,7 +37,7 @@ refused good =
     let control = good.control 0 none (omega arith) 0 [] (omega arith) in
     grind (arith, nat_tests, control _ refl)
 
-clean : IsClean (task_of later_subtitle (each 1) None) damaged_first 900001 900002
+clean : IsCleanStretch (task_of later_subtitle (each 1) None) damaged_first 900001 900002
 unfolding are_code_words is_word_below first_even_byte breaks columns_differing is_gap
     kind address header coded_header decoded is_near is_odd count_ones ones_in due blank
     blank_row drawn page_of_lines row_of line_fault_kinds prepared is_boxed is_double

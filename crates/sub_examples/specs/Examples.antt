@@ -11,7 +11,7 @@ use Rattle.stl_rows.specs.Programme.{ProgrammeValue}
 use Rattle.sub_plan.specs.Examples.{page_888}
 use Rattle.sub_plan.specs.Options.{OptionsValue}
 use Rattle.sub_rules.specs.Transmission.{Transmission, first_frame, last_frame}
-use Rattle.sub_laws.specs.CleanStretch.{IsClean, IsKeptWithin, Part, number_of}
+use Rattle.sub_laws.specs.CleanStretch.{IsCleanStretch, IsKeptWithin, Part, number_of}
 use Rattle.sub_laws.specs.CleanStretch.Part.{DueContent, ExactAddresses, ExactHeaders, FramesRise}
 use Rattle.sub_laws.specs.CleanStretch.Part.{HeadersInTime, OddRows, SameRows, SubtitleHeaders}
 use Rattle.sub_rules.specs.FrameRules.{task_of}
@@ -44,16 +44,6 @@ abbrev pub header_with_wrong_bit : List ℕ
 header_with_wrong_bit =
     x0 (0x14 ∷ 0x15 ∷ 0xD0 ∷ 0xD0 ∷ 0x15 ∷ 0xD0 ∷ 0x15 ∷ 0xD0 ∷ 0x02 ∷ 0x15 ∷ [])
 
--- The header of page 888, with one wrong bit in its page units.
-abbrev pub header_with_wrong_units : List ℕ
-header_with_wrong_units =
-    x0 (0x15 ∷ 0x15 ∷ 0xD1 ∷ 0xD0 ∷ 0x15 ∷ 0xD0 ∷ 0x15 ∷ 0xD0 ∷ 0x02 ∷ 0x15 ∷ [])
-
--- The header of page 888, with two wrong bits in its first address byte, which decodes to nothing.
-abbrev pub header_with_two_wrong_bits : List ℕ
-header_with_two_wrong_bits =
-    x0 (0x16 ∷ 0x15 ∷ 0xD0 ∷ 0xD0 ∷ 0x15 ∷ 0xD0 ∷ 0x15 ∷ 0xD0 ∷ 0x02 ∷ 0x15 ∷ [])
-
 -- A packet X/0 whose page units decode to nothing: no header, but one wrong bit away from one.
 abbrev pub no_header : List ℕ
 no_header = x0 (0x15 ∷ 0x15 ∷ 0xD3 ∷ 0xD0 ∷ 0x15 ∷ 0xD0 ∷ 0x15 ∷ 0xD0 ∷ 0x02 ∷ 0x15 ∷ [])
@@ -62,17 +52,9 @@ no_header = x0 (0x15 ∷ 0x15 ∷ 0xD3 ∷ 0xD0 ∷ 0x15 ∷ 0xD0 ∷ 0x15 ∷ 0
 abbrev pub closing : List ℕ
 closing = x0 (0x15 ∷ 0x15 ∷ 0xEA ∷ 0xEA ∷ 0xEA ∷ 0x2F ∷ 0xEA ∷ 0x5E ∷ 0x15 ∷ 0x15 ∷ [])
 
--- The closing header in serial mode, C11.
-abbrev pub serial_closing : List ℕ
-serial_closing = x0 (0x15 ∷ 0x15 ∷ 0xEA ∷ 0xEA ∷ 0xEA ∷ 0x2F ∷ 0xEA ∷ 0x5E ∷ 0x15 ∷ 0x02 ∷ [])
-
 -- Packet 8/1, row 1 of magazine 8: the first byte of its text, and 39 spaces.
 abbrev pub row_1 : ℕ → List ℕ
 row_1 byte = 0xD0 ∷ 0x15 ∷ byte ∷ replicate 39 0x20
-
--- Packet 8/26.
-abbrev pub packet_26 : List ℕ
-packet_26 = 0x15 ∷ 0xB6 ∷ replicate 40 0x20
 
 -- Packet 8/22, row 22: `Hi` in a box, each box code sent twice, in the middle.
 abbrev pub row_22 : List ℕ
@@ -221,7 +203,7 @@ damaged_first =
 -- byte wrong and whatever he held before, holds the `H` there or, where its byte was hit, a space.
 pub record ExampleOfCleanStretch : Type 0 where
   pub refused : Good later_subtitle damaged_first (each 1) → ⊥
-  pub clean : IsClean (task_of later_subtitle (each 1) None) damaged_first 900001 900002
+  pub clean : IsCleanStretch (task_of later_subtitle (each 1) None) damaged_first 900001 900002
   pub held :
       (got : List (List ℕ)) (old new : State)
       → AllZip AreNear (header_888 ∷ row_22 ∷ closing ∷ []) got

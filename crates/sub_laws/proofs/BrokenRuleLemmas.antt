@@ -31,7 +31,7 @@ use Rattle.ttx_page.specs.declared.packet_kind.PacketKind.{PacketKind}
 use Rattle.ttx_page.specs.declared.packet_kind.PacketKind.TheVariants.{Row, ThisPage}
 use Rattle.stl_rows.specs.declared.national.National.{National}
 use Rattle.sub_rules.specs.Good.{IsCleanSpan, IsEnhancement, IsSubtitleHeader}
-use Rattle.sub_rules.specs.PacketRules.{AreClean, IsClean, KeepsRule, codes_of, first_header}
+use Rattle.sub_rules.specs.PacketRules.{AreClean, KeepsAllRules, KeepsRule, codes_of, first_header}
 use Rattle.sub_rules.specs.PacketTests.{are_code_words, breaks, is_of_header}
 use Rattle.sub_rules.specs.PacketTests.{is_of_enhancement, is_other_mode, is_other_row}
 use Rattle.sub_rules.specs.PacketTests.{is_other_text, is_subtitle_header, first_of_row}
@@ -304,7 +304,7 @@ module _ (w : Watched) (before : List (List ℕ)) (p : List ℕ) where
   abbrev Unbroken : List PacketRule → Type 0
   Unbroken rs = AllByRecursion (λ r. breaks r w before p ≡ false) rs
 
-  pub keeps_all : AreClean w before → IsPacket p → Unbroken packet_rules → IsClean w before p
+  pub keeps_all : AreClean w before → IsPacket p → Unbroken packet_rules → KeepsAllRules w before p
   unfolding packet_rules
   keeps_all clean whole fine r =
       let exact = (refuted _ (rule_decided rule.Address (λ e. cc))).0 fine.0 in
@@ -323,7 +323,10 @@ module _ (w : Watched) (before : List (List ℕ)) (p : List ℕ) where
       each rule.Enhancement = fine.1.1.1.1.1.1.0
 
   -- A packet that keeps all rules breaks none.
-  pub breaks_none : AreClean w before → IsPacket p → IsClean w before p → Unbroken packet_rules
+  pub breaks_none : AreClean w before
+      → IsPacket p
+      → KeepsAllRules w before p
+      → Unbroken packet_rules
   unfolding packet_rules
   breaks_none clean whole keeps =
       let comparable : IsComparable w before p =

@@ -13,7 +13,7 @@ use Rattle.ttx_page.specs.Shown.{shown}
 use Rattle.ttx_page.proofs.LateStart.{MayFollow, sound-joined}
 use Rattle.stl_rows.specs.Programme.{ProgrammeValue}
 use Rattle.sub_plan.specs.Options.{OptionsValue}
-use Rattle.sub_laws.specs.CleanStretch.{AtEnds, IsClean, IsEnd, LawOfCleanStretch}
+use Rattle.sub_laws.specs.CleanStretch.{AtEnds, IsCleanStretch, IsEnd, LawOfCleanStretch}
 use Rattle.sub_laws.specs.CleanStretch.Part.{DueContent, ExactAddresses, ExactHeaders, FramesRise}
 use Rattle.sub_laws.specs.CleanStretch.Part.{OddRows, HeadersInTime, SameRows, SubtitleHeaders}
 use Rattle.sub_rules.specs.FrameRules.{IsEnded, Unread, frame_at, packets_before, packets_of_frame}
@@ -128,7 +128,7 @@ module _ (page : PageIdValue) (a b : ℕ) where
 
 module _ (programme : ProgrammeValue) (transmission : Transmission) (options : OptionsValue)
     (unread : Option Unread) (a b : ℕ)
-    (clean : IsClean (task_of programme options unread) transmission a b) where
+    (clean : IsCleanStretch (task_of programme options unread) transmission a b) where
   -- Each packet may follow those before it.
   fit : AreFit options.page a b [] transmission
   fit i k l m low high = record {

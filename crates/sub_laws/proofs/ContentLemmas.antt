@@ -16,7 +16,7 @@ use Rattle.stl_rows.specs.Programme.{ProgrammeValue}
 use Rattle.sub_plan.specs.Options.{OptionsValue}
 use Rattle.sub_rules.specs.FrameRules.{Task, Unread, frame_at, packets_before, packets_of_frame}
 use Rattle.sub_rules.specs.FrameRules.{task_of}
-use Rattle.sub_rules.specs.PacketRules.{IsClean}
+use Rattle.sub_rules.specs.PacketRules.{KeepsAllRules}
 use Rattle.sub_rules.specs.Transmission.{IsRising, SentFrame, Transmission, last_frame}
 use Rattle.sub_rules.specs.Transmission.{on_air_until}
 use Rattle.sub_rules.specs.WrongContent.{IsWrongEverywhere}
@@ -37,7 +37,7 @@ use Rattle.sub_rules.specs.declared.packet_rule.PacketRule.TheVariants as rule
 
 module _ (w : Watched) (frames : Transmission) (n : ℕ) (fits : n ≤ length frames)
     (clean : (i k : ℕ) → i < n → k < length (packets_of_frame frames i)
-    → IsClean w (before frames i k) (packet_at frames i k)) where
+    → KeepsAllRules w (before frames i k) (packet_at frames i k)) where
   -- Their addresses and headers are code words.
   exact : All HasExactWords (packets_before frames n)
   exact =

@@ -22,7 +22,7 @@ use Rattle.sub_rules.specs.Events.{packet_fault, rest_events, rules_told, standi
 use Rattle.sub_rules.specs.Events.{standing_before, unread_fault, wrong_cell}
 use Rattle.sub_rules.specs.FrameRules.{HasHeader, Task, Unread, end_frame, frame_at, packets_before}
 use Rattle.sub_rules.specs.FrameRules.{packets_of_frame, task_of}
-use Rattle.sub_rules.specs.PacketRules.{AreClean, IsClean}
+use Rattle.sub_rules.specs.PacketRules.{AreClean, KeepsAllRules}
 use Rattle.sub_rules.specs.PacketTests.{breaks, broken_rules, packet_rules}
 use Rattle.sub_rules.specs.Transmission.{EachPacket, Transmission}
 use Rattle.sub_rules.specs.declared.event.Event.{Event}
@@ -105,7 +105,7 @@ module _ {Named : CheckFault → Type 0} where
 
 -- One more of them.
 clean_push : (w : Watched) (xs : List (List ℕ)) (p : List ℕ) → AreClean w xs → IsPacket p
-    → IsClean w xs p → AreClean w (xs ++ p ∷ [])
+    → KeepsAllRules w xs p → AreClean w (xs ++ p ∷ [])
 clean_push w xs p clean whole keeps k l = elim (cases_lt k (length xs)) [
   | inl within ↦
       rw (get_or_append_left xs (p ∷ []) [] k within, take-append-le k xs (p ∷ []) (omega arith))
@@ -113,7 +113,7 @@ clean_push w xs p clean whole keeps k l = elim (cases_lt k (length xs)) [
   | inr past ↦
       let at : length xs + 0 ≡ k = omega (arith, length_push xs p) in
       subst (λ j. IsPacket (get_or (xs ++ p ∷ []) j [])
-      × IsClean w (take j (xs ++ p ∷ [])) (get_or (xs ++ p ∷ []) j [])) at
+      × KeepsAllRules w (take j (xs ++ p ∷ [])) (get_or (xs ++ p ∷ []) j [])) at
       (rw (get_or-append-add xs (p ∷ []) 0 [], take-append-add xs (p ∷ []) 0, append-nil xs)
       (whole, keeps))
 ]
@@ -364,7 +364,7 @@ module _ (g : Task) (frames : Transmission) (Named : CheckFault → Type 0)
           | inl earlier ↦ ok j earlier
           | inr here ↦
               let e : k ≡ j = omega arith in
-              subst (λ i. IsClean g.watched (before frames n i) (packet_at frames n i)) e
+              subst (λ i. KeepsAllRules g.watched (before frames n i) (packet_at frames n i)) e
               (keeps_all g.watched (before frames n k) (packet_at frames n k) clean is untold)
         ])
         (λ all. breaks_none g.watched (before frames n k) (packet_at frames n k) clean is

@@ -3,7 +3,7 @@ use Rattle.std.proofs.Common.{◌≡◌, ℕ, ◌+◌, ◌-◌, ◌<◌, ◌≤�
 use Rattle.ttx_page.specs.Page.{IsCell}
 use Rattle.sub_rules.specs.FrameRules.{HasHeader, IsCovered, IsEnded, ShowsDue, Task, end_frame}
 use Rattle.sub_rules.specs.FrameRules.{frame_at, packets_of_frame}
-use Rattle.sub_rules.specs.PacketRules.{IsClean}
+use Rattle.sub_rules.specs.PacketRules.{KeepsAllRules}
 use Rattle.sub_rules.specs.Transmission.{Transmission}
 use Rattle.sub_laws.proofs.PrefixLemmas.{IsInGap, before, packet_at}
 
@@ -21,7 +21,7 @@ pub record OrderOk (g : Task) (frames : Transmission) (i : ℕ) : Type 0 where
 -- The first k packets of frame i of the list keep all rules.
 abbrev pub PacketsOk : Task → Transmission → ℕ → ℕ → Type 0
 PacketsOk g frames i k =
-    (j : ℕ) → j < k → IsClean g.watched (before frames i j) (packet_at frames i j)
+    (j : ℕ) → j < k → KeepsAllRules g.watched (before frames i j) (packet_at frames i j)
 
 -- All that is asked of frame i of the list: of its number, of the frames of the day before it, of
 -- its packets, of its header, and at its end.

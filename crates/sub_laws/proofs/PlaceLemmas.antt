@@ -22,7 +22,7 @@ use Rattle.ttx_page.specs.PacketKind.{kind, is_this_page, ends_page}
 use Rattle.ttx_page.specs.Page.{cell, IsCell}
 use Rattle.ttx_page.specs.Span.{span, is_open_after}
 use Rattle.ttx_page.specs.Shown.{shown}
-use Rattle.sub_rules.specs.PacketRules.{first_header, KeepsRule, IsClean}
+use Rattle.sub_rules.specs.PacketRules.{first_header, KeepsRule, KeepsAllRules}
 use Rattle.sub_rules.proofs.PacketLists.{first_header-push, Each-push, Each-map}
 use Rattle.sub_rules.specs.Transmission.{EachPacket, SentFrame, Transmission, first_frame}
 use Rattle.sub_rules.specs.Transmission.{last_frame, on_air_until}
@@ -65,7 +65,7 @@ enhancement_is_other w p (a, e, m, low, high) =
 -- ---- one packet more in a span
 
 -- After a packet that keeps the rules the span is clean still.
-pub fair_step : (w : Watched) (heard : List (List ℕ)) (p : List ℕ) → IsClean w heard p
+pub fair_step : (w : Watched) (heard : List (List ℕ)) (p : List ℕ) → KeepsAllRules w heard p
     → IsCleanSpan w.page (span (kind w.page) heard)
     → IsCleanSpan w.page (span (kind w.page) (heard ++ p ∷ []))
 fair_step w heard p clean h =
@@ -138,7 +138,7 @@ module _ (programme : ProgrammeValue) (options : OptionsValue) (unread : Option 
 
   -- Each packet keeps the rules.
   clean_at : (i k : ℕ) → i < length t → k < length (packets_of_frame t i)
-      → IsClean (watched_of programme options) (before t i k) (packet_at t i k)
+      → KeepsAllRules (watched_of programme options) (before t i k) (packet_at t i k)
   clean_at i k l m f = (h.each i l).packets k m f
 
   -- These packets, cut anywhere, leave a clean span.
@@ -303,7 +303,7 @@ module _ (programme : ProgrammeValue) (options : OptionsValue) (t : Transmission
 
     -- Each packet keeps each rule.
     free_at : (i k : ℕ) → i < length t → k < length (packets_of_frame t i)
-        → IsClean (watched_of programme options) (before t i k) (packet_at t i k)
+        → KeepsAllRules (watched_of programme options) (before t i k) (packet_at t i k)
     free_at i k l m rule.Address = (each_at HasExactWords t i k good.exact l m).0
     free_at i k l m rule.HeaderCode = (each_at HasExactWords t i k good.exact l m).1
     free_at i k l m rule.Mode = mode_at i k l m

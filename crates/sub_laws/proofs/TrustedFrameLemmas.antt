@@ -15,7 +15,8 @@ use Rattle.sub_rules.specs.Pieces.{frames_of}
 use Rattle.sub_rules.specs.Transmission.{IsRising, Transmission, packets_of}
 use Rattle.sub_rules.specs.Trusted.{stands_none}
 use Rattle.sub_rules.specs.declared.packet_rule.PacketRule.{PacketRule}
-use Rattle.sub_laws.specs.CleanStretch.{AtEnds, IsClean, IsEnd, IsStretch, IsUntold, is_needed}
+use Rattle.sub_laws.specs.CleanStretch.{AtEnds, IsCleanStretch, IsEnd, IsStretch, IsUntold}
+use Rattle.sub_laws.specs.CleanStretch.{is_needed}
 use Rattle.sub_laws.specs.TrustedFrames.{LawOfTrusted, rises_at, rising_count, rising_part}
 use Rattle.sub_laws.proofs.CleanStretchLemmas.{law_of_clean_stretch}
 use Rattle.sub_laws.proofs.GoodLemmas.{any_sent, number_at}
@@ -327,7 +328,7 @@ module _ (g : Task) (frames : Transmission) (from to : ℕ) (stays : StaysTo g f
   }
 
   -- What is told as trusted is clean, and pages are complete in it.
-  pub clean : IsClean g part from to
+  pub clean : IsCleanStretch g part from to
   clean = (law_of_untold_stretch g part from to).clean untold
 
   pub complete : AtEnds (λ n f. IsEnded g part n) part from to

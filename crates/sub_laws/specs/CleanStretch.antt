@@ -120,7 +120,7 @@ pub record IsStretch (frames : Transmission) (a b : ℕ) : Type 0 where
 
 -- A clean stretch keeps all parts. Any other rule may be broken there. Where frames rise, as the
 -- first part asks of the whole transmission, any other rule may be broken before and after.
-pub record IsClean (g : Task) (frames : Transmission) (a b : ℕ) : Type 0 where
+pub record IsCleanStretch (g : Task) (frames : Transmission) (a b : ℕ) : Type 0 where
   pub stretch : IsStretch frames a b
   pub kept : (part : Part) → IsKeptWithin part g frames a b
 
@@ -146,7 +146,7 @@ abbrev pub LawOfCleanStretch : Type 0
 LawOfCleanStretch =
     (programme : ProgrammeValue) (transmission : Transmission) (options : OptionsValue)
     → (unread : Option Unread) (a b : ℕ)
-    → IsClean (task_of programme options unread) transmission a b
+    → IsCleanStretch (task_of programme options unread) transmission a b
     → IsTrusted programme transmission options unread a b
 
 -- ---- what is told
@@ -176,7 +176,7 @@ pub record IsUntold (g : Task) (frames : Transmission) (a b : ℕ) : Type 0 wher
 
 -- What is told of a stretch, and what is so of it.
 pub record DecidesStretch (g : Task) (frames : Transmission) (a b : ℕ) : Type 0 where
-  pub clean : IsUntold g frames a b → IsClean g frames a b
+  pub clean : IsUntold g frames a b → IsCleanStretch g frames a b
   pub ended :
       AtEnds (λ n f. IsFalse (standing_at g frames n f).incomplete) frames a b
       → AtEnds (λ n f. IsEnded g frames n) frames a b
