@@ -49,6 +49,6 @@ pub record Counts (old : ℕ) (status : Status) (new : ℕ) : Type 0 where
   pub risen : old ≤ new
   pub once : new ≤ old + 1
 
--- The same of a device, by how often such a device has failed.
+-- The count of a device rises so in a call, by how often such a device has failed.
 abbrev pub CountsFault : {D : Type 0} → (D → ℕ) → D → Status → D → Type 0
 CountsFault failure_count old status new = Counts (failure_count old) status (failure_count new)

@@ -65,7 +65,7 @@ AreListedOfPes programme options bytes events (Err n) =
     (n ≤ length (piece_file_of options.origin bytes).pieces)
     × (events ≡ events_of_first_pieces programme options bytes n)
 
--- The same, where the subtitle file gives a programme.
+-- What is listed of both files, where the subtitle file gives a programme.
 pub record IsListedOf
     (national : National) (options : OptionsValue) (file : List ℕ) (pes : Option (List ℕ))
     (events : List Event) (answer : Result Accepted ℕ) : Type 0 where

@@ -46,7 +46,7 @@ control_names h = marked (c4 h) (codes " C4") ++ marked (c5 h) (codes " C5")
     ++ marked (c11 h) (codes " C11") ++ marked (c12 h) (codes " C12")
     ++ marked (c13 h) (codes " C13") ++ marked (c14 h) (codes " C14")
 
--- The same, or ` none` where no bit is set.
+-- The names of the control bits that are set, or ` none` where no bit is.
 abbrev pub control_list : Header → List ℕ
 control_list h =
     if length (control_names h) == 0 then codes " none" else control_names h

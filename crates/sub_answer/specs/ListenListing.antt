@@ -22,7 +22,7 @@ abbrev pub row_line : ℕ → List ℕ → List ℕ
 row_line row cells =
     codes "row " ++ two_digits row ++ codes " |" ++ map glyph cells ++ codes "|\n"
 
--- The same, where the row holds a cell other than a space.
+-- The line of a row that holds a cell other than a space; nothing of any other row.
 abbrev pub row_text : ℕ → List ℕ → List ℕ
 row_text row cells = if list_all (λ c. c == space) cells then [] else row_line row cells
 

@@ -48,7 +48,7 @@ row_listing magazine packet_number packet = if nat_le packet_number 24
     then done (address_line magazine packet_number ++ text_line (drop 2 packet))
     else done (address_line magazine packet_number)
 
--- The same by the magazine and the packet number that a packet has.
+-- What is listed of a packet, by the magazine and the packet number that it has.
 abbrev pub addressed_listing : Option (ℕ × ℕ) → List ℕ → Listing
 addressed_listing None packet = told_listing (packet_told BadAddress)
 addressed_listing (Some a) packet = if a.1 == 0

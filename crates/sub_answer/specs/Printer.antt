@@ -41,8 +41,8 @@ pub record PrintsEvent (old : PrinterValue) (event : Event) (new : PrinterValue)
   pub cut : new.failed ≡ true → AppendsPrefix old.contents new.contents (event_line event)
   pub cut_count : new.failed ≡ true → new.count ≡ old.count + 1
 
--- The same of events, told one after another to one that has not failed: all lines were put, or a
--- prefix of them.
+-- Events were told, one after another, to a printer that has not failed: all their lines were put,
+-- or a prefix of them.
 pub record PrintsEvents (old : PrinterValue) (events : List Event) (new : PrinterValue) : Type 0
   where
     pub put : new.failed ≡ false → Appends old.contents new.contents (event_lines events)

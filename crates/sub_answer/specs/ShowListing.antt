@@ -56,7 +56,8 @@ subtitles_listing count (gives s block more) =
 abbrev pub ListsSubtitles : IsListed
 ListsSubtitles = Lists (subtitles_listing 0) outcome_of ReadsFile
 
--- The same after `count` subtitles, by the reader behind the GSI block, or where there is none yet.
+-- What is listed after `count` subtitles, by the reader after the GSI block, or where there is none
+-- yet.
 abbrev pub ListsFrom : Option ReaderValue → ℕ → IsListed
 ListsFrom None count = Lists (subtitles_listing count) outcome_of ReadsFile
 ListsFrom (Some r) count =

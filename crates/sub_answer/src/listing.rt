@@ -92,7 +92,7 @@ pub fn list<L: Lister, S: Ahead, K: Flush>(lister: &mut L, source: &mut S, out: 
     list_to(lister, source, &mut printer)
 }
 
-// The same by a printer.
+// Prints the lines of all that a lister gives, by a printer.
 fn list_to<L: Lister, S: Ahead, K: Flush>(
     lister: &mut L,
     source: &mut S,

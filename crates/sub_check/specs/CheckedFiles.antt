@@ -128,8 +128,8 @@ events_of programme options bytes =
     let file = pes_file_of options.origin bytes in
     events (task_of programme options file.unread) file.frames
 
--- The same where reading goes on behind a piece that is passed over, and which frames may be
--- trusted.
+-- All that is told of them where reading goes on after a piece that is passed over, and which
+-- frames may be trusted.
 abbrev pub all_events_of : ProgrammeValue → OptionsValue → List ℕ → List Event
 all_events_of programme options bytes =
     let file = piece_file_of options.origin bytes in
@@ -228,7 +228,7 @@ abbrev pub answer_by : Option CheckFault → Accepted → Result Accepted CheckF
 answer_by None a = Ok a
 answer_by (Some f) a = Err f
 
--- The same by all that is told.
+-- The answer of a check by all that is told.
 abbrev pub first_answer : List Event → Accepted → Result Accepted CheckFault
 first_answer events a = answer_by (first_told events) a
 

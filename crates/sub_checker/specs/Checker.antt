@@ -36,7 +36,7 @@ pub record CheckerValue : Type 0 where
   pub late_at : ℕ
   pub headers : ℕ
 
--- The same at another frame, with the page that is due there.
+-- The checker at another frame, with the page that is due there.
 abbrev pub at_frame : ℕ → CheckerValue → CheckerValue
 at_frame f c = record c {
   frame = f;
@@ -45,11 +45,11 @@ at_frame f c = record c {
   };
 }
 
--- The same at the frame of the first PES packet.
+-- The checker at the frame of the first PES packet.
 abbrev pub at_first : ℕ → CheckerValue → CheckerValue
 at_first f c = record (at_frame f c) { first = f; latest = f; late_at = f + c.every }
 
--- The same at the frame of another one.
+-- The checker at the frame of a later PES packet.
 abbrev pub at_next : ℕ → CheckerValue → CheckerValue
 at_next f c = record (at_frame f c) { latest = max c.latest f }
 
@@ -71,7 +71,7 @@ stands heard c = record {
       c.listener.watched.complete && is_open_after (kind c.listener.watched.page) heard;
 }
 
--- The same after the end of its frame.
+-- The checker after the end of its frame.
 abbrev pub after_end : List (List ℕ) → CheckerValue → CheckerValue
 after_end heard c = record c { standing = stands heard c; last = c.frame }
 

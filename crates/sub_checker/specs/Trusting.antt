@@ -54,7 +54,7 @@ pub record JudgesWith
   pub rises_is : t.rises ≡ not (list_any is_order (events_of_first g frames n))
   pub told_is : t.told ≡ told
 
--- The same where all that was told is told of these frames.
+-- What is kept after the first n frames of the list, where all that was told is told of them.
 abbrev pub Judges : Task → Transmission → ℕ → Trust → Type 0
 Judges g frames n t =
     JudgesWith g frames n (run_after g frames n) (not (tells_none (events_of_first g frames n))) t

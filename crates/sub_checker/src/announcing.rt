@@ -182,7 +182,7 @@ fn follows(last: &Option<CheckFault>, fault: &CheckFault) -> bool
     }
 }
 
-// The same after one.
+// The fault, of a piece that is passed over directly after the last one, has its number.
 #[tactic(auto, unfolding(sub_rules::specs::PieceEvents::goes_on))]
 fn goes_on(last: &CheckFault, fault: &CheckFault) -> bool
     ensures { result ≡ goes_on last.now fault.now }

@@ -104,7 +104,7 @@ fn tell_closing<A: Audience<Event>>(
     told
 }
 
-// The same to a device that announces it.
+// Tells what comes after the last piece to a device that announces it.
 fn announce_closing<A: Audience<Event>>(
     checker: &Checker<'_>,
     pes: u32,
@@ -128,7 +128,7 @@ fn announce_closing<A: Audience<Event>>(
     hand_closing(checker, pes, frames, fault, trust, announcing)
 }
 
-// The same to any device, with what is trusted.
+// Tells what comes after the last piece to any device, with what is trusted.
 fn hand_closing<A: Audience<Event>>(
     checker: &Checker<'_>,
     pes: u32,
@@ -154,8 +154,8 @@ fn hand_closing<A: Audience<Event>>(
     close(checker, pes, frames, fault, &mut trusting)
 }
 
-// The same to a device that tells which frames may be trusted: where there are pieces and none is
-// sent, the fault alone.
+// Tells what comes after the last piece to a device that tells which frames may be trusted: where
+// there are pieces and none is sent, the fault alone.
 fn close<A: Audience<Event>>(
     checker: &Checker<'_>,
     pes: u32,

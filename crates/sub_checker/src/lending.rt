@@ -45,7 +45,7 @@ pub(crate) fn next_live<S: Ahead, A: LiveAudience<Event>>(
     Some(read)
 }
 
-// The same of a source that is lent. Where a pull was refused the answer is of no use.
+// Reads the next piece of a source that is lent. Where a pull was refused the answer is of no use.
 fn next_lent<S: Ahead, A: LiveAudience<Event>>(
     reader: &mut ComparingReader,
     lent: &mut HandingOn<'_, S, A>,

@@ -73,7 +73,7 @@ impl StandingRules {
     }
 }
 
-// The same of the first wrong cell.
+// Tells where a wrong cell has ended, and where the first wrong cell is another one now.
 #[tactic(auto, using(sub_io::proofs::TellingLemmas::tellings))]
 fn tell_content<A: Audience<Event>>(
     old: Option<(u8, u8)>,
@@ -120,7 +120,7 @@ fn is_same_cell(a: (u8, u8), b: (u8, u8)) -> bool
     a.0 == b.0 && a.1 == b.1
 }
 
-// The same of a rule without a place in the frame.
+// Tells where a rule without a place in the frame is broken anew, or is so no more.
 fn tell_rule<A: Audience<Event>>(
     rule: EndRule,
     fault: CheckFault,

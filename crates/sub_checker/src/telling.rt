@@ -76,7 +76,7 @@ pub fn tell_all<S: Source, A: Audience<Event>>(
     tell_frames(programme, source, options, &mut trusting)
 }
 
-// The same, to a device that tells which frames may be trusted.
+// Tells all that is broken to a device that tells which frames may be trusted.
 #[tactic(auto, using(sub_io::proofs::TellingLemmas::some))]
 fn tell_frames<S: Source, A: Audience<Event>>(
     programme: &Programme,

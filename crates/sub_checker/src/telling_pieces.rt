@@ -194,7 +194,7 @@ fn tell_sent<A: Audience<Event>>(
     told
 }
 
-// The same to a device that announces it.
+// Tells a frame that is sent to a device that announces it.
 fn announce_frame<A: Audience<Event>>(
     checker: &mut Checker<'_>,
     frames: u32,
@@ -228,7 +228,7 @@ fn announce_frame<A: Audience<Event>>(
     hand_frame(checker, frames, sending, units, trust, announcing)
 }
 
-// The same to any device, with what is trusted.
+// Tells a frame that is sent to any device, with what is trusted before it.
 fn hand_frame<A: Audience<Event>>(
     checker: &mut Checker<'_>,
     frames: u32,
@@ -294,7 +294,7 @@ fn tell_passed<A: Audience<Event>>(
     told
 }
 
-// The same to a device that announces it.
+// Tells the fault of a piece that is passed over to a device that announces it.
 fn announce_fault<A: Audience<Event>>(
     fault: CheckFault,
     trust: &mut Trust,
@@ -313,7 +313,7 @@ fn announce_fault<A: Audience<Event>>(
     hand_fault(fault, trust, announcing)
 }
 
-// The same to any device, with what is trusted.
+// Tells the fault of a piece that is passed over to any device, with what is trusted before it.
 #[tactic(auto, using(sub_io::proofs::TellingLemmas::some), unfolding(sub_rules::specs::Trusted::with_run))]
 fn hand_fault<A: Audience<Event>>(
     fault: CheckFault,

@@ -216,7 +216,7 @@ fn doubted(last: u32, event: &Event) -> Option<u32>
     }
 }
 
-// The same of a fault.
+// The frame that is quiet no more where this fault is told, if any, as `doubted`.
 fn doubted_by(last: u32, fault: &CheckFault) -> Option<u32>
     ensures { result ≡ doubted_by last fault.now }
 {

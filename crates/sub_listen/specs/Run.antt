@@ -104,7 +104,8 @@ pub record Runs
   pub ends :
       MatchResult result (λ _. EndsAfter l frames unread n) (RefusesAfter l frames unread n)
 
--- The same of a file of which these bytes were to be read before, and are left after.
+-- What becomes of a receiver that hears a file, of which these bytes were to be read before, and
+-- these are left after.
 pub record HearsFile
     (leaves : ℕ → ℕ) (l : Listening) (frames : Transmission) (unread : Option Unread)
     (told left : Option (List ℕ)) (w : PageIdValue) (old new : Display)

@@ -125,7 +125,8 @@ fn next_live<S: Ahead, K: Flush>(
     Some(read)
 }
 
-// The same of a source that is lent. Where a pull was refused the answer is of no use.
+// Reads the next PES packet of a source that is lent. Where a pull was refused the answer is of no
+// use.
 fn next_lent<S: Ahead, K: Flush>(
     reader: &mut ComparingReader,
     lent: &mut HandingOn<'_, S, Printer<'_, K>>,
