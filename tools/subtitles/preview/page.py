@@ -28,6 +28,7 @@ MOST_PAGES, MOST_LINKS = 200, 100  # of the table of headers, and to subtitles
 SAYS = ("The verdict and the faults are lines that <code>subttx check --all</code> printed, and "
         "nothing else on this page accepts or refuses. The pictures are drawn by a script that is "
         "not proved; they show one receiver, tuned in before the first packet.")
+LOST = "TS packets of the recording are lost: nobody saw what was sent there"
 ACCEPTED = ("Frames are counted from the first PES packet's to the last one's, transmissions by "
             "the headers of the page.")
 
@@ -120,6 +121,9 @@ def verdict_box(report: Report) -> str:
         parts.append(meaning_of_verdict(report))
     else:
         parts.append(f"<p>{ACCEPTED}</p>")
+    if report.asked.lost:
+        lost = "".join(f"<li>{shown(words)}</li>" for words in report.asked.lost)
+        parts.append(f'<p class="count bad">{LOST}</p><ul class="lost">{lost}</ul>')
     kind, shape = ("refused", BAD) if verdict.status else ("accepted", GOOD)
     return (f'<div class="verdict {kind}">{shape}<div><p class="line" id="verdict">'
             f'{shown(verdict.line)}</p>{"".join(parts)}</div></div>')

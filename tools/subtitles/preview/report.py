@@ -33,7 +33,7 @@ class Asked(NamedTuple):
     """What is asked for: files and the program as they were typed, and the options of `check`.
 
     `words` are those of the command line. `pes` is `None` where there is none. `window` are the
-    first and the last frame of which subtitles get pictures.
+    first and the last frame of which subtitles get pictures. `lost` tells what is missing.
     """
 
     words: list[str]
@@ -47,6 +47,7 @@ class Asked(NamedTuple):
     option: str
     is_complete: bool
     window: tuple[int, int]
+    lost: list[str]
 
     def options(self) -> str:
         """All options as they hold."""

@@ -3,7 +3,7 @@ from __future__ import annotations
 
 import os
 
-from ..extracting import what_of
+from ..extracting import TOLD, what_of
 from ..joining import Place
 from ..times import CLOCK, FRAMES_OF_A_DAY, TICKS, time_of
 from ..words import counted
@@ -69,7 +69,7 @@ class Pair:
         stl = self.asked.stl
         self.verdict.parts.append(Part(1, stl, stl, None, None, None, None, None, answer))
         if is_refused:
-            self.steps.draw(self.names, [stl], [stl], 0)
+            self.steps.draw(self.names, [stl], [stl], 0, [])
 
     def judge_transmission(self) -> None:
         """Judges what was recorded, part by part."""
@@ -86,16 +86,15 @@ class Pair:
         if recording.live:
             answer = recording.live.end()
             self.speech.end_list(answer.last)
-            self.end_part(1, self.all_of(recording.live.origin), answer)
+            self.end_part(1, self.all_of(recording.live.origin), answer, recording.places())
         else:
             found = [self.whole] if asked.origin is not None else \
                 steps.origins(recording, self.whole)
             stretches = self.stretches(found, len(times))
             for number, one in enumerate(stretches, 1):
                 steps.cut(recording, one)
-                self.end_part(number, one, steps.check(one))
-        if recording.carrier:
-            self.note_gaps(recording.carrier.places())
+                self.end_part(number, one, steps.check(one), recording.places())
+        self.note_gaps(recording.places())
 
     def all_of(self, origin: int) -> Stretch:
         """All subtitles, with one origin."""
@@ -113,13 +112,17 @@ class Pair:
                           "and nobody would look at it: mend its times")
         return stretches
 
-    def end_part(self, number: int, one: Stretch, answer: Answer) -> None:
-        """Takes what `check` said of a part, and draws its report."""
+    def end_part(self, number: int, one: Stretch, answer: Answer, places: list[Place]) -> None:
+        """Takes what `check` said of a part, and draws its report, with what is missing there."""
         cut = one.names.cut_path
         judged = file_of(cut, one.names.cut) if self.is_summed else None
-        self.verdict.parts.append(Part(number, one.stl, one.stl_path, cut, one.origin, one.begin,
-                                       one.end, judged, answer))
-        self.steps.draw(one.names, [one.stl_path, cut], [one.stl, one.names.cut], one.origin)
+        part = Part(number, one.stl, one.stl_path, cut, one.origin, one.begin, one.end, judged,
+                    answer)
+        self.verdict.parts.append(part)
+        lost = [gap_of(place, one.origin, True).line() for place in places if is_in(place, part)]
+        if len(lost) > TOLD:
+            lost = [*lost[:TOLD], f"and at {counted(len(lost) - TOLD, 'more place')}"]
+        self.steps.draw(one.names, [one.stl_path, cut], [one.stl, one.names.cut], one.origin, lost)
 
     # A feed.
 
@@ -143,8 +146,13 @@ class Pair:
         for place in places:
             parts = [part for part in self.verdict.parts if is_in(place, part)]
             origin = (parts or self.verdict.parts)[0].origin or 0
-            times = time_at(place.before, origin), time_at(place.after, origin)
-            self.verdict.gaps.append(Gap(*times, what_of(place), place, bool(parts)))
+            self.verdict.gaps.append(gap_of(place, origin, bool(parts)))
+
+
+def gap_of(place: Place, origin: int, is_judged: bool) -> Gap:
+    """A place at which TS packets are missing, with its times."""
+    times = time_at(place.before, origin), time_at(place.after, origin)
+    return Gap(*times, what_of(place), place, is_judged)
 
 
 def is_in(place: Place, part: Part) -> bool:

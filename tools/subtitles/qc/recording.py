@@ -6,6 +6,7 @@ from typing import Iterator
 
 from ..extracting import NoTeletext
 from ..files import Damaged
+from ..joining import Place
 from ..pes import pes_packets
 from ..words import counted, pid_name
 from .asked import Asked
@@ -58,6 +59,10 @@ class Recording:
             raise
         finally:
             source.close()
+
+    def places(self) -> list[Place]:
+        """Where TS packets are missing."""
+        return self.carrier.places() if self.carrier else []
 
     def take(self, source: Source) -> None:
         """Takes a file of PES packets as it is."""

@@ -64,8 +64,7 @@ def end(verdict: Verdict, speech: Speech) -> None:
     for line in verdict.lines():
         speech.say(line)
     for gap in verdict.gaps:
-        speech.tell(f"between {gap.after or 'the beginning'} and {gap.before or 'the end'}: "
-                    f"{gap.words}" + ("" if gap.is_judged else ", outside of what is judged"))
+        speech.tell(gap.line() + ("" if gap.is_judged else ", outside of what is judged"))
     if verdict.is_lost and not verdict.asked.is_loss_allowed:
         speech.tell("nobody saw what was sent there; --allow-lost accepts the recording "
                     "without it")

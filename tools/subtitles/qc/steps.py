@@ -132,11 +132,13 @@ class Steps:
         self.speech.end_list(answer.last)
         return answer
 
-    def draw(self, names: Names, given: list[str], typed: list[str], origin: int) -> None:
-        """Draws the report of some files, where there is a folder for it."""
+    def draw(self, names: Names, given: list[str], typed: list[str], origin: int,
+             lost: list[str]) -> None:
+        """Draws the report of some files, and of what is lost, where there is a folder for it."""
         if names.out is None:
             return
-        words = [*self.asked.check_words(), *origin_words(origin)]
+        words = [*self.asked.check_words(), *origin_words(origin),
+                 *(word for words in lost for word in ("--lost", words))]
         done = self.tool(
             "preview", [*given, *words, "-p", self.typed.program_path, "-o", names.report],
             [*typed, *words, *self.typed.program_words, "-o", names.report])

@@ -48,6 +48,11 @@ class Gap:
     place: Place
     is_judged: bool
 
+    def line(self) -> str:
+        """Where it is, and what is missing."""
+        return f"between {self.after or 'the beginning'} and {self.before or 'the end'}: " \
+            f"{self.words}"
+
 
 @dataclasses.dataclass
 class Verdict:

@@ -138,8 +138,11 @@ def refuses_what_was_lost(case: Case) -> None:
            and whole[at + 2] == 1]
     inner = [at for at in own if not whole[at + 1] & 0x40]
     at = inner[len(inner) // 2]
-    done = qc(case, stl, case.write("lost.ts", whole[:at] + whole[at + TS:]), "--json", "lost.json")
+    done = qc(case, stl, case.write("lost.ts", whole[:at] + whole[at + TS:]), "-o", "lost")
     case.test("within a PES packet", done.status == 1 and "TS packet lost" in done.told[0], done)
+    report = case.read("lost/random.html").decode()
+    case.test("its report", "<li>" + done.told[0].removeprefix("qc: ") + "</li>" in report
+              and "nobody saw what was sent there" in report, done)
     begins = [at for at, after in zip(own, own[1:])
               if whole[at + 1] & 0x40 and whole[after + 1] & 0x40]
     if begins:
