@@ -1,21 +1,21 @@
 -- Each stretch that may stay is told as trusted from a header of the page in it on:
 -- `law_of_all_trusted`.
 use Rattle.std.proofs.lemmas.Bool.Decides.{nat_tests}
-use Rattle.std.proofs.Common.{◌≡◌, ℕ, zero, suc, ◌+◌, ◌-◌, ◌<◌, ◌≤◌, inl, inr, Bool, true, false}
-use Rattle.std.proofs.Common.{List, [], ◌∷◌, Contains, length, take, Option, Some, None, refl, sym}
-use Rattle.std.proofs.Common.{ap, ◌∙◌, subst, arith, cond, ◌⊎◌, ◌||◌, ◌++◌, not, map}
+use Rattle.std.proofs.Common.{◌≡◌, ℕ, suc, ◌+◌, ◌-◌, ◌<◌, ◌≤◌, inl, inr, Bool, true, false, List}
+use Rattle.std.proofs.Common.{[], ◌∷◌, Contains, length, Option, Some, None, refl, sym, ap, ◌∙◌}
+use Rattle.std.proofs.Common.{subst, arith, ◌⊎◌, ◌||◌, ◌++◌, not, map}
 use Rattle.std.proofs.lemmas.Bool.{cases_lt, lt-ltb}
-use Rattle.std.proofs.lemmas.List.{length-take-le, take-take}
+use Rattle.std.proofs.lemmas.List.{take-take}
 use Rattle.std.proofs.lemmas.List.Elements.{Contains-append_left, Contains-append_right}
 use Rattle.ttx_page.specs.PacketKind.{kind}
 use Rattle.ttx_page.specs.Span.{holds_header}
-use Rattle.sub_rules.specs.Events.{frame_events, gap_events, gap_length, order_events, standing_at}
-use Rattle.sub_rules.specs.Events.{standing_before, unread_fault}
+use Rattle.sub_rules.specs.Events.{frame_events, gap_length, standing_at, standing_before}
+use Rattle.sub_rules.specs.Events.{unread_fault}
 use Rattle.sub_rules.specs.FrameRules.{Task, Unread, end_frame, frame_at, packets_of_frame}
 use Rattle.sub_rules.specs.PacketTests.{breaks}
-use Rattle.sub_rules.specs.Transmission.{Transmission, last_frame, SentFrame}
+use Rattle.sub_rules.specs.Transmission.{Transmission}
 use Rattle.sub_rules.specs.Trusted.{begun, frame_before, is_quiet, own_events, run_over}
-use Rattle.sub_rules.specs.Trusted.{stands_none, tells_none, trust_end, trusted, with_run}
+use Rattle.sub_rules.specs.Trusted.{stands_none, tells_none, trust_end, with_run}
 use Rattle.sub_rules.specs.declared.event.Event.{Event}
 use Rattle.sub_rules.specs.declared.event.Event.TheVariants.{Trusted, Told}
 use Rattle.sub_rules.specs.declared.packet_rule.PacketRule.{PacketRule}
@@ -24,57 +24,28 @@ use Rattle.sub_rules.specs.PieceEvents.{no_run, run_after_each, run_at, told_of_
 use Rattle.sub_rules.specs.PieceEvents.{told_of_passed, told_of_pieces}
 use Rattle.sub_rules.specs.Pieces.{Piece, frames_of}
 use Rattle.sub_rules.specs.Pieces.Piece.{Passed, Sent}
-use Rattle.sub_laws.proofs.DoubtLemmas.{contains-announced, contains-at, first_doubt, none-doubt}
-use Rattle.sub_laws.proofs.DoubtLemmas.{or_else, or_none, over-none, over-some, told_in_run}
+use Rattle.sub_laws.proofs.DoubtLemmas.{any_doubt, contains-announced, contains-at, first_doubt}
+use Rattle.sub_laws.proofs.DoubtLemmas.{over-is, over-some, told_in_run}
 use Rattle.sub_laws.proofs.TrustedPieceLemmas.{any_told, passed_doubt}
-use Rattle.sub_laws.proofs.TrustedRunLemmas.{IsRun, run_next, Run, latest_is, long, stood, up_to}
+use Rattle.sub_laws.proofs.TrustedRunLemmas.{IsRun, run_next, Run, latest_is, long, stood, ways}
 use Rattle.sub_laws.specs.CleanStretch.{IsEnd, is_needed}
-use Rattle.sub_laws.specs.TrustedFrames.{CanStay, LawOfAllTrusted, rising_count}
-use Rattle.sub_laws.proofs.FrameDoubtLemmas.{frame_doubt, gap_doubt, none_some, order_doubt}
+use Rattle.sub_laws.specs.TrustedFrames.{CanStay, LawOfAllTrusted, rising_part}
 use Rattle.sub_laws.proofs.FrameDoubtLemmas.{own_doubt, stood_before}
 use Rattle.sub_laws.proofs.OrderToldLemmas.{rises_untold}
 use Rattle.sub_laws.proofs.PassedOutsideLemmas.{IsOutside, is_outside}
-use Rattle.sub_laws.proofs.PrefixLemmas.{before, last-same, packet_at}
-use Rattle.sub_laws.proofs.TrustedFrameLemmas.{count_low, count_most, count_rises, frame_at-take}
-use Rattle.sub_laws.proofs.TrustedFrameLemmas.{packets-take, standing-take}
-
--- A frame whose number is told to fall does so.
-order_falls : (g : Task) (frames : Transmission) (last i x : ℕ)
-    → frame_at frames i < frame_at frames (suc i)
-    → first_doubt last (order_events g frames (suc i)) ≡ Some x
-    → ⊥
-unfolding order_events
-order_falls g frames last i x up e =
-    none_some (rw (lt-ltb (frame_at frames i) (frame_at frames (suc i)) up) at e)
+use Rattle.sub_laws.proofs.PrefixLemmas.{before, frame_at-take, packet_at, packets-take, rises_to}
+use Rattle.sub_laws.proofs.TrustedFrameLemmas.{count_most, part_last, part_length, part_rises}
+use Rattle.sub_laws.proofs.TrustedFrameLemmas.{risen, risen_low, rises_more, standing-take}
 
 module _ (g : Task) (pieces : List Piece) (a b : ℕ) (can : CanStay g pieces a b) where
   abbrev frames : Transmission
   frames = frames_of pieces
 
   abbrev m : ℕ
-  m = rising_count frames (length frames)
+  m = risen frames
 
   abbrev part : Transmission
-  part = take m frames
-
-  within : m ≤ length frames
-  within = count_low frames (length frames)
-
-  part_length : length part ≡ m
-  part_length = length-take-le m frames within
-
-  up : (k : ℕ) → 0 < k → k < m → frame_at frames (k - 1) < frame_at frames k
-  up k l h =
-      let back : suc (k - 1) ≡ k = omega arith in
-      subst (λ j. frame_at frames (k - 1) < frame_at frames j) back
-      (count_rises frames (length frames) (k - 1) (omega arith))
-
-  -- The last frame of the rising part.
-  last_is : 0 < m → last_frame part ≡ frame_at frames (m - 1)
-  last_is some =
-      last-same part
-      ∙ ap (λ k. frame_at part (k - 1)) part_length
-      ∙ frame_at-take frames m (m - 1) (omega arith)
+  part = rising_part frames
 
   -- Its packets break no rule on which a receiver depends.
   packets_quiet : (r : PacketRule) (k p : ℕ)
@@ -85,7 +56,7 @@ module _ (g : Task) (pieces : List Piece) (a b : ℕ) (can : CanStay g pieces a 
       → p < length (packets_of_frame frames k)
       → breaks r g.watched (before frames k p) (packet_at frames k p) ≡ false
   packets_quiet r k p needed l low high below =
-      let all = part_length in
+      let all = part_length frames in
       let ps = packets-take frames m k l in
       let at = frame_at-take frames m k l in
       let earlier = take-take k m frames (omega arith) in
@@ -106,7 +77,7 @@ module _ (g : Task) (pieces : List Piece) (a b : ℕ) (can : CanStay g pieces a 
   own_end : (k : ℕ) → k < m → a ≤ frame_at frames k → frame_at frames k ≤ b
       → stands_none (standing_at g frames (suc k) (frame_at frames k)) ≡ true
   own_end k l low high =
-      let all = part_length in
+      let all = part_length frames in
       let back : suc k - 1 ≡ k = omega arith in
       let at = frame_at-take frames m k l ∙ refl in
       ends_quiet (suc k) (frame_at frames k)
@@ -117,7 +88,7 @@ module _ (g : Task) (pieces : List Piece) (a b : ℕ) (can : CanStay g pieces a 
       → a ≤ f → f ≤ b
       → stands_none (standing_at g frames n f) ≡ true
   gap_end n f some l later earlier low high =
-      let all = part_length in
+      let all = part_length frames in
       let at = frame_at-take frames m n l in
       ends_quiet n f (
         some,
@@ -127,7 +98,7 @@ module _ (g : Task) (pieces : List Piece) (a b : ℕ) (can : CanStay g pieces a 
           omega arith,
           λ k below.
               let e = frame_at-take frames m k (omega arith) in
-              let h = up_to g frames m up k (n - 1) (omega arith) (omega arith) in
+              let h = rises_to frames m (part_rises frames) k (n - 1) (omega arith) (omega arith) in
               omega arith,
         ),
       )
@@ -139,7 +110,7 @@ module _ (g : Task) (pieces : List Piece) (a b : ℕ) (can : CanStay g pieces a 
       → first_doubt (frame_before frames k) (own_events g frames k) ≡ None
   own_calm k l low high =
       (own_doubt g frames k).calm
-      (λ r p needed below. packets_quiet r k p needed l low high below) (own_end k l low high)
+      (λ r p needed below. packets_quiet r k p needed l low high below, own_end k l low high)
 
   quiet_if : (k : ℕ) → suc k ≤ m
       → first_doubt (frame_before frames k) (own_events g frames k) ≡ None
@@ -147,9 +118,9 @@ module _ (g : Task) (pieces : List Piece) (a b : ℕ) (can : CanStay g pieces a 
       → is_quiet g frames k ≡ true
   unfolding is_quiet
   quiet_if k l own stands =
-      let orders = rises_untold g frames (suc k) (λ i a h. up i a (omega arith)) in
-      let none = none-doubt (frame_before frames k) (own_events g frames k) own in
-      rw (orders, none, stands) refl
+      let orders = rises_untold g frames (suc k) (λ i a h. part_rises frames i a (omega arith)) in
+      let any = any_doubt (frame_before frames k) (own_events g frames k) in
+      rw (orders, any, own, stands) refl
 
   module _ (i : ℕ) (there : i < m) (low : a ≤ frame_at frames i) (high : frame_at frames i ≤ b)
       (header : holds_header (kind g.watched.page) (packets_of_frame frames i) ≡ true)
@@ -175,7 +146,7 @@ module _ (g : Task) (pieces : List Piece) (a b : ℕ) (can : CanStay g pieces a 
               let run = before from left.0 in
               let at = run.at in
               let below = run.below in
-              let rise = up_to g frames m up run.j i (omega arith) there in
+              let rise = rises_to frames m (part_rises frames) run.j i (omega arith) there in
               (from, omega arith, e ∙ rw is refl)
 
       -- ---- the next frame
@@ -192,18 +163,12 @@ module _ (g : Task) (pieces : List Piece) (a b : ℕ) (can : CanStay g pieces a 
           abbrev f : ℕ
           f = frame_at frames n
 
-          abbrev order : Option ℕ
-          order = first_doubt last (order_events g frames n)
-
-          abbrev gap : Option ℕ
-          gap = first_doubt last (gap_events g frames n (gap_length frames n))
-
           n_low : n ≤ m
           n_low = count_most frames (length frames) n (omega arith) run.rises
 
           a_low : a ≤ frame_at frames k
           a_low =
-              let rise = up_to g frames n run.rises i k l (omega arith) in
+              let rise = rises_to frames n run.rises i k l (omega arith) in
               omega arith
 
           back : frame_at frames (n - 1) ≡ frame_at frames k
@@ -211,102 +176,70 @@ module _ (g : Task) (pieces : List Piece) (a b : ℕ) (can : CanStay g pieces a 
 
           -- Where its number rises it is in the rising part.
           rises_in : frame_at frames k < f → n < m
-          rises_in rise =
-              let most =
-              count_most frames (length frames) (suc n) (omega arith)
-              (λ j s h. elim (cases_lt j n) [
-                | inl below ↦ run.rises j s below
-                | inr no_less ↦
-                    let here : n ≡ j = omega arith in
-                    let e = back in
-                    subst (λ j. frame_at frames (j - 1) < frame_at frames j) here (omega arith)
-              ]) in
-              omega arith
+          rises_in rise = grind (arith, nat_tests, rises_more, back)
 
           falls : n < m → frame_at frames k < f
-          falls h = let e = back in let rise = up n (omega arith) h in omega arith
-
-          gap_past : frame_at frames k < f → (x : ℕ) → gap ≡ Some x → b < x
-          gap_past rise x e = elim (cases_lt b x) [
-            | inl past ↦ past
-            | inr no_later ↦
-                let found =
-                (gap_doubt g frames n (omega arith) (latest_is g frames k next from run)
-                (stood g frames k next from run) last (gap_length frames n)).at x e in
-                let at = found.2 in
-                let below = found.1 in
-                let whole = long g frames k next from run rise in
-                let late = latest_is g frames k next from run in
-                let same = back in
-                let lower = a_low in
-                absurd (found.4
-                (gap_end n x (omega arith) (rises_in rise) (omega arith) (omega arith) (omega arith)
-                (omega arith)))
-          ]
-
-          abbrev own : Option ℕ
-          own = first_doubt last (own_events g frames n)
-
-          own_past : frame_at frames k < f → (x : ℕ) → own ≡ Some x → b < x
-          own_past rise x e = elim (cases_lt b f) [
-            | inl past ↦ let at = (own_doubt g frames n).at x e in omega arith
-            | inr no_later ↦
-                let lower = a_low in
-                absurd (none_some
-                (sym (own_calm n (rises_in rise) (omega arith) (omega arith)) ∙ e))
-          ]
+          falls h = let e = back in let rise = part_rises frames n (omega arith) h in omega arith
 
           -- What makes a frame quiet no more comes after the stretch.
           past : (x : ℕ) → first_doubt last (frame_events g frames n) ≡ Some x → b < x
-          unfolding frame_before
-          past x e = by_order order refl (sym (frame_doubt g frames n) ∙ e)
-            where
-              by_gap : frame_at frames k < f → (d : Option ℕ) → gap ≡ d → or_else d own ≡ Some x
-                  → b < x
-              by_gap rise None is e = own_past rise x e
-              by_gap rise (Some y) is e = gap_past rise x (is ∙ e)
-
-              by_order : (d : Option ℕ) → order ≡ d → or_else (or_else d gap) own ≡ Some x → b < x
-              by_order None is e =
-                  by_gap ((order_doubt g frames last k).1 is) gap refl e
-              by_order (Some y) is e =
-                  let at : x ≡ frame_at frames k = (order_doubt g frames last k).0 x (is ∙ e) in
-                  elim (cases_lt n m) [
-                    | inl inside ↦
-                        absurd (order_falls g frames last k x (falls inside) (is ∙ e))
-                    | inr outside ↦
-                        let low = n_low in
-                        let all = part_length in
-                        let same : n ≡ m = omega arith in
-                        let before = can.before_fall (omega arith) in
-                        let end = last_is (omega arith) in
-                        let place = ap (λ j. frame_at frames (j - 1)) same in
-                        let e = back in
-                        omega arith
+          past x e = elim (ways g frames k next from run) [
+            | inl (not_up, is) ↦
+                let at : x ≡ frame_at frames k = cc in
+                elim (cases_lt n m) [
+                  | inl inside ↦ absurd (not_up (falls inside))
+                  | inr outside ↦
+                      let low = n_low in
+                      let all = part_length frames in
+                      let same : n ≡ m = omega arith in
+                      let before = can.before_fall (omega arith) in
+                      let end = part_last frames (omega arith) in
+                      let place = ap (λ j. frame_at frames (j - 1)) same in
+                      let e = back in
+                      omega arith
+                ]
+            | inr (rise, rest) ↦
+                let lower = a_low in
+                let same = back in
+                elim (cases_lt b x) [
+                  | inl after ↦ after
+                  | inr no_later ↦ elim rest [
+                    | inl (y, is, j, below, at, quiet, broken) ↦
+                        let one : y ≡ x = cc in
+                        let whole = long g frames k next from run rise in
+                        let late = latest_is g frames k next from run in
+                        absurd (broken
+                        (gap_end n y (omega arith) (rises_in rise) (omega arith) (omega arith)
+                        (omega arith) (omega arith)))
+                    | inr (quiet, own) ↦
+                        let at = (own_doubt g frames n).at x (sym own ∙ e) in
+                        let calm = own_calm n (rises_in rise) (omega arith) (omega arith) in
+                        cc
                   ]
+                ]
+          ]
 
           -- Where there is none the run goes on.
           on : first_doubt last (frame_events g frames n) ≡ None
               → run_at g frames n (Some from) ≡ Some from
           unfolding run_at
-          on none =
-              let parts : (or_else order gap ≡ None) × (own ≡ None) =
-              or_none _ _ (sym (frame_doubt g frames n) ∙ none) in
-              let two : (order ≡ None) × (gap ≡ None) = or_none _ _ parts.0 in
-              let rise : frame_at frames k < f = (order_doubt g frames last k).1 two.0 in
-              let calm =
-              (gap_doubt g frames n (omega arith) (latest_is g frames k next from run)
-              (stood g frames k next from run) last (gap_length frames n)).quiet two.1 in
-              let was =
-              stood_before g frames n (omega arith) (latest_is g frames k next from run)
-              (stood g frames k next from run) (gap_length frames n) calm in
-              let before : stands_none (standing_before g frames n f) ≡ true =
-              subst (λ x. stands_none (standing_before g frames n x) ≡ true)
-              (long g frames k next from run rise) was in
-              let stands = (own_doubt g frames n).stands parts.1 before in
-              let inside = rises_in rise in
-              let quiet = quiet_if n inside parts.1 stands in
-              rw (quiet, over-none last (Some from) (frame_events g frames n) none) refl
+          on none = elim (ways g frames k next from run) [
+            | inl (falls, is) ↦ cc
+            | inr (rise, rest) ↦ elim rest [
+              | inl found ↦ let is = found.1 in cc
+              | inr (calm, own) ↦
+                  let none_own = sym own ∙ none in
+                  let was =
+                  stood_before g frames n (omega arith) (latest_is g frames k next from run)
+                  (stood g frames k next from run) (gap_length frames n) calm in
+                  let before : stands_none (standing_before g frames n f) ≡ true =
+                  subst (λ x. stands_none (standing_before g frames n x) ≡ true)
+                  (long g frames k next from run rise) was in
+                  let stands = ((own_doubt g frames n).quiet none_own).1 before in
+                  let quiet = quiet_if n (rises_in rise) none_own stands in
+                  rw (quiet, over-is last (Some from) (frame_events g frames n), none) refl
+            ]
+          ]
 
       -- ---- to the end
 
@@ -321,25 +254,11 @@ module _ (g : Task) (pieces : List Piece) (a b : ℕ) (can : CanStay g pieces a 
           IsTold from (told_of_each g frames pes n kept ahead)
           ⊎ ((run_after_each g frames n kept ahead ≡ Some from) × Run g frames (length frames) from)
 
-      goes_sent : (from pes n : ℕ) (kept : Option ℕ) (s : SentFrame) (ahead : List Piece)
-          → Goes from (suc pes) (suc n) (run_at g frames n kept) ahead
-          → Goes from pes n kept (Sent s ∷ ahead)
-      unfolding told_of_each run_after_each
-      goes_sent from pes n kept s ahead (inl (to, l, c)) =
-          inl (
-            to,
-            l,
-            Contains-append_right (map (at_pes pes) (told_of_frame g frames n kept)) _ _ c,
-          )
-      goes_sent from pes n kept s ahead (inr end) = inr end
-
-      goes_passed : (from pes n : ℕ) (kept : Option ℕ) (u : Unread) (ahead : List Piece)
-          → Goes from (suc pes) n None ahead
-          → Goes from pes n kept (Passed u ∷ ahead)
-      unfolding told_of_each run_after_each
-      goes_passed from pes n kept u ahead (inl (to, l, c)) =
-          inl (to, l, Contains-append_right (told_of_passed frames pes n kept u) _ _ c)
-      goes_passed from pes n kept u ahead (inr end) = inr end
+      -- The same behind what is told of one more piece.
+      goes_more : {R : Type 0} (from : ℕ) (xs ys : List Event) → IsTold from ys ⊎ R
+          → IsTold from (xs ++ ys) ⊎ R
+      goes_more from xs ys (inl (to, l, c)) = inl (to, l, Contains-append_right xs ys _ c)
+      goes_more from xs ys (inr end) = inr end
 
       module _ (from : ℕ) (from_low : from ≤ frame_at frames i) where
         is_over : (last x : ℕ) (es : List Event) → first_doubt last es ≡ Some x → b < x
@@ -353,12 +272,10 @@ module _ (g : Task) (pieces : List Piece) (a b : ℕ) (can : CanStay g pieces a 
             → Run g frames (suc k) from
             → Goes from pes (suc k) (Some from) ahead
         unfolding frames_of told_of_each run_after_each frame_before
-        goes pes k [] outside all l run =
-            let same : suc k ≡ length frames = omega arith in
-            inr (refl, subst (λ n. Run g frames n from) same run)
+        goes pes k [] outside all l run = grind (arith, nat_tests)
         goes pes k (Passed u ∷ ahead) outside all l run =
             let most = count_most frames (length frames) (suc k) (omega arith) run.rises in
-            let rise = up_to g frames (suc k) run.rises i k l (omega arith) in
+            let rise = rises_to frames (suc k) run.rises i k l (omega arith) in
             let back : frame_at frames (suc k - 1) ≡ frame_at frames k =
             ap (frame_at frames) (omega arith) in
             let past : b < frame_at frames k =
@@ -386,7 +303,7 @@ module _ (g : Task) (pieces : List Piece) (a b : ℕ) (can : CanStay g pieces a 
                 run_next g frames (suc k) (Some from) (omega arith)
                 (λ f e. let same : from ≡ f = cc in subst (Run g frames (suc k)) same run) from
                 kept in
-                goes_sent from pes (suc k) (Some from) s ahead
+                goes_more from (map (at_pes pes) (told_of_frame g frames (suc k) (Some from))) _
                 (subst (λ o. Goes from (suc pes) (suc (suc k)) o ahead) (sym kept)
                 (rest more))
             by_doubt rest (Some x) is =
@@ -407,17 +324,20 @@ module _ (g : Task) (pieces : List Piece) (a b : ℕ) (can : CanStay g pieces a 
           → n ≤ i
           → IsRun g frames n kept
           → (from : ℕ) × (from ≤ frame_at frames i) × Goes from pes n kept ahead
-      unfolding frames_of
-      begins pes n kept [] outside all l before = let w = within in absurd (omega arith)
+      unfolding frames_of told_of_each run_after_each
+      begins pes n kept [] outside all l before = let w = risen_low frames in absurd (omega arith)
       begins pes n kept (Passed u ∷ ahead) outside all l before =
           let rest = begins (suc pes) n None ahead outside.1 all l (λ from e. cc) in
-          (rest.0, rest.1, goes_passed rest.0 pes n kept u ahead rest.2)
+          (rest.0, rest.1, goes_more rest.0 (told_of_passed frames pes n kept u) _ rest.2)
       begins pes n kept (Sent s ∷ ahead) outside all l before = elim (cases_lt n i) [
         | inl earlier ↦
             let rest =
             begins (suc pes) (suc n) (run_at g frames n kept) ahead outside (omega arith)
-            (omega arith) (run_next g frames n kept (omega arith) before) in
-            (rest.0, rest.1, goes_sent rest.0 pes n kept s ahead rest.2)
+            (omega arith) (run_next g frames n kept (omega arith) before) in (
+              rest.0,
+              rest.1,
+              goes_more rest.0 (map (at_pes pes) (told_of_frame g frames n kept)) _ rest.2,
+            )
         | inr here ↦
             let same : i ≡ n = omega arith in
             let first =
@@ -427,7 +347,7 @@ module _ (g : Task) (pieces : List Piece) (a b : ℕ) (can : CanStay g pieces a 
             let run = run_next g frames n kept (omega arith) before first.0 first.2 in (
               first.0,
               first.1,
-              goes_sent first.0 pes n kept s ahead
+              goes_more first.0 (map (at_pes pes) (told_of_frame g frames n kept)) _
                   (subst (λ o. Goes first.0 (suc pes) (suc n) o ahead) (sym first.2)
                   (goes first.0 first.1 (suc pes) n ahead outside (omega arith) (omega arith)
                   run)),
@@ -442,22 +362,18 @@ module _ (g : Task) (pieces : List Piece) (a b : ℕ) (can : CanStay g pieces a 
       at_end from kept from_low is run =
           let end : ℕ = trust_end g.unread (end_frame frames) in
           let most = count_most frames (length frames) (length frames) (omega arith) run.rises in
-          let later = end_later (let w = within in omega arith) g.unread refl in
+          let later = end_later (let w = risen_low frames in omega arith) g.unread refl in
           (end - 1, omega arith, rw (is, lt-ltb from end (omega arith)) (0, omega arith, refl))
         where
           last_low : m ≡ length frames → b ≤ end_frame frames
-          last_low all =
-              let high = can.untold.stretch.to in
-              let at = last_is (omega arith) in
-              let place = ap (λ k. frame_at frames (k - 1)) all in
-              omega arith
+          last_low all = grind (arith, nat_tests, part_last)
 
           end_later : m ≡ length frames → (u : Option Unread) → g.unread ≡ u
               → b < trust_end u (end_frame frames)
           end_later all None is = let low = last_low all in omega arith
           end_later all (Some u) is =
               let before = can.before_unread u is in
-              let at = last_is (omega arith) in
+              let at = part_last frames (omega arith) in
               let place = ap (λ k. frame_at frames (k - 1)) all in
               omega arith
 
@@ -467,8 +383,8 @@ pub law_of_all_trusted : LawOfAllTrusted
 unfolding all_of_pieces told_of_pieces frames_of
 law_of_all_trusted g pieces a b i can there low high header told =
     let frames : Transmission = frames_of pieces in
-    let m : ℕ = rising_count frames (length frames) in
-    let inside : i < m = let all = part_length g pieces a b can in omega arith in
+    let m : ℕ = risen frames in
+    let inside : i < m = let all = part_length (frames_of pieces) in omega arith in
     let at = frame_at-take frames m i inside in
     let ps = packets-take frames m i inside in
     let holds = ap (holds_header (kind g.watched.page)) (sym ps) ∙ header in

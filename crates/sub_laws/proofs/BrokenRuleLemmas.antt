@@ -1,17 +1,16 @@
--- The rules of a packet, as tests decide them: `rule_decided`; all of them: `keeps_all`,
--- `breaks_none`.
+-- The rules of a packet, as tests decide them: `rule_decided`; all of them: `clean_decided`.
 use Rattle.std.proofs.Common.{◌≡◌, ℕ, zero, suc, ◌+◌, ◌<◌, ◌≤◌, inl, inr, Bool, true, false, not}
-use Rattle.std.proofs.Common.{◌&&◌, List, [], ◌∷◌, Option, Some, None, option_map, refl, sym}
-use Rattle.std.proofs.Common.{◌∙◌, ◌↔◌, arith, length, get_or, subst, is_some, take, All, IsTrue}
-use Rattle.std.proofs.Common.{◌++◌, cond}
+use Rattle.std.proofs.Common.{◌&&◌, List, [], ◌∷◌, Option, Some, None, option_map, refl, sym, ◌∙◌}
+use Rattle.std.proofs.Common.{◌↔◌, arith, length, get_or, subst, is_some, take, All, IsTrue, ◌++◌}
+use Rattle.std.proofs.Common.{add-one, ap, cond}
 use Rattle.std.specs.Bool.{Decides}
 use Rattle.std.specs.List.{AllByRecursion, list_any}
 use Rattle.std.proofs.lemmas.Bool.{cases_Bool, true≢false}
 use Rattle.std.proofs.lemmas.Bool.Decides.{nat_tests, Decides-and, Decides-eqb, Decides-like}
 use Rattle.std.proofs.lemmas.List.Elements.{recursion_from_All}
 use Rattle.std.proofs.lemmas.Option.{none-some, same_Some}
-use Rattle.std.proofs.lemmas.List.{get_or_default, same_lists, length-drop, length-map}
-use Rattle.std.proofs.lemmas.List.{take_all, take_more}
+use Rattle.std.proofs.lemmas.List.{get_or_default, same_lists, length-drop, length-map, take_all}
+use Rattle.std.proofs.lemmas.List.{take_more}
 use Rattle.ttx_packet.specs.OneBit.{first_below}
 use Rattle.ttx_packet.specs.PacketAddress.{HasExactAddress, IsPacket, PacketAddress, address}
 use Rattle.ttx_packet.specs.PageHeader.{HasExactHeader, c11, header}
@@ -32,21 +31,32 @@ use Rattle.ttx_page.specs.declared.packet_kind.PacketKind.TheVariants.{Row, This
 use Rattle.stl_rows.specs.declared.national.National.{National}
 use Rattle.sub_rules.specs.Good.{IsCleanSpan, IsEnhancement, IsSubtitleHeader}
 use Rattle.sub_rules.specs.PacketRules.{AreClean, KeepsAllRules, KeepsRule, codes_of, first_header}
-use Rattle.sub_rules.specs.PacketTests.{are_code_words, breaks, is_of_header}
-use Rattle.sub_rules.specs.PacketTests.{is_of_enhancement, is_other_mode, is_other_row}
-use Rattle.sub_rules.specs.PacketTests.{is_other_text, is_subtitle_header, first_of_row}
-use Rattle.sub_rules.specs.PacketTests.{is_wrong_header, packet_rules}
+use Rattle.sub_rules.specs.PacketTests.{are_code_words, breaks, is_of_header, is_of_enhancement}
+use Rattle.sub_rules.specs.PacketTests.{is_other_mode, is_other_row, is_other_text}
+use Rattle.sub_rules.specs.PacketTests.{is_subtitle_header, first_of_row, is_wrong_header}
+use Rattle.sub_rules.specs.PacketTests.{packet_rules}
 use Rattle.sub_rules.specs.declared.packet_rule.PacketRule.{PacketRule}
 use Rattle.sub_rules.specs.declared.packet_rule.PacketRule.TheVariants as rule
 use Rattle.sub_rules.specs.declared.packet_rule.Watched.{Watched}
 use Rattle.sub_laws.specs.BrokenPlaces.{IsComparable}
-use Rattle.sub_laws.proofs.PlaceLemmas.{fair_step}
-use Rattle.sub_laws.proofs.StepByStepLemmas.{clean_nil}
+use Rattle.sub_laws.proofs.PlaceLemmas.{clean_spans}
 use Rattle.sub_rules.proofs.TestLemmas.{below_none, fails, holds, same_bit}
 use Rattle.sub_rules.proofs.CodesLemmas.{same_packet}
 use Rattle.sub_rules.proofs.PacketLists.{Each-find, Each-join, Each-map, Each-none, Each-push}
 use Rattle.sub_rules.proofs.PacketLists.{no_row}
 use Rattle.sub_rules.proofs.CodeWordLemmas.{address_decided, header_decided}
+
+-- ---- all rules
+
+-- What is so of each rule in their list is so of any.
+pub each_rule : (P : PacketRule → Type 0) → AllByRecursion P packet_rules → (r : PacketRule) → P r
+unfolding packet_rules
+each_rule P h r = grind arith
+
+-- And back.
+pub of_each_rule : (P : PacketRule → Type 0) → ((r : PacketRule) → P r)
+    → AllByRecursion P packet_rules
+of_each_rule P all = recursion_from_All P packet_rules (λ k d l. all (get_or packet_rules k d))
 
 -- ---- each rule
 
@@ -226,37 +236,37 @@ module _ (w : Watched) (packets : List (List ℕ)) (s : IsSoundSpan w packets) (
 
 -- ---- packets that keep all rules
 
--- What holds of each packet of the span, and of one more.
-Each-span_push : (page : PageIdValue) (P : List ℕ → Type 0) (xs : List (List ℕ)) (x : List ℕ)
-    → AllByRecursion P (span (kind page) xs) → P x
-    → AllByRecursion P (span (kind page) (xs ++ x ∷ []))
-Each-span_push page P xs x h holds =
-    subst (AllByRecursion P) (sym (span-push (kind page) xs x))
-    (go (is_this_page (kind page x))
-    (is_open_after (kind page) xs && not (ends_page (kind page x))))
+-- What holds of each packet holds of each in the span of the first n.
+Each-span : (page : PageIdValue) (P : List ℕ → Type 0) (xs : List (List ℕ))
+    → ((k : ℕ) → k < length xs → P (get_or xs k [])) → (n : ℕ) → n ≤ length xs
+    → AllByRecursion P (span (kind page) (take n xs))
+Each-span page P xs each zero l = tt
+Each-span page P xs each (suc n) l =
+    let x : List ℕ = get_or xs n [] in
+    let more : take (suc n) xs ≡ take n xs ++ x ∷ [] =
+    ap (λ m. take m xs) (sym (add-one n)) ∙ take_more xs n [] (omega arith) in
+    subst (λ ps. AllByRecursion P (span (kind page) ps)) (sym more)
+    (subst (AllByRecursion P) (sym (span-push (kind page) (take n xs) x))
+    (go (Each-span page P xs each n (omega arith)) (is_this_page (kind page x))
+    (is_open_after (kind page) (take n xs) && not (ends_page (kind page x)))))
   where
-    go : (this more : Bool)
-        → AllByRecursion P
-        (cond this [] (cond more (span (kind page) xs ++ x ∷ []) (span (kind page) xs)))
-    go true more = tt
-    go false true = Each-push P (span (kind page) xs) x h holds
-    go false false = h
+    go : AllByRecursion P (span (kind page) (take n xs)) → (this more : Bool)
+        → AllByRecursion P (cond this [] (cond more
+        (span (kind page) (take n xs) ++ get_or xs n [] ∷ []) (span (kind page) (take n xs))))
+    go h true more = tt
+    go h false true = grind (arith, nat_tests, Each-push)
+    go h false false = h
 
--- The span of the first of them is sound.
-sound_span : (w : Watched) (packets : List (List ℕ)) → AreClean w packets → (n : ℕ)
-    → n ≤ length packets → IsSoundSpan w (span (kind w.page) (take n packets))
-sound_span w packets clean zero l = record { clean = clean_nil w.page; whole = tt }
-sound_span w packets clean (suc n) l =
-    let next : n + 1 ≡ suc n = omega arith in
-    let sound = sound_span w packets clean n (omega arith) in
-    let (whole, keeps) = clean n (omega arith) in
-    subst (λ k. IsSoundSpan w (span (kind w.page) (take k packets))) next
-    (subst (λ xs. IsSoundSpan w (span (kind w.page) xs))
-    (sym (take_more packets n [] (omega arith))) (record {
-      clean = fair_step w (take n packets) (get_or packets n []) keeps sound.clean;
-      whole = Each-span_push w.page _ (take n packets) (get_or packets n []) sound.whole
-          (whole, keeps rule.Address);
-    }))
+-- The span of packets that keep all rules is sound.
+sound_span : (w : Watched) (packets : List (List ℕ)) → AreClean w packets
+    → IsSoundSpan w (span (kind w.page) packets)
+sound_span w packets clean =
+    subst (λ ps. IsSoundSpan w (span (kind w.page) ps))
+    (take_all (length packets) packets (omega arith)) (record {
+      clean = clean_spans w packets (λ k l. (clean k l).1) (length packets);
+      whole = Each-span w.page (λ q. IsPacket q × HasExactAddress q) packets
+          (λ k l. let is = clean k l in (is.0, is.1 rule.Address)) (length packets) (omega arith);
+    })
 
 -- ---- a packet that is sent after these
 
@@ -271,12 +281,7 @@ module _ (w : Watched) (before : List (List ℕ)) (p : List ℕ) where
       → Refutes (is_other_row w.page (span (kind w.page) before) p k)
       ((row : ℕ) → k ≡ Row row
       → AllByRecursion (λ q. kind w.page q ≡ Row row → q ≡ p) (span (kind w.page) before))
-  same_row k e is is_open =
-      let sound =
-      subst (λ xs. IsSoundSpan w (span (kind w.page) xs))
-      (take_all (length before) before (omega arith))
-      (sound_span w before is.clean (length before) (omega arith)) in
-      grind (arith, nat_tests, row_decided, sound, is.whole, is.exact, is.odd is_open)
+  same_row k e is is_open = grind (arith, nat_tests, sound_span, row_decided)
 
   -- Each rule.
   pub rule_decided : (r : PacketRule) → (r ≡ rule.RowChanged → IsComparable w before p)
@@ -293,49 +298,30 @@ module _ (w : Watched) (before : List (List ℕ)) (p : List ℕ) where
       (opened (is_open_after (kind w.page) before)
       (is_some_row (kind w.page p) && is_some (first_even_byte p))
       ((row : ℕ) → kind w.page p ≡ Row row → HasOddText p) (λ t. odd_row p (kind w.page p)))
-  rule_decided rule.RowChanged comparable =
-      opened (is_open_after (kind w.page) before) _ _
-      (same_row (kind w.page p) refl (comparable refl))
-  rule_decided rule.Enhancement comparable =
-      opened (is_open_after (kind w.page) before) _ _
-      (λ t. no_enhancement w.page p (address p) refl)
+  rule_decided rule.RowChanged comparable = grind (arith, nat_tests, opened, same_row)
+  rule_decided rule.Enhancement comparable = grind (arith, nat_tests, opened, no_enhancement)
 
-  -- After packets that keep all rules it keeps all where it breaks none.
+  -- After packets that keep all rules it keeps all exactly where it breaks none.
   abbrev Unbroken : List PacketRule → Type 0
   Unbroken rs = AllByRecursion (λ r. breaks r w before p ≡ false) rs
 
-  pub keeps_all : AreClean w before → IsPacket p → Unbroken packet_rules → KeepsAllRules w before p
-  unfolding packet_rules
-  keeps_all clean whole fine r =
-      let exact = (refuted _ (rule_decided rule.Address (λ e. cc))).0 fine.0 in
-      let odd = (refuted _ (rule_decided rule.Parity (λ e. cc))).0 fine.1.1.1.1.0 in
-      let comparable : IsComparable w before p =
-      record { clean = clean; whole = whole; exact = exact; odd = odd } in
-      (refuted _ (rule_decided r (λ e. comparable))).0 (each r)
-    where
-      each : (r : PacketRule) → breaks r w before p ≡ false
-      each rule.Address = fine.0
-      each rule.HeaderCode = fine.1.0
-      each rule.Mode = fine.1.1.0
-      each rule.Control = fine.1.1.1.0
-      each rule.Parity = fine.1.1.1.1.0
-      each rule.RowChanged = fine.1.1.1.1.1.0
-      each rule.Enhancement = fine.1.1.1.1.1.1.0
-
-  -- A packet that keeps all rules breaks none.
-  pub breaks_none : AreClean w before
-      → IsPacket p
-      → KeepsAllRules w before p
-      → Unbroken packet_rules
-  unfolding packet_rules
-  breaks_none clean whole keeps =
-      let comparable : IsComparable w before p =
-      record {
-        clean = clean;
-        whole = whole;
-        exact = keeps rule.Address;
-        odd = keeps rule.Parity;
-      } in
-      let none : (r : PacketRule) → breaks r w before p ≡ false =
-      λ r. (refuted _ (rule_decided r (λ e. comparable))).1 (keeps r) in
-      (none _, (none _, (none _, (none _, (none _, (none _, (none _, tt)))))))
+  pub clean_decided : AreClean w before → IsPacket p
+      → Unbroken packet_rules ↔ KeepsAllRules w before p
+  clean_decided clean whole = (
+    λ fine r.
+        let none = each_rule (λ r. breaks r w before p ≡ false) fine in
+        let kept : (r : PacketRule) → (r ≡ rule.RowChanged → ⊥) → KeepsRule r w before p =
+        λ r other. (refuted _ (rule_decided r (λ e. absurd (other e)))).0 (none r) in
+        (refuted _ (rule_decided r (λ e. record {
+          clean = clean;
+          whole = whole;
+          exact = kept rule.Address (λ e. cc);
+          odd = kept rule.Parity (λ e. cc);
+        }))).0 (none r),
+    λ keeps. of_each_rule _ (λ r. (refuted _ (rule_decided r (λ e. record {
+      clean = clean;
+      whole = whole;
+      exact = keeps rule.Address;
+      odd = keeps rule.Parity;
+    }))).1 (keeps r)),
+  )

@@ -1,11 +1,10 @@
 -- A clean stretch has what suffices, and so may be trusted: `law_of_clean_stretch`.
 use Rattle.std.proofs.lemmas.Bool.Decides.{nat_tests}
-use Rattle.std.proofs.Common.{◌≡◌, ℕ, suc, ◌+◌, ◌-◌, ◌<◌, ◌≤◌, ◌⊎◌, inl, inr, List, [], ◌∷◌, ◌++◌}
-use Rattle.std.proofs.Common.{length, take, slice_index_or, Option, refl, sym, ap, ◌∙◌, subst}
-use Rattle.std.proofs.Common.{arith, append_assoc, IsTrue, le_refl}
-use Rattle.std.specs.List.{AllByRecursion}
+use Rattle.std.proofs.Common.{◌≡◌, ℕ, ◌+◌, ◌-◌, ◌<◌, ◌≤◌, ◌⊎◌, inl, inr, List, [], ◌++◌, length}
+use Rattle.std.proofs.Common.{take, slice_index_or, Option, refl, sym, ap, ◌∙◌, subst, arith}
+use Rattle.std.proofs.Common.{IsTrue, le_refl}
 use Rattle.std.proofs.lemmas.Bool.{cases_eq, cases_lt}
-use Rattle.std.proofs.lemmas.List.{append-nil}
+use Rattle.std.proofs.lemmas.List.{append-nil, get_or-append-add, length-append, length-take}
 use Rattle.std.proofs.lemmas.List.Elements.{All-nil}
 use Rattle.ttx_packet.specs.PageId.{PageIdValue}
 use Rattle.ttx_page.specs.Noise.{IsSound}
@@ -21,108 +20,19 @@ use Rattle.sub_rules.specs.FrameRules.{HasHeader, task_of, watched_of}
 use Rattle.sub_rules.specs.Good.{HoldsHeader}
 use Rattle.sub_laws.specs.OnScreen.{CompleteWithin}
 use Rattle.sub_laws.specs.Sufficient.{IsSufficient}
-use Rattle.sub_rules.specs.Transmission.{IsRising, SentFrame, Transmission, first_frame}
-use Rattle.sub_rules.specs.Transmission.{on_air_until, packets_between}
+use Rattle.sub_rules.specs.Transmission.{Transmission, first_frame, on_air_until, packets_between}
 use Rattle.sub_rules.proofs.CodesLemmas.{code_of_column}
 use Rattle.sub_laws.proofs.GoodLemmas.{any_sent, rises_each}
-use Rattle.sub_laws.proofs.PrefixLemmas.{end_at, first-same, last-same, rises_to}
+use Rattle.sub_laws.proofs.PrefixLemmas.{EachAfter, RiseTo, before, each_after, end_at, first-same}
+use Rattle.sub_laws.proofs.PrefixLemmas.{last-same, on_air_at, packet_at, rises_to}
 use Rattle.sub_laws.proofs.StretchLemmas.{law_of_stretch}
-use Rattle.sub_laws.proofs.TransmissionLemmas.{later_than, packets_between-none, rising-tail}
+use Rattle.sub_laws.proofs.TransmissionLemmas.{packets_between-split}
+use Rattle.sub_rules.proofs.FrameLists.{joined_more}
+use Rattle.std.proofs.Math.Seq.{take-append-add}
 
--- ---- what is on air in a stretch is sound, where each packet of it may follow those before it
-
-module _ (page : PageIdValue) (a b : ℕ) where
-  -- Each packet at a frame from a to b may follow these packets, and those of the frames before it.
-  abbrev AreFit : List (List ℕ) → Transmission → Type 0
-  AreFit before frames =
-      (i k : ℕ)
-      → i < length frames
-      → k < length (packets_of_frame frames i)
-      → a ≤ frame_at frames i
-      → frame_at frames i ≤ b
-      → MayFollow page ((before ++ packets_before frames i) ++ take k (packets_of_frame frames i))
-      (slice_index_or (packets_of_frame frames i) k [])
-
-  -- The packets of the first frame may follow.
-  fit_head :
-      (before : List (List ℕ)) (s : SentFrame) (frames : Transmission)
-      → AreFit before (s ∷ frames)
-      → a ≤ s.frame
-      → s.frame ≤ b
-      → (k : ℕ)
-      → k < length s.packets
-      → MayFollow page (before ++ take k s.packets) (slice_index_or s.packets k [])
-  fit_head before s frames fit low high k l =
-      subst (λ ps. MayFollow page (ps ++ take k s.packets) (slice_index_or s.packets k []))
-      (append-nil before) (fit 0 k (omega arith) l low high)
-
-  -- The packets of the other frames may follow, after those of the first.
-  fit_tail :
-      (before : List (List ℕ)) (s : SentFrame) (frames : Transmission)
-      → AreFit before (s ∷ frames)
-      → AreFit (before ++ s.packets) frames
-  fit_tail before s frames fit i k l m low high =
-      subst
-      (λ ps. MayFollow page (ps ++ take k (packets_of_frame frames i))
-      (slice_index_or (packets_of_frame frames i) k []))
-      (sym (append_assoc before s.packets (packets_before frames i)))
-      (fit (suc i) k (omega arith) m low high)
-
-  -- From frames that are all in the stretch or later, up to frame f.
-  sound_on :
-      (before heard : List (List ℕ)) (frames : Transmission) (f : ℕ)
-      → f ≤ b
-      → IsRising frames
-      → AllByRecursion (λ (s : SentFrame). a ≤ s.frame) frames
-      → IsSound page heard
-      → AreFit (before ++ heard) frames
-      → IsSound page (heard ++ packets_between frames a (f + 1))
-  sound_on before heard [] f high rising later sound fit =
-      subst (IsSound page) (sym (append-nil heard)) sound
-  sound_on before heard (s ∷ frames) f high rising later sound fit =
-      elim (cases_lt f s.frame) [
-        | inl past ↦
-            let none : packets_between (s ∷ frames) a (f + 1) ≡ [] =
-            packets_between-none (s ∷ frames) a (f + 1)
-            (omega arith, later_than s frames (f + 1) rising (omega arith)) in
-            subst (IsSound page) (sym (append-nil heard) ∙ ap (λ ps. heard ++ ps) (sym none)) sound
-        | inr within ↦
-            let here : packets_between (s ∷ frames) a (f + 1)
-            ≡ s.packets ++ packets_between frames a (f + 1) = grind (arith, nat_tests) in
-            subst (IsSound page)
-            (append_assoc heard s.packets (packets_between frames a (f + 1))
-            ∙ ap (λ ps. heard ++ ps) (sym here))
-            (sound_on before (heard ++ s.packets) frames f high (rising-tail s frames rising)
-            later.1
-            (sound-joined page before heard s.packets sound
-            (fit_head (before ++ heard) s frames fit later.0 (omega arith)))
-            (subst (λ ps. AreFit ps frames) (append_assoc before heard s.packets)
-            (fit_tail (before ++ heard) s frames fit)))
-      ]
-
-  -- From any frames.
-  sound_between :
-      (before : List (List ℕ)) (frames : Transmission) (f : ℕ)
-      → f ≤ b
-      → IsRising frames
-      → AreFit before frames
-      → IsSound page (packets_between frames a (f + 1))
-  sound_between before [] f high rising fit = grind (arith, nat_tests, All-nil)
-  sound_between before (s ∷ frames) f high rising fit =
-      elim (cases_lt s.frame a) [
-        | inl early ↦
-            let rest =
-            sound_between (before ++ s.packets) frames f high (rising-tail s frames rising)
-            (fit_tail before s frames fit) in
-            let none : packets_between (s ∷ frames) a (f + 1) ≡ packets_between frames a (f + 1) =
-            grind (arith, nat_tests) in
-            subst (IsSound page) (sym none) rest
-        | inr from ↦
-            sound_on before [] (s ∷ frames) f high rising
-            (from, later_than s frames a rising from)
-            (record { exact = All-nil _; erases = All-nil _; odd = All-nil _; same = All-nil _ })
-            (subst (λ ps. AreFit ps (s ∷ frames)) (sym (append-nil before)) fit)
-      ]
+-- No packets are sound.
+sound_nil : (page : PageIdValue) → IsSound page []
+sound_nil page = grind (arith, nat_tests, All-nil)
 
 -- ---- a clean stretch
 
@@ -130,7 +40,13 @@ module _ (programme : ProgrammeValue) (transmission : Transmission) (options : O
     (unread : Option Unread) (a b : ℕ)
     (clean : IsCleanStretch (task_of programme options unread) transmission a b) where
   -- Each packet may follow those before it.
-  fit : AreFit options.page a b [] transmission
+  fit :
+      (i k : ℕ)
+      → i < length transmission
+      → k < length (packets_of_frame transmission i)
+      → a ≤ frame_at transmission i
+      → frame_at transmission i ≤ b
+      → MayFollow options.page (before transmission i k) (packet_at transmission i k)
   fit i k l m low high = record {
     exact =
         (clean.kept ExactAddresses i k l m low high, clean.kept ExactHeaders i k l m low high);
@@ -143,11 +59,7 @@ module _ (programme : ProgrammeValue) (transmission : Transmission) (options : O
   }
 
   -- Each frame of the list is after the one before.
-  rising :
-      (i : ℕ)
-      → 0 < i
-      → i < length transmission
-      → frame_at transmission (i - 1) < frame_at transmission i
+  rising : RiseTo transmission (length transmission)
   rising = rises_each transmission (clean.kept FramesRise)
 
   -- Each frame of the stretch has an end, at which what is on air up to it counts.
@@ -156,12 +68,59 @@ module _ (programme : ProgrammeValue) (transmission : Transmission) (options : O
       × IsEnd transmission n f
       × (on_air_until transmission f ≡ packets_before transmission n)
       × (frame_at transmission (n - 1) ≤ f)
-  end_of f low high =
-      let first = first-same transmission in
-      let last = last-same transmission in
-      let from = clean.stretch.from in
-      let to = clean.stretch.to in
-      end_at transmission rising f clean.stretch.not_empty (omega arith) (omega arith)
+  end_of f low high = grind (arith, nat_tests, first-same, last-same, end_at, rising)
+
+  -- What is on air before the stretch.
+  abbrev earlier : List (List ℕ)
+  earlier = packets_between transmission (first_frame transmission) a
+
+  -- A packet that comes after that is sent in the stretch or later.
+  not_earlier :
+      (i k : ℕ)
+      → i < length transmission
+      → k < length (packets_of_frame transmission i)
+      → length earlier ≤ length (before transmission i k)
+      → a ≤ frame_at transmission i
+  not_earlier i k l m far = elim (cases_lt (frame_at transmission i) a) [
+    | inr from ↦ from
+    | inl early ↦
+        let first = first-same transmission in
+        let low = rises_to transmission (length transmission) rising 0 i (omega arith) l in
+        let split =
+        packets_between-split transmission (first_frame transmission)
+        (frame_at transmission i + 1) a (clean.kept FramesRise) (omega arith) (omega arith) in
+        let here = on_air_at transmission rising i l ∙ joined_more transmission i l in
+        let one = simp length-append at (ap length split) in
+        let two = simp length-append at (ap length here) in
+        let three = simp (length-append, length-take) at far in
+        absurd (omega arith)
+  ]
+
+  -- What is on air from its first frame on is sound.
+  sound_at : (f : ℕ) → a ≤ f → f ≤ b
+      → IsSound options.page (packets_between transmission a (f + 1))
+  sound_at f low high =
+      let (n, end, on, last) = end_of f low high in
+      let more : List (List ℕ) = packets_between transmission a (f + 1) in
+      let split : on_air_until transmission f ≡ earlier ++ more =
+      packets_between-split transmission (first_frame transmission) a (f + 1)
+      (clean.kept FramesRise) clean.stretch.from (omega arith) in
+      let Fits : List (List ℕ) → List ℕ → Type 0 =
+      λ heard p. length earlier ≤ length heard → MayFollow options.page heard p in
+      let each : EachAfter Fits (earlier ++ more) =
+      subst (EachAfter Fits) (sym on ∙ split)
+      (each_after Fits transmission n end.1 (λ i k l m far.
+      let there : i < length transmission = omega (arith, end.1) in
+      let up = rises_to transmission (length transmission) rising i (n - 1) (omega arith)
+      (omega (arith, end.0, end.1)) in
+      fit i k there m (not_earlier i k there m far) (omega arith))) in
+      sound-joined options.page earlier [] more (sound_nil options.page)
+      (λ k l.
+      let at : MayFollow options.page (earlier ++ take k more) (slice_index_or more k []) =
+      rw (← (take-append-add earlier more k), ← (get_or-append-add earlier more k []))
+      (each (length earlier + k) (rw length-append (omega arith))
+      (simp (length-take, length-append) (omega arith))) in
+      rw append-nil at)
 
   -- At each frame's end a header of the page is less than the repeat bound ago, or the first frame
   -- is.
@@ -182,7 +141,8 @@ module _ (programme : ProgrammeValue) (transmission : Transmission) (options : O
         | inl early ↦ inl (omega arith)
         | inr (j, l, late, has) ↦
             let rises =
-            rises_to transmission rising j (n - 1) (omega arith) (omega (arith, end.0, end.1)) in
+            rises_to transmission (length transmission) rising j (n - 1) (omega arith)
+            (omega (arith, end.0, end.1)) in
             inr (j, omega (arith, end.1), omega arith, late, has)
       ]
 
@@ -191,8 +151,7 @@ module _ (programme : ProgrammeValue) (transmission : Transmission) (options : O
   enough = record {
     first = clean.stretch.from;
     rising = clean.kept FramesRise;
-    sound = λ f low high.
-        sound_between options.page a b [] transmission f high (clean.kept FramesRise) fit;
+    sound = sound_at;
     repeats = repeats;
     content = λ f row column low high named.
         let end = end_of f low high in

@@ -1,9 +1,9 @@
 -- Where content is refused, every receiver shows another code than is due: `wrong_everywhere`.
 use Rattle.std.proofs.lemmas.Bool.Decides.{nat_tests}
-use Rattle.std.proofs.Common.{All, slice_index, ◌≡◌, ℕ, ◌-◌, ◌<◌, ◌≤◌, true, Option, length, take}
-use Rattle.std.proofs.Common.{map, IsFalse, sym, ap, ◌∙◌, arith, length-take}
-use Rattle.std.proofs.lemmas.List.Elements.{All-nil, All-push}
-use Rattle.std.proofs.lemmas.List.{get_or-take, take-map}
+use Rattle.std.proofs.Common.{List, [], subst, ◌≡◌, ℕ, ◌-◌, ◌<◌, ◌≤◌, true, Option, length, take}
+use Rattle.std.proofs.Common.{IsFalse, sym, ◌∙◌, arith}
+use Rattle.std.proofs.lemmas.List.Elements.{All-from_get_or}
+use Rattle.std.proofs.lemmas.List.{length-take-le, take-take, take_all}
 use Rattle.ttx_packet.specs.PageHeader.{HasExactWords}
 use Rattle.ttx_page.specs.Noise.{ErasesPage, IsSound}
 use Rattle.ttx_page.specs.Page.{IsCell, cell}
@@ -17,17 +17,14 @@ use Rattle.sub_plan.specs.Options.{OptionsValue}
 use Rattle.sub_rules.specs.FrameRules.{Task, Unread, frame_at, packets_before, packets_of_frame}
 use Rattle.sub_rules.specs.FrameRules.{task_of}
 use Rattle.sub_rules.specs.PacketRules.{KeepsAllRules}
-use Rattle.sub_rules.specs.Transmission.{IsRising, SentFrame, Transmission, last_frame}
-use Rattle.sub_rules.specs.Transmission.{on_air_until}
+use Rattle.sub_rules.specs.Transmission.{Transmission, on_air_until}
 use Rattle.sub_rules.specs.WrongContent.{IsWrongEverywhere}
 use Rattle.sub_rules.specs.declared.packet_rule.Watched.{Watched}
 use Rattle.sub_laws.specs.BrokenPlaces.{WrongFirst}
 use Rattle.sub_laws.proofs.FrameByFrame.{IsReadTo}
-use Rattle.sub_laws.proofs.GoodLemmas.{number_at, whole-is}
-use Rattle.sub_laws.proofs.PlaceLemmas.{fair_step}
-use Rattle.sub_laws.proofs.PrefixLemmas.{at_start, before, last-same, on_air_is, packet_at}
-use Rattle.sub_laws.proofs.PrefixLemmas.{rises_strictly}
-use Rattle.sub_laws.proofs.StepByStepLemmas.{clean_nil}
+use Rattle.sub_laws.proofs.PlaceLemmas.{clean_spans}
+use Rattle.sub_laws.proofs.PrefixLemmas.{EachAfter, RiseTo, before, each_after, frame_at-take}
+use Rattle.sub_laws.proofs.PrefixLemmas.{on_air_is, packet_at, take_last, take_rises, take_rising}
 use Rattle.sub_rules.specs.Good.{IsCleanSpan}
 use Rattle.ttx_page.proofs.LateStart.{codes_of_same}
 use Rattle.ttx_page.proofs.SpanLists.{holds-append_left}
@@ -38,32 +35,27 @@ use Rattle.sub_rules.specs.declared.packet_rule.PacketRule.TheVariants as rule
 module _ (w : Watched) (frames : Transmission) (n : ℕ) (fits : n ≤ length frames)
     (clean : (i k : ℕ) → i < n → k < length (packets_of_frame frames i)
     → KeepsAllRules w (before frames i k) (packet_at frames i k)) where
-  -- Their addresses and headers are code words.
-  exact : All HasExactWords (packets_before frames n)
-  exact =
-      at_start frames n fits (All HasExactWords) (All-nil _)
-      (λ i k l m ih. All-push HasExactWords (before frames i k) (packet_at frames i k) ih
-      (clean i k l m rule.Address, clean i k l m rule.HeaderCode)) n (omega arith)
-
-  -- Each header of the page erases it.
-  erases : All (ErasesPage w.page) (packets_before frames n)
-  erases =
-      at_start frames n fits (All (ErasesPage w.page)) (All-nil _)
-      (λ i k l m ih. All-push (ErasesPage w.page) (before frames i k) (packet_at frames i k) ih
-      (λ h e. (clean i k l m rule.Control h e).erases)) n (omega arith)
+  -- Each keeps all rules, sent after those before it.
+  each : EachAfter (KeepsAllRules w) (packets_before frames n)
+  each = each_after (KeepsAllRules w) frames n fits clean
 
   -- Their span is clean.
   clean_span : IsCleanSpan w.page (span (kind w.page) (packets_before frames n))
   clean_span =
-      at_start frames n fits (λ xs. IsCleanSpan w.page (span (kind w.page) xs)) (clean_nil w.page)
-      (λ i k l m ih. fair_step w (before frames i k) (packet_at frames i k) (clean i k l m) ih) n
-      (omega arith)
+      let sent : List (List ℕ) = packets_before frames n in
+      subst (λ ps. IsCleanSpan w.page (span (kind w.page) ps))
+      (take_all (length sent) sent (omega arith))
+      (clean_spans w sent each (length sent))
 
   -- So they are what is asked for the law of quiet.
   sound : IsSound w.page (packets_before frames n)
   sound = record {
-    exact = exact;
-    erases = erases;
+    exact =
+        All-from_get_or HasExactWords _ []
+        (λ k l. (each k l rule.Address, each k l rule.HeaderCode));
+    erases =
+        All-from_get_or (ErasesPage w.page) _ []
+        (λ k l h e. (each k l rule.Control h e).erases);
     odd = clean_span.odd;
     same = codes_of_same w.page _ clean_span.same;
   }
@@ -97,39 +89,11 @@ first_header-packets_before w frames n some fits head =
 -- ---- the first n frames
 
 module _ (frames : Transmission) (n f : ℕ) (some : 0 < n) (fits : n ≤ length frames)
-    (rising : (i : ℕ) → 0 < i → i < n → frame_at frames (i - 1) < frame_at frames i)
-    (up_to : frame_at frames (n - 1) ≤ f) where
-  -- The frames that are read.
-  abbrev read : Transmission
-  read = take n frames
-
-  -- There are n of them.
-  long : length read ≡ n
-  long = let e = length-take n frames in omega arith
-
-  -- Each is that of the list.
-  same_frame : (i : ℕ) → i < n → frame_at read i ≡ frame_at frames i
-  same_frame i l =
-      ap (λ xs. slice_index xs i) (sym (take-map (λ (s : SentFrame). s.frame) n frames))
-      ∙ get_or-take n (map (λ (s : SentFrame). s.frame) frames) i 0 l
-
-  -- They rise.
-  rising_read : (i : ℕ) → 0 < i → i < length read → frame_at read (i - 1) < frame_at read i
-  rising_read i a b = grind (arith, long, same_frame)
-
-  -- So they are a rising transmission.
-  rises_read : IsRising read
-  rises_read i j d l m = grind (arith, number_at, rises_strictly, rising_read)
-
-  -- The last one.
-  last_is : last_frame read ≡ frame_at frames (n - 1)
-  last_is =
-      last-same read ∙ ap (λ m. frame_at read (m - 1)) long ∙ same_frame (n - 1) (omega arith)
-
+    (rising : RiseTo frames n) (up_to : frame_at frames (n - 1) ≤ f) where
   -- All of them are on air up to frame f.
-  on_air_read : on_air_until read f ≡ packets_before frames n
+  on_air_read : on_air_until (take n frames) f ≡ packets_before frames n
   on_air_read =
-      grind (arith, long, same_frame, on_air_is, whole-is)
+      grind (arith, nat_tests, length-take-le, frame_at-take, take-take, on_air_is, take_rises)
 
 module _ (programme : ProgrammeValue) (options : OptionsValue) (unread : Option Unread)
     (frames : Transmission) where
@@ -144,13 +108,13 @@ module _ (programme : ProgrammeValue) (options : OptionsValue) (unread : Option 
       → WrongFirst g frames n f row column
       → IsWrongEverywhere programme options frames f row column
   wrong_everywhere n f row column r w =
-      let last = last_is frames n f r.some r.fits r.rises r.up_to in
+      let last = take_last frames n r.fits r.some in
       record {
         read = take n frames;
         are_read =
             grind (
               arith,
-              rises_read frames n f r.some r.fits r.rises r.up_to,
+              take_rising frames n r.fits r.rises,
               r.some,
               r.fits,
               r.up_to,

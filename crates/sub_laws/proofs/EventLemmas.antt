@@ -1,23 +1,19 @@
 -- Nothing is told exactly where all that is asked holds, and what is told first is a refusal:
 -- `all_told`. Part by part, `law_of_broken_places`; and of the whole, `law_of_nothing_told`.
 use Rattle.std.proofs.Common.{◌≡◌, ℕ, zero, suc, ◌+◌, ◌-◌, ◌<◌, ◌≤◌, ◌⊎◌, inl, inr, Bool, true}
-use Rattle.std.proofs.Common.{false, not, List, [], ◌∷◌, ◌++◌, length, take, Option, Some, None}
-use Rattle.std.proofs.Common.{refl, sym, ap, ◌∙◌, subst, arith, get_or, append_assoc, map}
-use Rattle.std.proofs.Common.{if◌then◌else◌}
+use Rattle.std.proofs.Common.{false, not, List, [], ◌∷◌, ◌++◌, length, Option, Some, None, refl}
+use Rattle.std.proofs.Common.{sym, ap, ◌∙◌, subst, arith, append_assoc, map, if◌then◌else◌}
 use Rattle.std.specs.Bool.{Decides}
 use Rattle.std.specs.List.{AllByRecursion, filter}
-use Rattle.std.proofs.lemmas.Bool.{cases_lt, true≢false}
+use Rattle.std.proofs.lemmas.Bool.{cases_lt}
 use Rattle.std.proofs.lemmas.Bool.Decides.{nat_tests, Decides-ltb}
-use Rattle.std.proofs.lemmas.List.{append-nil, get_or-append-add, get_or_append_left, length_push}
-use Rattle.std.proofs.lemmas.List.{take-append-le}
-use Rattle.std.proofs.Math.Seq.{take-append-add}
+use Rattle.std.proofs.lemmas.List.{append-nil}
 use Rattle.std.proofs.lemmas.Option.{none-some, same_Some}
 use Rattle.ttx_packet.specs.PacketAddress.{IsPacket}
-use Rattle.sub_rules.specs.Events.{Standing, closing_events, end_before, end_events, endings}
-use Rattle.sub_rules.specs.Events.{events, events_at_end, events_of_first, first_header_events}
-use Rattle.sub_rules.specs.Events.{frame_events}
-use Rattle.sub_rules.specs.Events.{gap_events, gap_length, is_early, is_gap, is_incomplete, latest}
-use Rattle.sub_rules.specs.Events.{late_events, nothing_stands, order_events, packet_events}
+use Rattle.sub_rules.specs.Events.{closing_events, end_before, end_events, endings, events}
+use Rattle.sub_rules.specs.Events.{events_at_end, events_of_first, first_header_events}
+use Rattle.sub_rules.specs.Events.{frame_events, gap_events, gap_length, is_gap, is_incomplete}
+use Rattle.sub_rules.specs.Events.{latest, late_events, nothing_stands, order_events, packet_events}
 use Rattle.sub_rules.specs.Events.{packet_fault, rest_events, rules_told, standing_at}
 use Rattle.sub_rules.specs.Events.{standing_before, unread_fault, wrong_cell}
 use Rattle.sub_rules.specs.FrameRules.{HasHeader, Task, Unread, end_frame, frame_at, packets_before}
@@ -30,15 +26,14 @@ use Rattle.sub_rules.specs.declared.event.Event.TheVariants.{Told}
 use Rattle.sub_rules.specs.declared.fault.CheckFault.{CheckFault}
 use Rattle.sub_rules.specs.declared.fault.CheckFault.TheVariants as fault
 use Rattle.sub_rules.specs.declared.packet_rule.PacketRule.{PacketRule}
-use Rattle.sub_rules.specs.declared.packet_rule.Watched.{Watched}
 use Rattle.sub_rules.proofs.EndLemmas.{gap_length-is, standing_before_is}
 use Rattle.sub_laws.specs.BrokenPlaces.{LawOfBrokenPlaces, LawOfNothingTold, WrongFirst}
-use Rattle.sub_laws.proofs.BrokenRuleLemmas.{breaks_none, keeps_all, refuted, rule_decided}
+use Rattle.sub_laws.proofs.BrokenRuleLemmas.{clean_decided, refuted, rule_decided}
 use Rattle.sub_laws.proofs.FrameByFrame.{AllOk, AreOk, FrameOk, IsQuiet, IsReadTo, OrderOk}
 use Rattle.sub_laws.proofs.FrameByFrame.{PacketsOk}
 use Rattle.sub_laws.proofs.PlaceLemmas.{Complete-from_holds, Good-from_holds, holds-from_good}
-use Rattle.sub_laws.proofs.PrefixLemmas.{IsInGap, at_start, before, before_more, each_at, each_from}
-use Rattle.sub_laws.proofs.PrefixLemmas.{packet_at}
+use Rattle.sub_laws.proofs.PrefixLemmas.{EachAfter-push, IsInGap, at_start, before, before_more}
+use Rattle.sub_laws.proofs.PrefixLemmas.{each_at, each_from, packet_at}
 use Rattle.sub_laws.proofs.RisingEndLemmas.{latest_at}
 use Rattle.sub_laws.proofs.StandingLemmas.{first_wrong, quiet_decided, stands_broken}
 
@@ -58,20 +53,12 @@ pub record FirstOf (Named : CheckFault → Type 0) (Holds : Type 0) (told : List
 module _ {Named : CheckFault → Type 0} where
   -- Nothing is told.
   nothing_told : {A : Type 0} → A → FirstOf Named A []
-  nothing_told a = record {
-    none = λ e. a;
-    holds = λ a. refl;
-    first = λ event rest e. absurd (grind arith);
-  }
+  nothing_told a = grind (arith, nat_tests)
 
   -- A refusal is told.
   rule_told : {A : Type 0} {rest : List Event} (f : CheckFault) → Named f → (A → ⊥)
       → FirstOf Named A (Told f ∷ rest)
-  rule_told f is broken = record {
-    none = λ e. absurd (grind arith);
-    holds = λ a. absurd (broken a);
-    first = λ event rest e. (f, grind arith, is);
-  }
+  rule_told f is broken = grind (arith, nat_tests)
 
   -- One list after another.
   FirstOf-append : {A B : Type 0} {xs ys : List Event} → FirstOf Named A xs
@@ -86,8 +73,7 @@ module _ {Named : CheckFault → Type 0} where
   -- The same fact in other words.
   FirstOf-like : {A B : Type 0} {xs : List Event} → (A → B) → (B → A) → FirstOf Named A xs
       → FirstOf Named B xs
-  FirstOf-like to back a =
-      record { none = λ e. to (a.none e); holds = λ b. a.holds (back b); first = a.first }
+  FirstOf-like to back a = grind (arith, nat_tests)
 
   -- A refusal, where a test says so.
   told_if : {A : Type 0} (b : Bool) (f : CheckFault) → Named f → Decides (not b) A
@@ -100,23 +86,6 @@ module _ {Named : CheckFault → Type 0} where
       → FirstOf Named A (if b then [] else Told f ∷ [])
   told_unless true f named decided = nothing_told (decided.0 refl)
   told_unless false f named decided = rule_told f named (λ a. let no = decided.1 a in cc)
-
--- ---- packets that keep all rules
-
--- One more of them.
-clean_push : (w : Watched) (xs : List (List ℕ)) (p : List ℕ) → AreClean w xs → IsPacket p
-    → KeepsAllRules w xs p → AreClean w (xs ++ p ∷ [])
-clean_push w xs p clean whole keeps k l = elim (cases_lt k (length xs)) [
-  | inl within ↦
-      rw (get_or_append_left xs (p ∷ []) [] k within, take-append-le k xs (p ∷ []) (omega arith))
-      (clean k within)
-  | inr past ↦
-      let at : length xs + 0 ≡ k = omega (arith, length_push xs p) in
-      subst (λ j. IsPacket (get_or (xs ++ p ∷ []) j [])
-      × KeepsAllRules w (take j (xs ++ p ∷ [])) (get_or (xs ++ p ∷ []) j [])) at
-      (rw (get_or-append-add xs (p ∷ []) 0 [], take-append-add xs (p ∷ []) 0, append-nil xs)
-      (whole, keeps))
-]
 
 -- ---- a transmission
 
@@ -143,13 +112,7 @@ module _ (g : Task) (frames : Transmission) (Named : CheckFault → Type 0)
   start_told : Tells ((first : ℕ) → g.first_in ≡ Some first → frame_at frames 0 ≤ first)
       (order_events g frames 0)
   unfolding order_events
-  start_told = told_if _ _ (plain _ refl) (go g.first_in refl)
-    where
-      go : (o : Option ℕ) → g.first_in ≡ o
-          → Decides (not (is_early o (frame_at frames 0)))
-          ((first : ℕ) → g.first_in ≡ Some first → frame_at frames 0 ≤ first)
-      go None e = (λ t first is. absurd (none-some first (sym e ∙ is)), λ h. refl)
-      go (Some first) e = grind (arith, nat_tests, same_Some)
+  start_told = grind (arith, nat_tests, told_if, none-some, same_Some)
 
   rise_told : (i : ℕ)
       → Tells (frame_at frames i < frame_at frames (suc i)) (order_events g frames (suc i))
@@ -157,9 +120,7 @@ module _ (g : Task) (frames : Transmission) (Named : CheckFault → Type 0)
   rise_told i = told_unless _ _ (plain _ refl) (Decides-ltb _ _)
 
   order_told : (n : ℕ) → Tells (OrderOk g frames n) (order_events g frames n)
-  order_told zero =
-      FirstOf-like (λ start. record { start = λ z. start; rises = λ some. absurd (omega arith) })
-      (λ o. o.start refl) start_told
+  order_told zero = grind (arith, nat_tests, FirstOf-like, start_told)
   order_told (suc i) =
       FirstOf-like (λ l. record { start = λ z. absurd (omega arith); rises = λ some. grind arith })
       (λ o. let l = o.rises (omega arith) in grind arith) (rise_told i)
@@ -173,12 +134,9 @@ module _ (g : Task) (frames : Transmission) (Named : CheckFault → Type 0)
       (end_events nothing_stands prior
       (record { content = o; gap = late; incomplete = unended }) f)
   unfolding end_events
-  standing_told prior f (Some x) late unended named =
-      rule_told _ (named x refl) (λ e. none-some x (sym (ap (λ (s : Standing). s.content) e)))
-  standing_told prior f None true unended named =
-      rule_told _ (plain _ refl) (λ e. true≢false (ap (λ (s : Standing). s.gap) e))
-  standing_told prior f None false true named =
-      rule_told _ (plain _ refl) (λ e. true≢false (ap (λ (s : Standing). s.incomplete) e))
+  standing_told prior f (Some x) late unended named = grind (arith, nat_tests, rule_told, none-some)
+  standing_told prior f None true unended named = grind (arith, nat_tests, rule_told)
+  standing_told prior f None false true named = grind (arith, nat_tests, rule_told)
   standing_told prior f None false false named = nothing_told refl
 
   quiet_told : (n f prior : ℕ) → IsReadTo g frames n f
@@ -208,18 +166,12 @@ module _ (g : Task) (frames : Transmission) (Named : CheckFault → Type 0)
     QuietFor m = (d : ℕ) → last ≤ d → d ≤ last + m → IsQuiet g frames n d
 
     quiet_first : QuietFor 0
-    quiet_first d low high =
-        let one : n - 1 + 1 ≡ n = omega arith in
-        let at : last ≡ d = omega arith in
-        subst (IsQuiet g frames n) at
-        (subst (λ k. IsQuiet g frames k last) one (past (n - 1) (omega arith)).end)
+    quiet_first d low high = grind (arith, nat_tests)
 
     -- Nothing stood broken at the end before one of them.
     nothing_before : (f d : ℕ) → end_before frames n f ≡ d → IsQuiet g frames n d
         → standing_before g frames n f ≡ nothing_stands
-    nothing_before f d at quiet =
-        standing_before_is g frames n f some ∙ ap (standing_at g frames n) at
-        ∙ (quiet_decided g frames n d (omega arith)).1 quiet
+    nothing_before f d at quiet = grind (arith, nat_tests, standing_before_is, quiet_decided)
 
     -- One frame of the day more.
     gap_next : (m : ℕ) → suc m ≤ gap_length frames n → QuietFor m
@@ -319,9 +271,7 @@ module _ (g : Task) (frames : Transmission) (Named : CheckFault → Type 0)
         → Tells (Untold rs) (told_of (filter test rs))
         → Tells ((test r ≡ false) × Untold rs)
         (told_of (if b then r ∷ filter test rs else filter test rs))
-    rule_one r rs true e rest =
-        rule_told (packet_fault r frame k) (plain _ (grind (arith, nat_tests)))
-        (λ h. absurd (true≢false (sym e ∙ h.0)))
+    rule_one r rs true e rest = grind (arith, nat_tests, rule_told)
     rule_one r rs false e rest = FirstOf-like (λ h. (e, h)) (λ h. h.1) rest
 
     rules_one : (rs : List PacketRule) → Tells (Untold rs) (told_of (filter test rs))
@@ -340,16 +290,18 @@ module _ (g : Task) (frames : Transmission) (Named : CheckFault → Type 0)
     clean_before zero l ok =
         subst (AreClean g.watched) (sym (append-nil (packets_before frames n)))
         (at_start frames n (omega arith) (AreClean g.watched) (λ k l. absurd (omega arith))
-        (λ i k a b ih. clean_push g.watched (before frames i k) (packet_at frames i k) ih
-        (each_at IsPacket frames i k whole (omega arith) b) ((past i a).packets k b)) n
+        (λ i k a b ih. EachAfter-push (λ earlier q. IsPacket q × KeepsAllRules g.watched earlier q)
+        (before frames i k) (packet_at frames i k) ih
+        (each_at IsPacket frames i k whole (omega arith) b, (past i a).packets k b)) n
         (omega arith))
     clean_before (suc k) l ok =
         let next : k + 1 ≡ suc k = omega arith in
         subst (λ j. AreClean g.watched (before frames n j)) next
         (subst (AreClean g.watched) (sym (before_more frames n k (omega arith)))
-        (clean_push g.watched (before frames n k) (packet_at frames n k)
+        (EachAfter-push (λ earlier q. IsPacket q × KeepsAllRules g.watched earlier q)
+        (before frames n k) (packet_at frames n k)
         (clean_before k (omega arith) (λ j m. ok j (omega arith)))
-        (each_at IsPacket frames n k whole there (omega arith)) (ok k (omega arith))))
+        (each_at IsPacket frames n k whole there (omega arith), ok k (omega arith))))
 
     -- One packet.
     packet_told : (k : ℕ) → k < length ps → PacketsOk g frames n k
@@ -359,16 +311,16 @@ module _ (g : Task) (frames : Transmission) (Named : CheckFault → Type 0)
     packet_told k l ok =
         let clean = clean_before k (omega arith) ok in
         let is = each_at IsPacket frames n k whole there l in
+        let keeps = clean_decided g.watched (before frames n k) (packet_at frames n k) clean is in
         FirstOf-like
         (λ untold j m. elim (cases_lt j k) [
           | inl earlier ↦ ok j earlier
           | inr here ↦
               let e : k ≡ j = omega arith in
               subst (λ i. KeepsAllRules g.watched (before frames n i) (packet_at frames n i)) e
-              (keeps_all g.watched (before frames n k) (packet_at frames n k) clean is untold)
+              (keeps.0 untold)
         ])
-        (λ all. breaks_none g.watched (before frames n k) (packet_at frames n k) clean is
-        (all k (omega arith)))
+        (λ all. keeps.1 (all k (omega arith)))
         (rules_one (λ r. breaks r g.watched (before frames n k) (packet_at frames n k))
         (frame_at frames n) k packet_rules)
 
@@ -479,48 +431,27 @@ module _ (g : Task) (frames : Transmission) (Named : CheckFault → Type 0)
 
   late_told : Tells ((last : ℕ) → g.last_out ≡ Some last → last ≤ end_frame frames)
       (late_events g.last_out (end_frame frames))
-  late_told = go g.last_out refl
-    where
-      go : (o : Option ℕ) → g.last_out ≡ o
-          → Tells ((last : ℕ) → g.last_out ≡ Some last → last ≤ end_frame frames)
-          (late_events o (end_frame frames))
-      go None e = nothing_told (λ last is. absurd (none-some last (sym e ∙ is)))
-      go (Some last) e = told_unless _ _ (plain _ refl) (grind (arith, nat_tests, same_Some))
+  late_told = grind (arith, nat_tests, nothing_told, none-some, told_unless, same_Some)
 
   -- What follows the last frame.
   rest_told : AreOk g frames (length frames) → 0 < length frames → (o : Option Unread)
       → g.unread ≡ o → Tells (AllOk g frames) (rest_events g frames o)
-  rest_told past some (Some u) e =
-      rule_told _ (unread u e) (λ all. none-some u (sym all.unread ∙ e))
-  rest_told past some None e =
-      FirstOf-like (λ late. record { each = past; unread = e; some = some; late = late })
-      (λ all. all.late) late_told
+  rest_told past some (Some u) e = grind (arith, nat_tests, rule_told, none-some)
+  rest_told past some None e = grind (arith, nat_tests, FirstOf-like, late_told)
 
   closing_told : (n : ℕ) → n ≡ length frames → AreOk g frames (length frames)
       → Tells (AllOk g frames) (closing_events g frames n)
   unfolding closing_events end_events
-  closing_told zero e past =
-      rule_told _ (go g.unread refl) (λ all. let some = all.some in omega arith)
-    where
-      go : (o : Option Unread) → g.unread ≡ o → Named (unread_fault 0 o)
-      go None is = plain _ refl
-      go (Some u) is = subst (λ m. Named (unread_fault m (Some u))) (sym e) (unread u is)
+  closing_told zero e past = grind (arith, nat_tests, rule_told)
   closing_told (suc m) e past =
       subst (λ xs. Tells (AllOk g frames) (xs ++ rest_events g frames g.unread)) (sym none)
       (rest_told past (omega arith) g.unread refl)
     where
       quiet : IsQuiet g frames (suc m) (end_frame frames)
-      quiet =
-          let one : m + 1 ≡ suc m = omega arith in
-          let last : frame_at frames m ≡ end_frame frames =
-          let at : m ≡ length frames - 1 = omega arith in ap (frame_at frames) at in
-          subst (IsQuiet g frames (suc m)) last
-          (subst (λ k. IsQuiet g frames k (frame_at frames m)) one (past m (omega arith)).end)
+      quiet = grind (arith, nat_tests)
 
       none : endings (standing_at g frames (suc m) (end_frame frames)) (end_frame frames) ≡ []
-      none =
-          ap (λ s. endings s (end_frame frames))
-          ((quiet_decided g frames (suc m) (end_frame frames) (omega arith)).1 quiet)
+      none = grind (arith, nat_tests, quiet_decided, quiet)
 
   -- All that is told.
   pub all_told : EachPacket IsPacket frames → Tells (AllOk g frames) (events g frames)
@@ -536,23 +467,19 @@ abbrev Any : CheckFault → Type 0
 Any f = Unit {0}
 
 pub law_of_broken_places : LawOfBrokenPlaces
-law_of_broken_places g frames =
-    let start = start_told g frames Any (λ f e. tt) (λ u e. tt) (λ n f r c a b. tt) in
-    let rise = rise_told g frames Any (λ f e. tt) (λ u e. tt) (λ n f r c a b. tt) in
-    let header = first_header_told g frames Any (λ f e. tt) (λ u e. tt) (λ n f r c a b. tt) in
-    let late = late_told g frames Any (λ f e. tt) (λ u e. tt) (λ n f r c a b. tt) in
-    let all = all_told g frames Any (λ f e. tt) (λ u e. tt) (λ n f r c a b. tt) in
-    record {
-      start = (start.none, start.holds);
-      order = λ i. ((rise i).none, (rise i).holds);
-      rules = λ r before p comparable.
-          refuted _ (rule_decided g.watched before p r comparable);
-      header = (header.none, header.holds);
-      ends = λ n f l. stands_broken g frames n f l;
-      late = (late.none, late.holds);
-      first = λ event rest whole e.
-          let told = (all whole).first event rest e in (told.0, told.1);
-    }
+unfolding order_events first_header_events
+law_of_broken_places g frames = record {
+  start = grind (arith, nat_tests, same_Some);
+  order = λ i. grind (arith, nat_tests);
+  rules = λ r before p comparable. refuted _ (rule_decided g.watched before p r comparable);
+  header = grind (arith, nat_tests);
+  ends = λ n f l. stands_broken g frames n f l;
+  late = grind (arith, nat_tests, same_Some);
+  first = λ event rest whole e.
+      let told =
+      (all_told g frames Any (λ f e. tt) (λ u e. tt) (λ n f r c a b. tt) whole).first event rest e
+      in (told.0, told.1);
+}
 
 pub law_of_nothing_told : LawOfNothingTold
 law_of_nothing_told programme options unread frames some whole =
@@ -571,6 +498,4 @@ law_of_nothing_told programme options unread frames some whole =
     )
   where
     sizes : EachPacket (λ packet. length packet ≡ 42) frames
-    sizes =
-        each_from (λ packet. length packet ≡ 42) frames
-        (λ i k l m. (each_at IsPacket frames i k whole l m).size)
+    sizes = grind (arith, nat_tests, each_from, each_at)

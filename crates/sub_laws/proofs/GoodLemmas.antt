@@ -1,8 +1,8 @@
 -- What holds of each packet of a transmission, and the headers of frames of the list and of frames
 -- of the day: `each_packet`, `any_sent`, `sent_any`.
-use Rattle.std.proofs.Common.{◌≡◌, ℕ, zero, suc, ◌+◌, ◌-◌, ◌<◌, inl, inr, Bool, true}
-use Rattle.std.proofs.Common.{cond, ◌&&◌, nat_le, nat_lt, List, [], ◌∷◌, ◌++◌}
-use Rattle.std.proofs.Common.{length, get_or, All, refl, ap, arith, ◌⊎◌}
+use Rattle.std.proofs.Common.{◌≡◌, ℕ, zero, suc, ◌+◌, ◌-◌, ◌<◌, inl, inr, Bool, true, cond, ◌&&◌}
+use Rattle.std.proofs.Common.{nat_le, nat_lt, List, [], ◌∷◌, ◌++◌, length, get_or, All, refl, ap}
+use Rattle.std.proofs.Common.{arith, ◌⊎◌}
 use Rattle.std.specs.List.{AllByRecursion, flat_map, list_any}
 use Rattle.std.proofs.lemmas.List.{take_all}
 use Rattle.std.proofs.lemmas.List.Elements.{All-from_recursion}

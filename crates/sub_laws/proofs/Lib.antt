@@ -1,4 +1,3 @@
-pub mod AllKept
 pub mod AllTrustedLemmas
 pub mod BrokenRuleLemmas
 pub mod CleanStretchLemmas
@@ -7,7 +6,6 @@ pub mod DoubtLemmas
 pub mod EventLemmas
 pub mod FrameByFrame
 pub mod FrameDoubtLemmas
-pub mod FrameLemmas
 pub mod GoodLemmas
 pub mod OrderToldLemmas
 pub mod PassedOutsideLemmas

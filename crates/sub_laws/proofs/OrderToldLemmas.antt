@@ -1,10 +1,10 @@
 -- Where the order of frames is told: only of a frame that is not after the one before. So they rise
 -- where it is told of none, `rises_of`, and it is told of none where they rise, `rises_untold`.
 use Rattle.std.proofs.lemmas.Bool.Decides.{nat_tests}
-use Rattle.std.proofs.Common.{◌≡◌, ℕ, zero, suc, ◌-◌, ◌<◌, inl, inr, Bool, true, false, nat_lt}
-use Rattle.std.proofs.Common.{cond, List, [], ◌∷◌, ◌++◌, map, refl, sym, ◌∙◌, subst, arith}
+use Rattle.std.proofs.Common.{◌≡◌, ℕ, zero, suc, ◌-◌, ◌<◌, inl, inr, false, List, [], ◌∷◌, ◌++◌}
+use Rattle.std.proofs.Common.{map, refl, subst, arith}
 use Rattle.std.specs.List.{list_any}
-use Rattle.std.proofs.lemmas.Bool.{cases_lt, lt-ltb, ltb-true}
+use Rattle.std.proofs.lemmas.Bool.{cases_lt, lt-ltb}
 use Rattle.std.proofs.lemmas.List.Folds.{list_any-append}
 use Rattle.sub_rules.specs.Events.{Standing, end_events, events_of_first, first_header_events}
 use Rattle.sub_rules.specs.Events.{frame_events, gap_events, order_events, packet_events}
@@ -17,6 +17,7 @@ use Rattle.sub_rules.specs.declared.event.Event.TheVariants.{Told}
 use Rattle.sub_rules.specs.declared.fault.CheckFault.TheVariants as fault
 use Rattle.sub_rules.specs.declared.packet_rule.PacketRule.{PacketRule}
 use Rattle.sub_rules.specs.declared.packet_rule.Watched.{Watched}
+use Rattle.sub_laws.proofs.PrefixLemmas.{RiseTo}
 
 module _ (g : Task) (frames : Transmission) where
   -- None of these tells of it.
@@ -64,17 +65,10 @@ module _ (g : Task) (frames : Transmission) where
       → NoOrder (order_events g frames i)
   unfolding order_events is_order
   no_order zero rise = grind (arith, nat_tests)
-  no_order (suc i) rise =
-      let back : suc i - 1 ≡ i = omega arith in
-      let up : nat_lt (frame_at frames i) (frame_at frames (suc i)) ≡ true =
-      lt-ltb _ _ (subst (λ k. frame_at frames k < frame_at frames (suc i)) back
-      (rise (omega arith))) in
-      rw up refl
+  no_order (suc i) rise = grind (arith, nat_tests, lt-ltb)
 
   -- Where the first frames rise none tells of it.
-  pub rises_untold : (n : ℕ)
-      → ((i : ℕ) → 0 < i → i < n → frame_at frames (i - 1) < frame_at frames i)
-      → NoOrder (events_of_first g frames n)
+  pub rises_untold : (n : ℕ) → RiseTo frames n → NoOrder (events_of_first g frames n)
   unfolding events_of_first frame_events
   rises_untold zero rises = refl
   rises_untold (suc n) rises =
@@ -84,41 +78,27 @@ module _ (g : Task) (frames : Transmission) where
       (no_header n)) (no_end _ _ _ _))
 
   -- A frame of which the order is not told is after the one before.
-  order_none : (i : ℕ) → list_any is_order (order_events g frames (suc i)) ≡ false
-      → frame_at frames i < frame_at frames (suc i)
+  order_none : (i : ℕ) → 0 < i → NoOrder (order_events g frames i)
+      → frame_at frames (i - 1) < frame_at frames i
   unfolding order_events is_order
-  order_none i e = go (nat_lt (frame_at frames i) (frame_at frames (suc i))) refl e
-    where
-      go : (b : Bool) → nat_lt (frame_at frames i) (frame_at frames (suc i)) ≡ b
-          → list_any is_order (cond b [] (Told (fault.Order (suc i)) ∷ [])) ≡ false
-          → frame_at frames i < frame_at frames (suc i)
-      go true is e = ltb-true _ _ is
-      go false is e = cc
+  order_none zero some e = absurd (omega arith)
+  order_none (suc i) some e = grind (arith, nat_tests)
 
-  -- Of lists of which none holds one the first does not.
-  any_first : (xs ys : List Event) → list_any is_order (xs ++ ys) ≡ false
-      → list_any is_order xs ≡ false
-  any_first xs ys e = let both = list_any-append is_order xs ys in grind (arith, nat_tests)
-
-  any_second : (xs ys : List Event) → list_any is_order (xs ++ ys) ≡ false
-      → list_any is_order ys ≡ false
-  any_second xs ys e = let both = list_any-append is_order xs ys in grind (arith, nat_tests)
+  -- Where none of two lists tells of it neither does.
+  no_parts : (xs ys : List Event) → NoOrder (xs ++ ys) → NoOrder xs × NoOrder ys
+  no_parts xs ys e = let both = list_any-append is_order xs ys in grind (arith, nat_tests)
 
   -- So where none is told of the first frames, each is after the one before.
-  pub rises_of : (n : ℕ) → list_any is_order (events_of_first g frames n) ≡ false
-      → (i : ℕ) → 0 < i → i < n → frame_at frames (i - 1) < frame_at frames i
+  pub rises_of : (n : ℕ) → NoOrder (events_of_first g frames n) → RiseTo frames n
   unfolding events_of_first frame_events
   rises_of zero e i some l = absurd (omega arith)
-  rises_of (suc n) e i some l = elim (cases_lt i n) [
-    | inl below ↦ rises_of n (any_first (events_of_first g frames n) _ e) i some below
-    | inr no_less ↦
-        let here : i ≡ n = omega arith in
-        let back : suc (i - 1) ≡ i = omega arith in
-        let order : list_any is_order (order_events g frames n) ≡ false =
-        any_first _ _ (any_first _ _ (any_first _ _ (any_first _ _
-        (any_second (events_of_first g frames n) _ e)))) in
-        subst (λ k. frame_at frames (i - 1) < frame_at frames k) back
-        (order_none (i - 1)
-        (subst (λ k. list_any is_order (order_events g frames k) ≡ false)
-        (sym (back ∙ here)) order))
-  ]
+  rises_of (suc n) e i some l =
+      let parts = no_parts (events_of_first g frames n) _ e in
+      elim (cases_lt i n) [
+        | inl below ↦ rises_of n parts.0 i some below
+        | inr no_less ↦
+            let here : n ≡ i = omega arith in
+            subst (λ k. frame_at frames (k - 1) < frame_at frames k) here
+            (order_none n (omega arith)
+            (no_parts _ _ (no_parts _ _ (no_parts _ _ (no_parts _ _ parts.1).0).0).0).0)
+      ]

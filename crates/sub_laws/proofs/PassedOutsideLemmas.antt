@@ -1,17 +1,17 @@
 -- No piece is passed over that may have been sent in a stretch: said piece by piece, `is_outside`.
+use Rattle.std.proofs.lemmas.Bool.Decides.{nat_tests}
 use Rattle.std.proofs.Common.{◌≡◌, ℕ, zero, suc, ◌+◌, ◌-◌, ◌<◌, ◌≤◌, inl, inr, List, [], ◌∷◌}
-use Rattle.std.proofs.Common.{length, refl, sym, ap, ◌∙◌, arith, ◌⊎◌, ◌++◌}
-use Rattle.std.proofs.Common.{append_assoc, length-append}
-use Rattle.std.proofs.lemmas.List.{length-take-le}
+use Rattle.std.proofs.Common.{length, refl, sym, ap, ◌∙◌, arith, ◌⊎◌, ◌++◌, append_assoc}
+use Rattle.std.proofs.Common.{length-append}
 use Rattle.sub_rules.specs.FrameRules.{frame_at}
 use Rattle.sub_rules.specs.Transmission.{Transmission, last_frame}
 use Rattle.std.specs.Prelude.{⊤}
 use Rattle.sub_rules.specs.Pieces.{Piece, frames_of}
 use Rattle.sub_rules.specs.Pieces.Piece.{Passed, Sent}
 use Rattle.sub_rules.proofs.PieceEventLemmas.{frames_of-append}
-use Rattle.sub_laws.specs.TrustedFrames.{IsPassedOutside, rising_count}
+use Rattle.sub_laws.specs.TrustedFrames.{IsPassedOutside}
 use Rattle.sub_laws.proofs.PrefixLemmas.{last-same}
-use Rattle.sub_laws.proofs.TrustedFrameLemmas.{count_low}
+use Rattle.sub_laws.proofs.TrustedFrameLemmas.{part_length, risen}
 
 -- A frame of the first of two lists.
 frame_at-first : (xs ys : Transmission) (i : ℕ) → i < length xs
@@ -24,16 +24,12 @@ module _ (pieces : List Piece) (a b : ℕ) where
   abbrev frames : Transmission
   frames = frames_of pieces
 
-  -- How many of them rise.
-  abbrev m : ℕ
-  m = rising_count frames (length frames)
-
   -- None of these that is passed over may have been sent in the stretch, n being sent before them.
   abbrev pub IsOutside : ℕ → List Piece → Type 0
   IsOutside n [] = ⊤
   IsOutside n (Sent s ∷ ahead) = IsOutside (suc n) ahead
   IsOutside n (Passed u ∷ ahead) =
-      (0 < n → n ≤ m → (frame_at frames (n - 1) < a) ⊎ (b < frame_at frames (n - 1)))
+      (0 < n → n ≤ risen frames → (frame_at frames (n - 1) < a) ⊎ (b < frame_at frames (n - 1)))
       × IsOutside n ahead
 
   pub is_outside : IsPassedOutside pieces a b
@@ -51,7 +47,7 @@ module _ (pieces : List Piece) (a b : ℕ) where
       let joined = ap length (frames_of-append done (Passed u ∷ [])) in
       let more = length-append (frames_of done) [] in (
         λ some low.
-            let all = length-take-le m frames (count_low frames (length frames)) in
+            let all = part_length frames in
             let at = last_of_done some in
             elim (outside done ahead u parts (omega arith) (omega arith)) [
               | inl before ↦ inl (omega arith)
@@ -62,10 +58,4 @@ module _ (pieces : List Piece) (a b : ℕ) where
       )
     where
       last_of_done : 0 < n → last_frame (frames_of done) ≡ frame_at frames (n - 1)
-      last_of_done some =
-          let whole : frames ≡ frames_of done ++ frames_of ahead =
-          ap frames_of parts ∙ frames_of-append done (Passed u ∷ ahead) in
-          last-same (frames_of done)
-          ∙ ap (λ k. frame_at (frames_of done) (k - 1)) count
-          ∙ sym (frame_at-first (frames_of done) (frames_of ahead) (n - 1) (omega arith))
-          ∙ ap (λ fs. frame_at fs (n - 1)) (sym whole)
+      last_of_done some = grind (arith, nat_tests, frames_of-append, last-same, frame_at-first)

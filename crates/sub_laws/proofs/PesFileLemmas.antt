@@ -177,9 +177,7 @@ pub carried_is_read :
     → Carries origin bytes frames
     → ReadsAs origin 0 bytes frames None
 carried_is_read origin bytes frames is =
-    let few = is.file.few in
-    subst (λ b. ReadsAs origin 0 b frames None) (sym is.file.joined)
-    (reads_of origin 0 is.values is.file.packets frames is.file.each (omega arith) is.sent.each)
+    grind (arith, nat_tests, reads_of)
 
 -- What is read to the end is a PES file that carries the frames, and the other way round.
 pub law_of_pes_files : LawOfPesFiles

@@ -4,10 +4,10 @@ use Rattle.std.proofs.lemmas.Bool.Decides.{nat_tests}
 use Rattle.std.proofs.Common.{◌≡◌, ℕ, ◌+◌, ◌-◌, ◌<◌, ◌≤◌, inl, inr, true, false, List, [], ◌∷◌}
 use Rattle.std.proofs.Common.{◌++◌, Option, Some, None, length, take, get_or, refl, sym, ap, ◌∙◌}
 use Rattle.std.proofs.Common.{subst, arith, IsTrue}
-use Rattle.std.proofs.Math.Seq.{take-append-add, take-nil}
+use Rattle.std.proofs.Math.Seq.{take-append-add}
 use Rattle.std.specs.Option.{option_or}
 use Rattle.std.specs.List.{AllByRecursion}
-use Rattle.std.proofs.lemmas.List.{length_push, take_all, take-append-le}
+use Rattle.std.proofs.lemmas.List.{get_or_default}
 use Rattle.std.proofs.lemmas.List.Elements.{All-from_recursion, recursion_from_All}
 use Rattle.std.proofs.lemmas.Bool.{cases_eq, cases_lt}
 use Rattle.std.proofs.lemmas.Option.{none-some, same_Some}
@@ -38,10 +38,11 @@ use Rattle.sub_laws.proofs.GoodLemmas.{any_sent, each_packet, number_at, rises_e
 use Rattle.sub_laws.proofs.GoodLemmas.{whole}
 use Rattle.ttx_page.proofs.SpanPush.{span-push}
 use Rattle.sub_laws.proofs.PrefixLemmas.{before, packet_at, at_start, at_packet, each_at, each_from}
-use Rattle.sub_laws.proofs.PrefixLemmas.{before_more, rises_to, rises_strictly, first-same}
-use Rattle.sub_laws.proofs.PrefixLemmas.{last-same, on_air_at, on_air_is, end_at}
+use Rattle.sub_laws.proofs.PrefixLemmas.{EachAfter, RiseTo, before_more, each_after, rises_to}
+use Rattle.sub_laws.proofs.PrefixLemmas.{first-same, rises_strictly, last-same, on_air_at}
+use Rattle.sub_laws.proofs.PrefixLemmas.{on_air_is, end_at}
 use Rattle.sub_rules.proofs.FrameLists.{joined_more}
-use Rattle.sub_laws.proofs.StepByStepLemmas.{clean_nil, last_clean, law_of_repeats, pushed}
+use Rattle.sub_laws.proofs.StepByStepLemmas.{clean_cuts, last_clean, law_of_repeats}
 use Rattle.sub_rules.specs.declared.packet_rule.PacketRule.TheVariants as rule
 
 -- ---- a packet of the span
@@ -62,20 +63,23 @@ unfolding kind
 enhancement_is_other w p (a, e, m, low, high) =
     grind arith
 
--- ---- one packet more in a span
+-- ---- the span of packets that keep the rules
 
--- After a packet that keeps the rules the span is clean still.
-pub fair_step : (w : Watched) (heard : List (List ℕ)) (p : List ℕ) → KeepsAllRules w heard p
-    → IsCleanSpan w.page (span (kind w.page) heard)
-    → IsCleanSpan w.page (span (kind w.page) (heard ++ p ∷ []))
-fair_step w heard p clean h =
-    pushed w.page heard p h (λ opened this ends. record {
+-- Cut anywhere it is clean.
+pub clean_spans : (w : Watched) (packets : List (List ℕ)) → EachAfter (KeepsAllRules w) packets
+    → (n : ℕ)
+    → IsCleanSpan w.page (span (kind w.page) (take n packets))
+clean_spans w packets each =
+    clean_cuts w.page packets (λ i d l opened this ends.
+    let heard : List (List ℕ) = take i packets in
+    let clean = each i l in
+    subst (MayFollow w.page (span (kind w.page) heard)) (get_or_default packets i [] d l) (record {
       odd = clean rule.Parity opened;
-      same = λ k d l row a b.
-          All-from_recursion (λ q. kind w.page q ≡ Row row → q ≡ p) (span (kind w.page) heard)
-          (clean rule.RowChanged opened row b) k d l a;
+      same = λ k e m row a b.
+          All-from_recursion (λ q. kind w.page q ≡ Row row → q ≡ get_or packets i [])
+          (span (kind w.page) heard) (clean rule.RowChanged opened row b) k e m a;
       plain = clean rule.Enhancement opened;
-    })
+    }))
 
 -- ---- each header agrees with the first
 
@@ -95,8 +99,7 @@ agree_step heard p mode h =
     (λ b e. new b e (first_header heard) refl)
   where
     keeps : (q : List ℕ) → Agrees heard q → Agrees (heard ++ p ∷ []) q
-    keeps q a b e = let r = a b e in
-        (r.0, first_header-push heard p ∙ ap (λ o. option_or o (header p)) r.1, r.2)
+    keeps q a b e = grind (arith, nat_tests, first_header-push)
 
     new : (b : Header) → header p ≡ Some b → (o : Option Header) → first_header heard ≡ o
         → (f : Header) × (first_header (heard ++ p ∷ []) ≡ Some f) × ((c11 b) ≡ (c11 f))
@@ -125,7 +128,7 @@ module _ (programme : ProgrammeValue) (options : OptionsValue) (unread : Option 
   some = h.some
 
   -- Each frame is after the one before.
-  pub rising : (i : ℕ) → 0 < i → i < length t → frame_at t (i - 1) < frame_at t i
+  pub rising : RiseTo t (length t)
   rising i a b = (h.each i b).order.rises a
 
   -- The frames rise.
@@ -140,27 +143,6 @@ module _ (programme : ProgrammeValue) (options : OptionsValue) (unread : Option 
   clean_at : (i k : ℕ) → i < length t → k < length (packets_of_frame t i)
       → KeepsAllRules (watched_of programme options) (before t i k) (packet_at t i k)
   clean_at i k l m f = (h.each i l).packets k m f
-
-  -- These packets, cut anywhere, leave a clean span.
-  abbrev HasCleanCuts : List (List ℕ) → Type 0
-  HasCleanCuts xs = (n : ℕ) → IsCleanSpan options.page (span (kind options.page) (take n xs))
-
-  -- One packet more.
-  cuts_more : (i k : ℕ) → i < length t → k < length (packets_of_frame t i)
-      → HasCleanCuts (before t i k) → HasCleanCuts (before t i k ++ packet_at t i k ∷ [])
-  cuts_more i k l m cuts n =
-      let xs = before t i k in
-      elim (cases_lt (length xs) n) [
-        | inl long ↦
-            subst (λ ys. IsCleanSpan options.page (span (kind options.page) ys))
-            (sym (take_all n (xs ++ packet_at t i k ∷ []) (rw length_push (omega arith))))
-            (fair_step (watched_of programme options) xs (packet_at t i k) (clean_at i k l m)
-            (subst (λ ys. IsCleanSpan options.page (span (kind options.page) ys))
-            (take_all (length xs) xs (omega arith)) (cuts (length xs))))
-        | inr short ↦
-            subst (λ ys. IsCleanSpan options.page (span (kind options.page) ys))
-            (sym (take-append-le n xs (packet_at t i k ∷ []) short)) (cuts n)
-      ]
 
   -- So spans are clean.
   spans_of : (f n : ℕ) → f ≤ last_frame t
@@ -178,16 +160,13 @@ module _ (programme : ProgrammeValue) (options : OptionsValue) (unread : Option 
           → IsCleanSpan options.page (span (kind options.page) (take n (on_air_until t f)))
       up_to m le is =
           subst (λ xs. IsCleanSpan options.page (span (kind options.page) (take n xs))) (sym is)
-          (at_start t (length t) (omega arith) HasCleanCuts
-          (λ k. rw take-nil (clean_nil options.page)) cuts_more m le n)
+          (clean_spans (watched_of programme options) (packets_before t m)
+          (each_after (KeepsAllRules (watched_of programme options)) t m le
+          (λ i k l h. clean_at i k (omega arith) h)) n)
 
   -- At no end anything stands broken.
   quiet_at : (n f : ℕ) → IsEnd t n f → IsQuiet (task_of programme options unread) t n f
-  quiet_at n f (above, le, inl own) =
-      let one : n - 1 + 1 ≡ n = omega arith in
-      subst (λ m. IsQuiet (task_of programme options unread) t m f) one
-      (subst (IsQuiet (task_of programme options unread) t (n - 1 + 1)) (sym own)
-      (h.each (n - 1) (omega arith)).end)
+  quiet_at n f (above, le, inl own) = grind (arith, nat_tests)
   quiet_at n f (above, le, inr (l, later, earlier)) =
       (h.each n l).gap f (above, l, earlier (n - 1) (omega arith), later)
 
@@ -212,7 +191,8 @@ module _ (programme : ProgrammeValue) (options : OptionsValue) (unread : Option 
       elim (quiet_at n f end).covered [
         | inl early ↦ (first_frame t, low, omega arith, opens)
         | inr (j, m, below, head) ↦
-            let r = rises_to t rising j (n - 1) (omega arith) (omega (arith, end.0, end.1)) in
+            let r = rises_to t (length t) rising j (n - 1) (omega arith)
+            (omega (arith, end.0, end.1)) in
             let there : j < length t = omega (arith, end.1) in (
               frame_at t j,
               omega arith,
@@ -263,7 +243,7 @@ module _ (programme : ProgrammeValue) (options : OptionsValue) (t : Transmission
     (good : Good programme t options) (complete : IsTrue options.asks_complete → Complete t options)
   where
     -- Each frame is after the one before.
-    abbrev rises : (i : ℕ) → 0 < i → i < length t → frame_at t (i - 1) < frame_at t i
+    abbrev rises : RiseTo t (length t)
     rises = rises_each t good.rising
 
     -- Each packet has the C11 of the first header.
@@ -281,7 +261,7 @@ module _ (programme : ProgrammeValue) (options : OptionsValue) (t : Transmission
 
     -- No frame is after the last.
     last_at_least : (i : ℕ) → i < length t → frame_at t i ≤ end_frame t
-    last_at_least i l = rises_to t rises i (length t - 1) (omega arith) (omega arith)
+    last_at_least i l = rises_to t (length t) rises i (length t - 1) (omega arith) (omega arith)
 
     -- While the page is open the packet may follow the span.
     may_follow : (i k : ℕ) → i < length t → k < length (packets_of_frame t i)
@@ -352,7 +332,7 @@ module _ (programme : ProgrammeValue) (options : OptionsValue) (t : Transmission
         → (n < length t → f < frame_at t n) → f ≤ end_frame t
         → IsQuiet (task_of programme options None) t n f
     quiet_of n f some le low high last =
-        let first = rises_to t rises 0 (n - 1) (omega arith) (omega arith) in
+        let first = rises_to t (length t) rises 0 (n - 1) (omega arith) (omega arith) in
         let from : first_frame t ≤ f = omega (arith, first-same t) in
         let to : f ≤ last_frame t = omega (arith, last-same t) in
         let on = on_air_is t rises n f le (λ s. low) high in
@@ -362,7 +342,8 @@ module _ (programme : ProgrammeValue) (options : OptionsValue) (t : Transmission
               ∙ good.content f row column from to is;
           covered = covered_at n f last
               (λ j a b.
-              let r = rises_to t rises n j a b in let s = high (omega arith) in omega arith);
+              let r = rises_to t (length t) rises n j a b in
+              let s = high (omega arith) in omega arith);
           ended = λ asks. let shut = complete asks f from to in grind arith;
         }
 

@@ -5,9 +5,9 @@ use Rattle.sub_plan.proofs.ScheduleBases.{sends-last}
 use Rattle.std.proofs.lemmas.List.Elements.{filter-append, All-weaker, recursion_from_All}
 use Rattle.std.proofs.lemmas.List.{map-append}
 use Rattle.std.proofs.lemmas.Bool.Decides.{nat_tests}
-use Rattle.std.proofs.Common.{◌≡◌, ℕ, suc, ◌+◌, ◌-◌, ◌<◌, ◌≤◌, Bool, true, List, [], ◌∷◌}
-use Rattle.std.proofs.Common.{◌++◌, length, map, filter, take, flat_map, All, refl, sym, ap, ap₂}
-use Rattle.std.proofs.Common.{◌∙◌, subst, arith, IsTrue, append-nil, Option, Some, None, ◌*◌, lit<}
+use Rattle.std.proofs.Common.{◌≡◌, ℕ, suc, ◌+◌, ◌-◌, ◌<◌, ◌≤◌, Bool, true, List, [], ◌∷◌, ◌++◌}
+use Rattle.std.proofs.Common.{length, map, filter, take, flat_map, All, refl, sym, ap, ap₂, ◌∙◌}
+use Rattle.std.proofs.Common.{subst, arith, IsTrue, append-nil, Option, Some, None, ◌*◌, lit<}
 use Rattle.std.specs.List.{range_with_len, AllByRecursion}
 use Rattle.std.specs.Prelude.{IfSome}
 use Rattle.std.proofs.lemmas.Option.{same_Some}
@@ -40,9 +40,8 @@ use Rattle.sub_rules.specs.Transmission.{last_frame, packets_between, packets_of
 use Rattle.sub_rules.specs.Good.{Good, IsCleanSpan, IsControlled, IsEnhancement, IsSubtitleHeader}
 use Rattle.sub_laws.specs.OnScreen.{Complete, LawOfCompletePlan}
 use Rattle.sub_laws.specs.Planned.{LawOfPlan, planned, planned_at, LawOfPlanRead}
-use Rattle.sub_laws.proofs.TransmissionLemmas.{packets_between-split}
-use Rattle.sub_laws.proofs.FrameLemmas.{frames, rises, sent_none, sent_at, sent_some, each_frame}
-use Rattle.sub_laws.proofs.FrameLemmas.{starts_with, last_push}
+use Rattle.sub_laws.proofs.TransmissionLemmas.{packets_between-split, each_frame, frames, last_push}
+use Rattle.sub_laws.proofs.TransmissionLemmas.{rises, sent_at, sent_none, sent_some, starts_with}
 use Rattle.std.proofs.Math.Nat.{mod-lt}
 use Rattle.std.proofs.lemmas.List.FromFn.{length-range_with_len}
 use Rattle.ttx_pes.specs.PesPacket.{PesValue}
@@ -176,14 +175,12 @@ module _
 
   -- What is sent in a frame with a sending.
   sent_in_is : (g : ℕ) → p g ≡ true → first ≤ g → g ≤ last → packets_of T g ≡ (mk g).packets
-  sent_in_is g h low high = ap (λ frames. packets_of frames g) plan_is
-      ∙ sent_at mk num p g first (last + 1 - first) h low (omega arith)
+  sent_in_is g h low high = grind (arith, nat_tests, frames, plan_is, sent_at)
 
   -- It holds a header of the page.
   holds_at : (g : ℕ) → p g ≡ true → first ≤ g → g ≤ last
       → holds_header (kind w) (packets_of T g) ≡ true
-  holds_at g h low high = ap (holds_header (kind w)) (sent_in_is g h low high)
-      ∙ sending_holds w programme.national serial (due g) ok.page (shape g)
+  holds_at g h low high = grind (arith, nat_tests, sent_in_is, sending_holds, shape)
 
   -- What is on air up to a frame is what stands from the first TCI on.
   until : (f : ℕ) → on_air_until T f ≡ packets_between T first (f + 1)
@@ -286,8 +283,7 @@ plan_between : (programme : ProgrammeValue) (o : OptionsValue) (serial : Bool) (
     → IsOptions o
     → Good programme (planned programme o serial) o × Complete (planned programme o serial) o
 plan_between programme o serial None b h k is some ok = absurd (some (none_in programme.records h))
-plan_between programme o serial (Some a) None h k is some ok =
-    absurd (some (some_out programme.records a h k))
+plan_between programme o serial (Some a) None h k is some ok = grind (arith, nat_tests, some_out)
 plan_between programme o serial (Some a) (Some b) h k is some ok =
     let s = span-rises programme.national programme.records a b is h k in
     let order : a ≤ b = omega (arith, s.rises) in

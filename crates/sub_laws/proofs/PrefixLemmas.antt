@@ -1,15 +1,19 @@
 -- The lists of packets that a transmission begins with, and where a frame falls.
 use Rattle.std.proofs.lemmas.Bool.Decides.{nat_tests}
-use Rattle.std.proofs.Common.{◌≡◌, ℕ, zero, suc, ◌+◌, ◌-◌, ◌<◌, ◌≤◌, ◌⊎◌, inl, inr}
-use Rattle.std.proofs.Common.{◌&&◌, nat_le, cond, List, [], ◌∷◌, ◌++◌, length, take, get_or}
-use Rattle.std.proofs.Common.{refl, sym, ap, ap₂, ◌∙◌, subst, arith, append_assoc}
+use Rattle.std.proofs.Common.{◌≡◌, ℕ, zero, suc, ◌+◌, ◌-◌, ◌<◌, ◌≤◌, ◌⊎◌, inl, inr, ◌&&◌, nat_le}
+use Rattle.std.proofs.Common.{cond, List, [], ◌∷◌, ◌++◌, length, take, get_or, refl, sym, ap, ap₂}
+use Rattle.std.proofs.Common.{◌∙◌, subst, arith, append_assoc, map}
 use Rattle.std.proofs.lemmas.List.{take_more, take_all, append-nil, get_or-map, get_or_default}
+use Rattle.std.proofs.lemmas.List.{get_or-append-add, get_or_append_left, length_push}
+use Rattle.std.proofs.lemmas.List.{take-append-le, get_or-take, length-take-le, take-map}
+use Rattle.std.proofs.Math.Seq.{take-append-add}
 use Rattle.std.proofs.lemmas.Bool.{cases_eq, cases_lt, le-leb, le-ltb, lt-ltb, and_right}
-use Rattle.sub_rules.specs.Transmission.{EachPacket, SentFrame, Transmission, first_frame}
+use Rattle.sub_rules.specs.Transmission.{EachPacket, IsRising, SentFrame, Transmission, first_frame}
 use Rattle.sub_rules.specs.Transmission.{last_frame, on_air_until, packets_between}
 use Rattle.sub_rules.specs.FrameRules.{end_frame, frame_at, packets_of_frame, packets_before}
 use Rattle.sub_laws.specs.CleanStretch.{IsEnd}
 use Rattle.sub_rules.proofs.FrameLists.{joined_more}
+use Rattle.sub_laws.proofs.GoodLemmas.{number_at}
 
 -- A frame of the day between frame i of the list and the one before.
 abbrev pub IsInGap : Transmission → ℕ → ℕ → Type 0
@@ -27,8 +31,7 @@ packet_at t i k = get_or (packets_of_frame t i) k []
 -- The packets before the next packet.
 pub before_more : (t : Transmission) (i k : ℕ) → k < length (packets_of_frame t i)
     → before t i (k + 1) ≡ before t i k ++ packet_at t i k ∷ []
-before_more t i k l = ap (λ xs. packets_before t i ++ xs) (take_more (packets_of_frame t i) k [] l)
-    ∙ sym (append_assoc (packets_before t i) (take k (packets_of_frame t i)) (packet_at t i k ∷ []))
+before_more t i k l = grind (arith, nat_tests, take_more, append_assoc)
 
 -- The packets before the first packet of a frame.
 before_none : (t : Transmission) (i : ℕ) → before t i 0 ≡ packets_before t i
@@ -67,6 +70,35 @@ module _ (t : Transmission) (m : ℕ) (fits : m ≤ length t) (Q : List (List �
   pub at_packet : (i k : ℕ) → i < m → k ≤ length (packets_of_frame t i) → Q (before t i k)
   at_packet i k l h = within i l (at_start i (omega arith)) k h
 
+-- What holds of each packet of a list, sent after those before it.
+abbrev pub EachAfter : (List (List ℕ) → List ℕ → Type 0) → List (List ℕ) → Type 0
+EachAfter Holds packets =
+    (k : ℕ) → k < length packets → Holds (take k packets) (get_or packets k [])
+
+-- And of one more.
+pub EachAfter-push : (Holds : List (List ℕ) → List ℕ → Type 0) (xs : List (List ℕ)) (p : List ℕ)
+    → EachAfter Holds xs → Holds xs p → EachAfter Holds (xs ++ p ∷ [])
+EachAfter-push Holds xs p each more k l = elim (cases_lt k (length xs)) [
+  | inl within ↦
+      rw (get_or_append_left xs (p ∷ []) [] k within, take-append-le k xs (p ∷ []) (omega arith))
+      (each k within)
+  | inr past ↦
+      let at : length xs + 0 ≡ k = omega (arith, length_push xs p) in
+      subst (λ j. Holds (take j (xs ++ p ∷ [])) (get_or (xs ++ p ∷ []) j [])) at
+      (rw (get_or-append-add xs (p ∷ []) 0 [], take-append-add xs (p ∷ []) 0, append-nil xs) more)
+]
+
+-- What holds so of each packet of the first m frames holds so of each of them in one list.
+pub each_after : (Holds : List (List ℕ) → List ℕ → Type 0) (t : Transmission) (m : ℕ)
+    → m ≤ length t
+    → ((i k : ℕ) → i < m → k < length (packets_of_frame t i)
+    → Holds (before t i k) (packet_at t i k))
+    → EachAfter Holds (packets_before t m)
+each_after Holds t m fits each =
+    at_start t m fits (EachAfter Holds) (λ k l. absurd (omega arith))
+    (λ i k l h ih. EachAfter-push Holds (before t i k) (packet_at t i k) ih (each i k l h)) m
+    (omega arith)
+
 -- What holds of each packet of the transmission holds of this one.
 pub each_at : (P : List ℕ → Type 0) (t : Transmission) (i k : ℕ) → EachPacket P t → i < length t
     → k < length (packets_of_frame t i) → P (packet_at t i k)
@@ -87,22 +119,28 @@ each_from P t every i d l k e m =
 
 -- ---- frames
 
-module _ (t : Transmission)
-    (rising : (i : ℕ) → 0 < i → i < length t → frame_at t (i - 1) < frame_at t i) where
-  -- Frames rise.
-  pub rises : (i m : ℕ) → i + m < length t → frame_at t i ≤ frame_at t (i + m)
-  rises i zero h = let e : frame_at t i ≡ frame_at t (i + 0) = ap (frame_at t) (omega arith) in
+-- The first n frames rise.
+abbrev pub RiseTo : Transmission → ℕ → Type 0
+RiseTo t n = (i : ℕ) → 0 < i → i < n → frame_at t (i - 1) < frame_at t i
+
+-- Then none of them is after a later one.
+pub rises_to : (t : Transmission) (n : ℕ) → RiseTo t n → (i j : ℕ) → i ≤ j → j < n
+    → frame_at t i ≤ frame_at t j
+rises_to t n rises i zero l m = grind (arith, nat_tests)
+rises_to t n rises i (suc j) l m = elim (cases_eq i (suc j)) [
+  | inl same ↦ let e = ap (frame_at t) same in omega arith
+  | inr other ↦
+      let e : frame_at t (suc j - 1) ≡ frame_at t j = ap (frame_at t) (omega arith) in
+      let one = rises (suc j) (omega arith) m in
+      let rest = rises_to t n rises i j (omega arith) (omega arith) in
       omega arith
-  rises i (suc m) h = grind (arith, nat_tests, rises i m (omega arith), suc m)
+]
 
-  -- No frame is after a later one.
-  pub rises_to : (i j : ℕ) → i ≤ j → j < length t → frame_at t i ≤ frame_at t j
-  rises_to i j h l = let r = rises i (j - i) (omega arith) in
-      let e : frame_at t (i + (j - i)) ≡ frame_at t j = ap (frame_at t) (omega arith) in omega arith
-
+module _ (t : Transmission) (rising : RiseTo t (length t)) where
   -- Each is before a later one.
   pub rises_strictly : (i j : ℕ) → i < j → j < length t → frame_at t i < frame_at t j
-  rises_strictly i j h l = let r = rises_to i (j - 1) (omega arith) (omega arith) in
+  rises_strictly i j h l =
+      let r = rises_to t (length t) rising i (j - 1) (omega arith) (omega arith) in
       let s = rising j (omega arith) l in omega arith
 
   -- A frame of the day from the first on is in the list, or in a gap.
@@ -149,8 +187,7 @@ between_take (s ∷ ss) (suc n) a b inside after =
     (between_take ss n a b (λ j l m. inside (suc j) (omega arith) (omega arith))
     (λ j l m. after (suc j) (omega arith) (omega arith)))
 
-module _ (t : Transmission)
-    (rising : (i : ℕ) → 0 < i → i < length t → frame_at t (i - 1) < frame_at t i) where
+module _ (t : Transmission) (rising : RiseTo t (length t)) where
   -- What is on air up to a frame that is at or after the first n frames, and before the others.
   pub on_air_is : (n f : ℕ) → n ≤ length t → (0 < n → frame_at t (n - 1) ≤ f)
       → (n < length t → f < frame_at t n) → on_air_until t f ≡ packets_before t n
@@ -158,11 +195,13 @@ module _ (t : Transmission)
       let first = first-same t in
       between_take t n (first_frame t) (f + 1)
       (λ j l m.
-      let a = rises_to t rising 0 j (omega arith) l in
-      let r = rises_to t rising j (n - 1) (omega arith) (omega arith) in
+      let a = rises_to t (length t) rising 0 j (omega arith) l in
+      let r = rises_to t (length t) rising j (n - 1) (omega arith) (omega arith) in
       let b = low (omega arith) in
       (omega arith, omega arith))
-      (λ j l m. let r = rises_to t rising n j l m in let s = high (omega arith) in omega arith)
+      (λ j l m.
+      let r = rises_to t (length t) rising n j l m in
+      let s = high (omega arith) in omega arith)
 
   -- At the end of frame i of the list all its packets so far are on air.
   pub on_air_at : (i : ℕ) → i < length t → on_air_until t (frame_at t i) ≡ packets_before t (i + 1)
@@ -183,7 +222,8 @@ module _ (t : Transmission)
         | inr (i, gap) ↦
             let from = gap.2 in
             let earlier : (j : ℕ) → j < i → frame_at t j < f =
-            λ j l. let r = rises_to t rising j (i - 1) (omega arith) (omega (arith, gap.1)) in
+            λ j l. let r = rises_to t (length t) rising j (i - 1) (omega arith)
+            (omega (arith, gap.1)) in
             omega arith in (
               i,
               (gap.0, omega (arith, gap.1), inr (gap.1, gap.3, earlier)),
@@ -191,3 +231,30 @@ module _ (t : Transmission)
               omega arith,
             )
       ]
+
+-- ---- the first frames of a list
+
+-- Each is that of the list.
+pub frame_at-take : (t : Transmission) (n i : ℕ) → i < n → frame_at (take n t) i ≡ frame_at t i
+frame_at-take t n i l =
+    ap (λ xs. get_or xs i 0) (sym (take-map (λ (s : SentFrame). s.frame) n t))
+    ∙ get_or-take n (map (λ (s : SentFrame). s.frame) t) i 0 l
+
+-- With its packets.
+pub packets-take : (t : Transmission) (n i : ℕ) → i < n
+    → packets_of_frame (take n t) i ≡ packets_of_frame t i
+packets-take t n i l =
+    ap (λ xs. get_or xs i []) (sym (take-map (λ (s : SentFrame). s.packets) n t))
+    ∙ get_or-take n (map (λ (s : SentFrame). s.packets) t) i [] l
+
+module _ (t : Transmission) (n : ℕ) (fits : n ≤ length t) where
+  -- Where they rise they are a rising transmission.
+  pub take_rises : RiseTo t n → RiseTo (take n t) (length (take n t))
+  take_rises rises i a l = grind (arith, nat_tests, length-take-le, frame_at-take)
+
+  pub take_rising : RiseTo t n → IsRising (take n t)
+  take_rising rises i k d l high = grind (arith, nat_tests, number_at, rises_strictly, take_rises)
+
+  -- The last one.
+  pub take_last : 0 < n → last_frame (take n t) ≡ frame_at t (n - 1)
+  take_last some = grind (arith, nat_tests, last-same, length-take-le, frame_at-take)

@@ -1,25 +1,22 @@
 -- What is read of any bytes: packets are whole, and no fault is a device's. Main lemma:
 -- `file_sound`.
-use Rattle.std.proofs.Common.{◌≡◌, ℕ, zero, suc, ◌+◌, ◌-◌, ◌*◌, ◌/◌, ◌%◌, ◌<◌, ◌≤◌, Bool, true}
-use Rattle.std.proofs.Common.{false}
-use Rattle.std.proofs.Common.{List, [], ◌∷◌, length, map, take, drop, slice_index}
-use Rattle.std.proofs.Common.{Option, None, Some, Result, Ok, Err, MatchResult, IfSome, cond, refl}
-use Rattle.std.proofs.Common.{◌==◌, ◌&&◌, not, nat_le, nat_lt, if◌then◌else◌}
-use Rattle.std.proofs.Common.{◌∙◌, sym, subst, arith, length-take, length-drop}
+use Rattle.std.proofs.lemmas.Bool.Decides.{nat_tests}
+use Rattle.std.proofs.Common.{◌≡◌, ℕ, zero, suc, ◌+◌, ◌-◌, ◌*◌, ◌/◌, ◌<◌, ◌≤◌, Bool, true, false}
+use Rattle.std.proofs.Common.{List, [], ◌∷◌, length, map, take, drop, slice_index, Option, None}
+use Rattle.std.proofs.Common.{Some, Result, Ok, Err, MatchResult, IfSome, cond, refl, nat_lt}
+use Rattle.std.proofs.Common.{if◌then◌else◌, ◌∙◌, sym, subst, arith, length-take, length-drop}
 use Rattle.std.proofs.lemmas.List.{length-map}
 use Rattle.std.specs.List.{AllByRecursion}
 use Rattle.std.specs.Prelude.{⊤}
 use Rattle.sub_io.specs.Reading.{◌>>=◌}
 use Rattle.ttx_packet.specs.BitOrder.{mirror}
 use Rattle.ttx_packet.specs.PacketAddress.{IsPacket}
-use Rattle.ttx_pes.specs.DataUnit.{UnitValue, data_unit_length, framing_code, is_teletext}
+use Rattle.ttx_pes.specs.DataUnit.{UnitValue}
 use Rattle.ttx_pes.specs.Fault.{is_read, is_write}
 use Rattle.ttx_pes.specs.Outcome.{packets_from}
-use Rattle.ttx_pes.specs.PesPacket.{PesValue, header_data_length, longest_packet, payload_size}
-use Rattle.ttx_pes.specs.Reading.{answer_at, byte_at, has_markers, is_start, most_packets}
-use Rattle.ttx_pes.specs.Reading.{packet_at}
-use Rattle.ttx_pes.specs.Reading.{pts_at, pts_bits, rest_after, size_at, teletext_at, told_size}
-use Rattle.ttx_pes.specs.Reading.{unit_at, unit_of, units_at, value_at, with_unit}
+use Rattle.ttx_pes.specs.PesPacket.{PesValue}
+use Rattle.ttx_pes.specs.Reading.{answer_at, most_packets, packet_at, pts_at, rest_after, size_at}
+use Rattle.ttx_pes.specs.Reading.{teletext_at, unit_at, unit_of, units_at, value_at, with_unit}
 use Rattle.ttx_pes.specs.declared.fault.PesFault.{PesFault}
 use Rattle.ttx_pes.specs.declared.fault.PesFault.TheVariants as fault
 use Rattle.sub_rules.specs.FrameRules.Unread.{BadPacket}
@@ -63,12 +60,6 @@ or_fault : {A : Type 0} (P : A → Type 0) (b : Bool) (f : PesFault) (r : Result
 or_fault P true f r source sink h = refused P f source sink
 or_fault P false f r source sink h = h
 
--- Nothing where a test says so.
-or_none : {A : Type 0} (P : Option A → Type 0) (b : Bool) (r : Result (Option A) PesFault)
-    → P None → Sound P r → Sound P (cond b (Ok None) r)
-or_none P true r none h = ok P None none
-or_none P false r none h = h
-
 -- ---- units
 
 -- A byte in the other order of bits is a byte.
@@ -80,10 +71,7 @@ small (b ∷ bytes) (suc k) = small bytes k
 
 -- The packet of 46 bytes.
 unit_whole : (b : List ℕ) → length b ≡ 46 → IsPacket (unit_of b).packet
-unit_whole b long = record {
-  size = length-map (drop 4 b) mirror ∙ length-drop 4 b ∙ omega (arith, long);
-  bytes = small (drop 4 b);
-}
+unit_whole b long = grind (arith, nat_tests, length-map, length-drop, small)
 
 -- A unit that was read, if one was.
 abbrev IsWholeUnit : Option UnitValue → Type 0
@@ -91,11 +79,7 @@ IsWholeUnit o = IfSome o (λ (u : UnitValue). IsPacket u.packet)
 
 teletext_sound : (b : List ℕ) → length b ≡ 46 → Sound IsWholeUnit (teletext_at b)
 unfolding teletext_at
-teletext_sound b long =
-    or_fault IsWholeUnit (not (slice_index b 1 == data_unit_length)) fault.UnitLength _ refl refl
-    (or_none IsWholeUnit (not (is_teletext (slice_index b 0))) _ tt
-    (or_fault IsWholeUnit (not (slice_index b 3 == framing_code)) fault.Framing _ refl refl
-    (ok IsWholeUnit (Some (unit_of b)) (unit_whole b long))))
+teletext_sound b long = grind (arith, nat_tests, unit_whole)
 
 abbrev AreWholeUnits : List UnitValue → Type 0
 AreWholeUnits units = AllByRecursion (λ (u : UnitValue). IsPacket u.packet) units
@@ -109,8 +93,7 @@ unit_sound : (front : List UnitValue) (b : List ℕ) → length b ≡ 46 → Are
     → Sound AreWholeUnits (unit_at front b)
 unfolding unit_at
 unit_sound front b long before =
-    then_sound IsWholeUnit AreWholeUnits (teletext_at b) (with_unit front) (teletext_sound b long)
-    (λ o h. adds front o before h)
+    let one = teletext_sound b long in grind (arith, nat_tests, adds)
 
 units_sound : (n : ℕ) (front : List UnitValue) (b : List ℕ) → 46 * n ≤ length b
     → AreWholeUnits front → Sound AreWholeUnits (units_at n front b)
@@ -130,13 +113,7 @@ IsAny x = ⊤
 
 pts_sound : (b : List ℕ) → Sound IsAny (pts_at b)
 unfolding pts_at
-pts_sound b =
-    or_fault IsAny (not (byte_at b 6 / 0x10 == 8)) fault.Flags _ refl refl
-    (or_fault IsAny (not (byte_at b 7 / 0x40 == 2)) fault.NoTime _ refl refl
-    (or_fault IsAny (not (byte_at b 8 == header_data_length)) fault.HeaderLength _ refl refl
-    (or_fault IsAny (not (has_markers b)) fault.Time _ refl refl
-    (or_fault IsAny (not (byte_at b 45 / 0x10 == 1)) fault.DataId _ refl refl
-    (ok IsAny (pts_bits b) tt)))))
+pts_sound b = grind (arith, nat_tests)
 
 abbrev IsWholeValue : PesValue → Type 0
 IsWholeValue v = AreWholeUnits v.units
@@ -144,21 +121,13 @@ IsWholeValue v = AreWholeUnits v.units
 value_sound : (b : List ℕ) → Sound IsWholeValue (value_at b)
 unfolding value_at
 value_sound b =
-    let with_units : ℕ → List UnitValue → Result PesValue PesFault =
-    λ pts units. Ok (record { pts = pts; units = units }) in
-    let units : Result (List UnitValue) PesFault =
-    units_at (length (drop 40 b) / 46) [] (drop 40 b) in
-    then_sound IsAny IsWholeValue (pts_at b) (λ pts. units >>= with_units pts) (pts_sound b)
-    (λ pts h. then_sound AreWholeUnits IsWholeValue units (with_units pts)
-    (units_sound (length (drop 40 b) / 46) [] (drop 40 b) (omega arith) tt)
-    (λ us all. ok IsWholeValue (record { pts = pts; units = us }) all))
+    let time = pts_sound b in
+    let units = units_sound (length (drop 40 b) / 46) [] (drop 40 b) (omega arith) tt in
+    grind (arith, nat_tests)
 
 size_sound : (b : List ℕ) → Sound IsAny (size_at b)
 unfolding size_at
-size_sound b =
-    or_fault IsAny (not (is_start b)) fault.Start _ refl refl
-    (or_fault IsAny (not ((told_size b % payload_size == 0) && nat_le (told_size b) longest_packet))
-    fault.Length _ refl refl (ok IsAny (told_size b) tt))
+size_sound b = grind (arith, nat_tests)
 
 -- The packet that was read.
 abbrev IsWholePacket : PesValue × List ℕ → Type 0
@@ -194,11 +163,7 @@ answer_sound : (given : ℕ) (b : List ℕ) → Sound IsWholeAnswer (answer_at g
 unfolding answer_at
 answer_sound given [] = ok IsWholeAnswer None tt
 answer_sound given (x ∷ b) =
-    let value : PesValue × List ℕ → Result (Option PesValue) PesFault = λ p. Ok (Some p.0) in
-    or_fault IsWholeAnswer (given == most_packets) fault.TooMany (packet_at (x ∷ b) >>= value) refl
-    refl
-    (then_sound IsWholePacket IsWholeAnswer (packet_at (x ∷ b)) value (packet_sound (x ∷ b))
-    (λ p whole. ok IsWholeAnswer (Some p.0) whole))
+    let read = packet_sound (x ∷ b) in grind (arith, nat_tests)
 
 -- Each packet of a file is whole, and what keeps it from being read to its end is no device.
 pub record IsSoundFile (file : PesFileValue) : Type 0 where
@@ -219,9 +184,7 @@ outcome_sound : (origin room given : ℕ) (b : List ℕ)
     → IsSoundFile (file_of origin (packets_from room given b))
 unfolding packets_from
 outcome_sound origin zero given [] = record { whole = tt; fault = λ g e. cc }
-outcome_sound origin zero given (x ∷ b) =
-    by_sound origin (Err fault.TooMany) (record { frames = []; unread = None })
-    (refused IsWholeAnswer fault.TooMany refl refl) (record { whole = tt; fault = λ g e. cc })
+outcome_sound origin zero given (x ∷ b) = grind (arith, nat_tests, by_sound, refused)
 outcome_sound origin (suc room) given b =
     subst IsSoundFile (sym (file_of-then origin (answer_at given b) _))
     (by_sound origin (answer_at given b) _ (answer_sound given b)

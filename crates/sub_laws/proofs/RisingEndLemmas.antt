@@ -1,19 +1,20 @@
 -- The latest of frames that rise: `latest_at`.
+use Rattle.std.proofs.lemmas.Bool.Decides.{nat_tests}
 use Rattle.std.proofs.Common.{◌≡◌, ℕ, zero, suc, ◌-◌, ◌<◌, ap, arith}
 use Rattle.sub_rules.specs.Events.{latest}
 use Rattle.sub_rules.specs.FrameRules.{frame_at}
 use Rattle.sub_rules.specs.Transmission.{Transmission}
+use Rattle.sub_laws.proofs.PrefixLemmas.{RiseTo}
 
 -- Where the first frames rise, the last of them is the latest.
 pub latest_at :
     (frames : Transmission) (n : ℕ)
-    → ((i : ℕ) → 0 < i → i < n → frame_at frames (i - 1) < frame_at frames i)
+    → RiseTo frames n
     → 0 < n
     → latest frames n ≡ frame_at frames (n - 1)
 unfolding latest
 latest_at frames zero rises some = absurd (omega arith)
-latest_at frames (suc zero) rises some = let e : suc zero - 1 ≡ 0 = omega arith in
-    let f = ap (frame_at frames) e in omega arith
+latest_at frames (suc zero) rises some = grind (arith, nat_tests)
 latest_at frames (suc (suc m)) rises some =
     let ih = latest_at frames (suc m) (λ i a b. rises i a (omega arith)) (omega arith) in
     let r = rises (suc m) (omega arith) (omega arith) in

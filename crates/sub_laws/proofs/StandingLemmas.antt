@@ -193,17 +193,7 @@ module _ (g : Task) (frames : Transmission) (n f : ℕ) where
   pub quiet_decided : n ≤ length frames
       → (standing_at g frames n f ≡ nothing_stands) ↔ IsQuiet g frames n f
   unfolding standing_at
-  quiet_decided l = (
-    λ e. grind (arith, nat_tests, none_wrong, gap_decided l, incomplete_decided),
-    λ quiet.
-        grind (
-          arith,
-          nat_tests,
-          gap_decided l,
-          incomplete_decided.1 quiet.ended,
-          no_wrong quiet.shows,
-        ),
-  )
+  quiet_decided l = grind (arith, nat_tests, none_wrong, gap_decided, incomplete_decided, no_wrong)
 
   -- Each of the three. For `law_of_broken_places`.
   pub stands_broken : n ≤ length frames → StandsBroken g frames n f

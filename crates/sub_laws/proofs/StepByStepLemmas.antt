@@ -22,7 +22,7 @@ use Rattle.sub_laws.proofs.TransmissionLemmas.{packets_between-split, packets_be
 -- ---- one packet more
 
 -- A clean span stays clean with a packet that may follow.
-pub push_clean :
+push_clean :
     (page : PageIdValue) (packets : List (List ℕ)) (packet : List ℕ)
     → IsCleanSpan page packets
     → MayFollow page packets packet
@@ -77,11 +77,11 @@ cut_twice n m xs =
     ]
 
 -- No packets are a clean span.
-pub clean_nil : (page : PageIdValue) → IsCleanSpan page []
+clean_nil : (page : PageIdValue) → IsCleanSpan page []
 clean_nil page = record { odd = All-nil _; same = All-nil _; plain = All-nil _ }
 
 -- What one more packet makes of the span, by cases.
-pub pushed :
+pushed :
     (page : PageIdValue) (packets : List (List ℕ)) (packet : List ℕ)
     → IsCleanSpan page (span (kind page) packets)
     → (is_open_after (kind page) packets ≡ true
@@ -110,7 +110,7 @@ pushed page packets packet clean follows =
     go false false e p q r = clean
 
 -- Where each packet may follow, each cut is clean: induction on the place of the cut.
-clean_cuts :
+pub clean_cuts :
     (page : PageIdValue) (packets : List (List ℕ))
     → EachMayFollow page packets
     → (n : ℕ)

@@ -1,9 +1,14 @@
 -- What may be trusted of a stretch of frames that has what suffices, `law_of_stretch`; and of all
--- frames that is what is promised of a transmission, `law_of_whole_stretch`.
+-- frames that is what is promised of a transmission, `law_of_whole_stretch`. With all packets kept,
+-- robust to lost rows is robust: `law_of_all_kept`.
 use Rattle.std.proofs.lemmas.Bool.Decides.{nat_tests}
-use Rattle.std.proofs.Common.{◌≡◌, ℕ, ◌+◌, ◌≤◌, inl, inr, true, false, List, ◌++◌}
-use Rattle.std.proofs.Common.{drop, take, IsFalse, sym, ap, ◌∙◌, subst, arith, append_assoc}
-use Rattle.std.proofs.Common.{take-append-drop, le_trans}
+use Rattle.std.proofs.Common.{◌≡◌, ℕ, ◌+◌, ◌≤◌, Bool, true, false, List, ◌++◌, drop, take, IsFalse}
+use Rattle.std.proofs.Common.{sym, ap, ◌∙◌, subst, arith, append_assoc, take-append-drop, le_trans}
+use Rattle.std.specs.Prelude.{All, IsTrue}
+use Rattle.std.specs.List.{AllZip}
+use Rattle.ttx_packet.specs.OneBit.{AreNear}
+use Rattle.ttx_page.proofs.NoiseLaws.{all_kept, all_true, law_of_nothing_lost, may_all}
+use Rattle.sub_laws.specs.Laws.{LawOfAllKept}
 use Rattle.std.proofs.lemmas.List.{drop-append-le}
 use Rattle.std.proofs.lemmas.List.Elements.{recursion_from_All}
 use Rattle.ttx_page.specs.declared.packet_kind.PacketKind.{PacketKind}
@@ -22,15 +27,14 @@ use Rattle.ttx_page.proofs.SpanLists.{holds-append_left, holds-append_right}
 use Rattle.stl_rows.specs.Programme.{ProgrammeValue}
 use Rattle.sub_plan.specs.Options.{OptionsValue}
 use Rattle.sub_plan.specs.Schedule.{due_in}
-use Rattle.sub_rules.specs.Transmission.{Transmission, first_frame, packets_between}
-use Rattle.sub_rules.specs.Transmission.{on_air, on_air_until, packets_of}
-use Rattle.sub_laws.specs.LostRows.{RobustToMarkedLoss}
+use Rattle.sub_rules.specs.Transmission.{Transmission, first_frame, packets_between, on_air}
+use Rattle.sub_rules.specs.Transmission.{on_air_until, packets_of}
+use Rattle.sub_laws.specs.LostRows.{IsRobustWithMarks, RobustToMarkedLoss}
 use Rattle.sub_laws.specs.OnScreen.{CompleteWithin, ShownWithin}
 use Rattle.sub_laws.specs.Recovery.{IsRestored, Recovers, RecoversWithin}
-use Rattle.sub_laws.specs.Robust.{IsListening, Robust}
+use Rattle.sub_laws.specs.Robust.{IsListening, IsServed, Robust}
 use Rattle.sub_laws.specs.Stretch.{LawOfWholeRecovery, LawOfWholeStretch}
 use Rattle.sub_laws.specs.Sufficient.{IsSufficient, LawOfStretch}
-use Rattle.sub_laws.proofs.AllKept.{law_of_all_kept}
 use Rattle.sub_laws.proofs.TransmissionLemmas.{packets_between-split}
 
 -- A start at packet j of frame g, and a stop at the end of frame f, in a stretch that has what
@@ -90,10 +94,7 @@ module _ (programme : ProgrammeValue) (transmission : Transmission) (options : O
   -- What is on air from frame c on is these, and then what is heard.
   on_air-split : (c : ℕ) → c ≤ g → on_air transmission c 0 f ≡ before c ++ sent
   on_air-split c low =
-      let ordered = listening.in_order in
-      let split =
-      packets_between-split transmission c g (f + 1) enough.rising low (omega (arith, ordered)) in
-      grind (arith, take-append-drop, append_assoc)
+      grind (arith, nat_tests, packets_between-split, take-append-drop, append_assoc)
 
   -- All that was on air so far, so split.
   abbrev so_far : on_air_until transmission f ≡ before (first_frame transmission) ++ sent
@@ -123,16 +124,7 @@ module _ (programme : ProgrammeValue) (transmission : Transmission) (options : O
       → (holds_header K sent ≡ true → EndsAfresh options.page sent IsExcused new)
       → (IsFalse old.heard → IsFalse old.is_open → EndsAs options.page sent IsExcused new)
       → IsRestored programme options g f sent IsExcused old new
-  restored IsExcused old new afresh ends = record {
-    in_time = window;
-    heard = λ holds. (afresh holds).heard;
-    heard_then = λ unheard shut heard. sym ((ends unheard shut).heard) ∙ heard;
-    is_open = λ holds. (afresh holds).is_open;
-    cells = λ holds row column named. elim ((afresh holds).cells row column named) [
-      | inl shows ↦ inl (shows ∙ shows_due holds row column named)
-      | inr hit ↦ inr hit
-    ];
-  }
+  restored IsExcused old new afresh ends = grind (arith, nat_tests, window, shows_due)
 
   -- The page is ended at the end of frame f, where pages are complete.
   ended :
@@ -193,6 +185,47 @@ law_of_stretch programme transmission options a b enough = record {
   shown = λ complete class.
       on_screen programme transmission options a b enough class complete;
 }
+
+-- ---- lost rows
+
+-- What is promised with one excuse is promised with each that it gives.
+served_as :
+    {programme : ProgrammeValue} {options : OptionsValue} {g f : ℕ} {sent : List (List ℕ)}
+    {P Q : ℕ → ℕ → Type 0} {new : State}
+    → ((row column : ℕ) → P row column → Q row column)
+    → IsServed programme options g f sent P new
+    → IsServed programme options g f sent Q new
+served_as excuse served = grind arith
+
+-- With all packets kept, robust by marks is robust.
+pub law_of_all_kept : LawOfAllKept
+law_of_all_kept programme transmission options = (robust, kept)
+  where
+    robust :
+        ((g j f : ℕ) (marks : List Bool)
+        → All IsTrue marks
+        → IsRobustWithMarks programme transmission options g j f marks)
+        → Robust programme transmission options
+    robust with_all g j f got old new listening near unheard shut hears =
+        let sent : List (List ℕ) = on_air transmission g j f in
+        let nothing =
+        law_of_nothing_lost options.page sent (all_kept sent) (all_true sent) (may_all sent) in
+        served_as (λ row column hit. (nothing.hits got near row column).0 hit)
+        (with_all g j f (all_kept sent) (all_true sent) got old new listening (may_all sent)
+        (subst (λ ps. AllZip AreNear ps got) (sym nothing.kept) near) unheard shut hears)
+
+    kept :
+        Robust programme transmission options
+        → (g j f : ℕ) (marks : List Bool)
+        → All IsTrue marks
+        → IsRobustWithMarks programme transmission options g j f marks
+    kept robust g j f marks all got old new listening may near unheard shut hears =
+        let sent : List (List ℕ) = on_air transmission g j f in
+        let nothing = law_of_nothing_lost options.page sent marks all may in
+        let near_sent : AllZip AreNear sent got =
+        subst (λ ps. AllZip AreNear ps got) nothing.kept near in
+        served_as (λ row column hit. (nothing.hits got near_sent row column).1 hit)
+        (robust g j f got old new listening near_sent unheard shut hears)
 
 -- ---- all frames
 

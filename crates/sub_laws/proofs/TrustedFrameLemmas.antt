@@ -1,10 +1,11 @@
 -- Frames that are told as trusted may stay in the part in which frames rise: `law_of_trusted`.
 use Rattle.std.proofs.lemmas.Bool.Decides.{nat_tests}
-use Rattle.std.proofs.Common.{◌≡◌, ℕ, zero, suc, ◌+◌, ◌-◌, ◌<◌, ◌≤◌, inl, inr, ◌&&◌, ◌==◌, Bool}
-use Rattle.std.proofs.Common.{true, false, [], ◌∷◌, length, take, None, refl, sym, ap, ◌∙◌, subst}
-use Rattle.std.proofs.Common.{arith, cond}
-use Rattle.std.proofs.lemmas.Bool.{cases_lt, cases_eq, lt-ltb, ltb-true}
+use Rattle.std.specs.Bool.{Decides}
+use Rattle.std.proofs.Common.{◌≡◌, ℕ, zero, suc, ◌+◌, ◌-◌, ◌<◌, ◌≤◌, inl, inr, true, false, length}
+use Rattle.std.proofs.Common.{take, None, refl, sym, ap, ◌∙◌, subst, arith}
+use Rattle.std.proofs.lemmas.Bool.{cases_lt, cases_eq}
 use Rattle.std.proofs.lemmas.List.{length-take-le, take-take}
+use Rattle.std.proofs.lemmas.List.Elements.{All-contains}
 use Rattle.ttx_page.specs.PacketKind.{kind}
 use Rattle.ttx_page.specs.Span.{holds_header}
 use Rattle.sub_rules.specs.Events.{Standing, is_gap, is_incomplete, standing_at}
@@ -12,111 +13,100 @@ use Rattle.sub_rules.specs.FrameRules.{Task, frame_at, IsEnded, packets_of_frame
 use Rattle.sub_rules.specs.PacketTests.{breaks}
 use Rattle.sub_rules.specs.PieceEvents.{all_of_pieces}
 use Rattle.sub_rules.specs.Pieces.{frames_of}
-use Rattle.sub_rules.specs.Transmission.{IsRising, Transmission, packets_of}
+use Rattle.sub_rules.specs.Transmission.{Transmission, last_frame, packets_of}
 use Rattle.sub_rules.specs.Trusted.{stands_none}
 use Rattle.sub_rules.specs.declared.packet_rule.PacketRule.{PacketRule}
+use Rattle.sub_rules.specs.declared.event.Event.TheVariants.{Trusted}
 use Rattle.sub_laws.specs.CleanStretch.{AtEnds, IsCleanStretch, IsEnd, IsStretch, IsUntold}
 use Rattle.sub_laws.specs.CleanStretch.{is_needed}
 use Rattle.sub_laws.specs.TrustedFrames.{LawOfTrusted, rises_at, rising_count, rising_part}
 use Rattle.sub_laws.proofs.CleanStretchLemmas.{law_of_clean_stretch}
-use Rattle.sub_laws.proofs.GoodLemmas.{any_sent, number_at}
+use Rattle.sub_laws.proofs.GoodLemmas.{any_sent}
 use Rattle.sub_laws.proofs.UntoldLemmas.{law_of_untold_stretch}
-use Rattle.sub_laws.proofs.DoubtLemmas.{each-contains}
-use Rattle.sub_laws.proofs.PrefixLemmas.{before, first-same, last-same, packet_at, rises_strictly}
+use Rattle.sub_laws.proofs.DoubtLemmas.{OnTrusted}
+use Rattle.sub_laws.proofs.PrefixLemmas.{RiseTo, before, first-same, frame_at-take, packet_at}
+use Rattle.sub_laws.proofs.PrefixLemmas.{packets-take, rises_to, take_last, take_rising}
 use Rattle.sub_laws.proofs.TrustedPieceLemmas.{StaysTo, all_stay}
-use Rattle.sub_laws.proofs.TrustedRunLemmas.{up_to}
 
 -- ---- the rising part
 
--- The last of tests that hold together.
-last_true : (x y : Bool) → (x && y) ≡ true → y ≡ true
-last_true true y e = e
-last_true false y e = cc
-
 module _ (frames : Transmission) where
-  -- The first n frames rise.
+  -- A frame is after the one before.
+  rises_is : (i : ℕ) → 0 < i
+      → Decides (rises_at frames i) (frame_at frames (i - 1) < frame_at frames i)
+  unfolding rises_at
+  rises_is zero some = absurd (omega arith)
+  rises_is (suc i) some = grind (arith, nat_tests)
+
+  -- The last of the first n frames is.
+  rises_last : (n : ℕ) → RiseTo frames (suc n) → rises_at frames n ≡ true
+  unfolding rises_at
+  rises_last zero rises = refl
+  rises_last (suc i) rises = grind (arith, nat_tests, rises_is)
+
+  -- How many of the first n frames come before the first one that is not.
   pub count_low : (n : ℕ) → rising_count frames n ≤ n
   unfolding rising_count
   count_low zero = omega arith
   count_low (suc n) = let rest = count_low n in grind (arith, nat_tests)
 
-  rises_is : (i : ℕ) → rises_at frames (suc i) ≡ true → frame_at frames i < frame_at frames (suc i)
-  unfolding rises_at
-  rises_is i e = ltb-true _ _ e
-
-  pub count_rises : (n i : ℕ) → suc i < rising_count frames n
-      → frame_at frames i < frame_at frames (suc i)
+  -- These rise.
+  pub count_rises : (n : ℕ) → RiseTo frames (rising_count frames n)
   unfolding rising_count
-  count_rises zero i l = absurd (omega arith)
-  count_rises (suc n) i l =
-      let rest = count_rises n i in
-      let here = rises_is i in
-      elim (cases_eq (suc i) n) [
-        | inl e ↦ go rest e ((rising_count frames n == n) && rises_at frames n) refl l
-        | inr other ↦
-            let low = count_low n in
-            rest (grind (arith, nat_tests))
-      ]
-    where
-      go : (suc i < rising_count frames n → frame_at frames i < frame_at frames (suc i))
-          → suc i ≡ n → (b : Bool) → ((rising_count frames n == n) && rises_at frames n) ≡ b
-          → suc i < cond b (suc n) (rising_count frames n)
-          → frame_at frames i < frame_at frames (suc i)
-      go rest e true is l =
-          rises_is i (subst (λ k. rises_at frames k ≡ true) (sym e) (last_true _ _ is))
-      go rest e false is l = rest l
+  count_rises zero i a l = absurd (omega arith)
+  count_rises (suc n) i a l = elim (cases_eq i n) [
+    | inl here ↦ let is = rises_is i a in let rest = count_rises n i a in grind (arith, nat_tests)
+    | inr other ↦ let rest = count_rises n i a in grind (arith, nat_tests)
+  ]
 
-  pub count_most : (n k : ℕ) → k ≤ n
-      → ((i : ℕ) → 0 < i → i < k → frame_at frames (i - 1) < frame_at frames i)
-      → k ≤ rising_count frames n
-  unfolding rising_count rises_at
+  -- And no more do.
+  pub count_most : (n k : ℕ) → k ≤ n → RiseTo frames k → k ≤ rising_count frames n
+  unfolding rising_count
   count_most zero k l rises = omega arith
   count_most (suc n) k l rises = elim (cases_lt n k) [
     | inl whole ↦
         let all = count_most n n (omega arith) (λ i a b. rises i a (omega arith)) in
         let low = count_low n in
-        let same : rising_count frames n ≡ n = omega arith in
-        let up = last_rises n k whole rises in
+        let up = rises_last n (λ i a b. rises i a (omega arith)) in
         grind (arith, nat_tests)
     | inr less ↦
         let rest = count_most n k (omega arith) rises in
         let low = count_low n in
         grind (arith, nat_tests)
   ]
-    where
-      last_rises : (n k : ℕ) → n < k
-          → ((i : ℕ) → 0 < i → i < k → frame_at frames (i - 1) < frame_at frames i)
-          → rises_at frames n ≡ true
-      last_rises zero k l rises = refl
-      last_rises (suc i) k l rises =
-          let back : suc i - 1 ≡ i = omega arith in
-          lt-ltb _ _
-          (subst (λ j. frame_at frames j < frame_at frames (suc i)) back
-          (rises (suc i) (omega arith) l))
 
--- The first frames of a list.
-pub frame_at-take : (frames : Transmission) (m i : ℕ) → i < m
-    → frame_at (take m frames) i ≡ frame_at frames i
-frame_at-take frames zero i l = absurd (omega arith)
-frame_at-take [] (suc m) i l = refl
-frame_at-take (s ∷ ss) (suc m) zero l = refl
-frame_at-take (s ∷ ss) (suc m) (suc i) l = frame_at-take ss m i (omega arith)
+  -- How many frames rise.
+  abbrev pub risen : ℕ
+  risen = rising_count frames (length frames)
 
-pub packets-take : (frames : Transmission) (m i : ℕ) → i < m
-    → packets_of_frame (take m frames) i ≡ packets_of_frame frames i
-packets-take frames zero i l = absurd (omega arith)
-packets-take [] (suc m) i l = refl
-packets-take (s ∷ ss) (suc m) zero l = refl
-packets-take (s ∷ ss) (suc m) (suc i) l = packets-take ss m i (omega arith)
+  -- No more than there are.
+  pub risen_low : risen ≤ length frames
+  risen_low = count_low (length frames)
+
+  -- So many are in the rising part.
+  pub part_length : length (rising_part frames) ≡ risen
+  part_length = length-take-le risen frames risen_low
+
+  -- And they do.
+  pub part_rises : RiseTo frames risen
+  part_rises = count_rises (length frames)
+
+  -- Where the next frame is after the first n, which rise, it does too.
+  pub rises_more : (n : ℕ) → n < length frames → RiseTo frames n
+      → frame_at frames (n - 1) < frame_at frames n
+      → n < risen
+  rises_more n there rises up = grind (arith, nat_tests, count_most, cases_lt)
+
+-- The last frame of the rising part.
+pub part_last : (frames : Transmission) → 0 < risen frames
+    → last_frame (rising_part frames) ≡ frame_at frames (risen frames - 1)
+part_last frames some = take_last frames (risen frames) (risen_low frames) some
 
 -- What stands broken at an end depends on the frames that count alone.
 pub standing-take : (g : Task) (frames : Transmission) (m n f : ℕ) → 0 < m → n ≤ m
     → standing_at g (take m frames) n f ≡ standing_at g frames n f
 unfolding standing_at is_gap is_incomplete
-standing-take g frames m n f some l =
-    let first = frame_at-take frames m 0 some in
-    let same = take-take n m frames l in
-    rw (first, same) refl
+standing-take g frames m n f some l = grind (arith, nat_tests, frame_at-take, take-take)
 
 -- Where nothing stands none of the three does.
 pub none_of_three : (s : Standing) → stands_none s ≡ true
@@ -125,16 +115,10 @@ none_of_three s e = grind (arith, nat_tests)
 
 module _ (g : Task) (frames : Transmission) (from to : ℕ) (stays : StaysTo g frames from to) where
   abbrev m : ℕ
-  m = rising_count frames (length frames)
+  m = risen frames
 
   abbrev part : Transmission
-  part = take m frames
-
-  within : m ≤ length frames
-  within = count_low frames (length frames)
-
-  part_length : length part ≡ m
-  part_length = length-take-le m frames within
+  part = rising_part frames
 
   -- The run's frames are among them.
   n_low : stays.n ≤ m
@@ -143,44 +127,20 @@ module _ (g : Task) (frames : Transmission) (from to : ℕ) (stays : StaysTo g f
   some : 0 < m
   some = let below = stays.run.below in let l = n_low in omega arith
 
-  up : (i : ℕ) → 0 < i → i < m → frame_at frames (i - 1) < frame_at frames i
-  up i a l =
-      let back : suc (i - 1) ≡ i = omega arith in
-      subst (λ k. frame_at frames (i - 1) < frame_at frames k) back
-      (count_rises frames (length frames) (i - 1) (omega arith))
-
-  part_up : (i : ℕ) → 0 < i → i < length part → frame_at part (i - 1) < frame_at part i
-  part_up i a l =
-      let all = part_length in
-      let one = frame_at-take frames m (i - 1) (omega arith) in
-      let two = frame_at-take frames m i (omega arith) in
-      let rise = up i a (omega arith) in
-      omega arith
-
   order : (i j : ℕ) → i ≤ j → j < m → frame_at frames i ≤ frame_at frames j
-  order = up_to g frames m up
+  order = rises_to frames m (part_rises frames)
 
   -- Frames after the run are not before its end.
   later : (i : ℕ) → stays.n ≤ i → i < m → to + 1 ≤ frame_at frames i
-  later i l high =
-      let there : stays.n < length frames = let w = within in omega arith in
-      let next = stays.next there in
-      let rise = order stays.n i l high in
-      let one = up stays.n (let b = stays.run.below in omega arith) (omega arith) in
-      elim next [
-        | inl up_there ↦ let h = up_there.1 in omega arith
-        | inr before ↦ omega arith
-      ]
+  later i l high = grind (arith, nat_tests, risen_low, order, part_rises, before)
 
   -- An end in it is one of the whole list, up to which no more frames count than the run has.
   end_whole : (n f : ℕ) → IsEnd part n f → IsEnd frames n f
   end_whole n f (some_n, below, inl is) =
-      let all = part_length in
-      let w = within in
-      (some_n, omega arith, inl (is ∙ frame_at-take frames m (n - 1) (omega arith)))
+      grind (arith, nat_tests, part_length, risen_low, frame_at-take)
   end_whole n f (some_n, below, inr (there, high, low)) =
-      let all = part_length in
-      let w = within in
+      let all = part_length frames in
+      let w = risen_low frames in
       let at = frame_at-take frames m n (omega arith) in (
         some_n,
         omega arith,
@@ -195,17 +155,8 @@ module _ (g : Task) (frames : Transmission) (from to : ℕ) (stays : StaysTo g f
       )
 
   end_few : (n f : ℕ) → IsEnd part n f → f ≤ to → n ≤ stays.n
-  end_few n f (some_n, below, place) high = elim (cases_lt stays.n n) [
-    | inr fewer ↦ omega arith
-    | inl more ↦
-        let all = part_length in
-        let at = frame_at-take frames m (n - 1) (omega arith) in
-        let past = later (n - 1) (omega arith) (omega arith) in
-        elim place [
-          | inl is ↦ absurd (omega arith)
-          | inr gap ↦ let low = gap.2 (n - 1) (omega arith) in absurd (omega arith)
-        ]
-  ]
+  end_few n f (some_n, below, place) high =
+      grind (arith, nat_tests, cases_lt, part_length, frame_at-take, later)
 
   stands_quiet : (n f : ℕ) → IsEnd part n f → from ≤ f → f ≤ to
       → stands_none (standing_at g part n f) ≡ true
@@ -218,7 +169,7 @@ module _ (g : Task) (frames : Transmission) (from to : ℕ) (stays : StaysTo g f
   last_low : to ≤ frame_at frames (m - 1)
   last_low = elim (cases_lt stays.n m) [
     | inl less ↦
-        let next = stays.next (let w = within in omega arith) in
+        let next = stays.next (let w = risen_low frames in omega arith) in
         let one = order (stays.n - 1) (m - 1) (omega arith) (omega arith) in
         let two = order stays.n (m - 1) (omega arith) (omega arith) in
         elim next [
@@ -231,7 +182,9 @@ module _ (g : Task) (frames : Transmission) (from to : ℕ) (stays : StaysTo g f
         elim (cases_lt stays.n (length frames)) [
           | inl there ↦ elim (stays.next there) [
             | inr before ↦ omega arith
-            | inl up_there ↦ absurd (no_more same there up_there.0)
+            | inl up_there ↦
+                let more = rises_more frames stays.n there stays.run.rises up_there.0 in
+                absurd (omega arith)
           ]
           | inr whole ↦
               let is : stays.n ≡ length frames = let w = stays.within in omega arith in
@@ -240,42 +193,20 @@ module _ (g : Task) (frames : Transmission) (from to : ℕ) (stays : StaysTo g f
               omega arith
         ]
   ]
-    where
-      no_more : stays.n ≡ m → stays.n < length frames
-          → frame_at frames (stays.n - 1) < frame_at frames stays.n → ⊥
-      no_more same there rise =
-          let most =
-          count_most frames (length frames) (suc stays.n) (omega arith)
-          (λ i a l. elim (cases_lt i stays.n) [
-            | inl below ↦ stays.run.rises i a below
-            | inr no_less ↦
-                let here : stays.n ≡ i = omega arith in
-                subst (λ k. frame_at frames (k - 1) < frame_at frames k) here rise
-          ]) in
-          omega arith
 
   -- The frame of its header.
   j_low : stays.run.j < m
   j_low = let b = stays.run.below in let l = n_low in omega arith
 
-  part_rising : IsRising part
-  part_rising i k d l high =
-      let one = number_at part i d (omega arith) in
-      let two = number_at part k d high in
-      let rise = rises_strictly part part_up i k l high in
-      omega arith
-
   stretch : IsStretch part from to
   stretch =
-      let all = part_length in
+      let all = part_length frames in
       let first = first-same part in
-      let last = last-same part in
+      let last = part_last frames some in
       let before = stays.before in
       let at = stays.run.at in
       let zero_at = frame_at-take frames m 0 some in
       let low = order 0 stays.run.j (omega arith) j_low in
-      let end = ap (λ k. frame_at part (k - 1)) all in
-      let end_at = frame_at-take frames m (m - 1) (let s = some in omega arith) in
       let high = last_low in
       record {
         not_empty = let s = some in omega arith;
@@ -295,27 +226,17 @@ module _ (g : Task) (frames : Transmission) (from to : ℕ) (stays : StaysTo g f
       stays.run.packets r i k needed not_before not_after below
     where
       not_after : i < stays.n
-      not_after = elim (cases_lt i stays.n) [
-        | inl less ↦ less
-        | inr more ↦ let past = later i (omega arith) l in absurd (omega arith)
-      ]
+      not_after = grind (arith, nat_tests, cases_lt, later)
 
       not_before : stays.run.j ≤ i
-      not_before = elim (cases_lt i stays.run.j) [
-        | inr no_less ↦ omega arith
-        | inl less ↦
-            let one = order i (stays.run.j - 1) (omega arith) (let h = j_low in omega arith) in
-            let two = up stays.run.j (omega arith) j_low in
-            let at = stays.run.at in
-            absurd (omega arith)
-      ]
+      not_before = grind (arith, nat_tests, cases_lt, order, j_low, part_rises)
 
   untold : IsUntold g part from to
   untold = record {
     stretch = stretch;
-    rising = part_rising;
+    rising = take_rising frames m (risen_low frames) (part_rises frames);
     packets = λ r needed i k l below low high.
-        let all = part_length in
+        let all = part_length frames in
         let there : i < m = omega arith in
         let ps = packets-take frames m i there in
         let at = frame_at-take frames m i there in
@@ -338,7 +259,7 @@ module _ (g : Task) (frames : Transmission) (from to : ℕ) (stays : StaysTo g f
 
   pub header_there : holds_header (kind g.watched.page) (packets_of part from) ≡ true
   header_there =
-      let all = part_length in
+      let all = part_length frames in
       any_sent g.watched part stays.run.j from (let l = j_low in omega arith)
       (frame_at-take frames m stays.run.j j_low ∙ stays.run.at)
       (ap (holds_header (kind g.watched.page)) (packets-take frames m stays.run.j j_low)
@@ -351,7 +272,8 @@ law_of_trusted programme options unread pieces from to told =
     let g = task_of programme options unread in
     let frames = frames_of pieces in
     let stays : StaysTo g frames from to =
-    each-contains (StaysTo g frames) (all_of_pieces g pieces) from to (all_stay g pieces) told in
+    All-contains (OnTrusted (StaysTo g frames)) (all_of_pieces g pieces) (Trusted from to)
+    (all_stay g pieces) told in
     let trusted =
     law_of_clean_stretch programme (rising_part frames) options unread from to
     (clean g frames from to stays) in

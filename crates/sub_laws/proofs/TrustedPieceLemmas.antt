@@ -1,15 +1,15 @@
 -- What is so of each stretch that is told as trusted of pieces, where its run is over: `all_stay`.
 use Rattle.std.proofs.lemmas.Bool.Decides.{nat_tests}
-use Rattle.std.proofs.Common.{◌≡◌, ℕ, zero, suc, ◌+◌, ◌-◌, ◌<◌, ◌≤◌, ◌⊎◌, inr, Bool, true, false}
-use Rattle.std.proofs.Common.{not, ◌||◌, List, [], ◌∷◌, ◌++◌, length, map, Option, Some, None, refl}
-use Rattle.std.proofs.Common.{ap, subst, arith, cond, ◌≢◌}
+use Rattle.std.proofs.Common.{◌≡◌, ℕ, zero, suc, ◌+◌, ◌-◌, ◌<◌, ◌≤◌, ◌⊎◌, Bool, true, false, not}
+use Rattle.std.proofs.Common.{◌||◌, List, [], ◌∷◌, ◌++◌, length, map, Option, Some, None, refl, ap}
+use Rattle.std.proofs.Common.{subst, arith, ◌≢◌}
 use Rattle.sub_rules.specs.Events.{closing_events, frame_events, unread_fault}
 use Rattle.sub_rules.specs.FrameRules.{Task, end_frame, frame_at, Unread}
 use Rattle.sub_rules.specs.FrameRules.Unread.{BadPacket, NoFrame}
 use Rattle.sub_rules.specs.PieceEvents.{ended_run, all_announced, all_of_pieces, at_pes}
 use Rattle.sub_rules.specs.PieceEvents.{closing_of_pieces, last_of_run, no_run, passed_after_all}
 use Rattle.sub_rules.specs.PieceEvents.{run_after_each, run_at, told_of_each, told_of_frame}
-use Rattle.sub_rules.specs.PieceEvents.{told_of_passed, told_of_pieces, told_of_unread}
+use Rattle.sub_rules.specs.PieceEvents.{told_of_passed, told_of_pieces}
 use Rattle.sub_rules.specs.Pieces.{Piece, frames_of}
 use Rattle.sub_rules.specs.Pieces.Piece.{Passed, Sent}
 use Rattle.sub_rules.specs.Transmission.{Transmission}
@@ -17,9 +17,9 @@ use Rattle.sub_rules.specs.Trusted.{doubted, frame_before, tells_none, trust_end
 use Rattle.sub_rules.specs.declared.event.Event.{Event}
 use Rattle.sub_rules.specs.declared.event.Event.TheVariants.{Told}
 use Rattle.sub_rules.proofs.TrustedLemmas.{plain_closing, plain_frame}
-use Rattle.sub_laws.proofs.DoubtLemmas.{EachTrusted, each-announced, each-append, each-at}
-use Rattle.sub_laws.proofs.DoubtLemmas.{each-ended, each-plain, each-put, first_doubt}
-use Rattle.sub_laws.proofs.DoubtLemmas.{trusted_in_run}
+use Rattle.std.proofs.lemmas.List.Elements.{All-append, All-cons, All-nil}
+use Rattle.sub_laws.proofs.DoubtLemmas.{EachTrusted, OnTrusted, each-announced, each-at, each-ended}
+use Rattle.sub_laws.proofs.DoubtLemmas.{each-plain, each-put, first_doubt, trusted_in_run}
 use Rattle.sub_laws.proofs.TrustedRunLemmas.{EndsQuiet, IsRun, Run, ended, run_next}
 
 -- A piece that is passed over makes the frame before it quiet no more.
@@ -81,17 +81,7 @@ module _ (g : Task) (frames : Transmission) where
       → Run g frames n from
       → from < x
       → StaysTo from (x - 1)
-  run_stays n x from within high below run l =
-      let same : x ≡ x - 1 + 1 = omega arith in
-      subst (Stays from) same (record {
-        n = n;
-        within = within;
-        run = run;
-        before = l;
-        ends = λ m f end count from_low low. run.ends m f end count from_low (omega arith);
-        next = λ there. inr (below there);
-        last = λ all. let e = ap (λ k. frame_at frames (k - 1)) all in omega arith;
-      })
+  run_stays n x from within high below run l = grind (arith, nat_tests)
 
   -- Before a piece that is passed over.
   passed_stays : (n pes : ℕ) (u : Unread) (kept : Option ℕ) → n ≤ length frames
@@ -99,7 +89,7 @@ module _ (g : Task) (frames : Transmission) where
       → EachTrusted StaysTo (told_of_passed frames pes n kept u)
   passed_stays n pes u kept within before =
       trusted_in_run StaysTo (frame_before frames n) kept (Told (unread_fault pes (Some u)) ∷ [])
-      refl
+      (each-plain StaysTo (Told (unread_fault pes (Some u)) ∷ []) refl)
       (λ x from e run l.
       let at : x ≡ frame_before frames n =
       let here = passed_doubt (frame_before frames n) pes u in cc in
@@ -113,17 +103,17 @@ module _ (g : Task) (frames : Transmission) where
       → IsRun g frames n kept
       → EachTrusted StaysTo (told_of_each g frames pes n kept pieces)
   unfolding told_of_each frames_of
-  each_stays pes n kept [] within before = tt
+  each_stays pes n kept [] within before = All-nil (OnTrusted StaysTo)
   each_stays pes n kept (Sent s ∷ pieces) within before =
-      each-append StaysTo (map (at_pes pes) (told_of_frame g frames n kept)) _
+      All-append (OnTrusted StaysTo) (map (at_pes pes) (told_of_frame g frames n kept)) _
       (each-at StaysTo pes (told_of_frame g frames n kept)
       (trusted_in_run StaysTo (frame_before frames n) kept (frame_events g frames n)
-      (plain_frame g frames n)
+      (each-plain StaysTo _ (plain_frame g frames n))
       (λ x from e run l. frame_stays n (omega arith) x from e (before from run) l)))
       (each_stays (suc pes) (suc n) (run_at g frames n kept) pieces (omega arith)
       (run_next g frames n kept (omega arith) before))
   each_stays pes n kept (Passed u ∷ pieces) within before =
-      each-append StaysTo (told_of_passed frames pes n kept u) _
+      All-append (OnTrusted StaysTo) (told_of_passed frames pes n kept u) _
       (passed_stays n pes u kept (omega arith) before)
       (each_stays (suc pes) n None pieces within (λ from e. cc))
 
@@ -148,13 +138,9 @@ module _ (g : Task) (frames : Transmission) where
   last_stays : (kept : Option ℕ) (any : Bool) → IsRun g frames (length frames) kept
       → EachTrusted StaysTo (last_of_run g frames kept any)
   unfolding last_of_run
-  last_stays kept false before = tt
+  last_stays kept false before = All-nil (OnTrusted StaysTo)
   last_stays kept true before =
-      each-put StaysTo kept (trust_end g.unread (end_frame frames))
-      (λ from is l.
-      let low = end_low-trusted g.unread (end_frame frames) in
-      run_stays (length frames) (trust_end g.unread (end_frame frames)) from (omega arith)
-      (omega arith) (λ there. absurd (omega arith)) (before from is) l)
+      grind (arith, nat_tests, each-put, end_low-trusted, run_stays)
 
   -- What is told after them.
   plain_stays : (pes n : ℕ) → EachTrusted StaysTo (map (at_pes pes) (closing_events g frames n))
@@ -164,11 +150,7 @@ module _ (g : Task) (frames : Transmission) where
 
   closing_stays : (pes n : ℕ) → EachTrusted StaysTo (closing_of_pieces g frames pes n)
   unfolding closing_of_pieces
-  closing_stays (suc pes) zero = unread g.unread
-    where
-      unread : (u : Option Unread) → EachTrusted StaysTo (told_of_unread (suc pes) u)
-      unread None = tt
-      unread (Some u) = tt
+  closing_stays (suc pes) zero = grind (arith, nat_tests, All-nil, All-cons)
   closing_stays zero zero = plain_stays zero zero
   closing_stays zero (suc n) = plain_stays zero (suc n)
   closing_stays (suc pes) (suc n) = plain_stays (suc pes) (suc n)
@@ -185,10 +167,10 @@ all_stay g pieces =
     let closing : List Event = closing_of_pieces g frames (length pieces) (length frames) in
     let kept : Option ℕ = run_after_each g frames 0 None pieces in
     let any : Bool = not (tells_none each) || not (tells_none closing) in
-    each-append P (all_announced no_run told) _
+    All-append (OnTrusted P) (all_announced no_run told) _
     (each-announced P no_run told
-    (each-append P (each ++ last_of_run g frames kept any) closing
-    (each-append P each (last_of_run g frames kept any)
+    (All-append (OnTrusted P) (each ++ last_of_run g frames kept any) closing
+    (All-append (OnTrusted P) each (last_of_run g frames kept any)
     (each_stays g frames 0 0 None pieces (omega arith) (λ from e. cc))
     (last_stays g frames kept any (kept_after g frames 0 None pieces (omega arith) (λ from e. cc))))
     (closing_stays g frames (length pieces) (length frames))))

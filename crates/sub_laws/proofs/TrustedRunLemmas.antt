@@ -1,10 +1,10 @@
 -- What a run of quiet frames holds, `Run`; and it does so after the next frame, `run_next`.
 use Rattle.std.proofs.lemmas.Bool.Decides.{nat_tests}
 use Rattle.std.proofs.Common.{◌≡◌, ℕ, zero, suc, ◌+◌, ◌-◌, ◌<◌, ◌≤◌, ◌⊎◌, inl, inr, Bool, true}
-use Rattle.std.proofs.Common.{false, not, List, [], length, Option, Some, None, refl, sym, ap, ◌∙◌}
-use Rattle.std.proofs.Common.{subst, arith, cond}
+use Rattle.std.proofs.Common.{false, List, length, Option, Some, None, refl, sym, ap, ◌∙◌, subst}
+use Rattle.std.proofs.Common.{arith}
 use Rattle.std.specs.List.{list_any}
-use Rattle.std.proofs.lemmas.Bool.{cases_lt, cases_eq}
+use Rattle.std.proofs.lemmas.Bool.{cases_lt}
 use Rattle.ttx_page.specs.PacketKind.{kind}
 use Rattle.ttx_page.specs.Span.{holds_header}
 use Rattle.sub_rules.specs.Events.{events_of_first, frame_events, gap_events, gap_length, latest}
@@ -19,32 +19,14 @@ use Rattle.sub_rules.specs.declared.event.Event.{Event}
 use Rattle.sub_rules.specs.declared.packet_rule.PacketRule.{PacketRule}
 use Rattle.sub_rules.proofs.EndLemmas.{gap_length-is}
 use Rattle.sub_laws.specs.CleanStretch.{IsEnd, is_needed}
-use Rattle.sub_laws.proofs.DoubtLemmas.{doubt-none, first_doubt, or_else, or_none, over-some}
+use Rattle.sub_laws.proofs.DoubtLemmas.{any_doubt, first_doubt, over-some}
 use Rattle.sub_laws.proofs.FrameDoubtLemmas.{AreQuiet, frame_doubt, gap_doubt, order_doubt}
 use Rattle.sub_laws.proofs.FrameDoubtLemmas.{own_doubt}
 use Rattle.sub_laws.proofs.OrderToldLemmas.{rises_of}
-use Rattle.sub_laws.proofs.PrefixLemmas.{before, packet_at}
+use Rattle.sub_laws.proofs.PrefixLemmas.{RiseTo, before, packet_at, rises_to}
 use Rattle.sub_laws.proofs.RisingEndLemmas.{latest_at}
 
 module _ (g : Task) (frames : Transmission) where
-  -- The first n frames of the list rise.
-  abbrev pub RiseTo : ℕ → Type 0
-  RiseTo n = (i : ℕ) → 0 < i → i < n → frame_at frames (i - 1) < frame_at frames i
-
-  -- Then no frame is after a later one.
-  pub up_to : (n : ℕ) → RiseTo n → (i j : ℕ) → i ≤ j → j < n → frame_at frames i ≤ frame_at frames j
-  up_to n rises i zero l m = let same : i ≡ 0 = omega arith in
-      let e = ap (frame_at frames) same in omega arith
-  up_to n rises i (suc j) l m = elim (cases_eq i (suc j)) [
-    | inl same ↦ let e = ap (frame_at frames) same in omega arith
-    | inr other ↦
-        let back : suc j - 1 ≡ j = omega arith in
-        let one = rises (suc j) (omega arith) m in
-        let e = ap (frame_at frames) back in
-        let rest = up_to n rises i j (omega arith) (omega arith) in
-        omega arith
-  ]
-
   -- No end of a frame from one up to another, that one left out, up to which n frames of the list
   -- count at the most, finds anything broken.
   abbrev pub EndsQuiet : ℕ → ℕ → ℕ → Type 0
@@ -73,19 +55,19 @@ module _ (g : Task) (frames : Transmission) where
     pub below : j < n
     pub at : frame_at frames j ≡ from
     pub header : HasHeader g frames j
-    pub rises : RiseTo n
+    pub rises : RiseTo frames n
     pub packets : PacketsQuiet n j
     pub ends : EndsQuiet n from (frame_at frames (n - 1) + 1)
 
   -- ---- one frame more
 
   -- An end up to which fewer than n frames count is not after the last of these.
-  end_low : (n : ℕ) → RiseTo n → (m f : ℕ) → IsEnd frames m f → m < n
+  end_low : (n : ℕ) → RiseTo frames n → (m f : ℕ) → IsEnd frames m f → m < n
       → f ≤ frame_at frames (n - 1)
   end_low n rises m f (some, within, inl is) l =
-      let up = up_to n rises (m - 1) (n - 1) (omega arith) (omega arith) in omega arith
+      let up = rises_to frames n rises (m - 1) (n - 1) (omega arith) (omega arith) in omega arith
   end_low n rises m f (some, within, inr (there, high, low)) l =
-      let up = up_to n rises m (n - 1) (omega arith) (omega arith) in omega arith
+      let up = rises_to frames n rises m (n - 1) (omega arith) (omega arith) in omega arith
 
   module _ (n : ℕ) (quiet : is_quiet g frames n ≡ true) where
     parts_quiet : (list_any is_order (events_of_first g frames (suc n)) ≡ false)
@@ -93,24 +75,17 @@ module _ (g : Task) (frames : Transmission) where
         × (stands_none (standing_at g frames (suc n) (frame_at frames n)) ≡ true)
     unfolding is_quiet
     parts_quiet =
-        let none = doubt-none (frame_before frames n) (own_events g frames n) in
+        let any = any_doubt (frame_before frames n) (own_events g frames n) in
         grind (arith, nat_tests)
 
-    rises_on : RiseTo (suc n)
+    rises_on : RiseTo frames (suc n)
     rises_on = rises_of g frames (suc n) parts_quiet.0
 
     -- An end of the frame, up to which one frame more counts.
     own_end : (m f : ℕ) → IsEnd frames m f → m ≤ suc n → n < m → f ≤ frame_at frames n
         → stands_none (standing_at g frames m f) ≡ true
-    own_end m f (some, within, inl is) l more high =
-        let same : suc n ≡ m = omega arith in
-        let back : n ≡ m - 1 = omega arith in
-        let at : frame_at frames n ≡ f = ap (frame_at frames) back ∙ sym is in
-        subst (λ k. stands_none (standing_at g frames m k) ≡ true) at
-        (subst (λ k. stands_none (standing_at g frames k (frame_at frames n)) ≡ true) same
-        parts_quiet.2)
-    own_end m f (some, within, inr (there, below, later)) l more high =
-        let after = later n more in absurd (omega arith)
+    own_end m f (some, within, inl is) l more high = grind (arith, nat_tests, parts_quiet)
+    own_end m f (some, within, inr (there, below, later)) l more high = grind (arith, nat_tests)
 
     -- A run that begins here.
     pub run_begins : holds_header (kind g.watched.page) (packets_of_frame frames n) ≡ true
@@ -125,7 +100,7 @@ module _ (g : Task) (frames : Transmission) where
           let same : n ≡ i = omega arith in
           subst (λ (i : ℕ). k < length (packets_of_frame frames i)
           → breaks r g.watched (before frames i k) (packet_at frames i k) ≡ false) same
-          ((own_doubt g frames n).packets parts_quiet.1 r k needed) l;
+          (((own_doubt g frames n).quiet parts_quiet.1).0 r k needed) l;
       ends = λ m f end within low high. elim (cases_lt n m) [
         | inl more ↦
             own_end m f end within more
@@ -136,11 +111,11 @@ module _ (g : Task) (frames : Transmission) where
       where
         early : (m f : ℕ) → IsEnd frames m f → m ≤ n → frame_at frames n ≤ f → ⊥
         early m f (some, within, inl is) l low =
-            let up = up_to (suc n) rises_on (m - 1) (n - 1) (omega arith) (omega arith) in
+            let up = rises_to frames (suc n) rises_on (m - 1) (n - 1) (omega arith) (omega arith) in
             let one = rises_on n (omega arith) (omega arith) in
             omega arith
         early m f (some, within, inr (there, below, later)) l low =
-            let up = up_to (suc n) rises_on m n l (omega arith) in omega arith
+            let up = rises_to frames (suc n) rises_on m n l (omega arith) in omega arith
 
     -- A run that goes on.
     run_goes_on : (from : ℕ) → 0 < n → n < length frames → Run n from
@@ -163,7 +138,7 @@ module _ (g : Task) (frames : Transmission) where
             let same : n ≡ i = omega arith in
             subst (λ (i : ℕ). k < length (packets_of_frame frames i)
             → breaks r g.watched (before frames i k) (packet_at frames i k) ≡ false) same
-            ((own_doubt g frames n).packets parts_quiet.1 r k needed) l
+            (((own_doubt g frames n).quiet parts_quiet.1).0 r k needed) l
       ];
       ends = λ m f end within low high. elim (cases_lt n m) [
         | inl more ↦
@@ -183,10 +158,8 @@ module _ (g : Task) (frames : Transmission) where
       where
         in_gap : (m f : ℕ) → IsEnd frames m f → m ≡ n → frame_at frames (n - 1) < f
             → f < frame_at frames n
-        in_gap m f (some, within, inl is) same later =
-            let e = ap (λ k. frame_at frames (k - 1)) same in absurd (omega arith)
-        in_gap m f (some, within, inr (there, below, low)) same later =
-            let e = ap (frame_at frames) same in omega arith
+        in_gap m f (some, within, inl is) same later = grind (arith, nat_tests)
+        in_gap m f (some, within, inr (there, below, low)) same later = grind (arith, nat_tests)
 
   -- ---- what is told of the next frame
 
@@ -194,7 +167,7 @@ module _ (g : Task) (frames : Transmission) where
     abbrev n : ℕ
     n = suc i
 
-    some : 0 < suc i
+    pub some : 0 < suc i
     some = omega arith
 
     last_is : frame_at frames (suc i - 1) ≡ frame_at frames i
@@ -207,13 +180,11 @@ module _ (g : Task) (frames : Transmission) where
     from_low =
         let at = run.at in
         let below = run.below in
-        let up = up_to n run.rises run.j (n - 1) (omega arith) (omega arith) in
+        let up = rises_to frames n run.rises run.j (n - 1) (omega arith) (omega arith) in
         omega arith
 
     pub stood : stands_none (standing_at g frames n (frame_at frames (n - 1))) ≡ true
-    stood =
-        run.ends n (frame_at frames (n - 1)) (some, omega arith, inl refl) (omega arith) from_low
-        (omega arith)
+    stood = grind (arith, nat_tests, from_low)
 
     abbrev Quiet : ℕ → Type 0
     Quiet k = AreQuiet g frames n some latest_is stood k
@@ -246,28 +217,73 @@ module _ (g : Task) (frames : Transmission) where
 
     pub long : frame_at frames i < frame_at frames n
         → latest frames n + suc (gap_length frames n) ≡ frame_at frames n
-    long up =
-        let l = latest_is in
-        let e = last_is in
-        let length_is = gap_length-is frames n some in
-        omega arith
+    long up = grind (arith, nat_tests, latest_is, last_is, gap_length-is)
+
+    -- What makes a frame quiet no more, if anything does: its order, where it does not rise; else
+    -- an end before it; else what is told of its packets and at its own end.
+    abbrev pub Ways : Option ℕ → Type 0
+    Ways d =
+        ((frame_at frames i < frame_at frames n → ⊥) × (d ≡ Some (frame_at frames i)))
+        ⊎ ((frame_at frames i < frame_at frames n)
+        × (((x : ℕ)
+        × (d ≡ Some x)
+        × (k : ℕ)
+        × (k < gap_length frames n)
+        × (x ≡ latest frames n + suc k)
+        × Quiet k
+        × (stands_none (standing_at g frames n x) ≡ true → ⊥))
+        ⊎ (Quiet (gap_length frames n) × (d ≡ first_doubt last (own_events g frames n)))))
+
+    pub ways : Ways (first_doubt last (frame_events g frames n))
+    unfolding frame_before
+    ways = by_order (first_doubt last order) refl
+      where
+        by_gap : frame_at frames i < frame_at frames n → first_doubt last order ≡ None
+            → (d : Option ℕ) → first_doubt last gap ≡ d
+            → Ways (first_doubt last (frame_events g frames n))
+        by_gap up none (Some x) is =
+            let so = gap_doubt g frames n some latest_is stood last (gap_length frames n) in
+            let found = so.at x is in
+            inr (
+              up,
+              inl (
+                x,
+                rw (frame_doubt g frames n, none, is) refl,
+                found.0,
+                found.1,
+                found.2,
+                found.3,
+                found.4,
+              ),
+            )
+        by_gap up none None is =
+            let so = gap_doubt g frames n some latest_is stood last (gap_length frames n) in
+            inr (up, inr (so.quiet is, rw (frame_doubt g frames n, none, is) refl))
+
+        by_order : (d : Option ℕ) → first_doubt last order ≡ d
+            → Ways (first_doubt last (frame_events g frames n))
+        by_order None is =
+            by_gap ((order_doubt g frames last i).quiet is) is (first_doubt last gap) refl
+        by_order (Some x) is =
+            let so = order_doubt g frames last i in
+            let all : first_doubt last (frame_events g frames n) ≡ Some x =
+            rw (frame_doubt g frames n, is) refl in
+            inl (λ up. let calm = so.calm up in cc, all ∙ ap (λ y. Some y) (so.at x is))
 
     -- No frame is quiet no more: so are the ends before it.
     gap_quiet : first_doubt last (frame_events g frames n) ≡ None
         → (m f : ℕ) → IsEnd frames m f → m ≡ n → frame_at frames (n - 1) < f → f < frame_at frames n
         → stands_none (standing_at g frames m f) ≡ true
-    gap_quiet none m f at same later high =
-        let all : (or_else (first_doubt last order) (first_doubt last gap) ≡ None)
-        × (first_doubt last (own_events g frames n) ≡ None) =
-        or_none _ _ (sym (frame_doubt g frames n) ∙ none) in
-        let one : (first_doubt last order ≡ None) × (first_doubt last gap ≡ None) =
-        or_none _ _ all.0 in
-        let up = (order_doubt g frames last i).1 one.0 in
-        let whole = long up in
-        let low = from_low in
-        gap_ends (gap_length frames n)
-        ((gap_doubt g frames n some latest_is stood last (gap_length frames n)).quiet one.1)
-        m f at (omega arith) (omega arith) (omega arith)
+    gap_quiet none m f at same later high = elim ways [
+      | inl (falls, is) ↦ cc
+      | inr (up, rest) ↦ elim rest [
+        | inl found ↦ let is = found.1 in cc
+        | inr (quiet, own) ↦
+            let whole = long up in
+            let low = from_low in
+            gap_ends (gap_length frames n) quiet m f at (omega arith) (omega arith) (omega arith)
+      ]
+    ]
 
     -- One is: what is so of those before it.
     pub record Ended (x : ℕ) : Type 0 where
@@ -287,35 +303,23 @@ module _ (g : Task) (frames : Transmission) where
         }
 
     pub ended : (x : ℕ) → first_doubt last (frame_events g frames n) ≡ Some x → Ended x
-    unfolding frame_before
-    ended x e = by_order (first_doubt last order) refl
-      where
-        by_gap : frame_at frames i < frame_at frames n → first_doubt last order ≡ None
-            → (d : Option ℕ) → first_doubt last gap ≡ d → Ended x
-        by_gap up none (Some y) is =
-            let same : Some y ≡ Some x = rw (frame_doubt g frames n, none, is) at e in
-            let found =
-            (gap_doubt g frames n some latest_is stood last (gap_length frames n)).at x
-            (is ∙ same) in
-            ended_in_gap up found.0 x (let l = found.1 in omega arith) found.2 found.3
-        by_gap up none None is =
+    ended x e = elim ways [
+      | inl (falls, is) ↦
+          let at : x ≡ frame_at frames i = cc in
+          let back = last_is in
+          record {
+            ends = λ m f end within low high. run.ends m f end within low (omega arith);
+            high = inr (omega arith);
+          }
+      | inr (up, rest) ↦ elim rest [
+        | inl (y, is, k, l, at, quiet, broken) ↦
+            let same : y ≡ x = cc in ended_in_gap up k x (omega arith) (sym same ∙ at) quiet
+        | inr (quiet, own) ↦
             let whole = long up in
-            let at = (own_doubt g frames n).at x (rw (frame_doubt g frames n, none, is) at e) in
-            ended_in_gap up (gap_length frames n) x (omega arith) (omega arith)
-            ((gap_doubt g frames n some latest_is stood last (gap_length frames n)).quiet is)
-
-        by_order : (d : Option ℕ) → first_doubt last order ≡ d → Ended x
-        by_order None is =
-            by_gap ((order_doubt g frames last i).1 is) is (first_doubt last gap) refl
-        by_order (Some y) is =
-            let same : Some y ≡ Some x = rw (frame_doubt g frames n, is) at e in
-            let at : x ≡ frame_at frames i = (order_doubt g frames last i).0 x (is ∙ same) in
-            let back = last_is in
-            record {
-              ends = λ m f end within low high.
-                  run.ends m f end within low (omega arith);
-              high = inr (omega arith);
-            }
+            let at = (own_doubt g frames n).at x (sym own ∙ e) in
+            ended_in_gap up (gap_length frames n) x (omega arith) (omega arith) quiet
+      ]
+    ]
 
   -- ---- a run that is kept
 
@@ -330,8 +334,7 @@ module _ (g : Task) (frames : Transmission) where
       → first_doubt (frame_before frames n) (frame_events g frames n) ≡ None
       → Run (suc n) from
   goes_on zero from there quiet run none = let below = run.below in absurd (omega arith)
-  goes_on (suc i) from there quiet run none =
-      run_goes_on (suc i) quiet from (omega arith) there run (gap_quiet i there from run none)
+  goes_on (suc i) from there quiet run none = grind (arith, nat_tests, run_goes_on, gap_quiet)
 
   -- So it is after the next frame.
   pub run_next : (n : ℕ) (kept : Option ℕ) → n < length frames → IsRun n kept
@@ -344,19 +347,10 @@ module _ (g : Task) (frames : Transmission) where
           → (h : Bool) → holds_header (kind g.watched.page) (packets_of_frame frames n) ≡ h
           → begun o h (frame_at frames n) ≡ Some from
           → Run (suc n) from
-      by_run quiet None is true holds e =
-          let same : frame_at frames n ≡ from = cc in
-          subst (Run (suc n)) same (run_begins n quiet holds)
+      by_run quiet None is true holds e = grind (arith, nat_tests, run_begins)
       by_run quiet None is false holds e = cc
-      by_run quiet (Some f) is h holds e =
-          let same : f ≡ from = cc in
-          let left = over-some (frame_before frames n) kept (frame_events g frames n) from
-          (is ∙ ap (λ x. Some x) same) in
-          goes_on n from there quiet (before from left.0) left.1
+      by_run quiet (Some f) is h holds e = grind (arith, nat_tests, over-some, goes_on, before)
 
       by_quiet : (b : Bool) → is_quiet g frames n ≡ b → Run (suc n) from
-      by_quiet true quiet =
-          by_run quiet (run_over (frame_before frames n) kept (frame_events g frames n)) refl
-          (holds_header (kind g.watched.page) (packets_of_frame frames n)) refl
-          (rw quiet at e)
+      by_quiet true quiet = grind (arith, nat_tests, by_run)
       by_quiet false other = let none = rw other at e in cc

@@ -41,7 +41,6 @@ module _ (w : Watched) (frames : Transmission) (a b : ℕ) where
       → AtPackets (KeepsCodes w) frames a b
   unfolding breaks
   rows_kept untold i k l m low high up row first is found column below =
-      let same = untold i k l m low high in
       grind (arith, nat_tests, last_of_two, columns_zero, not_false)
 
 -- ---- a stretch

@@ -68,6 +68,7 @@ pub fn law_of_trusted()
 /// No frame that may stay is left out: where anything is told of a PES file, each stretch of which
 /// nothing is told that a receiver depends on, and in which no piece may have been sent that is
 /// passed over, is told as trusted, from its first header of the page on.
+#[tactic(auto, using(crate::proofs::AllTrustedLemmas::law_of_all_trusted))]
 pub fn law_of_all_trusted()
     ensures { LawOfAllTrusted }
 {}
@@ -137,6 +138,7 @@ pub fn law_of_broken_places()
 
 /// Nothing is told of a transmission exactly where it is good, of complete pages where these are
 /// asked for, and the PES file was read to its end.
+#[tactic(auto, using(crate::proofs::EventLemmas::law_of_nothing_told))]
 pub fn law_of_nothing_told()
     ensures { LawOfNothingTold }
 {}

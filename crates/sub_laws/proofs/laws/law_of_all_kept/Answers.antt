@@ -1,5 +1,5 @@
--- The law: AllKept.
-use Rattle.sub_laws.proofs.AllKept.{law_of_all_kept}
+-- The law: StretchLemmas.
+use Rattle.sub_laws.proofs.StretchLemmas.{law_of_all_kept}
 use Rattle.sub_laws.proofs.laws.law_of_all_kept.Goals as goal
 
 pub returns : goal.returns
