@@ -3,6 +3,7 @@
 report     all that the page is made of
 program    what `subttx` is asked, and its lines as values
 faults     what `check --all` tells, as entries of a list and as spans of frames
+passed     PES packets that were passed over: how the others are counted, what stands around
 receiver   the model receiver: one step of it, and what it reads of a PES packet
 headers    the page headers of a PES file, counted
 listening  a listing heard to its end: pages, sendings, and what was held at the frames asked for

@@ -84,6 +84,18 @@ REFUSED = [
     case(74, "Late", pes="hello.pes -c 184"),
     case(77, "Incomplete", pes="hello.pes 138=FF", options="--complete"),
 ]
+# PES packets that are passed over: in the middle, at the beginning, for their PTS, beside frames
+# that don't rise, all of them, and before a file ends within one.
+PASSED = [
+    Case("passed", "refused 67 Control frame 20:15:01:00", "story.stl",
+         "five-faults.pes 781=20 965=20 1885=20", ["--every", "25"]),
+    Case("passed-first", "refused 38 UnitLength pes 0", "story.stl", "story.pes 47=2D", []),
+    Case("passed-61", "refused 61 OffFrame pes 1", "story.stl", "story.pes 377=2D1C551295", []),
+    Case("passed-62", "refused 67 Control frame 20:15:01:00", "story.stl",
+         "five-faults.pes 781=20 1849=@9+5 2069=20", []),
+    Case("passed-all", "refused 37 DataId pes 0", "hello.stl", "hello.pes 45=20 229=20", []),
+    Case("passed-cut", "refused 37 DataId pes 1", "story.stl", "story.pes 413=20 -c 900", []),
+]
 # Without a subtitle the due page is blank, which `schedule` tells by 82.
 WITHOUT = [Case("82", "accepted", "hello.stl -c 1024", "hello.pes 92=FF", []),
            Case("82-72", "refused 72 Content", "hello.stl -c 1024", "hello.pes", [])]

@@ -20,6 +20,7 @@ PREVIEW = os.path.join(TOP, "tools", "preview")
 HTML, SVG = "{http://www.w3.org/1999/xhtml}", "{http://www.w3.org/1999/xhtml}svg"
 FOREIGN = re.compile(r"<script|<link|<img|<iframe|@import|\burl\(|\bsrc=|\bon\w+="
                      r"|https?://(?!www\.w3\.org/1999/xhtml)")
+PASSED_OVER = {*range(33, 41), 61}
 TIME = re.compile(r"\d\d:\d\d:\d\d:\d\d")
 SPACING = "."  # how `listen` prints a spacing attribute
 
@@ -89,7 +90,26 @@ def test_case(trial: Trial, one: cases.Case) -> None:
     test_page(trial, one, root, text, verdict)
     test_faults(trial, one, root, lines, subtitles_of(trial, stl))
     test_labels(trial, one, root)
-    test_pictures(trial, one, root, stl, pes, verdict)
+    test_pictures(trial, one, root, stl, pes_heard(trial, pes, lines), verdict)
+
+
+def pes_heard(trial: Trial, pes: str, lines: list[str]) -> str:
+    """The PES file without those PES packets that a list of `check --all` passes over."""
+    passed: set[int] = set()
+    for words in map(str.split, lines):
+        if words[3:4] == ["pes"] and int(words[1]) in PASSED_OVER:
+            last = int(words[4])
+            passed |= set(range(last if words[0] == "refused" else max(passed), last + 1))
+    if not passed:
+        return pes
+    with open(pes, "rb") as file, open(pes + ".heard", "wb") as out:
+        for number in range(max(passed) + 1):
+            head = file.read(6)
+            rest = file.read(int.from_bytes(head[4:6], "big"))
+            if number not in passed:
+                out.write(head + rest)
+        out.write(file.read())
+    return pes + ".heard"
 
 
 def test_page(trial: Trial, one: cases.Case, root: Element, text: str, verdict: str) -> None:

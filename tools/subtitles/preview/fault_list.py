@@ -10,7 +10,7 @@ from .faults import Entry
 from .figures import NOT_READ
 from .fits import frames_words
 from .manual import number_link
-from .places import around, pes_words, units_table
+from .places import around, between_words, pes_words, units_table
 from .program import Program, Verdict
 from .receiver import national_option
 
@@ -28,12 +28,6 @@ class FaultList:
         self.report, self.looks, self.program = report, looks, program
         self.entries, self.figures, self.held = report.faults.entries, looks.figures, report.held
         self.pictured: dict[int, Entry] = {}  # the entry that has the pictures of a frame
-
-    def frame_of(self, entry: Entry) -> int | None:
-        """The frame whose pictures belong to an entry, `None` where there is none."""
-        if entry.first.pes is not None:
-            return self.held.last_frame if entry.first.pes == self.held.stop else None
-        return entry.first.frame
 
     def is_shown(self, frame: int | None) -> bool:
         """Whether there is something to see at a frame."""
@@ -94,13 +88,17 @@ class FaultList:
         return "".join(parts)
 
     def item(self, entry: Entry) -> str:
-        fault, frame = entry.first, self.frame_of(entry)
+        fault, frame = entry.first, self.looks.entries.frame_of(entry)
         when = place_words(fault)
         if entry.index <= MOST_PICTURED:
             when = f'<a href="#{section_name(entry)}">{when}</a>'
         words = [f"<b>{when}</b> <code>{number_link(fault.line)}</code>"]
         span = self.span_words(entry)
-        details = self.details(entry) if self.is_shown(frame) or fault.frame is None else NOT_READ
+        details = NOT_READ
+        if fault.pes is not None:
+            details = between_words(self.held, fault.pes)
+        elif self.is_shown(frame) or fault.frame is None:
+            details = self.details(entry)
         words += [f"<small>{one}</small>" for one in (span, details) if one]
         return f'<li id="e{entry.index}">{"<br/>".join(words)}</li>'
 
@@ -122,7 +120,7 @@ class FaultList:
 
     def section(self, entry: Entry) -> str:
         """The pictures of an entry, and its Teletext packets: all for the first, else the named."""
-        fault, frame = entry.first, self.frame_of(entry)
+        fault, frame = entry.first, self.looks.entries.frame_of(entry)
         title = "The broken place" if entry.index == 1 else \
             f"Fault {entry.index}: <code>{number_link(fault.line)}</code>"
         parts = [f'<section class="fault" id="{section_name(entry)}"><h2>{title}</h2>'
@@ -134,7 +132,7 @@ class FaultList:
         if span:
             parts.append(f"<p>{span[0].upper()}{span[1:]}.</p>")
         if fault.pes is not None:
-            parts.append(pes_words(fault, entry.until_pes, self.held, self.report.origin))
+            parts.append(pes_words(fault, entry.until_pes, self.report))
         parts.append(self.seen(entry, frame))
         return "".join(parts) + "</section>"
 
@@ -143,7 +141,7 @@ class FaultList:
         fault = entry.first
         if frame is None and fault.pes is None:
             return ""
-        if frame is None and fault.pes == self.held.stop:
+        if frame is None and not self.held.halt:
             return "<p>There is no frame to look at: no PES packet comes before it.</p>"
         if frame is None or not self.is_shown(frame):
             return f"<p>No pictures: {NOT_READ}.</p>"

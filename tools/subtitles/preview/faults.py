@@ -14,6 +14,8 @@ from .program import Subtitle, Verdict, verdict_of
 MOST_ENTRIES = 1000  # that are listed; the others are counted
 MOST_OF_BLOCKS = 20_000  # faults of a subtitle file that are listed
 STANDING = ("72", "73", "77")  # are told where they begin, and a line tells where they end
+ENDS_READING = (30, 31, 32, 44)
+PASSED_OVER = {*range(33, 41), 61}  # the one PES packet can't be read, or has no frame
 
 Span = tuple[int, int]  # its first frame and its last
 Due = tuple[int, bool]  # how many subtitles have begun, and whether the last of them is due
@@ -109,7 +111,7 @@ class Faults:
     line of each, `first_entries` its entry in the list. `entry_count` is how many entries they
     make, of which `entries` are the first; the lines that name a block are `of_blocks`, an entry
     for each block. `spans` are the frames at which something is told, or stands, and `trusted`
-    those that may be trusted.
+    those that may be trusted. `passed` are the numbers of the PES packets that were passed over.
     """
 
     def __init__(self, lines: Iterable[str], programme: Programme) -> None:
@@ -127,7 +129,7 @@ class Faults:
         self.latest: dict[str, Entry] = {}
         self.begun: dict[str, int] = {}
         self.marks = {number: Spans() for number in (*STANDING, "points")}
-        self.trusted = Spans()
+        self.trusted, self.passed = Spans(), Spans()
         for line in lines:
             self.take(line)
         self.spans = joined(self.marks.values())
@@ -147,6 +149,7 @@ class Faults:
                 self.end(words[1], frame_at(words[4]))
             elif words[1] in self.latest:
                 self.latest[words[1]].until_pes = int(words[4])
+                self.passed.add(self.passed.ends[-1], int(words[4]))
 
     def end(self, number: str, frame: int) -> None:
         """The last frame at whose end a fault stands."""
@@ -163,6 +166,8 @@ class Faults:
         if words[3:4] == ["block"]:
             self.tell_block(line, number, words[4])
         else:
+            if number in PASSED_OVER:
+                self.passed.add(int(words[4]), int(words[4]))
             self.tell_frame(line, words[1],
                             frame_at(words[4]) if words[3:4] == ["frame"] else None)
 
@@ -196,6 +201,16 @@ class Faults:
             self.entries.append(entry)
             self.first_entries.setdefault(int(number), entry.index)
 
-    def mark(self, frames: Iterable[int]) -> None:
+    def ending(self) -> Verdict | None:
+        """The last fault, where it is that the PES file can't be read on."""
+        last = verdict_of(self.last_told, 1)
+        return last if last.number in ENDS_READING else None
+
+    def named(self) -> set[int]:
+        """The PES packets that the entries of the list name."""
+        return {pes for entry in self.entries for pes in (entry.first.pes, entry.until_pes)
+                if pes is not None}
+
+    def mark(self, spans: Iterable[Span]) -> None:
         """Marks the frames of faults whose lines name a PES packet."""
-        self.spans = joined([self.spans, Spans((frame, frame) for frame in frames)])
+        self.spans = joined([self.spans, Spans(spans)])

@@ -12,7 +12,9 @@ from ..pes import UNIT
 from ..teletext import SERIAL, Page, has_bit
 from ..times import FRAMES_OF_A_DAY, NO_FRAME, frames_at
 from ..units import header_in
+from .faults import Span, Spans
 from .headers import Found, Headers
+from .passed import Passed
 from .program import Listing
 from .receiver import Receiver, Rows, State
 
@@ -101,12 +103,13 @@ class Heard:
     `halt` is the first that is not: its number and its PTS. What can't be seen for that reason, or
     since the file can't be read on, has no state. `changes` are the pages that it held, and `falls`
     the frames of all PES packets whose frame is not after the one before. The PES packets of the
-    frames `seen` are kept, and that of the last one.
+    frames `seen` are kept, and that of the last one. The listing is without those that were passed
+    over; all have the numbers of the file.
     """
 
     def __init__(self, listing: Listing, asked: Iterable[int], page: Page, origin: int,
-                 seen: Iterable[int] = ()) -> None:
-        self.page, self.origin = page, origin
+                 seen: Iterable[int] = (), passed: Passed | None = None) -> None:
+        self.page, self.origin, self.passed = page, origin, passed or Passed(Spans())
         self.asked, self.next_asked = sorted(set(asked)), 0
         self.seen, self.next_seen = sorted(set(seen)), 0
         self.states: dict[int, State] = {}
@@ -134,7 +137,7 @@ class Heard:
             self.hear(batch, heard, Sendings(found, self.page))
         at = len(heard)
         if at < len(frames) and self.halt is None:
-            self.halt, self.before = (self.count + at, pts[at]), self.last
+            self.halt, self.before = (self.passed.number(self.count + at), pts[at]), self.last
         for frame in frames[at:]:
             if NO_FRAME < frame <= self.before:
                 self.falls.append(frame)
@@ -157,10 +160,10 @@ class Heard:
             frame = self.seen[self.next_seen]
             at = bisect.bisect_left(frames, frame)
             if frames[at] == frame:
-                self.seen_pes[frame] = self.count + at, batch.packet(at)
+                self.seen_pes[frame] = self.passed.number(self.count + at), batch.packet(at)
             self.next_seen += 1
         at, self.last = len(frames) - 1, frames[-1]
-        self.last_pes = self.count + at, batch.packet(at)
+        self.last_pes = self.passed.number(self.count + at), batch.packet(at)
 
     def answer_before(self, frame: int) -> None:
         """Gives the frames before `frame` that are still asked the state as it is."""
@@ -192,7 +195,27 @@ class Heard:
     @property
     def stop(self) -> int:
         """The PES packet at which hearing ended; after the last one where it did not."""
-        return self.halt[0] if self.halt else self.count
+        return self.halt[0] if self.halt else self.passed.number(self.count)
+
+    def around(self, span: int) -> tuple[int | None, int | None]:
+        """The frames that were heard before and after some PES packets that were passed over."""
+        begin, end = self.passed.spans.begins[span], self.passed.spans.ends[span]
+        before, after = (None if frame == NO_FRAME else frame
+                         for frame in (self.passed.before[span], self.passed.after[span]))
+        return before if begin <= self.stop else None, after if end + 1 < self.stop else None
+
+    def last_before(self, pes: int) -> int | None:
+        """The frame that was heard last before a PES packet which is not heard."""
+        span = self.passed.span_of(pes)
+        if span is not None:
+            return self.around(span)[0]
+        return self.last_frame if pes == self.stop else None
+
+    def doubted(self) -> Iterator[Span]:
+        """The frames from each PES packet before some that were passed over to the next one."""
+        for before, after in map(self.around, range(len(self.passed.spans))):
+            if before is not None:
+                yield before, before if after is None else after - 1
 
     def is_whole(self) -> bool:
         """Whether the file was read, and heard, to its end."""

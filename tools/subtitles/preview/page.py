@@ -199,7 +199,13 @@ def pages_table(report: Report) -> str:
 def reading_words(held: Heard) -> str:
     """How far the PES file was read and heard."""
     words = f"{held.count:,} PES packet{'s' * (held.count != 1)} read."
-    if held.end.status:
+    passed = held.passed.count
+    if passed:
+        words += (f" A receiver is followed without {counted(passed, 'other')} that can't be read, "
+                  "or whose PTS is no frame's: what those put on air is not known.")
+        if held.end.status:
+            words += " What comes after them can't be read on."
+    elif held.end.status:
         words += (" A receiver is followed up to there, where <code>packets</code> ends with "
                   f"<code>{shown(held.end.line)}</code>.")
     if held.halt:

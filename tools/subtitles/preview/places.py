@@ -15,10 +15,11 @@ from .receiver import HIT, STORED
 
 if TYPE_CHECKING:
     from .listening import Heard, NumberedPes
+    from .report import Report
 
 NAMED = ' class="named"'
 OFF_FRAME, ORDER = 61, 62
-PASSED_OVER = range(33, 41)  # the one PES packet can't be read, and its length is known
+HAS_PTS = range(37, 41)  # of PES packets that can't be read, but for their PTS
 FIRST_FIELD = 32  # field_parity
 BYTES_A_LINE = 14  # of a packet, at most
 
@@ -32,25 +33,65 @@ def place_of_pts(pts: int, origin: int) -> str:
     return time if ticks % TICKS == 0 else f"none: {time} is {ticks % TICKS} ticks before"
 
 
-def pes_words(fault: Verdict, until: int | None, held: Heard, origin: int) -> str:
+def pes_words(fault: Verdict, until: int | None, report: Report) -> str:
     """What is known of the PES packet that a fault names, up to another one where it is given."""
-    number = fault.pes
+    number, held = fault.pes, report.held
+    assert number is not None
+    span = held.passed.span_of(number)
+    if span is not None:
+        them = (number,) if until is None else (number, until)
+        return f"<p>{passed_words(fault, them, report)} {between(held, span, until)}</p>"
     if held.halt and held.halt[0] == number:
         words = f"PES packet {number} has the PTS {held.halt[1]}. Its frame: " \
-            f"{place_of_pts(held.halt[1], origin)}."
+            f"{place_of_pts(held.halt[1], report.origin)}."
         if held.last_frame is not None:
             words += f" That of the one before: {time_of(held.last_frame)}."
         return f"<p>{words}</p>"
     if fault.number == ORDER:
         return f"<p>The frame of PES packet {number} is not after that of the one before.</p>"
+    return f"<p>PES packet {number} can't be read, and nothing after it.</p>"
+
+
+def passed_words(fault: Verdict, them: tuple[int, ...], report: Report) -> str:
+    """What is known of PES packets that were passed over, the first and the last of some in a row.
+    """
+    which = " to ".join(map(str, them))
+    name = f"PES packet {which}" if len(them) == 1 else f"PES packets {which}"
+    known = [report.passed.pts[pes] for pes in them if pes in report.passed.pts]
+    each = " to ".join(f"{pts} ({place_of_pts(pts, report.origin)})" for pts in known)
     if fault.number == OFF_FRAME:
-        them = f"packet {number} is that" if until is None else \
-            f"packets {number} to {until} are those"
-        return f"<p>The PTS of PES {them} of no frame of the day.</p>"
-    if until is not None:
-        return f"<p>PES packets {number} to {until} can't be read.</p>"
-    after = "" if fault.number in PASSED_OVER else ", and nothing after it"
-    return f"<p>PES packet {number} can't be read{after}.</p>"
+        return f"{name}: PTS {each}."
+    words = f"{name} can't be read."
+    # Before its PTS is read nobody knows whether that is one.
+    return f"{words} PTS: {each}." if known and fault.number in HAS_PTS else words
+
+
+def times_around(held: Heard, span: int) -> tuple[str | None, str | None]:
+    """The times of the PES packets before and after some that were passed over, where there are
+    such."""
+    before, after = (None if frame is None else time_of(frame) for frame in held.around(span))
+    return before, after
+
+
+def between(held: Heard, span: int, until: int | None) -> str:
+    """Where PES packets stand that were passed over: one, or some in a row."""
+    it, puts = ("it", "it puts") if until is None else ("them", "they put")
+    before, after = times_around(held, span)
+    if before is None:
+        return f"The first frame after {it}: {after}." if after else ""
+    if after is None:
+        return f"The last frame before {it}: {before}."
+    return (f"The last frame before {it}: {before}; the next one: {after}. What {puts} on air is "
+            "not known, so no frame is trusted from the one up to the other.")
+
+
+def between_words(held: Heard, pes: int) -> str:
+    """The same in few words, of the one with that number; none where it was not passed over."""
+    span = held.passed.span_of(pes)
+    before, after = (None, None) if span is None else times_around(held, span)
+    if before and after:
+        return f"between {before} and {after}"
+    return f"after {before}" if before else f"before {after}" if after else ""
 
 
 def around(held: Heard, frame: int, page: str) -> str:

@@ -7,13 +7,17 @@ import hashlib
 import os
 import re
 import subprocess
-from typing import Callable, Iterable, Iterator, NamedTuple, Protocol, TypeVar
+from typing import (
+    TYPE_CHECKING, Callable, Iterable, Iterator, NamedTuple, Protocol, TypeVar)
 
 from ..batch import Batch, first_refused, is_listed
 from ..files import Damaged, Input
 from ..pes import pes_runs
 from ..times import FRAMES_OF_A_DAY, frame_of
 from ..words import Stop
+
+if TYPE_CHECKING:
+    from .passed import Passed
 
 ACCEPTED = re.compile(r"accepted \d+ frames \d+ transmissions$")
 PLACE = re.compile(
@@ -88,27 +92,39 @@ def subtitle_of(index: int, line: str) -> Subtitle:
 class Listing:
     """The PES packets of a file that `packets` lists, as many at a time as were read.
 
-    After that `last` is where they end: the refusal that `packets` tells, or no line.
+    After that `last` is where they end: the refusal that `packets` tells, or no line. Where some
+    were passed over these are left out, and `last` is `ending`, what ended the list of `check`.
     """
 
-    def __init__(self, program: Program, path: str) -> None:
-        self.program, self.path = program, path
+    def __init__(self, program: Program, path: str, passed: Passed | None = None,
+                 ending: Verdict | None = None) -> None:
+        self.program, self.path, self.ending = program, path, ending
+        self.passed = passed if passed and passed.spans else None
         self.last = Verdict("", 0)
 
     def __iter__(self) -> Iterator[Batch]:
         count = 0
         with Input(self.path) as file, contextlib.suppress(Damaged):
             for data, begins in pes_runs(file):
-                batch = Batch(data, begins[:FRAMES_OF_A_DAY - count + 1])
-                if not is_listed(batch):
-                    batch = Batch(data, begins[:first_refused(batch) + 1])
-                yield batch
-                count += len(batch)
-                if len(batch) < len(begins) - 1:
+                read = Batch(data, begins[:FRAMES_OF_A_DAY - count + 1])
+                batch = self.passed.others(read, count) if self.passed else read
+                listed = len(batch) if is_listed(batch) else first_refused(batch)
+                if listed:
+                    yield Batch(batch.data, batch.begins[:listed + 1])
+                count += len(read) - len(batch) + listed
+                if listed < len(batch) or len(read) < len(begins) - 1:
                     break
             else:
                 return
-        self.last = self.program.refusal_of_packets(self.path, count)
+        self.last = self.program.refusal_of_packets(self.path, count) if not self.passed else \
+            self.refusal_of_check(count)
+
+    def refusal_of_check(self, count: int) -> Verdict:
+        """What ended the list of `check`, which is a refusal of the PES packet with that number."""
+        if self.ending is None or self.ending.pes != count:
+            told = self.ending.line if self.ending else "nothing"
+            raise NoReport(f"check says {told}, where PES packet {count} is refused here")
+        return self.ending
 
 
 class Program:
@@ -175,8 +191,9 @@ class Program:
         words = [*self.schedule_options, "--every", "1500", "--", stl, pes]
         return self.answered("schedule", *words)[1]
 
-    def packets(self, pes: str) -> Listing:
-        return Listing(self, pes)
+    def packets(self, pes: str, passed: Passed | None = None,
+                ending: Verdict | None = None) -> Listing:
+        return Listing(self, pes, passed, ending)
 
     def refusal_of_packets(self, pes: str, count: int) -> Verdict:
         """The last line of `packets`, which is a refusal of the PES packet with that number."""

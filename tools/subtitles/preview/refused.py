@@ -94,16 +94,9 @@ def test_no_transmission(trial: Trial) -> None:
         b"is drawn beside it\n"), done)
 
 
-# A PES packet and the next one that can't be read, and after others a third one.
-TOLD_OF_PES = ["refused 37 DataId pes 1", "ended 37 DataId pes 2",
-               "refused 72 Content frame 20:15:05:12 row 22 column 9",
-               "ended 72 Content frame 20:15:06:24",
-               "trusted frames 20:15:07:00 20:15:09:00", "refused 37 DataId pes 4", "3 faults"]
-
-
-def told_report(trial: Trial, told: list[str], words: str = "story.pes") -> Element:
-    """The report of a program whose `check --all` prints these lines; `words` make the PES file."""
-    stl, pes = written(trial, "told.stl", "story.stl"), written(trial, "told.pes", words)
+def told_report(trial: Trial, told: list[str]) -> Element:
+    """The report of a program whose `check --all` prints these lines."""
+    stl, pes = written(trial, "told.stl", "story.stl"), written(trial, "told.pes", "story.pes")
     lines = " ".join(f"'{line}'" for line in told)
     script = trial.path("told")
     with open(script, "w", encoding="utf-8") as file:
@@ -136,23 +129,46 @@ def test_trusted(trial: Trial) -> None:
                and len(re.findall("at the end of that frame this cell", text)) == 1, means)
 
 
+# Of a case with PES packets that are passed over: what is said of some of its faults, and how many
+# runs of trusted frames are drawn.
+PASSED = {
+    "passed": (["PES packets 2 to 3 can't be read. PTS: 6561270000 (20:15:03:00) to 6561360000 "
+                "(20:15:04:00). The last frame before them: 20:15:01:00; the next one: 20:15:05:00."
+                " What they put on air is not known, so no frame is trusted from the one up to the "
+                "other. Pictures at the last frame before that PES packet, 20:15:01:00.",
+                "up to PES packet 3 between 20:15:01:00 and 20:15:05:00", "PES packet 7 can't be read. PTS: 6561630000 (20:15:07:00).",
+                "7 PES packets read. A receiver is followed without 3 others that can't be read, "
+                "or whose PTS is no frame's"], 3),
+    "passed-first": (["PES packet 0 can't be read. PTS: 6561000000 (20:15:00:00). The first frame "
+                      "after it: 20:15:03:00. There is no frame to look at"], 1),
+    "passed-61": (["PES packet 1: PTS 6561270090 (none: 20:15:03:00 is 90 ticks before). The last "
+                   "frame before it: 20:15:00:00; the next one: 20:15:05:12."], 1),
+    "passed-62": (["A receiver follows the file as far as PES packet 7,",
+                   "PES packet 8 can't be read. PTS: 6561720000 (20:15:08:00). No pictures: a "
+                   "receiver can't be followed"], 2),
+    "passed-all": (["PES packets 0 to 1 can't be read. PTS: "], 0),
+    "passed-cut": (["The last frame before it: 20:15:00:00; the next one: 20:15:05:12.",
+                    "PES packet 3 can't be read, and nothing after it. Pictures at the last frame "
+                    "before that PES packet, 20:15:05:12.",
+                    "What comes after them can't be read on"], 0),
+}
+
+
 def test_passed_over(trial: Trial) -> None:
-    """A list that goes on after PES packets which can't be read: what is said and drawn of it."""
-    root = told_report(trial, TOLD_OF_PES, "story.pes 413=20")
-    items = ["".join(item.itertext()) for each in root.iter(HTML + "ol")
-             for item in each.iter(HTML + "li")]
-    trial.test("passed over: the list", "up to PES packet 2" in items[0]
-               and "up to PES" not in items[2], items)
-    parts = {part.get("id"): "".join(part.itertext()) for part in root.iter(HTML + "section")}
-    trial.test("passed over: the first one", "PES packets 1 to 2 can't be read." in parts["place"]
-               and "Pictures at the last frame before that PES packet, 20:15:00:00"
-               in parts["place"], parts["place"])
-    trial.test("passed over: a later one", "PES packet 4 can't be read." in parts["f3"]
-               and "No pictures: " in parts["f3"], parts["f3"])
-    drawn = [item for item in root.iter(HTML + "rect") if item.get("class") == "trusted"]
-    trial.test("passed over: trusted is drawn after it", len(drawn) == 1, drawn)
+    """What is said and drawn of PES packets that were passed over; these reports are made."""
+    for name, (words, count) in PASSED.items():
+        root = ElementTree.parse(trial.path(f"{name}.html")).getroot()
+        text = " ".join(" ".join(root.itertext()).split())
+        for one in words:
+            trial.test(f"{name}: {one}", one in text, text)
+        drawn = [item for item in root.iter(HTML + "rect") if item.get("class") == "trusted"]
+        trial.test(f"{name}: trusted is drawn", len(drawn) == count, len(drawn))
+    root = ElementTree.parse(trial.path("passed.html")).getroot()
     text = "".join(root.itertext())
-    trial.test("passed over: where hearing ends", "nothing heard after 20:15:00:00" in text)
+    trial.test("passed: a receiver hears what comes after it", "nothing heard after" not in text)
+    links = [item.get("href") for item in root.iter(HTML + "a")
+             if any(True for _ in item.iter(HTML + "rect"))]
+    trial.test("passed: marks lead to the list", {"#e1", "#e6"} <= set(links), links)
 
 
 def test_links_at_the_top(trial: Trial) -> None:

@@ -11,16 +11,17 @@ from typing import Iterator, NamedTuple
 from ..built import behind_script
 from ..qc.made_with import Program as MadeWith, program_at
 from ..teletext import Page, page_name
-from ..times import time_of
+from ..times import NO_FRAME, time_of
 from ..words import counted
 from .fault_list import FaultList
-from .faults import Faults, Programme
+from .faults import MOST_ENTRIES, Faults, Programme
 from .figures import Figures
 from .fits import Fits
 from .letters import ENGLISH, GERMAN
 from .listening import Changes, Heard
 from .manual import meanings
 from .counts import place_words
+from .passed import Passed
 from .program import NoReport, Program, Subtitle, Verdict, digest_of
 from .receiver import Rows
 from .subtitles import Entries
@@ -104,8 +105,11 @@ class Report:
         told = [entry.first.frame for entry in self.faults.entries
                 if entry.first.frame is not None]
         firsts = [one.first for one in self.subtitles]
+        self.passed = Passed(self.faults.passed, path, asked.origin, self.faults.named())
+        told += [frame for frame in self.passed.before[:MOST_ENTRIES] if frame != NO_FRAME]
         self.frames = [] if self.is_refused_file else [*told, *firsts]
-        self.held = Heard(program.packets(path), self.frames, asked.page, asked.origin, told)
+        self.held = Heard(program.packets(path, self.passed, self.faults.ending()), self.frames,
+                          asked.page, asked.origin, told, self.passed)
 
     def first_link(self, fault: Verdict) -> str:
         """The place of the first fault of a number, as a link where the list has it."""
@@ -120,16 +124,18 @@ class Looks:
     def __init__(self, report: Report, program: Program) -> None:
         asked, faults, held = report.asked, report.faults, report.held
         last = held.last_frame
-        faults.mark(held.falls)
+        faults.mark((frame, frame) for frame in held.falls)
+        faults.mark(held.doubted())
         if last is not None and any(entry.first.pes == held.stop for entry in faults.entries):
-            faults.mark([last])
+            faults.mark([(last, last)])
         due = due_pages(program, asked, [*report.frames, last or 0])
         option = GERMAN if asked.option == "german" else ENGLISH
         header = bytes([0, 0, 0, 8, 0, 8, 1, option << 1])  # C4, C6 and C7
         self.figures = Figures(due, held, header, report.page, asked.is_complete)
         self.fits = Fits(due.changes if due else Changes(), held.changes,
                          pages_of_content(faults, held, self.figures))
-        broken = report.verdict.frame if report.verdict.pes is None else last
+        pes = report.verdict.pes
+        broken = report.verdict.frame if pes is None else held.last_before(pes)
         self.entries = Entries(self.figures, held, report.subtitles, asked.window, faults, broken)
         self.fault_list = FaultList(report, self, program)
         self.timeline = Timeline(report.subtitles, held.sendings, self.entries, faults, broken,

@@ -30,12 +30,17 @@ class Entries:
         self.odd = {index for index, kind in self.kinds.items() if kind in (DIFFERENT, NOTHING)}
         self.unknown = {index for index, kind in self.kinds.items()
                         if kind not in (SAME, DIFFERENT, NOTHING)}
-        listed = [(entry.first.frame, entry) for entry in faults.entries
-                  if entry.first.frame is not None]
+        listed = [(frame, entry) for entry in faults.entries
+                  if (frame := self.frame_of(entry)) is not None]
         self.entry_frames = sorted(frame for frame, _ in listed)
         self.entry_at = dict(reversed(listed))
         self.fill([one for one in subtitles if one.end > window[0] and one.first <= window[1]],
                   broken)
+
+    def frame_of(self, entry: Entry) -> int | None:
+        """The frame whose pictures belong to an entry, `None` where there is none."""
+        pes = entry.first.pes
+        return entry.first.frame if pes is None else self.held.last_before(pes)
 
     def fill(self, inside: list[Subtitle], broken: int | None) -> None:
         """Draws subtitles as long as there is room."""

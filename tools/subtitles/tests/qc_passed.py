@@ -86,7 +86,9 @@ def reads_on_after_lost_packets(case: Case) -> None:
               verdict["lost"])
     report = "".join(tree.fromstring(case.read("out/twenty.html")).itertext())
     case.test("the report", "PES packets 22 to 23 can't be read." in report
-              and "PES packet 61 can't be read." in report, report)
+              and f"PES packet 61 can't be read. PTS: {ORIGIN + one.frames[61] * TICKS} "
+              f"({time_of(one.frames[61])})" in report and "nothing heard after" not in report,
+              report)
     warned = ["--severity", case.write("severity", b"38 warning\n")]
     for is_warned in (False, True):
         for is_allowed in (False, True):

@@ -1,0 +1,100 @@
+"""PES packets that `check --all` passed over: how the others are counted, and what stands around."""
+from __future__ import annotations
+
+import array
+import bisect
+import contextlib
+import os
+from typing import Collection, Iterable, Iterator
+
+from ..batch import Batch, of_packets
+from ..files import Damaged, Input
+from ..pes import pes_runs, pts_or_none
+from ..times import NO_FRAME, frame_at
+from .faults import Spans
+
+
+class Passed:
+    """The PES packets of a file that were passed over, as spans of their numbers.
+
+    `before` and `after` are the frames of the PES packets around each span, `NO_FRAME` where there
+    is none. `pts` are the PTS of those that are named.
+    """
+
+    def __init__(self, spans: Spans, path: str = os.devnull, origin: int = 0,
+                 named: Collection[int] = ()) -> None:
+        self.spans = spans
+        # How many others stand before each span, and how many are passed over up to its end.
+        self.kept, self.gone = array.array("I"), array.array("I")
+        gone = 0
+        for begin, end in spans:
+            self.kept.append(begin - gone)
+            gone += end + 1 - begin
+            self.gone.append(gone)
+        self.before, self.after = array.array("i"), array.array("i")
+        around = packets_at(path, (number for begin, end in spans for number in (begin - 1,
+                                                                                 end + 1)))
+        for before in around if spans else ():
+            self.before.append(frame_in(before, origin))
+            self.after.append(frame_in(next(around), origin))
+        inside = sorted(number for number in named if self.span_of(number) is not None)
+        found = packets_at(path, inside) if inside else iter(())
+        self.pts = {number: pts for number, pes in zip(inside, found)
+                    if (pts := pts_or_none(pes)) is not None}
+
+    @property
+    def count(self) -> int:
+        """How many were passed over."""
+        return self.gone[-1] if self.gone else 0
+
+    def number(self, kept: int) -> int:
+        """The number in the file of the PES packet before which stand so many others that are not
+        passed over."""
+        at = bisect.bisect_right(self.kept, kept)
+        return kept + (self.gone[at - 1] if at else 0)
+
+    def span_of(self, number: int) -> int | None:
+        """The span that has a PES packet, as its place."""
+        at = bisect.bisect_right(self.spans.begins, number) - 1
+        return at if at >= 0 and number <= self.spans.ends[at] else None
+
+    def others(self, batch: Batch, number: int) -> Batch:
+        """Those of some PES packets that are not passed over; the first has that number."""
+        spans = list(self.spans.between(number, number + len(batch)))
+        if not spans:
+            return batch
+        kept: list[bytes] = []
+        at = 0
+        for begin, end in [*spans, (number + len(batch), 0)]:
+            kept += map(batch.packet, range(at, begin - number))
+            at = end + 1 - number
+        return of_packets(kept)
+
+
+def frame_in(pes: bytes, origin: int) -> int:
+    """The frame of a PES packet."""
+    pts = pts_or_none(pes)
+    frame = None if pts is None else frame_at(pts, origin)
+    return NO_FRAME if frame is None else frame
+
+
+def packets_at(path: str, numbers: Iterable[int]) -> Iterator[bytes]:
+    """The PES packets of a file with some numbers, which rise; no bytes where there is none."""
+    first, data, begins = 0, b"", [0]
+    with Input(path) as file:
+        runs = readable(pes_runs(file))
+        for number in numbers:
+            while number - first >= len(begins) - 1:
+                run = next(runs, None)
+                if run is None:
+                    break
+                first += len(begins) - 1
+                data, begins = run
+            at = number - first
+            yield data[begins[at]:begins[at + 1]] if 0 <= at < len(begins) - 1 else b""
+
+
+def readable(runs: Iterator[tuple[bytes, list[int]]]) -> Iterator[tuple[bytes, list[int]]]:
+    """The PES packets of a file as far as it can be read."""
+    with contextlib.suppress(Damaged):
+        yield from runs
