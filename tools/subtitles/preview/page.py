@@ -37,8 +37,9 @@ KEYS = """<h2 id="key">How to read this page</h2>
 A higher bar with a red rim is held otherwise than it is due at its first frame; a dashed one can't
 be seen. The lines below are frames with a header of the page; where such frames are close to each
 other they are drawn as a block. Red marks below the line are faults, each as long as it stands, and
-lead to the list; the red line is the first fault. A receiver hears nothing of what is hatched: the
-transmission has ended there, or it can't be read or followed any longer.</p>
+lead to the list; a PES packet that can't be read is marked from the frame before it up to the next
+one. The red line is the first fault. A receiver hears nothing of what is hatched: the transmission
+has ended there, or it can't be read or followed any longer.</p>
 <p><b>Pictures.</b> Small ones show a page that is held as it is due. Of large ones the left is the
 page that is due at the end of the frame, from <code>subttx schedule</code> of the subtitle file,
 and the right the page that a receiver holds then, which has heard the PES file from its first
