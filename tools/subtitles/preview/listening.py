@@ -9,7 +9,7 @@ from typing import Iterable, Iterator
 
 from ..batch import Batch
 from ..pes import UNIT
-from ..teletext import SERIAL, Page, has_bit
+from ..teletext import ERASE, SERIAL, Page, has_bit
 from ..times import FRAMES_OF_A_DAY, NO_FRAME, frames_at
 from ..units import header_in
 from .faults import Span, Spans
@@ -70,14 +70,16 @@ class Sendings:
     def __init__(self, found: Found, page: Page) -> None:
         self.batch, self.found, self.page = found.batch, found, page
         self.headers = {coded: header_in(coded) for coded in set(found.coded)}
-        self.of_page = found.of({coded for coded, header in self.headers.items()
-                                 if header and header[:2] == page})
+        own = {coded: header[2] for coded, header in self.headers.items()
+               if header and header[:2] == page}
+        self.of_page = found.of(set(own))
+        self.erasing = found.of({coded for coded, header in own.items() if has_bit(header, ERASE)})
         self.while_open: list[int] | None = None
 
-    def heard(self, receiver: Receiver, end: int) -> Iterator[int]:
-        """Those before `end` that the receiver has to hear, which it does meanwhile: while its page
-        is not open, nothing but a header of it changes what it holds."""
-        at = 0
+    def heard(self, receiver: Receiver, begin: int, end: int) -> Iterator[int]:
+        """Those from `begin` to the one before `end` that the receiver has to hear, which it does
+        meanwhile: while its page is not open, nothing but a header of it changes what it holds."""
+        at = begin
         while True:
             numbers = self.near() if receiver.state.is_open else self.of_page
             place = bisect.bisect_left(numbers, at)
@@ -104,12 +106,15 @@ class Heard:
     since the file can't be read on, has no state. `changes` are the pages that it held, and `falls`
     the frames of all PES packets whose frame is not after the one before. The PES packets of the
     frames `seen` are kept, and that of the last one. The listing is without those that were passed
-    over; all have the numbers of the file.
+    over; all have the numbers of the file. Without `hears_all` there are no changes, and of a state
+    the screen says nothing.
     """
 
     def __init__(self, listing: Listing, asked: Iterable[int], page: Page, origin: int,
-                 seen: Iterable[int] = (), passed: Passed | None = None) -> None:
+                 seen: Iterable[int] = (), passed: Passed | None = None,
+                 hears_all: bool = True) -> None:
         self.page, self.origin, self.passed = page, origin, passed or Passed(Spans())
+        self.hears_all = hears_all
         self.asked, self.next_asked = sorted(set(asked)), 0
         self.seen, self.next_seen = sorted(set(seen)), 0
         self.states: dict[int, State] = {}
@@ -151,9 +156,10 @@ class Heard:
 
     def hear(self, batch: Batch, frames: list[int], sendings: Sendings) -> None:
         """Hears the first PES packets of a batch, whose frames rise."""
-        for number in sendings.heard(self.receiver, len(frames)):
-            self.answer_before(frames[number])
-            self.receiver.hear(self.count + number, batch.packet(number), frames[number])
+        for begin, end in self.stretches(frames, sendings.erasing):
+            for number in sendings.heard(self.receiver, begin, end):
+                self.answer_before(frames[number])
+                self.receiver.hear(self.count + number, batch.packet(number), frames[number])
         self.sendings.extend(frames[number] for number in sendings.of_page
                              if number < len(frames))
         while self.next_seen < len(self.seen) and self.seen[self.next_seen] <= frames[-1]:
@@ -164,6 +170,20 @@ class Heard:
             self.next_seen += 1
         at, self.last = len(frames) - 1, frames[-1]
         self.last_pes = self.passed.number(self.count + at), batch.packet(at)
+
+    def stretches(self, frames: list[int], erasing: list[int]) -> Iterator[tuple[int, int]]:
+        """The PES packets of a batch that have to be heard, each time the first and the one after
+        the last. What the page was before one that erases it nobody needs to know: those alone are
+        heard after which a frame is asked for, and the last, with which the next batch goes on."""
+        count = len(frames)
+        if self.hears_all:
+            yield 0, count
+            return
+        bounds = [0, *(number for number in erasing if 0 < number < count), count]
+        for begin, end in zip(bounds, bounds[1:]):
+            at = bisect.bisect_left(self.asked, frames[begin])
+            if end == count or at < len(self.asked) and self.asked[at] < frames[end]:
+                yield begin, end
 
     def answer_before(self, frame: int) -> None:
         """Gives the frames before `frame` that are still asked the state as it is."""

@@ -110,7 +110,8 @@ class Listing:
                 batch = self.passed.others(read, count) if self.passed else read
                 listed = len(batch) if is_listed(batch) else first_refused(batch)
                 if listed:
-                    yield Batch(batch.data, batch.begins[:listed + 1])
+                    yield batch if listed == len(batch) else \
+                        Batch(batch.data, batch.begins[:listed + 1])
                 count += len(read) - len(batch) + listed
                 if listed < len(batch) or len(read) < len(begins) - 1:
                     break

@@ -108,8 +108,11 @@ class Report:
         self.passed = Passed(self.faults.passed, path, asked.origin, self.faults.named())
         told += [frame for frame in self.passed.before[:MOST_ENTRIES] if frame != NO_FRAME]
         self.frames = [] if self.is_refused_file else [*told, *firsts]
+        # Changes of the page are of interest where its content is refused.
+        self.hears_all = asked.is_complete or any(entry.first.row is not None
+                                                  for entry in self.faults.entries)
         self.held = Heard(program.packets(path, self.passed, self.faults.ending()), self.frames,
-                          asked.page, asked.origin, told, self.passed)
+                          asked.page, asked.origin, told, self.passed, self.hears_all)
 
     def first_link(self, fault: Verdict) -> str:
         """The place of the first fault of a number, as a link where the list has it."""
@@ -128,7 +131,7 @@ class Looks:
         faults.mark(held.doubted())
         if last is not None and any(entry.first.pes == held.stop for entry in faults.entries):
             faults.mark([(last, last)])
-        due = due_pages(program, asked, [*report.frames, last or 0])
+        due = due_pages(program, asked, [*report.frames, last or 0], report.hears_all)
         option = GERMAN if asked.option == "german" else ENGLISH
         header = bytes([0, 0, 0, 8, 0, 8, 1, option << 1])  # C4, C6 and C7
         self.figures = Figures(due, held, header, report.page, asked.is_complete)
@@ -174,7 +177,7 @@ def end_of_knowledge(held: Heard, subtitles: list[Subtitle]) -> int | None:
     return last + 1 if is_due_after or not held.is_whole() else None
 
 
-def due_pages(program: Program, asked: Asked, frames: list[int]) -> Heard | None:
+def due_pages(program: Program, asked: Asked, frames: list[int], hears_all: bool) -> Heard | None:
     """What a receiver holds of the program's own schedule; `None` where there is no subtitle."""
     with tempfile.TemporaryDirectory() as folder:
         path = os.path.join(folder, "due.pes")
@@ -183,4 +186,4 @@ def due_pages(program: Program, asked: Asked, frames: list[int]) -> Heard | None
             return None
         if verdict.status:
             raise NoReport(f"schedule was refused: {verdict.line}")
-        return Heard(program.packets(path), frames, asked.page, asked.origin)
+        return Heard(program.packets(path), frames, asked.page, asked.origin, hears_all=hears_all)
