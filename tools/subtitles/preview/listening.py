@@ -63,17 +63,35 @@ class Followed(Receiver):
             self.changes.add(frame, self.state.rows)
 
 
+class Kinds:
+    """Of headers by their coded bytes those of a page, of these the ones that erase it, and those
+    that close all pages."""
+
+    def __init__(self, page: Page) -> None:
+        self.page, self.known = page, set[bytes]()
+        self.own, self.erasing, self.closing = set[bytes](), set[bytes](), set[bytes]()
+
+    def learn(self, several: Iterable[bytes]) -> None:
+        """Looks at those that are new."""
+        for coded in set(several) - self.known:
+            self.known.add(coded)
+            header = header_in(coded)
+            if header and header[:2] == self.page:
+                self.own.add(coded)
+                if has_bit(header[2], ERASE):
+                    self.erasing.add(coded)
+            if header and has_bit(header[2], SERIAL):
+                self.closing.add(coded)
+
+
 class Sendings:
     """Of a batch the PES packets with a header of the page, and those that a receiver has to hear,
     all by their numbers."""
 
-    def __init__(self, found: Found, page: Page) -> None:
-        self.batch, self.found, self.page = found.batch, found, page
-        self.headers = {coded: header_in(coded) for coded in set(found.coded)}
-        own = {coded: header[2] for coded, header in self.headers.items()
-               if header and header[:2] == page}
-        self.of_page = found.of(set(own))
-        self.erasing = found.of({coded for coded, header in own.items() if has_bit(header, ERASE)})
+    def __init__(self, found: Found, kinds: Kinds) -> None:
+        kinds.learn(found.coded)
+        self.batch, self.found, self.kinds = found.batch, found, kinds
+        self.of_page, self.erasing = found.of(kinds.own), found.of(kinds.erasing)
         self.while_open: list[int] | None = None
 
     def heard(self, receiver: Receiver, begin: int, end: int) -> Iterator[int]:
@@ -91,10 +109,8 @@ class Sendings:
     def near(self) -> list[int]:
         """Those with a packet of the page's magazine, or a header that closes all pages."""
         if self.while_open is None:
-            own = set(self.batch.owners(self.batch.of_magazine(self.page[0])))
-            closing = {coded for coded, header in self.headers.items()
-                       if header and has_bit(header[2], SERIAL)}
-            self.while_open = sorted(own.union(self.found.of(closing)))
+            own = set(self.batch.owners(self.batch.of_magazine(self.kinds.page[0])))
+            self.while_open = sorted(own.union(self.found.of(self.kinds.closing)))
         return self.while_open
 
 
@@ -120,7 +136,7 @@ class Heard:
         self.states: dict[int, State] = {}
         self.seen_pes: dict[int, NumberedPes] = {}
         self.last_pes: NumberedPes | None = None
-        self.headers, self.receiver = Headers(), Followed(page)
+        self.headers, self.kinds, self.receiver = Headers(), Kinds(page), Followed(page)
         self.sendings, self.falls = array.array("I"), array.array("I")
         self.halt: tuple[int, int] | None = None
         self.last = self.before = NO_FRAME  # of the last that was heard, of the one before
@@ -139,7 +155,7 @@ class Heard:
         frames = frames_at(pts, self.origin)
         heard = [] if self.halt else self.rising(frames)
         if heard:
-            self.hear(batch, heard, Sendings(found, self.page))
+            self.hear(batch, heard, Sendings(found, self.kinds))
         at = len(heard)
         if at < len(frames) and self.halt is None:
             self.halt, self.before = (self.passed.number(self.count + at), pts[at]), self.last
