@@ -1,5 +1,6 @@
 -- What is answered over sources, told without what they are.
 use Rattle.std.proofs.Common.{◌≡◌, ℕ, List, [], Option, None, Some, true, false, ap, refl}
+use Rattle.std.specs.Prelude.{⊤}
 use Rattle.std.proofs.lemmas.List.{append-nil}
 use Rattle.std.specs.Io.KnownBytes.{append_known}
 use Rattle.stl_rows.specs.declared.national.National.{National}
@@ -13,12 +14,23 @@ use Rattle.sub_answer.specs.declared.status.Status.{Status}
 use Rattle.sub_request.specs.declared.request.Request.{Request}
 use Rattle.sub_request.specs.declared.request.Request.TheVariants as ask
 use Rattle.subttx.specs.Ending.{EndsFrom, EndsFromBoth, EndsOver, EndsWith, EndsWithFile, Given}
-use Rattle.subttx.specs.Ending.{Lines, forgotten}
+use Rattle.subttx.specs.Ending.{Lines}
 
 -- Nothing after the bytes that are known: so a sink tells that holds none back.
 pub append_known-nil : (known : Option (List ℕ)) → append_known known [] ≡ known
 append_known-nil None = refl
 append_known-nil (Some bytes) = ap Some (append-nil bytes)
+
+-- A source of which only what it told and how often it failed is kept.
+abbrev forgotten : {S : Type 0} → SourceCall S → SourceCall ⊤
+forgotten s = record {
+  old = tt;
+  new = tt;
+  told = s.told;
+  left = s.left;
+  old_count = s.old_count;
+  new_count = s.new_count;
+}
 
 -- What is listed of a source, without what the source is.
 listing-forgotten :

@@ -49,7 +49,7 @@ buffered_call contents failure_count old new =
 
 -- What was held back is handed on, for a run that would end with a status: it ends with it, and
 -- the sink below has taken all; or one more call has failed, and it ends with `Fault`.
-pub record HandsOnLines (old : Lines) (status : Status) (new : Lines) (result : Status)
+pub record HandsOnHeldLines (old : Lines) (status : Status) (new : Lines) (result : Status)
     : Type 0 where
   pub kept : Keeps old.taken new.taken
   pub ends :
@@ -89,7 +89,7 @@ pub record EndsWith
         new_count = printed.count;
       })
       status
-  pub handed_on : HandsOnLines printed status new result
+  pub handed_on : HandsOnHeldLines printed status new result
 
 -- A request was answered of two sources and of a file that was empty, and then the lines were
 -- handed on.
@@ -100,17 +100,6 @@ pub record EndsFromBoth
   pub file : SinkCall
   pub file_is_empty : file.old ≡ Some []
   pub ends : EndsWith request first second file old new result
-
--- A source of which only what it told and how often it failed is kept.
-abbrev pub forgotten : {S : Type 0} → SourceCall S → SourceCall ⊤
-forgotten s = record {
-  old = tt;
-  new = tt;
-  told = s.told;
-  left = s.left;
-  old_count = s.old_count;
-  new_count = s.new_count;
-}
 
 -- A request was answered of one source, beside an empty one and a file that was empty, and then the
 -- lines were handed on.
@@ -212,7 +201,7 @@ pub record Says (fault : UsageFault) (old new : Lines) (result : Status) : Type 
         new_count = printed.count;
       })
       (told_listing (usage_told fault)) Fault
-  pub handed_on : HandsOnLines printed Fault new result
+  pub handed_on : HandsOnHeldLines printed Fault new result
 
 -- No request was answered, and the line of the fault was printed that tells why.
 pub record IsUnanswered (given : Result (List Text) UsageFault) (old new : Lines) (result : Status)
