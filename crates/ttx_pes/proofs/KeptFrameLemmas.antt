@@ -1,5 +1,5 @@
--- What is known of a packet by its header and its data field: of one whose units are read, held_anew,
--- and of one whose data field is that of a packet before, held_again.
+-- What is known of a packet by its header and its data field: of one whose units are read,
+-- held_anew, and of one whose data field is that of a packet before, held_again.
 use Rattle.std.proofs.Common.{◌≡◌, ℕ, ◌/◌, ◌<◌, List, ◌+◌, ◌%◌, ◌≤◌, ◌++◌, [], length, drop}
 use Rattle.std.proofs.Common.{take, Ok, Err, refl, sym, ap, subst, arith, length-drop}
 use Rattle.std.proofs.Common.{◌∙◌}

@@ -67,8 +67,8 @@ AreSameHeads a b =
     (k : ℕ) → data_unit_size * k + 1 + data_unit_size ≤ length a
     → IsSameHead a b (data_unit_size * k + 1)
 
--- What is known of the packet at the front of a room: its PTS, how many bytes its data field has, and
--- where the data units of its Teletext units begin in it.
+-- What is known of the packet at the front of a room: its PTS, how many bytes its data field has,
+-- and where the data units of its Teletext units begin in it.
 pub record HeldValue : Type 0 where
   pub pts : ℕ
   pub count : ℕ

@@ -1,5 +1,5 @@
-//! What is known of the PES packet in a room, so that one that is sent again is compared and not read
-//! again.
+//! What is known of the PES packet in a room, so that one that is sent again is compared and not
+//! read again.
 ghost use Rattle.std.specs.Prelude.{◌≡◌, ◌+◌, ◌/◌, ◌%◌, ◌≤◌, ◌↔◌, true, Ok, Err, OnOk, IfOk, IfErr};
 ghost use Rattle.std.specs.Prelude.{length, drop, []};
 ghost use Rattle.ttx_pes.specs.DataUnit.{data_unit_size};
@@ -21,8 +21,8 @@ use std::marker::Model;
 // Where the data field begins in a packet.
 const FIELD: usize = 45;
 
-/// What is known of the PES packet at the front of a room: its PTS, how many bytes its data field has,
-/// bytes 45 to the end, and where the Teletext units stand in it.
+/// What is known of the PES packet at the front of a room: its PTS, how many bytes its data field
+/// has, bytes 45 to the end, and where the Teletext units stand in it.
 #[derive(Drop)]
 pub(crate) struct HeldPacket {
     pts: u64,
@@ -117,8 +117,8 @@ impl HeldPacket {
         SentUnits::new(self.field(room), self.places.as_slice())
     }
 
-    // Makes it what is known of a packet by its bytes from byte 6 on, and answers whether their data
-    // field is the one of the packet before, in that one's room.
+    // Makes it what is known of a packet by its bytes from byte 6 on, and answers whether their
+    // data field is the one of the packet before, in that one's room.
     #[tactic(auto, unfolding(crate::specs::Reading::value_at))]
     pub(crate) fn take(&mut self, before: &Room, body: &[u8]) -> Result<bool, PesFault>
         requires held { IsHeld (field_in self.old.count before.now) self.old }

@@ -1,6 +1,7 @@
 -- What was taken of a packet settles the answer: by TakingLemmas. What is known of it then is so of
 -- its data field in the room: by KeptFrameLemmas.
-use Rattle.std.proofs.Common.{◌≡◌, length, take, drop, arith, refl, sym, ap, ◌∙◌, rules, length-drop}
+use Rattle.std.proofs.Common.{◌≡◌, length, take, drop, arith, refl, sym, ap, ◌∙◌, rules}
+use Rattle.std.proofs.Common.{length-drop}
 use Rattle.std.proofs.lemmas.List.{length-take-le}
 use Rattle.ttx_pes.specs.Taking.{field_in}
 use Rattle.ttx_pes.proofs.DataUnitLemmas.{AreBytes-take}
