@@ -10,7 +10,7 @@ use Rattle.std.proofs.lemmas.Bool.Decides.{nat_tests}
 use Rattle.ttx_packet.specs.BitOrder.{mirror}
 use Rattle.ttx_packet.specs.Hamming84.{IsCodeWord, code_word, decoded}
 use Rattle.ttx_packet.specs.PacketAddress.{HasExactAddress, address, decoded_at}
-use Rattle.ttx_packet.specs.PageHeader.{HasExactHeader, coded_header}
+use Rattle.ttx_packet.specs.PageHeader.{HasExactHeader, coded_header, coded_page}
 use Rattle.ttx_packet.specs.declared.header.Header.{Header}
 use Rattle.ttx_packet.specs.declared.sent_packet.TheConstants.{SENT_WORDS}
 use Rattle.ttx_packet.proofs.BitOrderLemmas.{mirror-mirror}
@@ -121,11 +121,10 @@ coded_header_of p units tens s1 s2_c4 s3 s4_c6 c7_c10 c11_c14 h
     a b c d e f g i page subcode control =
     rw (a, b, c, d, e, f, g, i, ← page, ← subcode, ← control) refl
 
--- The page number, where the others of the eight bytes say anything.
-pub page_of : (p : List ℕ) (units tens : ℕ) (h : Header)
+-- What the two bytes of the page number say.
+pub coded_page_of : (p : List ℕ) (units tens : ℕ)
     → decoded_at p 2 ≡ Some units
     → decoded_at p 3 ≡ Some tens
-    → coded_header p ≡ Some h
-    → Some (units + 0x10 * tens) ≡ Some h.page
-unfolding coded_header
-page_of p units tens h a b says = grind (arith, nat_tests)
+    → coded_page p ≡ Some (units + 0x10 * tens)
+unfolding coded_page
+coded_page_of p units tens first second = rw (first, second) refl

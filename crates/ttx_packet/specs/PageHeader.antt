@@ -71,6 +71,14 @@ c13 h = is_set h.control 0x200
 abbrev pub c14 : Header → Bool
 c14 h = is_set h.control 0x400
 
+-- The page number that a header says, page tens above page units, whatever the address: none where
+-- one of its two bytes decodes to nothing.
+unfoldable pub coded_page : List ℕ → Option ℕ
+coded_page packet = do
+  units ← decoded_at packet 2
+  tens ← decoded_at packet 3
+  Some (units + 0x10 * tens)
+
 -- What the eight coded bytes say, whatever the address: none where one of them decodes to nothing.
 unfoldable pub coded_header : List ℕ → Option Header
 coded_header packet = do
@@ -99,6 +107,10 @@ header packet = do
 abbrev pub HasExactHeader : List ℕ → Type 0
 HasExactHeader packet =
     (place : ℕ) → 2 ≤ place → place < 10 → IsCodeWord (slice_index packet place)
+
+-- The two bytes of the page number are code words, with no bit wrong.
+abbrev pub HasExactPage : List ℕ → Type 0
+HasExactPage packet = IsCodeWord (slice_index packet 2) × IsCodeWord (slice_index packet 3)
 
 -- Both address bytes are code words, and in a packet with packet number 0 the eight coded bytes
 -- too.

@@ -84,7 +84,7 @@ impl<'a> Model for SentPacket<'a> {
 }
 
 impl<'a> SentPacket<'a> {
-    ghost use Rattle.ttx_packet.specs.PageHeader.{HasExactHeader, coded_header};
+    ghost use Rattle.ttx_packet.specs.PageHeader.{HasExactHeader, HasExactPage, coded_header, coded_page};
     ghost use Rattle.ttx_packet.specs.declared.header.Header.{Header};
 
     /// The packet that a data unit carries as these 42 bytes.
@@ -126,15 +126,15 @@ impl<'a> SentPacket<'a> {
         }
     }
 
-    /// The page number that a header says, page tens above page units, where its eight coded bytes
-    /// are code words (EN 300 706, page header). The address is not looked at.
+    /// The page number that a header says, page tens above page units, where both are code words,
+    /// with no bit to correct (EN 300 706, page header). The address and the other six coded bytes
+    /// are not looked at: two bytes most often tell whose header it is.
     ///
-    /// It looks at two of the eight bytes, which most often tell whose header it is.
+    /// `None` where one of them is not.
     #[inline(always)]
-    #[tactic(auto, unfolding(crate::specs::PageHeader::coded_header))]
     pub fn exact_page(&self) -> Option<u8>
-        ensures { (h : Header) → HasExactHeader self.now
-            → coded_header self.now ≡ Some h → result ≡ Some h.page }
+        ensures { MatchOption result (HasExactPage self.now → ⊥)
+            (λ page. HasExactPage self.now × (coded_page self.now ≡ Some page)) }
     {
         let units = sent_number(self.bytes[2])?;
         let tens = sent_number(self.bytes[3])?;

@@ -1,23 +1,23 @@
 -- Each byte is the code word of its number, or none: SentWordLemmas.
 use Rattle.std.proofs.Common.{arith}
-use Rattle.ttx_packet.proofs.SentWordLemmas.{no_word_at, page_of, word_at}
+use Rattle.ttx_packet.proofs.SentWordLemmas.{coded_page_of, no_word_at, word_at}
 use Rattle.ttx_packet.proofs.sent_packet.SentPacket.exact_page.Goals as goal
 
 pub returns-in_err-units : goal.returns-in_err-units
-returns-in_err-units c h exact says =
-    absurd
-    (no_word_at _ _ c.self.view_is c.self.invariant 2 (omega arith) c.in_err-units.ensures
-    (exact 2 (omega arith) (omega arith)))
+returns-in_err-units c =
+    rw c.from_residual.ensures (λ exact.
+    no_word_at _ _ c.self.view_is c.self.invariant 2 (omega arith) c.in_err-units.ensures exact.0)
 
 pub returns-in_err-tens : goal.returns-in_err-tens
-returns-in_err-tens c h exact says =
-    absurd
-    (no_word_at _ _ c.self.view_is c.self.invariant 3 (omega arith) c.in_err-tens.ensures
-    (exact 3 (omega arith) (omega arith)))
+returns-in_err-tens c =
+    rw c.from_residual-in_err-tens.ensures (λ exact.
+    no_word_at _ _ c.self.view_is c.self.invariant 3 (omega arith) c.in_err-tens.ensures exact.1)
 
 pub returns : goal.returns
-returns c h exact says =
+returns c =
     let at = word_at _ _ c.self.view_is c.self.invariant in
     let units = at 2 c.in_ok-units.units (omega arith) c.in_ok-units.ensures in
-    let tens = at 3 c.in_ok-tens.tens (omega arith) c.in_ok-tens.ensures in
-    page_of c.args.self.now _ _ h units.1 tens.1 says
+    let tens = at 3 c.in_ok-tens.tens (omega arith) c.in_ok-tens.ensures in (
+      (units.0, tens.0),
+      coded_page_of c.args.self.now _ _ units.1 tens.1,
+    )
