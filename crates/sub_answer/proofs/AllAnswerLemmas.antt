@@ -2,8 +2,7 @@
 -- lemmas: answers_cut, answers_end, counted_stl, counted_pes.
 use Rattle.std.proofs.Common.{◌≡◌, ◌≢◌, ◌∙◌, ap, refl, sym, subst, arith, inl, inr, ℕ, ◌+◌, ◌==◌}
 use Rattle.std.proofs.Common.{List, [], ◌++◌, Bool, true, false, Option, Some, None, Result, Ok}
-use Rattle.std.proofs.Common.{Err}
-use Rattle.std.proofs.Common.{MatchResult, min}
+use Rattle.std.proofs.Common.{Err, MatchResult, min, ◌∷◌}
 use Rattle.std.proofs.lemmas.Bool.{true≢false}
 use Rattle.std.proofs.lemmas.Bool.Decides.{nat_tests}
 use Rattle.std.specs.Prelude.{IfErr, IsOk, IsTrue, ◌<◌}
@@ -35,27 +34,26 @@ use Rattle.sub_check.proofs.FirstToldLemmas.{first_decides}
 use Rattle.sub_check.proofs.ReadOnLemmas.{first_of_pieces, none_of_pieces}
 use Rattle.sub_laws.proofs.PesFileLemmas.{carried_is_read}
 use Rattle.sub_rules.specs.declared.event.Event.TheVariants.{Ended, PassedUntil, Told, Trusted}
-use Rattle.sub_answer.specs.declared.told.Kind.{Kind}
-use Rattle.sub_answer.specs.declared.told.Kind.TheVariants as kind
-use Rattle.std.proofs.Common.{◌∷◌}
+use Rattle.sub_listing.specs.declared.told.Kind.{Kind}
+use Rattle.sub_listing.specs.declared.told.Kind.TheVariants as kind
 use Rattle.sub_rules.specs.Fault.{is_failure, is_failure_kind, is_pes_read, is_stl_read}
 use Rattle.sub_checker.specs.declared.telling.Accepted.{Accepted}
 use Rattle.sub_rules.specs.declared.event.Event.{Event}
 use Rattle.sub_rules.specs.declared.fault.CheckFault.{CheckFault}
 use Rattle.sub_rules.specs.declared.fault.CheckFault.TheVariants as fault
-use Rattle.sub_answer.specs.DeviceCall.{Counts, SinkCall, SourceCall}
-use Rattle.sub_answer.specs.EveryFault.{AnswersAll, AreListed, AreListedBefore, CanEnd}
-use Rattle.sub_answer.specs.EveryFault.{IsAccepted, IsVerdict, TellsBoth}
-use Rattle.sub_answer.specs.FaultListing.{all_listing, last_listing, event_lines, most_counted}
-use Rattle.sub_answer.specs.FaultListing.{refusals, subtitle_events}
-use Rattle.sub_answer.specs.Faults.{kind_by, load_told}
-use Rattle.sub_answer.specs.Listing.{Listing, PrintsOrFails, followed}
-use Rattle.sub_answer.specs.Printer.{PrinterValue, counted}
-use Rattle.sub_answer.specs.Told.{line_of, status_of}
-use Rattle.sub_answer.specs.Writing.{PrintsMemory}
-use Rattle.sub_answer.specs.declared.status.Status.{Status}
-use Rattle.sub_answer.specs.declared.status.Status.TheVariants.{Done, Fault}
-use Rattle.sub_answer.proofs.PrintingLemmas.{did_not_rise, printed-whole}
+use Rattle.sub_listing.specs.DeviceCall.{Counts, SinkCall, SourceCall}
+use Rattle.sub_answer.specs.EveryFault.{AnswersAll, AreListed, AreListedBefore, CanEnd, IsAccepted}
+use Rattle.sub_answer.specs.EveryFault.{IsVerdict, TellsBoth}
+use Rattle.sub_answer.specs.FaultListing.{all_listing, last_listing}
+use Rattle.sub_listing.specs.EventLines.{event_lines, most_counted, refusals, subtitle_events}
+use Rattle.sub_listing.specs.Faults.{kind_by, load_told}
+use Rattle.sub_listing.specs.Listing.{Listing, PrintsOrFails, followed}
+use Rattle.sub_listing.specs.Printer.{PrinterValue, counted}
+use Rattle.sub_listing.specs.Told.{line_of, status_of}
+use Rattle.sub_listing.specs.Writing.{PrintsMemory}
+use Rattle.sub_listing.specs.declared.status.Status.{Status}
+use Rattle.sub_listing.specs.declared.status.Status.TheVariants.{Done, Fault}
+use Rattle.sub_listing.proofs.PrintingLemmas.{did_not_rise, printed-whole}
 
 -- A sink in a call, by what it had taken and has taken.
 abbrev sink : Option (List ℕ) → ℕ → Option (List ℕ) → ℕ → SinkCall

@@ -1,7 +1,7 @@
 -- The answer of a check by the contract of `check_files`: as_answered; where the files are
 -- accepted, `done-exactly`; where memory was refused, `memory-printed`.
-use Rattle.std.proofs.Common.{◌≡◌, ◌≢◌, ◌↔◌, ℕ, List, Option, Some, Result, Ok, Err}
-use Rattle.std.proofs.Common.{true, false, refl, ◌+◌, if◌then◌else◌, sym, ◌∙◌}
+use Rattle.std.proofs.Common.{◌≡◌, ◌≢◌, ◌↔◌, ℕ, List, Option, Some, Result, Ok, Err, true, false}
+use Rattle.std.proofs.Common.{refl, ◌+◌, if◌then◌else◌, sym, ◌∙◌}
 use Rattle.std.specs.Io.KnownBytes.{Appends}
 use Rattle.sub_io.specs.Device.{RisesIf, failed}
 use Rattle.sub_io.specs.Reading.{IfTold}
@@ -25,16 +25,16 @@ use Rattle.sub_checker.specs.declared.telling.Accepted.{Accepted}
 use Rattle.sub_rules.specs.declared.fault.CheckFault.{CheckFault}
 use Rattle.sub_rules.specs.declared.fault.CheckFault.TheVariants as fault
 use Rattle.sub_answer.specs.Answering.{AnswersCheck, IsAccepted, verdict}
-use Rattle.sub_answer.specs.DeviceCall.{SinkCall, SourceCall}
-use Rattle.sub_answer.specs.Faults.{check_told, kind_by, load_told}
-use Rattle.sub_answer.specs.Listing.{PrintsOrFails}
-use Rattle.sub_answer.specs.Told.{line_of, status_of}
-use Rattle.sub_answer.specs.Writing.{PrintsMemory}
-use Rattle.sub_answer.specs.declared.status.Status.{Status}
-use Rattle.sub_answer.specs.declared.status.Status.TheVariants.{Done, Fault}
-use Rattle.sub_answer.specs.declared.told.Kind.{Kind}
-use Rattle.sub_answer.specs.declared.told.Kind.TheVariants as kind
-use Rattle.sub_answer.proofs.PrintingLemmas.{did_not_rise, printed-status, printed-whole}
+use Rattle.sub_listing.specs.DeviceCall.{SinkCall, SourceCall}
+use Rattle.sub_listing.specs.Faults.{check_told, kind_by, load_told}
+use Rattle.sub_listing.specs.Listing.{PrintsOrFails}
+use Rattle.sub_listing.specs.Told.{line_of, status_of}
+use Rattle.sub_listing.specs.Writing.{PrintsMemory}
+use Rattle.sub_listing.specs.declared.status.Status.{Status}
+use Rattle.sub_listing.specs.declared.status.Status.TheVariants.{Done, Fault}
+use Rattle.sub_listing.specs.declared.told.Kind.{Kind}
+use Rattle.sub_listing.specs.declared.told.Kind.TheVariants as kind
+use Rattle.sub_listing.proofs.PrintingLemmas.{did_not_rise, printed-status, printed-whole}
 
 -- A file whose PES file was looked at gives a programme. For `accepted_from`.
 has_programme :

@@ -1,9 +1,8 @@
 -- What a printer was told of two files, and what is answered by it. Main lemmas: after_error,
 -- after_faults, after_pes, answers_cut, answers_end.
-use Rattle.std.proofs.Common.{◌≡◌, ◌∙◌, ap, refl, sym, subst, arith, inl, inr, ℕ, ◌+◌, ◌<◌}
-use Rattle.std.proofs.Common.{◌≤◌}
-use Rattle.std.proofs.Common.{zero, suc, List, [], ◌∷◌, take, length, Bool, true}
-use Rattle.std.proofs.Common.{false, Option, Some, None, Result, Ok, Err, ◌-◌}
+use Rattle.std.proofs.Common.{◌≡◌, ◌∙◌, ap, refl, sym, subst, arith, inl, inr, ℕ, ◌+◌, ◌<◌, ◌≤◌}
+use Rattle.std.proofs.Common.{zero, suc, List, [], ◌∷◌, take, length, Bool, true, false, Option}
+use Rattle.std.proofs.Common.{Some, None, Result, Ok, Err, ◌-◌}
 use Rattle.std.proofs.lemmas.Bool.{true≢false}
 use Rattle.std.proofs.lemmas.Bool.Decides.{nat_tests}
 use Rattle.std.specs.Prelude.{◌⊎◌, IfOk, IfErr, IfSome, is_none}
@@ -38,12 +37,11 @@ use Rattle.sub_checker.specs.declared.telling.Accepted.{Accepted}
 use Rattle.sub_rules.specs.declared.event.Event.{Event}
 use Rattle.sub_rules.specs.declared.fault.CheckFault.{CheckFault}
 use Rattle.sub_rules.specs.declared.fault.CheckFault.TheVariants as fault
-use Rattle.sub_answer.specs.DeviceCall.{SourceCall}
+use Rattle.sub_listing.specs.DeviceCall.{SourceCall}
 use Rattle.sub_answer.specs.EveryFault.{FailsAtBlock, TellsBoth}
-use Rattle.sub_answer.specs.FaultListing.{most_counted}
-use Rattle.sub_answer.specs.FaultListing.{refusals, subtitle_event, subtitle_events}
-use Rattle.sub_answer.specs.Printer.{PrinterValue, PrintsEvent, PrintsEvents}
-use Rattle.sub_answer.proofs.PrinterLemmas.{as_told, prints-taken, prints_all}
+use Rattle.sub_listing.specs.EventLines.{most_counted, refusals, subtitle_event, subtitle_events}
+use Rattle.sub_listing.specs.Printer.{PrinterValue, PrintsEvent, PrintsEvents}
+use Rattle.sub_listing.proofs.PrinterLemmas.{as_told, prints-taken, prints_all}
 
 -- ---- the subtitle file
 

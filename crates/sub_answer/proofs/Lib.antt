@@ -1,9 +1,4 @@
-pub mod PrintingLemmas
 pub mod AnsweringLemmas
-pub mod NormalLemmas
 pub mod ListenListingLemmas
-pub mod ListingLemmas
-pub mod HexDigitLemmas
-pub mod PrinterLemmas
 pub mod EveryFaultLemmas
 pub mod AllAnswerLemmas

@@ -7,9 +7,10 @@ use Rattle.sub_rules.specs.FrameRules.{Unread}
 use Rattle.sub_rules.specs.Transmission.{Transmission}
 use Rattle.sub_listen.specs.Run.{HearsFile}
 use Rattle.sub_answer.specs.Answering.{AnswersListen}
-use Rattle.sub_answer.specs.DeviceCall.{SinkCall, SourceCall}
-use Rattle.sub_answer.specs.declared.status.Status.{Status}
-use Rattle.sub_answer.specs.ListenListing.{IsOldPage, IsSeenWhole, Listens, listing_of, tuned_with}
+use Rattle.sub_listing.specs.DeviceCall.{SinkCall, SourceCall}
+use Rattle.sub_listing.specs.declared.status.Status.{Status}
+use Rattle.sub_answer.specs.ListenListing.{IsOldPage, Listens, listing_of, tuned_with}
+use Rattle.sub_listing.specs.DisplayLines.{IsSeenWhole}
 use Rattle.ttx_page.specs.Page.{Rows}
 use Rattle.sub_listen.specs.declared.listening.ListenFault.{ListenFault}
 use Rattle.sub_request.specs.declared.listening.Listening.{Listening}

@@ -1,6 +1,5 @@
 -- What is said of the answer to a request, command by command.
-use Rattle.std.specs.Prelude.{◌≡◌, ◌≢◌, ◌↔◌, ℕ, Bool, true, false, List, Option, Result, Err, Ok}
-use Rattle.std.specs.Prelude.{codes}
+use Rattle.std.specs.Prelude.{◌≡◌, ◌≢◌, ◌↔◌, ℕ, Bool, true, false, Option, Result, Err, Ok, codes}
 use Rattle.sub_io.specs.Device.{RisesIf, failed}
 use Rattle.sub_io.specs.Reading.{IfTold}
 use Rattle.ttx_pes.specs.Reader.{FailsAtPacket}
@@ -22,23 +21,20 @@ use Rattle.sub_rules.specs.declared.fault.CheckFault.{CheckFault}
 use Rattle.sub_rules.specs.declared.fault.CheckFault.TheVariants as check
 use Rattle.sub_request.specs.declared.listening.Listening.{Listening}
 use Rattle.sub_listen.specs.declared.listening.ListenFault.{ListenFault}
-use Rattle.sub_answer.specs.DeviceCall.{SinkCall, SourceCall}
+use Rattle.sub_listing.specs.DeviceCall.{SinkCall, SourceCall}
 pub use Rattle.sub_answer.specs.EveryFault.{AnswersAll, IsAccepted}
 use Rattle.sub_answer.specs.FaultListing.{accepted_line}
-use Rattle.sub_answer.specs.Faults.{check_told, listen_told}
-use Rattle.sub_answer.specs.ListenListing.{Listens}
-use Rattle.sub_answer.specs.Listing.{Listing, PrintsListing, PrintsOrFails, done, packet_listing}
-use Rattle.sub_answer.specs.Listing.{told_listing}
-use Rattle.sub_answer.specs.PacketsListing.{ListsPackets}
-use Rattle.sub_answer.specs.ShowListing.{ListsSubtitles}
-use Rattle.sub_answer.specs.Writing as writing
-use Rattle.sub_answer.specs.Writing.{Normalizes, PrintsMemory, Schedules, Work, is_write}
-use Rattle.sub_answer.specs.Writing.{work_listing}
+use Rattle.sub_listing.specs.Faults.{check_told}
+use Rattle.sub_answer.specs.ListenListing.{listen_told, Listens}
+use Rattle.sub_listing.specs.Listing.{Listing, PrintsListing, PrintsOrFails, done, packet_listing}
+use Rattle.sub_listing.specs.Listing.{told_listing}
+use Rattle.sub_listing.specs.PacketsListing.{ListsPackets}
+use Rattle.sub_listing.specs.ShowListing.{ListsSubtitles}
+use Rattle.sub_listing.specs.Writing.{EndsWork, Normalizes, PrintsMemory, Schedules}
 use Rattle.sub_request.specs.declared.request.Request.{Request}
 use Rattle.sub_request.specs.declared.request.Request.TheVariants as ask
-use Rattle.sub_answer.specs.declared.status.Status.{Status}
-use Rattle.sub_answer.specs.declared.status.Status.TheVariants.{Done, Fault}
-use Rattle.sub_answer.specs.declared.writing.WriteFault.{WriteFault}
+use Rattle.sub_listing.specs.declared.status.Status.{Status}
+use Rattle.sub_listing.specs.declared.status.Status.TheVariants.{Done, Fault}
 
 -- Whether the answer takes memory: a programme, or a whole file, is kept in it.
 abbrev pub takes_memory : Request → Bool
@@ -48,19 +44,6 @@ takes_memory (ask.Check stl pes options national all) = true
 takes_memory _ = false
 
 -- ---- what each command answers
-
--- The work of a command that writes a file has this answer, the number of things in it or a fault,
--- and its line was printed.
-pub record EndsWork
-    {S : Type 0} (input : SourceCall S) (file out : SinkCall) (status : Status)
-    (things : List ℕ) (HasWorked : Work)
-    : Type 0 where
-  pub answer : Result ℕ WriteFault
-  pub works : HasWorked input.told input.left file.old file.new answer
-  -- The devices fail where the answer says so, and nowhere else.
-  pub input_count : RisesIf input.old_count (failed writing.is_read answer) input.new_count
-  pub file_count : RisesIf file.old_count (failed is_write answer) file.new_count
-  pub printed : PrintsOrFails out (work_listing things answer) status
 
 -- The line of an answer, with the status.
 abbrev pub verdict : Result Accepted CheckFault → Listing

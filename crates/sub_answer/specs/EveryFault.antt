@@ -30,13 +30,14 @@ use Rattle.sub_checker.specs.declared.telling.Accepted.{Accepted}
 use Rattle.sub_rules.specs.declared.event.Event.{Event}
 use Rattle.sub_rules.specs.declared.fault.CheckFault.{CheckFault}
 use Rattle.sub_rules.specs.declared.fault.CheckFault.TheVariants.{Pes, Subtitles}
-use Rattle.sub_answer.specs.DeviceCall.{SinkCall, SourceCall}
-use Rattle.sub_answer.specs.FaultListing.{all_listing, refusals, subtitle_events}
-use Rattle.sub_answer.specs.Listing.{PrintsOrFails}
-use Rattle.sub_answer.specs.Printer.{PrinterValue, PrintsEvents}
-use Rattle.sub_answer.specs.Writing.{PrintsMemory}
-use Rattle.sub_answer.specs.declared.status.Status.{Status}
-use Rattle.sub_answer.specs.declared.status.Status.TheVariants.{Done, Fault}
+use Rattle.sub_listing.specs.DeviceCall.{SinkCall, SourceCall}
+use Rattle.sub_answer.specs.FaultListing.{all_listing}
+use Rattle.sub_listing.specs.EventLines.{refusals, subtitle_events}
+use Rattle.sub_listing.specs.Listing.{PrintsOrFails}
+use Rattle.sub_listing.specs.Printer.{PrinterValue, PrintsEvents}
+use Rattle.sub_listing.specs.Writing.{PrintsMemory}
+use Rattle.sub_listing.specs.declared.status.Status.{Status}
+use Rattle.sub_listing.specs.declared.status.Status.TheVariants.{Done, Fault}
 
 -- An answer, `None` for a refused subtitle file, refuses that file or could not read it.
 abbrev pub is_of_subtitles : Result (Option Accepted) CheckFault → Bool

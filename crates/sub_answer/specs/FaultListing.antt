@@ -1,73 +1,13 @@
 -- What `check --all` prints: a line for each event, and a last one.
-use Rattle.std.specs.Prelude.{ℕ, ◌+◌, ◌==◌, min, List, [], ◌∷◌, ◌++◌, codes, decimal, map}
-use Rattle.std.specs.Prelude.{Option, Some, None, Result, Ok, Err, if◌then◌else◌}
-use Rattle.stl_rows.specs.declared.fault.LoadFault.{LoadFault}
-use Rattle.sub_rules.specs.Fault.{check_code, place_of, rule_code}
+use Rattle.std.specs.Prelude.{ℕ, ◌+◌, ◌==◌, min, List, ◌++◌, codes, decimal, Option, Some, None}
+use Rattle.std.specs.Prelude.{Result, Ok, Err, if◌then◌else◌}
 use Rattle.sub_checker.specs.declared.telling.Accepted.{Accepted}
-use Rattle.sub_rules.specs.declared.end_rule.EndRule.{EndRule}
 use Rattle.sub_rules.specs.declared.event.Event.{Event}
-use Rattle.sub_rules.specs.declared.event.Event.TheVariants.{Ended, PassedUntil, Told, Trusted}
 use Rattle.sub_rules.specs.declared.fault.CheckFault.{CheckFault}
-use Rattle.sub_rules.specs.declared.fault.CheckFault.TheVariants.{Subtitles}
-use Rattle.sub_answer.specs.Faults.{check_told}
-use Rattle.sub_answer.specs.Listing.{Listing, done, followed, told_listing}
-use Rattle.sub_answer.specs.Told.{clock_text, code_text, frame_text, line_of, place_text}
-use Rattle.sub_answer.specs.declared.status.Status.TheVariants.{Refused}
-
--- ---- a line for each event
-
--- A rule stood broken up to this frame, and does so no more.
-abbrev pub ended_line : EndRule → ℕ → List ℕ
-ended_line rule frame =
-    codes "ended " ++ code_text (rule_code rule) ++ frame_text frame ++ codes "\n"
-
--- PES packets were passed over up to the one that this fault names.
-abbrev pub passed_line : CheckFault → List ℕ
-passed_line f =
-    codes "ended " ++ code_text (check_code f) ++ place_text (place_of f) ++ codes "\n"
-
--- These frames may be trusted, the first and the last one too.
-abbrev pub trusted_line : ℕ → ℕ → List ℕ
-trusted_line from to =
-    codes "trusted frames " ++ clock_text from ++ codes " " ++ clock_text to ++ codes "\n"
-
--- The line of an event.
-abbrev pub event_line : Event → List ℕ
-event_line (Told f) = line_of (check_told f)
-event_line (Ended rule frame) = ended_line rule frame
-event_line (PassedUntil f) = passed_line f
-event_line (Trusted from to) = trusted_line from to
-
--- The lines of events.
-abbrev pub event_lines : List Event → List ℕ
-event_lines [] = []
-event_lines (e ∷ events) = event_line e ++ event_lines events
-
--- Whether an event is a refusal: 1, or 0 where it is none.
-abbrev pub refusal : Event → ℕ
-refusal (Told f) = 1
-refusal (Ended rule frame) = 0
-refusal (PassedUntil f) = 0
-refusal (Trusted from to) = 0
-
--- How many of these are refusals.
-abbrev pub refusals : List Event → ℕ
-refusals [] = 0
-refusals (e ∷ events) = refusal e + refusals events
-
--- A fault of the subtitle file, as an event.
-abbrev pub subtitle_event : LoadFault → Event
-subtitle_event f = Told (Subtitles f)
-
--- Faults of the subtitle file, as events.
-abbrev pub subtitle_events : List LoadFault → List Event
-subtitle_events faults = map subtitle_event faults
-
--- ---- the last line
-
--- The greatest number that is counted to.
-abbrev pub most_counted : ℕ
-most_counted = 0xFFFF_FFFF_FFFF_FFFF
+use Rattle.sub_listing.specs.EventLines.{event_lines, most_counted, refusals}
+use Rattle.sub_listing.specs.Faults.{check_told}
+use Rattle.sub_listing.specs.Listing.{Listing, done, followed, told_listing}
+use Rattle.sub_listing.specs.declared.status.Status.TheVariants.{Refused}
 
 -- What is accepted: the frames of the day from the first PES packet's to the last one's, and the
 -- headers of the page.

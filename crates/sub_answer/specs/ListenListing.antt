@@ -1,71 +1,21 @@
 -- What `listen` prints: the state of a receiver at the end of its run, or the refusal.
-use Rattle.std.specs.Prelude.{◌≡◌, ℕ, zero, suc, ◌==◌, Bool, true, false, List, [], ◌++◌, codes}
-use Rattle.std.specs.Prelude.{map, length, Option, Some, None, Result, Ok, Err, IfOk, IfSome}
-use Rattle.std.specs.Prelude.{IsTrue, if◌then◌else◌}
-use Rattle.std.specs.List.{list_all}
-use Rattle.ttx_page.specs.Page.{IsCell, IsPage, Rows, cell, row_at, space}
+use Rattle.std.specs.Prelude.{◌≡◌, ℕ, Bool, false, List, Option, None, Result, Ok, Err, IfOk}
+use Rattle.ttx_page.specs.Page.{IsCell, Rows, cell}
 use Rattle.ttx_page.specs.Screen.{Display}
 use Rattle.sub_rules.specs.FrameRules.{Unread}
 use Rattle.sub_listen.specs.Run.{HearsFile}
 use Rattle.sub_rules.specs.Transmission.{Transmission}
 use Rattle.sub_request.specs.declared.listening.Listening.{Listening}
 use Rattle.sub_listen.specs.declared.listening.ListenFault.{ListenFault}
-use Rattle.sub_answer.specs.Faults.{listen_told}
-use Rattle.sub_answer.specs.Lines.{glyph, two_digits}
-use Rattle.sub_answer.specs.Listing.{Listing, done, told_listing}
-
--- ---- a receiver: whether it has heard its page, whether the page is open, and the rows that hold
--- a cell other than a space, of the page that it holds or of the one on its screen
-
--- A row: its number in two digits, and its 40 cells between bars.
-abbrev pub row_line : ℕ → List ℕ → List ℕ
-row_line row cells =
-    codes "row " ++ two_digits row ++ codes " |" ++ map glyph cells ++ codes "|\n"
-
--- The line of a row that holds a cell other than a space; nothing of any other row.
-abbrev pub row_text : ℕ → List ℕ → List ℕ
-row_text row cells = if list_all (λ c. c == space) cells then [] else row_line row cells
-
--- The lines of the first rows of a page.
-abbrev pub rows_text : ℕ → Rows → List ℕ
-rows_text zero page = []
-rows_text (suc n) page = rows_text n page ++ row_text (suc n) (row_at page (suc n))
-
--- The lines of all its rows, or that it is blank.
-abbrev pub page_text : Rows → List ℕ
-page_text page = if length (rows_text 24 page) == 0 then codes "blank\n" else rows_text 24 page
-
--- Whether the page is open.
-abbrev pub open_line : Bool → List ℕ
-open_line true = codes "open yes\n"
-open_line false = codes "open no\n"
-
--- The lines of a screen: those of the page on it, or that nothing is on it yet.
-abbrev pub screen_text : Option Rows → List ℕ
-screen_text None = codes "shown no\n"
-screen_text (Some page) = page_text page
-
--- The lines of the page that a receiver holds; where complete pages are asked for, of its screen.
-abbrev pub seen_text : Bool → Display → List ℕ
-seen_text asks_complete d =
-    if asks_complete then screen_text d.screen else page_text d.held.page
-
--- That page, if there is one.
-abbrev pub seen_page : Bool → Display → Option Rows
-seen_page asks_complete d = if asks_complete then d.screen else Some d.held.page
-
--- Where its page was heard, the page that is printed has 24 rows of 40 codes.
-abbrev pub IsSeenWhole : Bool → Display → Type 0
-IsSeenWhole asks_complete d =
-    IsTrue d.held.heard → IfSome (seen_page asks_complete d) IsPage
-
--- What is printed of a receiver with a screen.
-abbrev pub display_text : Bool → Display → List ℕ
-display_text asks_complete d = if d.held.heard
-    then codes "heard yes\n" ++ open_line d.held.is_open ++ seen_text asks_complete d
-    else codes "heard no\n"
-
--- ---- a run
+use Rattle.sub_listing.specs.DisplayLines.{IsSeenWhole, display_text}
+use Rattle.sub_listing.specs.Faults.{check_told}
+use Rattle.sub_listing.specs.Listing.{Listing, done, told_listing}
+use Rattle.sub_listing.specs.Told.{told_as}
+use Rattle.sub_listing.specs.declared.told.Kind.TheVariants as kind
+use Rattle.sub_listing.specs.declared.told.Told.{Told}
+use Rattle.sub_listen.specs.Fault.{listen_code}
+use Rattle.sub_rules.specs.declared.fault_place.FaultPlace.TheVariants as place
+use Rattle.sub_listen.specs.declared.listening.ListenFault.TheVariants as listen
 
 -- The page that a receiver held before: 3F in every cell (own).
 abbrev pub IsOldPage : Rows → Type 0
@@ -77,6 +27,12 @@ tuned_with page = record {
   held = record { heard = false; is_open = false; page = page };
   screen = None;
 }
+
+-- A fault of a PES file that is not heard: a lost header is told at its packet.
+abbrev pub listen_told : ListenFault → Told
+listen_told (listen.File f) = check_told f
+listen_told (listen.LostHeader frame packet) =
+    told_as kind.Refused (listen_code (listen.LostHeader frame packet)) (place.Packet frame packet)
 
 -- What is printed at the end of a run.
 abbrev pub listing_of : Bool → Display → Result (Unit {0}) ListenFault → Listing

@@ -1,40 +1,28 @@
 //! Does what a request asks for, and prints it.
 //!
-//! A file of `answering/` has each command's work; here a request is handed to its own, and the
-//! lines of refused words are printed.
+//! `sub_listing` has the commands that need no checker, and a file of `answering/` each of the
+//! others; here a request is handed to its own, and the lines of refused words are printed.
 
 mod check;
 mod check_all;
 mod listen;
-pub mod normal;
-pub mod packet;
-mod packets;
-mod schedule;
-mod show;
-mod state;
 
 ghost use Rattle.std.specs.Prelude.{◌≡◌, ◌+◌, ◌<◌, false, true};
 ghost use Rattle.sub_answer.specs.Answering.{Answers, takes_memory};
-ghost use Rattle.sub_answer.specs.DeviceCall.{CanFail, CountsFault, sink_call, source_call};
-ghost use Rattle.sub_answer.specs.Faults.{usage_told};
+ghost use Rattle.sub_listing.specs.DeviceCall.{CanFail, CountsFault, sink_call, source_call};
+ghost use Rattle.sub_listing.specs.Faults.{usage_told};
 ghost use Rattle.sub_request.specs.Files.{files_of, reads_one, reads_two, writes_one};
-ghost use Rattle.sub_answer.specs.Listing.{PrintsOrFails, told_listing};
+ghost use Rattle.sub_listing.specs.Listing.{PrintsOrFails, told_listing};
 
-use crate::faults::told_of_usage;
-use crate::listing::list;
-use crate::printing::print_told;
-use crate::status::Status;
-use crate::writing::write;
 use check::print_verdict;
 use check_all::print_every_fault;
 use listen::print_listening;
-use normal::NormalWork;
-use packet::show_packet;
-use packets::PacketLister;
-use schedule::ScheduleWork;
-use show::SubtitleLister;
 use std::alloc::Global;
 use sub_io::{Ahead, Flush, Sink};
+use sub_listing::{
+    Status, list_packets, list_subtitles, print_told, show_packet, told_of_usage, write_normal,
+    write_schedule,
+};
 use sub_request::{ReceiverKind, Request, UsageFault};
 use ttx_page::{Blank, Keep};
 
@@ -90,22 +78,15 @@ pub fn answer<S: Ahead, T: Ahead, F: Flush, K: Flush>(
 {
     match request {
         Request::Packet { bytes } => show_packet(bytes, out),
-        Request::Packets { .. } => list(&mut PacketLister::new(), first, out),
-        Request::Show { .. } => list(&mut SubtitleLister::new(), first, out),
+        Request::Packets { .. } => list_packets(first, out),
+        Request::Show { .. } => list_subtitles(first, out),
         Request::Schedule {
             options,
             serial,
             national,
             ..
-        } => {
-            let work = ScheduleWork {
-                options,
-                serial: *serial,
-                national: *national,
-            };
-            write(alloc, &work, b" transmissions\n", first, file, out)
-        }
-        Request::Normal { .. } => { write(alloc, &NormalWork, b" subtitles\n", first, file, out) }
+        } => write_schedule(alloc, *national, options, *serial, first, file, out),
+        Request::Normal { .. } => write_normal(alloc, first, file, out),
         Request::Check {
             options,
             national,

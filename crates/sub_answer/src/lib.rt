@@ -11,16 +11,6 @@
 #![tactic(auto)]
 
 mod answering;
-mod faults;
-mod hex_digits;
-mod lines;
-mod listing;
-mod printer;
-mod printing;
-mod status;
-mod told;
-mod writing;
 
-pub use answering::normal::{InputFault, read_input};
 pub use answering::{answer, say};
-pub use status::Status;
+pub use sub_listing::{InputFault, Status, read_input};

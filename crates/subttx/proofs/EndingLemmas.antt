@@ -4,12 +4,12 @@ use Rattle.std.proofs.lemmas.List.{append-nil}
 use Rattle.std.specs.Io.KnownBytes.{append_known}
 use Rattle.stl_rows.specs.declared.national.National.{National}
 use Rattle.sub_plan.specs.Options.{OptionsValue}
-use Rattle.sub_answer.specs.Answering.{Answers, AnswersCheck, EndsWork}
-use Rattle.sub_answer.specs.DeviceCall.{SinkCall, SourceCall}
+use Rattle.sub_answer.specs.Answering.{Answers, AnswersCheck}
+use Rattle.sub_listing.specs.Writing.{EndsWork, Work}
+use Rattle.sub_listing.specs.DeviceCall.{SinkCall, SourceCall}
 use Rattle.sub_answer.specs.EveryFault.{AnswersAll}
-use Rattle.sub_answer.specs.Listing.{IsListed, PrintsListing}
-use Rattle.sub_answer.specs.Writing.{Work}
-use Rattle.sub_answer.specs.declared.status.Status.{Status}
+use Rattle.sub_listing.specs.Listing.{IsListed, PrintsListing}
+use Rattle.sub_listing.specs.declared.status.Status.{Status}
 use Rattle.sub_request.specs.declared.request.Request.{Request}
 use Rattle.sub_request.specs.declared.request.Request.TheVariants as ask
 use Rattle.subttx.specs.Ending.{EndsFrom, EndsFromBoth, EndsOver, EndsWith, EndsWithFile, Given}

@@ -9,11 +9,11 @@ use Rattle.sub_request.specs.declared.request.UsageFault.{UsageFault}
 use Rattle.sub_request.specs.declared.request.UsageFault.TheVariants as usage
 use Rattle.sub_words.specs.Requests.{AsksFor, IsFaultOf}
 use Rattle.sub_answer.specs.Answering.{Answers}
-use Rattle.sub_answer.specs.DeviceCall.{SinkCall, SourceCall, sink_call}
-use Rattle.sub_answer.specs.Faults.{usage_told}
-use Rattle.sub_answer.specs.Listing.{PrintsOrFails, told_listing}
-use Rattle.sub_answer.specs.declared.status.Status.{Status}
-use Rattle.sub_answer.specs.declared.status.Status.TheVariants.{Fault}
+use Rattle.sub_listing.specs.DeviceCall.{SinkCall, SourceCall, sink_call}
+use Rattle.sub_listing.specs.Faults.{usage_told}
+use Rattle.sub_listing.specs.Listing.{PrintsOrFails, told_listing}
+use Rattle.sub_listing.specs.declared.status.Status.{Status}
+use Rattle.sub_listing.specs.declared.status.Status.TheVariants.{Fault}
 use Rattle.subttx.specs.Opening.{AreOf}
 use Rattle.subttx.specs.declared.opening.Opened.{Opened}
 use Rattle.subttx.specs.declared.opening.Opened.TheVariants.{Nothing, ReadBoth, ReadPes, ReadStl}

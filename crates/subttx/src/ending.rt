@@ -5,7 +5,7 @@
 ghost use Rattle.std.specs.Prelude.{◌≡◌, true, []};
 ghost use Rattle.sub_io.specs.Buffered.{HandsOn, failures_and_refused};
 ghost use Rattle.sub_io.specs.Device.{CanFail};
-ghost use Rattle.sub_answer.specs.DeviceCall.{source_call};
+ghost use Rattle.sub_listing.specs.DeviceCall.{source_call};
 ghost use Rattle.subttx.specs.Ending.{EndsFrom, EndsFromBoth, EndsWith, EndsWithFile};
 ghost use Rattle.subttx.specs.Ending.{HandsOnBeside, HoldsNothing, Says, buffered_call, lines_in};
 ghost use Rattle.subttx.specs.Ending.{lines_of};

@@ -2,7 +2,7 @@
 ghost use Rattle.std.specs.Prelude.{◌≡◌, ℕ, List, true};
 ghost use Rattle.sub_io.specs.Buffered.{HeldBack, failures_and_refused};
 ghost use Rattle.sub_io.specs.Device.{CanFail};
-ghost use Rattle.sub_answer.specs.declared.status.Status.{Status};
+ghost use Rattle.sub_listing.specs.declared.status.Status.{Status};
 ghost use Rattle.subttx.specs.Ending.{HandsOnLines, lines_in, lines_of};
 
 use sub_answer::Status;

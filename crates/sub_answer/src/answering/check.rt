@@ -1,18 +1,15 @@
 //! `check STL PES`: checks a PES file against a subtitle file.
 ghost use Rattle.std.specs.Prelude.{◌≡◌, ◌+◌};
 ghost use Rattle.sub_answer.specs.Answering.{AnswersCheck};
-ghost use Rattle.sub_answer.specs.DeviceCall.{CanFail, CountsFault, sink_call, source_call};
+ghost use Rattle.sub_listing.specs.DeviceCall.{CanFail, CountsFault, sink_call, source_call};
 ghost use Rattle.sub_answer.specs.FaultListing.{accepted_line};
-ghost use Rattle.sub_answer.specs.Listing.{PrintsOrFails, done};
+ghost use Rattle.sub_listing.specs.Listing.{PrintsOrFails, done};
 
-use crate::faults::told_of_check;
-use crate::lines::{Line, push_number, push_text};
-use crate::printing::{print_done, print_told};
-use crate::status::Status;
 use std::alloc::Global;
 use stl_rows::National;
 use sub_check::{Accepted, check_files};
 use sub_io::{Sink, Source};
+use sub_listing::{Line, Status, print_done, print_told, push_number, push_text, told_of_check};
 use sub_plan::Options;
 
 /// Checks a PES file against a subtitle file, and prints the one line of the verdict.

@@ -1,21 +1,17 @@
 //! `check STL PES --all`: prints every broken place of a subtitle file, or else of a PES file.
 ghost use Rattle.std.specs.Prelude.{◌≡◌, false};
-ghost use Rattle.sub_answer.specs.DeviceCall.{CanFail, CountsFault, sink_call, source_call};
+ghost use Rattle.sub_listing.specs.DeviceCall.{CanFail, CountsFault, sink_call, source_call};
 ghost use Rattle.sub_answer.specs.EveryFault.{AnswersAll, TellsBoth};
 ghost use Rattle.sub_answer.specs.FaultListing.{faults_listing, last_listing};
-ghost use Rattle.sub_answer.specs.Listing.{PrintsOrFails};
-ghost use Rattle.sub_answer.specs.Printer.{printer_value};
+ghost use Rattle.sub_listing.specs.Listing.{PrintsOrFails};
+ghost use Rattle.sub_listing.specs.Printer.{printer_value};
 
 use crate::answering::check::print_accepted;
-use crate::faults::told_of_check;
-use crate::lines::{Line, push_decimal, push_text};
-use crate::printer::Printer;
-use crate::printing::print_told;
-use crate::status::Status;
 use std::alloc::Global;
 use stl_rows::{National, load_all};
 use sub_check::{Accepted, CheckFault, check_all};
 use sub_io::{Ahead, Flush, Sink, Source, put_all};
+use sub_listing::{Line, Printer, Status, print_told, push_decimal, push_text, told_of_check};
 use sub_plan::Options;
 
 /// Checks a PES file against a subtitle file, and prints a line for each place that is broken, and
@@ -121,7 +117,7 @@ fn print_end<K: Sink>(
 }
 
 // Prints how many faults were told.
-#[tactic(auto, unfolding(crate::specs::Listing::PrintsOrFails))]
+#[tactic(auto, unfolding(sub_listing::specs::Listing::PrintsOrFails))]
 fn print_count<K: Sink>(refused: u64, out: &mut K) -> Status
     requires { CanFail (K.failure_count out.old) }
     ensures printed { PrintsOrFails

@@ -2,16 +2,14 @@
 ghost use Rattle.std.specs.Prelude.{◌≡◌, ℕ, ◌+◌, ◌<◌, slice_index};
 ghost use Rattle.ttx_page.specs.Page.{AreCodes};
 ghost use Rattle.sub_answer.specs.Answering.{AnswersListen};
-ghost use Rattle.sub_answer.specs.DeviceCall.{CanFail, CountsFault, sink_call, source_call};
-ghost use Rattle.sub_answer.specs.ListenListing.{IsOldPage};
+ghost use Rattle.sub_listing.specs.DeviceCall.{CanFail, CountsFault, sink_call, source_call};
+ghost use Rattle.sub_answer.specs.ListenListing.{IsOldPage, listen_told};
 
-use crate::answering::state::print_state;
-use crate::faults::told_of_listen;
-use crate::printing::print_told;
-use crate::status::Status;
 use sub_io::{Sink, Source};
-use sub_listen::listen;
+use sub_listen::{ListenFault, listen};
+use sub_listing::{Kind, Status, Told, print_state, print_told, told_of_check};
 use sub_request::Listening;
+use sub_rules::FaultPlace;
 use ttx_page::{Page, Receiver};
 
 /// Runs a receiver over the PES packets of a file up to TIME, and prints what it has heard and
@@ -66,4 +64,20 @@ fn old_row() -> [u8; 40]
     ensures value { (column : ℕ) → column < 40 → slice_index result column ≡ 0x3F }
 {
     [0x3F; 40]
+}
+
+// A fault of a PES file that is not heard.
+fn told_of_listen(fault: ListenFault) -> Told
+    ensures { result ≡ listen_told fault }
+{
+    match fault {
+        ListenFault::File(fault) => told_of_check(fault),
+        ListenFault::LostHeader { frame, packet } => {
+            Told {
+                kind: Kind::Refused,
+                code: fault.code(),
+                place: FaultPlace::Packet { frame, packet },
+            }
+        }
+    }
 }

@@ -6,14 +6,16 @@ use Rattle.sub_answer.proofs.ListenListingLemmas.{answers_as}
 use Rattle.sub_answer.proofs.answering.answer.Goals as goal
 
 pub returns-in-Packets-clause-answers : goal.returns-in-Packets-clause-answers
-returns-in-Packets-clause-answers g c =
-    rw c.in-Packets.is (rw c.new.ensures.start at c.list.ensures.listing)
+returns-in-Packets-clause-answers g c = rw c.in-Packets.is c.list_packets.ensures.listing
+
+pub returns-in-Show-clause-answers : goal.returns-in-Show-clause-answers
+returns-in-Show-clause-answers g c = rw c.in-Show.is c.list_subtitles.ensures.listing
 
 pub returns-in-Normal-clause-answers : goal.returns-in-Normal-clause-answers
-returns-in-Normal-clause-answers g c = rw c.in-Normal.is c.write-in-Normal.ensures.work
+returns-in-Normal-clause-answers g c = rw c.in-Normal.is c.write_normal.ensures.work
 
 pub returns-in-Schedule-clause-answers : goal.returns-in-Schedule-clause-answers
-returns-in-Schedule-clause-answers g c = rw c.in-Schedule.is c.write.ensures.work
+returns-in-Schedule-clause-answers g c = rw c.in-Schedule.is c.write_schedule.ensures.work
 
 pub returns-in-Keep-clause-answers : goal.returns-in-Keep-clause-answers
 returns-in-Keep-clause-answers g c =

@@ -1,6 +1,6 @@
 -- What was told, and the last line: by AllAnswerLemmas.
 use Rattle.std.proofs.Common.{refl, rules}
-use Rattle.sub_answer.specs.DeviceCall.{source_call}
+use Rattle.sub_listing.specs.DeviceCall.{source_call}
 use Rattle.sub_answer.proofs.AllAnswerLemmas.{answers_at, answers_cut, answers_end, counted_pes}
 use Rattle.sub_answer.proofs.AllAnswerLemmas.{counted_stl}
 use Rattle.sub_answer.proofs.answering.check_all.print_every_fault.Goals as goal

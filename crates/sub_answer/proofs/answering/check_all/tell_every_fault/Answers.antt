@@ -1,16 +1,15 @@
 -- What was told of the subtitle file, and then of the PES file: by EveryFaultLemmas.
-use Rattle.std.proofs.Common.{◌≡◌, ◌∙◌, ap, refl, sym, subst, arith, ℕ, List, Option}
-use Rattle.std.proofs.Common.{◌<◌}
+use Rattle.std.proofs.Common.{◌≡◌, ◌∙◌, ap, refl, sym, subst, arith, ℕ, List, Option, ◌<◌}
 use Rattle.stl_rows.specs.declared.fault.LoadFault.{LoadFault}
 use Rattle.sub_rules.specs.declared.event.Event.{Event}
-use Rattle.sub_answer.specs.DeviceCall.{source_call}
+use Rattle.sub_listing.specs.DeviceCall.{source_call}
 use Rattle.sub_answer.specs.EveryFault.{TellsBoth}
-use Rattle.sub_answer.specs.FaultListing.{subtitle_event}
-use Rattle.sub_answer.specs.Printer.{PrinterValue, PrintsEvent, printer_value}
-use Rattle.sub_answer.specs.declared.printer.Printer.{Printer}
-use Rattle.sub_answer.proofs.EveryFaultLemmas.{after_error, after_faults, after_pes}
-use Rattle.sub_answer.proofs.EveryFaultLemmas.{same_out, same_sink}
-use Rattle.sub_answer.proofs.PrinterLemmas.{cannot_fail, has_stopped, still_goes}
+use Rattle.sub_listing.specs.EventLines.{subtitle_event}
+use Rattle.sub_listing.specs.Printer.{PrinterValue, PrintsEvent, printer_value}
+use Rattle.sub_listing.specs.declared.printer.Printer.{Printer}
+use Rattle.sub_answer.proofs.EveryFaultLemmas.{after_error, after_faults, after_pes, same_out}
+use Rattle.sub_answer.proofs.EveryFaultLemmas.{same_sink}
+use Rattle.sub_listing.proofs.PrinterLemmas.{cannot_fail, has_stopped, still_goes}
 use Rattle.sub_answer.proofs.answering.check_all.tell_every_fault.Goals as goal
 
 -- The printer by what is known of its sink.

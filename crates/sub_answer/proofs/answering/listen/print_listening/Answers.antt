@@ -4,7 +4,7 @@ use Rattle.ttx_page.specs.Screen.{display}
 use Rattle.sub_listen.specs.Run.{is_failed_read}
 use Rattle.sub_answer.specs.ListenListing.{listing_of}
 use Rattle.sub_answer.proofs.ListenListingLemmas.{listens_from}
-use Rattle.sub_answer.proofs.PrintingLemmas.{did_not_rise, did_rise}
+use Rattle.sub_listing.proofs.PrintingLemmas.{did_not_rise, did_rise}
 use Rattle.sub_answer.proofs.answering.listen.print_listening.Goals as goal
 
 pub returns-in-Ok-clause-exact : goal.returns-in-Ok-clause-exact

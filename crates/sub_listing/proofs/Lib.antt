@@ -1,0 +1,5 @@
+pub mod PrintingLemmas
+pub mod NormalLemmas
+pub mod ListingLemmas
+pub mod HexDigitLemmas
+pub mod PrinterLemmas

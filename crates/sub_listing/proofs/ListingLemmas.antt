@@ -1,0 +1,358 @@
+-- A listing that is printed piece after piece. Main lemmas: front-more, front-end, front-cut,
+-- gives-next, gives-last.
+use Rattle.std.proofs.Common.{◌≡◌, ◌∙◌, ap, refl, sym, subst, arith, ℕ, ◌+◌, ◌<◌, ◌≤◌, List, []}
+use Rattle.std.proofs.Common.{◌∷◌, ◌++◌, append_assoc, drop, length, inl, inr, Bool, false, true}
+use Rattle.std.proofs.Common.{Option, Some, None, Ok, Err}
+use Rattle.std.specs.Io.KnownBytes.{Appends, Consumes, Keeps}
+use Rattle.std.proofs.KnownBytes.{Appends-kept, Appends-nil, Appends-trans}
+use Rattle.sub_io.specs.Device.{AppendsPrefix, RisesIf}
+use Rattle.sub_io.specs.Reading.{IfTold}
+use Rattle.sub_io.proofs.DeviceLemmas.{AppendsPrefix-first, AppendsPrefix-second}
+use Rattle.sub_io.proofs.DeviceLemmas.{AppendsPrefix-whole}
+use Rattle.ttx_pes.specs.Outcome as pes
+use Rattle.ttx_pes.specs.Outcome.{ReadsPackets, outcome_after}
+use Rattle.ttx_pes.specs.PesPacket.{PesValue}
+use Rattle.ttx_pes.specs.Reader.{TellsPacket}
+use Rattle.ttx_pes.specs.Reading.{most_packets, rest_after}
+use Rattle.ttx_pes.specs.declared.progress.Progress.TheVariants.{Reading}
+use Rattle.ttx_pes.proofs.OutcomeLemmas.{outcome_after-next}
+use Rattle.stl_file.specs.Fault as stl_fault
+use Rattle.stl_file.specs.Gsi.{IsGsi, gsi_size}
+use Rattle.stl_file.specs.Reader.{EndsKept, ReaderValue, RefusesOpening, TakesSubtitle, opened_at}
+use Rattle.stl_file.specs.Reader.{outcome_left, outcome_of}
+use Rattle.stl_file.specs.Reading.{ends, fails}
+use Rattle.stl_file.specs.Subtitle.{SubtitleValue}
+use Rattle.stl_file.specs.declared.fault.StlFault.{StlFault}
+use Rattle.sub_listing.specs.Faults.{kind_by, stl_told}
+use Rattle.sub_listing.specs.DeviceCall.{Counts, SinkCall, SourceCall}
+use Rattle.sub_listing.specs.Listing.{Gives, IsCut, IsListed, Listing, Lists, PrintsListing}
+use Rattle.sub_listing.specs.Listing.{PrintsOrFails, followed, has_failed}
+use Rattle.sub_listing.specs.PacketsListing.{frame_lines, pes_listing}
+use Rattle.sub_listing.specs.ShowListing.{ListsFrom, ReadsFile, ReadsSubtitles, subtitles_listing}
+use Rattle.sub_listing.specs.Told.{line_of, status_of}
+use Rattle.sub_listing.specs.declared.status.Status.{Status}
+use Rattle.sub_listing.specs.declared.status.Status.TheVariants.{Fault}
+
+-- ---- lines after lines
+
+-- What was printed since the sink held `old` is the front of each listing that goes on with what
+-- may be listed now.
+pub record IsFront
+    (Before After : IsListed)
+    (told left old now : Option (List ℕ))
+    : Type 0 where
+  pub text : List ℕ
+  pub printed : Appends old now text
+  pub listed :
+      (end : Option (List ℕ)) (ending : Option Status) (more : Listing)
+      → After left end ending more
+      → Before told end ending (followed text more)
+
+-- Nothing was printed so far. For `list`.
+pub front-none :
+    (Before : IsListed)
+    (told old : Option (List ℕ))
+    → IsFront Before Before told told old old
+front-none Before told old = record {
+  text = [];
+  printed = Appends-nil old;
+  listed = λ end ending more is. is;
+}
+
+-- Lines after lines are lines.
+followed-twice : (first second : List ℕ) (more : Listing)
+    → followed first (followed second more) ≡ followed (first ++ second) more
+followed-twice first second more =
+    ap (λ (t : List ℕ). let l : Listing = record { text = t; status = more.status } in l)
+    (sym (append_assoc first second more.text))
+
+-- What was printed stays where lines are handed on. For `list`.
+pub front-kept :
+    (Before After : IsListed)
+    (told left old now new : Option (List ℕ))
+    → IsFront Before After told left old now
+    → Keeps now new
+    → IsFront Before After told left old new
+front-kept Before After told left old now new i kept = record {
+  text = i.text;
+  printed = Appends-kept old now new i.text i.printed kept;
+  listed = i.listed;
+}
+
+-- The count of a source's failures, where the sink failed. For `list`.
+pub counts-fault : (old new : ℕ) (failed : Bool) → RisesIf old failed new → Counts old Fault new
+counts-fault old new true risen = record {
+  kept = λ other. absurd (other refl);
+  risen = omega (arith, risen);
+  once = omega (arith, risen);
+}
+counts-fault old new false risen = record {
+  kept = λ other. absurd (other refl);
+  risen = omega (arith, risen);
+  once = omega (arith, risen);
+}
+
+-- And where it did not.
+pub counts-status : (old new : ℕ) (status : Status) → RisesIf old (has_failed (Some status)) new
+    → Counts old status new
+counts-status old new Fault risen = record {
+  kept = λ other. absurd (other refl);
+  risen = omega (arith, risen);
+  once = omega (arith, risen);
+}
+counts-status old new status risen = record {
+  kept = λ _. omega (arith, risen);
+  risen = omega (arith, risen);
+  once = omega (arith, risen);
+}
+
+-- The next lines were printed, and more may follow. For `list`.
+pub front-more :
+    (Before At After : IsListed)
+    (told left rest old now new : Option (List ℕ)) (text : List ℕ)
+    → IsFront Before At told left old now
+    → Gives At After left rest text None
+    → Appends now new text
+    → IsFront Before After told rest old new
+front-more Before At After told left rest old now new text i gives p = record {
+  text = i.text ++ text;
+  printed = Appends-trans old now new i.text text i.printed p;
+  listed = λ end ending more is.
+      subst (Before told end ending) (followed-twice i.text text more)
+      (i.listed end ending (followed text more) (gives.0 end ending more is));
+}
+
+-- The last lines were printed. For `list`.
+pub front-end :
+    {S : Type 0} (Before At After : IsListed)
+    (source : SourceCall S) (out : SinkCall) (left now : Option (List ℕ)) (text : List ℕ)
+    (status : Status)
+    → IsFront Before At source.told left out.old now
+    → Gives At After left source.left text (Some status)
+    → Appends now out.new text
+    → out.new_count ≡ out.old_count
+    → RisesIf source.old_count (has_failed (Some status)) source.new_count
+    → PrintsListing Before source out status
+unfolding PrintsOrFails
+front-end Before At After source out left now text status i gives p same counted = record {
+  ending = Some status;
+  listing = followed i.text (record { text = text; status = status });
+  is_listed = i.listed source.left (Some status)
+      (record { text = text; status = status }) gives;
+  source_count = counted;
+  cut = λ e. cc;
+  printed = inl (same, Appends-trans out.old now out.new i.text text i.printed p, refl);
+}
+
+-- The sink failed at these lines, whatever should follow them. For `list`.
+pub front-cut :
+    {S : Type 0} (Before At After : IsListed)
+    (source : SourceCall S) (out : SinkCall) (left now : Option (List ℕ)) (text : List ℕ)
+    (end : Option Status)
+    → IsFront Before At source.told left out.old now
+    → Gives At After left source.left text end
+    → AppendsPrefix now out.new text
+    → out.new_count ≡ out.old_count + 1
+    → RisesIf source.old_count (has_failed end) source.new_count
+    → PrintsListing Before source out Fault
+unfolding PrintsOrFails
+front-cut Before At After source out left now text None i gives p risen counted =
+    let more = gives.1 in record {
+      ending = None;
+      listing = followed i.text (followed text more.0);
+      is_listed = i.listed source.left None (followed text more.0)
+          (gives.0 source.left None more.0 more.1);
+      source_count = counted;
+      cut = λ e same. omega (arith, risen, same);
+      printed = inr (
+        risen,
+        AppendsPrefix-second out.old now out.new i.text (text ++ more.0.text) i.printed
+            (AppendsPrefix-first now out.new text more.0.text p),
+        refl,
+      );
+    }
+front-cut Before At After source out left now text (Some status) i gives p risen counted = record {
+  ending = Some status;
+  listing = followed i.text (record { text = text; status = status });
+  is_listed = i.listed source.left (Some status)
+      (record { text = text; status = status }) gives;
+  source_count = counted;
+  cut = λ e same. omega (arith, risen, same);
+  printed = inr (risen, AppendsPrefix-second out.old now out.new i.text text i.printed p, refl);
+}
+
+-- Lines were cut, since the sink failed as the lines before were handed on. For `list`.
+pub front-stopped :
+    {S : Type 0} (Before At : IsListed)
+    (source : SourceCall S) (out : SinkCall) (left now : Option (List ℕ))
+    → IsFront Before At source.told left out.old now
+    → IsCut At left source.left
+    → Keeps now out.new
+    → out.new_count ≡ out.old_count + 1
+    → source.new_count ≡ source.old_count
+    → PrintsListing Before source out Fault
+unfolding PrintsOrFails
+front-stopped Before At source out left now i cut kept risen counted = record {
+  ending = None;
+  listing = followed i.text cut.0;
+  is_listed = i.listed source.left None cut.0 cut.1;
+  source_count = omega (arith, counted);
+  cut = λ e same. omega (arith, risen, same);
+  printed = inr (
+    risen,
+    AppendsPrefix-first out.old out.new i.text cut.0.text
+        (AppendsPrefix-whole out.old out.new i.text (Appends-kept _ _ _ _ i.printed kept)),
+    refl,
+  );
+}
+
+-- Something is listed where a sink failed.
+pub lists-some :
+    (O : Type 0) (listing_of : O → Listing) (given : List ℕ → O)
+    (Takes : Bool → Option (List ℕ) → O → Option (List ℕ) → Type 0) (told left : Option (List ℕ))
+    → O
+    → IsCut (Lists listing_of given Takes) told left
+lists-some O listing_of given Takes None left o = (
+  listing_of o,
+  record {
+    outcome = o;
+    listing_is = refl;
+    exact = λ bytes e ok. absurd cc;
+    taken = λ other. absurd (other refl);
+  },
+)
+lists-some O listing_of given Takes (Some b) left o = (
+  listing_of (given b),
+  record {
+    outcome = given b;
+    listing_is = refl;
+    exact = λ bytes e ok. let same : b ≡ bytes = cc in ap given same;
+    taken = λ other. absurd (other refl);
+  },
+)
+
+-- A piece was read, and what is given from here on comes after it. For the listers.
+pub gives-next :
+    (O : Type 0) (before after : O → Listing) (given given' : List ℕ → O)
+    (Takes Takes' : Bool → Option (List ℕ) → O → Option (List ℕ) → Type 0)
+    (piece : O → O) (told left : Option (List ℕ)) (text : List ℕ)
+    → ((o : O) → before (piece o) ≡ followed text (after o))
+    → ((o : O) (failed : Bool) (end : Option (List ℕ))
+    → Takes' failed left o end → Takes failed told (piece o) end)
+    → IfTold told (λ bytes.
+    (rest : List ℕ) × (left ≡ Some rest) × (given bytes ≡ piece (given' rest)))
+    → O
+    → Gives (Lists before given Takes) (Lists after given' Takes') told left text None
+gives-next O before after given given' Takes Takes' piece told left text lines tells reads o = (
+  λ end ending more l. record {
+    outcome = piece l.outcome;
+    listing_is = ap (followed text) l.listing_is ∙ sym (lines l.outcome);
+    exact = λ bytes is ok.
+        let read = reads bytes is in
+        ap piece (l.exact read.0 read.1 ok) ∙ sym read.2;
+    taken = λ other. tells l.outcome (has_failed ending) end (l.taken other);
+  },
+  lists-some O after given' Takes' left left o,
+)
+
+-- The last lines were made, and they are those of this outcome. For the listers.
+pub gives-last :
+    (O : Type 0) (listing_of : O → Listing) (given : List ℕ → O)
+    (Takes : Bool → Option (List ℕ) → O → Option (List ℕ) → Type 0)
+    (told left : Option (List ℕ)) (o : O) (text : List ℕ) (failed : Bool)
+    → text ≡ (listing_of o).text
+    → has_failed (Some (listing_of o).status) ≡ failed
+    → IfTold told (λ bytes. failed ≡ false → o ≡ given bytes)
+    → Takes failed told o left
+    → Lists listing_of given Takes told left (Some (listing_of o).status)
+    (record { text = text; status = (listing_of o).status })
+gives-last O listing_of given Takes told left o text failed line is exact taken =
+    rw line (record {
+      outcome = o;
+      listing_is = refl;
+      exact = λ bytes e ok. exact bytes e (sym is ∙ ok);
+      taken = λ other. rw is taken;
+    })
+
+-- ---- PES packets
+
+-- A PES packet was read, and what is read after it is listed then. For `PacketLister`.
+pub gives-packet :
+    (index : ℕ) (v : PesValue) (told left : Option (List ℕ)) (text : List ℕ)
+    → index ≤ most_packets
+    → TellsPacket (Reading index) told left (Ok (Some v))
+    → text ≡ frame_lines index v
+    → Gives (Lists (pes_listing index) (outcome_after index) ReadsPackets)
+    (Lists (pes_listing (index + 1)) (outcome_after (index + 1)) ReadsPackets) told left text None
+gives-packet index v told left text few tells lines =
+    gives-next _ (pes_listing index) (pes_listing (index + 1)) (outcome_after index)
+    (outcome_after (index + 1)) ReadsPackets ReadsPackets (pes.gives v) told left text
+    (λ o. ap (λ t. followed t (pes_listing (index + 1) o)) (sym lines))
+    (λ o failed end reads. (left, tells.packet, reads))
+    (λ bytes is. (
+      rest_after bytes,
+      tells.left index refl bytes is,
+      outcome_after-next index bytes (Ok (Some v)) few (tells.exact index refl bytes is refl),
+    ))
+    pes.ends
+
+-- ---- subtitles
+
+-- One block or more were taken.
+rises : (from to : ℕ) (blocks : List (List ℕ))
+    → EndsKept blocks
+    → from + length blocks ≡ to
+    → from < to
+rises from to [] kept counted = absurd kept
+rises from to (b ∷ blocks) kept counted = omega arith
+
+-- A subtitle takes a block or more. For `SubtitleLister`.
+pub block-rises : (from to : ℕ) (old new : Option (List ℕ)) (s : SubtitleValue)
+    → TakesSubtitle from to old new s
+    → from < to
+block-rises from to old new s t = rises from to t.blocks t.ends t.counted
+
+-- The fault of the source alone ends a listing in a fault.
+pub kind_by-failed : (b : Bool) → has_failed (Some (status_of (kind_by b))) ≡ b
+kind_by-failed true = refl
+kind_by-failed false = refl
+
+-- The GSI block was read, and what its reader gives comes then. For `SubtitleLister`.
+pub gives-opened :
+    (count : ℕ) (r : ReaderValue) (told left : Option (List ℕ))
+    → r.block ≡ 0
+    → IsGsi r.gsi
+    → Consumes told left r.gsi
+    → IfTold told (λ bytes. left ≡ Some (drop gsi_size bytes))
+    → IfTold told (λ bytes. opened_at bytes ≡ Ok r)
+    → Gives (ListsFrom None count) (ListsFrom (Some r) count) told left [] None
+unfolding outcome_of
+gives-opened count r told left start gsi taken rest opened =
+    gives-next _ (subtitles_listing count) (subtitles_listing count) outcome_of (outcome_left r)
+    ReadsFile (λ failed. ReadsSubtitles failed r.block) (λ o. o) told left [] (λ o. refl)
+    (λ o failed end reads. inr (left, r.gsi, gsi, taken, rw start at reads))
+    (λ bytes is. (drop gsi_size bytes, rest bytes is, rw (opened bytes is) refl))
+    ends
+
+-- It was refused, or its source failed.
+pub gives-refused :
+    (count : ℕ) (f : StlFault) (told left : Option (List ℕ)) (text : List ℕ)
+    → text ≡ line_of (stl_told f 0)
+    → IfTold told (λ bytes. stl_fault.is_read f ≡ false → opened_at bytes ≡ Err f)
+    → (stl_fault.is_read f ≡ true
+    → (bytes : List ℕ) × (length bytes < gsi_size) × Consumes told left bytes)
+    → (stl_fault.is_format f ≡ true → RefusesOpening told left f)
+    → ListsFrom None count told left (Some (status_of (kind_by (stl_fault.is_read f))))
+    (record { text = text; status = status_of (kind_by (stl_fault.is_read f)) })
+unfolding outcome_of
+gives-refused count f told left text line exact failed refused =
+    gives-last _ (subtitles_listing count) outcome_of ReadsFile told left (fails f 0) text
+    (stl_fault.is_read f) line (kind_by-failed (stl_fault.is_read f))
+    (λ bytes is fine. rw (exact bytes is fine) refl)
+    (inl (record {
+      fault = f;
+      outcome_is = refl;
+      read = refl;
+      failure = failed;
+      refused = refused;
+    }))

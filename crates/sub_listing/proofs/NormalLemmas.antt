@@ -1,0 +1,124 @@
+-- What `normal` writes and reads; main lemmas: answers_first, taken-at_end.
+use Rattle.std.proofs.Common.{◌≡◌, ◌≢◌, ℕ, ◌≤◌, List, ◌++◌, length, take, arith, sym, ap, ◌∙◌, refl}
+use Rattle.std.proofs.Common.{length-append, Option, Some, None, Result, Ok, Err, subst}
+use Rattle.std.specs.Io.KnownBytes.{Consumes, IsAtEnd, Keeps}
+use Rattle.std.proofs.KnownBytes.{Consumes-kept, Consumes-trans}
+use Rattle.std.proofs.lemmas.List.{append-nil, take_all, take_at, take-take}
+use lib.Seq.{length-take-le}
+use Rattle.std.proofs.lemmas.Option.{same_Some}
+use Rattle.sub_io.specs.Reading.{IfTold}
+use Rattle.stl_file.specs.declared.fault.NormalFault.{NormalFault}
+use Rattle.stl_file.specs.declared.fault.NormalFault.TheVariants as normal
+use Rattle.stl_file.specs.File.{IsFile}
+use Rattle.stl_file.specs.NormalForm.{NormalAnswers, subtitles_of}
+use Rattle.stl_file.specs.Reader.{block_of_byte}
+use Rattle.stl_file.specs.Gsi.{gsi_size}
+use Rattle.stl_file.specs.Subtitle.{SubtitleValue}
+use Rattle.stl_file.proofs.FileLemmas.{file_complete, file_sound, outcome_of-first}
+use Rattle.sub_listing.specs.Writing.{TellsRead, most_read}
+use Rattle.sub_listing.specs.declared.normal.InputFault.TheVariants as input
+
+-- ---- what was written
+
+-- A file whose first bytes are a file is one.
+first-is_file : (s : List ℕ) (ts : List SubtitleValue)
+    → IsFile (take most_read s) (take gsi_size (take most_read s)) ts
+    → IsFile s (take gsi_size s) ts
+first-is_file s ts is =
+    file_sound s ts (ap subtitles_of (sym (outcome_of-first s)) ∙ (file_complete _ _ ts is).1)
+
+-- The bytes that are read decide what all of them do.
+pub answers_first : (s read : List ℕ) (old new : Option (List ℕ)) (answer : Result ℕ NormalFault)
+    → read ≡ take most_read s
+    → NormalAnswers read old new answer
+    → NormalAnswers s old new answer
+answers_first s read old new answer first answers =
+    go answer (subst (λ (b : List ℕ). NormalAnswers b old new answer) first answers)
+  where
+    front : take gsi_size (take most_read s) ≡ take gsi_size s
+    front = take-take gsi_size most_read s (omega arith)
+
+    go : (answer : Result ℕ NormalFault)
+        → NormalAnswers (take most_read s) old new answer
+        → NormalAnswers s old new answer
+    go (Ok n) w = record {
+      subtitles = w.subtitles;
+      is_file = first-is_file s w.subtitles w.is_file;
+      count = w.count;
+      wrote = rw (← front) (w.wrote);
+    }
+    go (Err normal.Write) w = record {
+      subtitles = w.subtitles;
+      is_file = first-is_file s w.subtitles w.is_file;
+      wrote = rw (← front) (w.wrote);
+    }
+    go (Err (normal.Refused f block)) w =
+        (ap subtitles_of (sym (outcome_of-first s)) ∙ w.0, w.1)
+
+-- ---- reading the input
+
+-- The next piece goes after those before it.
+pub Consumes-next : (x y z : Option (List ℕ)) (n : ℕ) (xs ps vs : List ℕ)
+    → vs ≡ xs ++ take n ps
+    → Consumes x y xs
+    → Consumes y z (take n ps)
+    → Consumes x z vs
+Consumes-next x y z n xs ps vs is p q =
+    subst (Consumes x z) (sym is) (Consumes-trans x y z _ _ p q)
+
+-- The last pull gave nothing.
+pub taken-at_end : (x y z : Option (List ℕ)) (n : ℕ) (xs ps : List ℕ)
+    → n ≡ 0
+    → Consumes x y xs
+    → Consumes y z (take n ps)
+    → IsAtEnd z
+    → length xs ≤ most_read
+    → IfTold x (λ bytes. xs ≡ take most_read bytes)
+taken-at_end x y z n xs ps none p q end few =
+    taken-to_end x z xs (Consumes-next x y z n xs ps xs same p q) end few
+  where
+    same : xs ≡ xs ++ take n ps
+    same = rw none (sym (append-nil xs))
+
+    taken-to_end : (x y : Option (List ℕ)) (xs : List ℕ)
+        → Consumes x y xs
+        → IsAtEnd y
+        → length xs ≤ most_read
+        → IfTold x (λ bytes. xs ≡ take most_read bytes)
+    taken-to_end None y xs p end few bytes e = absurd cc
+    taken-to_end (Some b) None xs p end few bytes e = absurd p
+    taken-to_end (Some b) (Some ys) xs p end few bytes e =
+        let all : bytes ≡ xs =
+        sym (same_Some b bytes e) ∙ p ∙ ap (λ l. xs ++ l) end ∙ append-nil xs in
+        sym (ap (take most_read) all ∙ take_all most_read xs few)
+
+-- The bytes that were taken, where no more are read.
+pub taken-to_most : (x y : Option (List ℕ)) (xs : List ℕ)
+    → Consumes x y xs
+    → length xs ≡ most_read
+    → IfTold x (λ bytes. xs ≡ take most_read bytes)
+taken-to_most None y xs p size bytes e = absurd cc
+taken-to_most (Some b) None xs p size bytes e = absurd p
+taken-to_most (Some b) (Some ys) xs p size bytes e =
+    let all : bytes ≡ xs ++ ys = sym (same_Some b bytes e) ∙ p in
+    sym (ap (take most_read) all ∙ take_at xs ys most_read size)
+
+-- Memory is wanted for a piece that was taken.
+pub memory-wanted : (x y z : Option (List ℕ)) (n : ℕ) (xs ps : List ℕ)
+    → n ≤ length ps
+    → n ≢ 0
+    → Consumes x y xs
+    → Consumes y z (take n ps)
+    → TellsRead x z input.Memory
+memory-wanted x y z n xs ps room some p q =
+    let long = length-append xs (take n ps) in
+    let part = length-take-le n ps room in
+    (xs ++ take n ps, Consumes-next x y z n xs ps _ refl p q, omega (arith, long, part, some))
+
+-- The block of a byte that could not be read.
+pub block-at : (x y z : Option (List ℕ)) (block : ℕ) (xs : List ℕ)
+    → Consumes x y xs
+    → Keeps y z
+    → block ≡ block_of_byte (length xs)
+    → TellsRead x z (input.Read block)
+block-at x y z block xs p kept is = (xs, Consumes-kept x y z _ p kept, is)

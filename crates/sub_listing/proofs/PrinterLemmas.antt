@@ -1,0 +1,242 @@
+-- What a printer does that was told several events; main lemma: prints_all.
+use Rattle.std.proofs.Common.{◌≡◌, ◌∙◌, ap, refl, sym, subst, arith, ℕ, ◌+◌, ◌<◌, ◌≤◌, ◌||◌, ◌≢◌}
+use Rattle.std.proofs.Common.{not, List, [], ◌∷◌, ◌++◌, map, Bool, true, false, append_assoc, drop}
+use Rattle.std.proofs.Common.{take}
+use Rattle.std.proofs.lemmas.List.{map-append, take-append-drop}
+use Rattle.std.proofs.lemmas.Bool.{true≢false}
+use Rattle.std.proofs.lemmas.Bool.Decides.{nat_tests}
+use Rattle.std.proofs.KnownBytes.{Appends-nil, Appends-trans, Keeps-refl, Keeps-trans}
+use Rattle.sub_io.proofs.DeviceLemmas.{AppendsPrefix-first, AppendsPrefix-second}
+use Rattle.sub_io.specs.Device.{AppendsPrefix}
+use Rattle.sub_io.specs.Telling.{Tells, TellsInTurn}
+use Rattle.sub_rules.specs.declared.event.Event.{Event}
+use Rattle.sub_listing.specs.EventLines.{event_line, event_lines, most_counted, refusal, refusals}
+use Rattle.sub_listing.specs.Printer.{PrinterValue, PrintsEvent, PrintsEvents, StaysPrinted}
+use Rattle.sub_listing.specs.Printer.{can_fail, counted}
+
+-- More refusals after some.
+counted-twice : (r m n : ℕ) → counted (counted r m) n ≡ counted r (m + n)
+unfolding counted
+counted-twice r m n = grind (arith, nat_tests)
+
+-- No refusal more.
+pub counted-none : (r : ℕ) → r ≤ most_counted → counted r 0 ≡ r
+unfolding counted
+counted-none r few = grind (arith, nat_tests)
+
+counted-few : (r m : ℕ) → counted r m ≤ most_counted
+unfolding counted
+counted-few r m = grind (arith, nat_tests)
+
+-- What a printer does that was told nothing.
+prints-none : (p : PrinterValue) → p.failed ≡ false → p.refused ≤ most_counted
+    → PrintsEvents p [] p
+prints-none p goes few = record {
+  put = λ holds. Appends-nil p.contents;
+  put_count = λ holds. refl;
+  put_refused = λ holds. sym (counted-none p.refused few);
+  cut = λ failing. absurd (true≢false (sym failing ∙ goes));
+  cut_count = λ failing. absurd (true≢false (sym failing ∙ goes));
+}
+
+-- One event, after which the sink has not failed, and others after it.
+prints-more : (a b c : PrinterValue) (e : Event) (events : List Event)
+    → PrintsEvent a e b
+    → b.failed ≡ false
+    → PrintsEvents b events c
+    → PrintsEvents a (e ∷ events) c
+prints-more a b c e events one goes more = record {
+  put = λ holds.
+      Appends-trans a.contents b.contents c.contents (event_line e) (event_lines events)
+      (one.put goes) (more.put holds);
+  put_count = λ holds. more.put_count holds ∙ one.put_count goes;
+  put_refused = λ holds.
+      more.put_refused holds
+      ∙ ap (λ r. counted r (refusals events)) (one.put_refused goes)
+      ∙ counted-twice a.refused (refusal e) (refusals events);
+  cut = λ failing.
+      AppendsPrefix-second a.contents b.contents c.contents (event_line e) (event_lines events)
+      (one.put goes) (more.cut failing);
+  cut_count = λ failing. more.cut_count failing ∙ ap (λ n. n + 1) (one.put_count goes);
+}
+
+-- One event, at which the sink failed, whatever should follow it.
+pub prints-cut : (a b : PrinterValue) (e : Event) (events : List Event)
+    → PrintsEvent a e b
+    → b.failed ≡ true
+    → PrintsEvents a (e ∷ events) b
+prints-cut a b e events one failing = record {
+  put = λ holds. absurd (true≢false (sym failing ∙ holds));
+  put_count = λ holds. absurd (true≢false (sym failing ∙ holds));
+  put_refused = λ holds. absurd (true≢false (sym failing ∙ holds));
+  cut = λ fails.
+      AppendsPrefix-first a.contents b.contents (event_line e) (event_lines events)
+      (one.cut failing);
+  cut_count = λ fails. one.cut_count failing;
+}
+
+event_lines-append : (xs ys : List Event)
+    → event_lines (xs ++ ys) ≡ event_lines xs ++ event_lines ys
+event_lines-append [] ys = refl
+event_lines-append (x ∷ xs) ys =
+    ap (λ (l : List ℕ). event_line x ++ l) (event_lines-append xs ys)
+    ∙ sym (append_assoc (event_line x) (event_lines xs) (event_lines ys))
+
+-- Where the sink failed, more events might have followed.
+pub prints-prefix : (a b : PrinterValue) (events more : List Event)
+    → b.failed ≡ true
+    → PrintsEvents a events b
+    → PrintsEvents a (events ++ more) b
+prints-prefix a b events more failing prints = record {
+  put = λ holds. absurd (true≢false (sym failing ∙ holds));
+  put_count = λ holds. absurd (true≢false (sym failing ∙ holds));
+  put_refused = λ holds. absurd (true≢false (sym failing ∙ holds));
+  cut = λ fails.
+      subst (AppendsPrefix a.contents b.contents) (sym (event_lines-append events more))
+      (AppendsPrefix-first a.contents b.contents (event_lines events) (event_lines more)
+      (prints.cut fails));
+  cut_count = λ fails. prints.cut_count failing;
+}
+
+-- The same, where these are the first of a list.
+pub prints-taken : {A : Type 0} (event : A → Event) (a b : PrinterValue) (n : ℕ) (items : List A)
+    → b.failed ≡ true
+    → PrintsEvents a (map event (take n items)) b
+    → PrintsEvents a (map event items) b
+prints-taken event a b n items failing prints =
+    let whole : map event (take n items) ++ map event (drop n items) ≡ map event items =
+    sym (map-append event (take n items) (drop n items))
+    ∙ ap (λ xs. map event xs) (take-append-drop n items) in
+    subst (λ (es : List Event). PrintsEvents a es b) whole
+    (prints-prefix a b (map event (take n items)) (map event (drop n items)) failing prints)
+
+module _ {A D N : Type 0} (IsTold : D → A → D → Type 0) (name : D → N) (value : D → PrinterValue)
+    (event : A → Event)
+    (one : (s t : D) (x : A) → IsTold s x t
+    → (name t ≡ name s) × PrintsEvent (value s) (event x) (value t)) where
+  -- Nothing is told to one whose sink failed.
+  last_told : (mid new : D) (items : List A) → TellsInTurn IsTold mid new items
+      → (value mid).failed ≡ true
+      → (items ≡ []) × (new ≡ mid)
+  last_told mid new [] told failing = (refl, told)
+  last_told mid new (y ∷ ys) (next, second, others) failing =
+      absurd (true≢false (sym failing ∙ (one mid next y second).1.goes_on))
+
+  -- One thing and then others.
+  step : (old mid new : D) (x : A) (xs : List A) (b : Bool) → (value mid).failed ≡ b
+      → name mid ≡ name old
+      → PrintsEvent (value old) (event x) (value mid)
+      → TellsInTurn IsTold mid new xs
+      → ((value mid).failed ≡ false → (value mid).refused ≤ most_counted
+      → (name new ≡ name mid) × PrintsEvents (value mid) (map event xs) (value new))
+      → (name new ≡ name old) × PrintsEvents (value old) (map event (x ∷ xs)) (value new)
+  step old mid new x xs true failing same here rest more =
+      let end = last_told mid new xs rest failing in
+      rw (end.0, end.1) (same, prints-cut (value old) (value mid) (event x) [] here failing)
+  step old mid new x xs false holds same here rest more =
+      let bound : (value mid).refused ≤ most_counted =
+      rw (here.put_refused holds) (counted-few (value old).refused (refusal (event x))) in
+      let others = more holds bound in (
+        others.0 ∙ same,
+        prints-more (value old) (value mid) (value new) (event x) (map event xs) here holds
+            others.1,
+      )
+
+  in_turn : (old new : D) (items : List A)
+      → (value old).failed ≡ false
+      → (value old).refused ≤ most_counted
+      → TellsInTurn IsTold old new items
+      → (name new ≡ name old) × PrintsEvents (value old) (map event items) (value new)
+  in_turn old new [] goes few told =
+      rw told (refl, prints-none (value old) goes few)
+  in_turn old new (x ∷ xs) goes few (mid, first, rest) =
+      let here = one old mid x first in
+      step old mid new x xs (value mid).failed refl here.0 here.1 rest
+      (λ holds bound. in_turn mid new xs holds bound rest)
+
+  -- A printer that was told these has printed them.
+  pub prints_all : (old new : D) (items : List A)
+      → (value old).failed ≡ false
+      → (value old).refused ≤ most_counted
+      → Tells IsTold old new items
+      → (name new ≡ name old) × PrintsEvents (value old) (map event items) (value new)
+  prints_all old new items goes few told = in_turn old new items goes few told.in_turn
+
+-- An event is told as it is.
+map-same : (events : List Event) → map (λ (e : Event). e) events ≡ events
+map-same [] = refl
+map-same (e ∷ events) = ap (λ (es : List Event). e ∷ es) (map-same events)
+
+-- The same of a list of events.
+pub as_told : (a b : PrinterValue) (events : List Event)
+    → PrintsEvents a (map (λ (e : Event). e) events) b
+    → PrintsEvents a events b
+as_told a b events prints =
+    subst (λ (es : List Event). PrintsEvents a es b) (map-same events) prints
+
+-- A device that has not failed, and whose count is as it was, has not said stop.
+pub still_goes : (failed : Bool) (old new : ℕ)
+    → old < 0xFFFF_FFFF_FFFF_FFFF
+    → failed ≡ false
+    → new ≡ old
+    → (failed || not (can_fail new)) ≡ false
+still_goes failed old new room holds same = grind (arith, nat_tests)
+
+-- One that has failed has said stop.
+pub has_stopped : (failed b : Bool) → failed ≡ true → (failed || b) ≡ true
+has_stopped true b failing = refl
+has_stopped false b failing = absurd (true≢false (sym failing))
+
+-- One that can't have said stop has not failed.
+pub cannot_fail : (failed b : Bool) → ((failed || b) ≡ true → ⊥) → failed ≡ false
+cannot_fail true b holds = absurd (holds refl)
+cannot_fail false b holds = refl
+
+-- ---- lines that are handed on
+
+-- Nothing was handed on.
+pub stays-none : (a : PrinterValue) → StaysPrinted a a
+stays-none a = record {
+  kept = Keeps-refl a.contents;
+  refused = refl;
+  same = λ _. refl;
+  risen = λ other. absurd (other refl);
+}
+
+-- Lines were handed on again: whether the sink failed, and its count, before, between and after.
+stays-count : (x y z : Bool) (k m n : ℕ)
+    → (y ≡ x → m ≡ k) → (y ≢ x → (y ≡ true) × (m ≡ k + 1))
+    → (z ≡ y → n ≡ m) → (z ≢ y → (z ≡ true) × (n ≡ m + 1))
+    → (z ≡ x → n ≡ k) × (z ≢ x → (z ≡ true) × (n ≡ k + 1))
+stays-count true true true k m n a b c d = (λ _. c refl ∙ a refl, λ other. absurd (other refl))
+stays-count true true false k m n a b c d = absurd (true≢false (sym (d (λ e. cc)).0))
+stays-count true false z k m n a b c d = absurd (true≢false (sym (b (λ e. cc)).0))
+stays-count false true true k m n a b c d =
+    (λ e. cc, λ other. (refl, c refl ∙ (b other).1))
+stays-count false true false k m n a b c d = absurd (true≢false (sym (d (λ e. cc)).0))
+stays-count false false true k m n a b c d =
+    (λ e. cc, λ other. (refl, (d other).1 ∙ ap (λ i. i + 1) (a refl)))
+stays-count false false false k m n a b c d = (λ _. c refl ∙ a refl, λ other. absurd (other refl))
+
+pub stays-trans : (a b c : PrinterValue) → StaysPrinted a b → StaysPrinted b c → StaysPrinted a c
+stays-trans a b c p q =
+    let counted = stays-count a.failed b.failed c.failed a.count b.count c.count p.same p.risen
+    q.same q.risen in
+    record {
+      kept = Keeps-trans _ _ _ p.kept q.kept;
+      refused = q.refused ∙ p.refused;
+      same = counted.0;
+      risen = counted.1;
+    }
+
+-- One that has said stop, and had not failed, has failed as lines were handed on.
+pub stopped_fails : (a b : PrinterValue) (is : Bool) → b.failed ≡ is
+    → a.failed ≡ false
+    → a.count < 0xFFFF_FFFF_FFFF_FFFF
+    → StaysPrinted a b
+    → (b.failed || not (can_fail b.count)) ≡ true
+    → b.failed ≡ true
+stopped_fails a b true is goes room stays stopped = is
+stopped_fails a b false is goes room stays stopped =
+    absurd (true≢false (sym stopped
+    ∙ still_goes b.failed a.count b.count room is (stays.same (is ∙ sym goes))))

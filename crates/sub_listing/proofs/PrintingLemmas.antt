@@ -1,0 +1,44 @@
+-- What is known of a listing that was printed, or of which a sink that failed has a prefix;
+-- and of a count.
+use Rattle.std.proofs.Common.{◌≡◌, ◌≢◌, ℕ, ◌+◌, arith, inl, inr, refl, Bool, true, false}
+use Rattle.std.proofs.Common.{if◌then◌else◌}
+use Rattle.std.specs.Io.KnownBytes.{Appends}
+use Rattle.sub_listing.specs.DeviceCall.{SinkCall}
+use Rattle.sub_listing.specs.Listing.{Listing, PrintsOrFails}
+use Rattle.sub_listing.specs.declared.status.Status.{Status}
+use Rattle.sub_listing.specs.declared.status.Status.TheVariants.{Fault}
+
+-- Where the sink did not fail, the text was printed whole and gives the status.
+pub printed-whole : (out : SinkCall) (listing : Listing) (status : Status)
+    → PrintsOrFails out listing status
+    → out.new_count ≡ out.old_count
+    → Appends out.old out.new listing.text × (status ≡ listing.status)
+unfolding PrintsOrFails
+printed-whole out listing status (inl p) same = (p.1, p.2)
+printed-whole out listing status (inr p) same =
+    let risen = p.0 in absurd (omega (arith, risen, same))
+
+-- A status other than `Fault` is the listing's own.
+pub printed-status : (out : SinkCall) (listing : Listing) (status : Status)
+    → PrintsOrFails out listing status
+    → status ≢ Fault
+    → status ≡ listing.status
+unfolding PrintsOrFails
+printed-status out listing status (inl p) other = p.2
+printed-status out listing status (inr p) other = absurd (other p.2)
+
+-- A count that did not rise. For `print_listening` and `memory-printed`.
+pub did_not_rise : (b : Bool) (old new : ℕ)
+    → new ≡ old + (if b then 1 else 0)
+    → new ≡ old
+    → b ≡ false
+did_not_rise true old new counted same = absurd (omega (arith, counted, same))
+did_not_rise false old new counted same = refl
+
+-- A count that rose. For `print_listening`.
+pub did_rise : (b : Bool) (old new : ℕ)
+    → new ≡ old + (if b then 1 else 0)
+    → new ≢ old
+    → b ≡ true
+did_rise true old new counted other = refl
+did_rise false old new counted other = absurd (other (omega (arith, counted)))

@@ -1,0 +1,205 @@
+-- The lines of one piece more, the last ones, and those at which the sink failed: front-more,
+-- front-end, front-cut, front-stopped; lines that were handed on before: front-kept.
+use Rattle.std.proofs.Common.{◌∙◌, ◌+◌, ap, arith, if◌then◌else◌, refl, subst, sym, Some, ℕ}
+use Rattle.std.proofs.lemmas.Bool.{true≢false}
+use Rattle.std.specs.Io.KnownBytes.{Appends}
+use Rattle.sub_io.specs.Device.{AppendsPrefix}
+use Rattle.sub_listing.specs.DeviceCall.{sink_call, source_call}
+use Rattle.sub_listing.specs.Listing.{has_failed}
+use Rattle.sub_listing.proofs.ListingLemmas.{counts-fault, counts-status, front-cut, front-end}
+use Rattle.sub_listing.proofs.ListingLemmas.{front-kept, front-more, front-none, front-stopped}
+use Rattle.sub_listing.proofs.listing.list_to.Goals as goal
+
+pub pieces-init : goal.pieces-init
+pieces-init g c = record {
+  ready = c.requires.ready;
+  source = refl;
+  same = refl;
+  goes_on = c.requires.goes_on;
+  out = refl;
+  front = front-none _ _ _;
+}
+
+-- ---- the sink failed as lines were handed on
+
+pub returns-then-printer-clause-out_count : goal.returns-then-printer-clause-out_count
+returns-then-printer-clause-out_count g c =
+    let before = c.pieces.invariant in
+    let risen =
+    (c.next-end.ensures.stays.risen
+    (λ same. true≢false (sym c.if-printer.true ∙ same ∙ before.goes_on))).1 in
+    let out = before.out in
+    record {
+      kept = λ other. absurd (other refl);
+      risen = omega (arith, risen, out);
+      once = omega (arith, risen, out);
+    }
+
+pub returns-then-printer-clause-source_count : goal.returns-then-printer-clause-source_count
+returns-then-printer-clause-source_count g c =
+    let same = c.next-end.ensures.cut_count c.if-printer.true in
+    let source = c.pieces.invariant.source in
+    record {
+      kept = λ _. same ∙ source;
+      risen = omega (arith, same, source);
+      once = omega (arith, same, source);
+    }
+
+pub returns-then-printer-clause-listing : goal.returns-then-printer-clause-listing
+returns-then-printer-clause-listing g c =
+    let before = c.pieces.invariant in
+    let stays = c.next-end.ensures.stays in
+    let risen =
+    (stays.risen (λ same. true≢false (sym c.if-printer.true ∙ same ∙ before.goes_on))).1 in
+    front-stopped (g.L.Lister.lists c.args.lister.now) (g.L.Lister.lists c.pieces.lister)
+    (source_call g.S.Source.remaining g.S.Source.failure_count c.args.source.now
+    c.next-end.new.source)
+    (sink_call g.K.Sink.contents g.K.Sink.failure_count c.args.printer.now.out.now
+    c.next-end.new.printer.out.now)
+    _ _ before.front (c.next-end.ensures.cut c.if-printer.true) stays.kept
+    (risen ∙ ap (λ (n : ℕ). n + 1) before.out)
+    (c.next-end.ensures.cut_count c.if-printer.true ∙ before.source)
+
+pub returns-then-printer-clause-fault : goal.returns-then-printer-clause-fault
+returns-then-printer-clause-fault g c = λ _.
+    let before = c.pieces.invariant in
+    let risen =
+    (c.next-end.ensures.stays.risen
+    (λ same. true≢false (sym c.if-printer.true ∙ same ∙ before.goes_on))).1 in
+    let same = c.next-end.ensures.cut_count c.if-printer.true in
+    let out = before.out in
+    let source = before.source in
+    omega (arith, risen, same, out, source)
+
+-- ---- the sink failed at the lines of a piece
+
+pub returns-in-Err-clause-listing : goal.returns-in-Err-clause-listing
+returns-in-Err-clause-listing g c =
+    let before = c.pieces.invariant in
+    let stays = c.next-end.ensures.stays in
+    let out = stays.same (c.if-printer.false ∙ sym before.goes_on) ∙ before.out in
+    let put = c.in-Err.ensures.count in
+    front-cut (g.L.Lister.lists c.args.lister.now) (g.L.Lister.lists c.pieces.lister)
+    (g.L.Lister.lists c.next-end.new.self)
+    (source_call g.S.Source.remaining g.S.Source.failure_count c.args.source.now
+    c.next-end.new.source)
+    (sink_call g.K.Sink.contents g.K.Sink.failure_count c.args.printer.now.out.now
+    c.put.new.self.out.now)
+    _ _ c.next-end.new.text.items c.next-end.result
+    (front-kept _ _ _ _ _ _ _ before.front stays.kept)
+    (c.next-end.ensures.gives c.if-printer.false)
+    (subst (AppendsPrefix (g.K.Sink.contents c.next-end.new.printer.out.now)
+    (g.K.Sink.contents c.put.new.self.out.now))
+    c.as_slice.ensures.value c.in-Err.ensures.err)
+    (omega (arith, out, put))
+    (c.next-end.ensures.count c.if-printer.false
+    ∙ ap (λ (n : ℕ). n + (if has_failed c.next-end.result then 1 else 0)) before.source)
+
+pub returns-in-Err-clause-out_count : goal.returns-in-Err-clause-out_count
+returns-in-Err-clause-out_count g c =
+    let before = c.pieces.invariant in
+    let out =
+    c.next-end.ensures.stays.same (c.if-printer.false ∙ sym before.goes_on) ∙ before.out in
+    let put = c.in-Err.ensures.count in
+    record {
+      kept = λ other. absurd (other refl);
+      risen = omega (arith, out, put);
+      once = omega (arith, out, put);
+    }
+
+pub returns-in-Err-clause-source_count : goal.returns-in-Err-clause-source_count
+returns-in-Err-clause-source_count g c =
+    counts-fault _ _ (has_failed c.next-end.result)
+    (c.next-end.ensures.count c.if-printer.false
+    ∙ ap (λ (n : ℕ). n + (if has_failed c.next-end.result then 1 else 0))
+    c.pieces.invariant.source)
+
+pub returns-in-Err-clause-fault : goal.returns-in-Err-clause-fault
+returns-in-Err-clause-fault g c = λ _.
+    let before = c.pieces.invariant in
+    let out =
+    c.next-end.ensures.stays.same (c.if-printer.false ∙ sym before.goes_on) ∙ before.out in
+    let put = c.in-Err.ensures.count in
+    let source = (returns-in-Err-clause-source_count g c).risen in
+    omega (arith, out, put, source)
+
+-- ---- the last lines
+
+pub returns-in-Some-clause-listing : goal.returns-in-Some-clause-listing
+returns-in-Some-clause-listing g c =
+    let before = c.pieces.invariant in
+    let stays = c.next-end.ensures.stays in
+    let out = stays.same (c.if-printer.false ∙ sym before.goes_on) ∙ before.out in
+    let put = c.in-Ok.ensures.count in
+    let status = c.in-Some.status in
+    front-end (g.L.Lister.lists c.args.lister.now) (g.L.Lister.lists c.pieces.lister)
+    (g.L.Lister.lists c.next-end.new.self)
+    (source_call g.S.Source.remaining g.S.Source.failure_count c.args.source.now
+    c.next-end.new.source)
+    (sink_call g.K.Sink.contents g.K.Sink.failure_count c.args.printer.now.out.now
+    c.put.new.self.out.now)
+    _ _ c.next-end.new.text.items status
+    (front-kept _ _ _ _ _ _ _ before.front stays.kept)
+    (c.in-Some.ensures.gives c.if-printer.false)
+    (subst (Appends (g.K.Sink.contents c.next-end.new.printer.out.now)
+    (g.K.Sink.contents c.put.new.self.out.now))
+    c.as_slice.ensures.value c.in-Ok.ensures.ok)
+    (omega (arith, out, put))
+    (c.in-Some.ensures.count c.if-printer.false
+    ∙ ap (λ (n : ℕ). n + (if has_failed (Some status) then 1 else 0)) before.source)
+
+pub returns-in-Some-clause-out_count : goal.returns-in-Some-clause-out_count
+returns-in-Some-clause-out_count g c =
+    let before = c.pieces.invariant in
+    let out =
+    c.next-end.ensures.stays.same (c.if-printer.false ∙ sym before.goes_on) ∙ before.out in
+    let put = c.in-Ok.ensures.count in
+    record {
+      kept = λ _. omega (arith, out, put);
+      risen = omega (arith, out, put);
+      once = omega (arith, out, put);
+    }
+
+pub returns-in-Some-clause-source_count : goal.returns-in-Some-clause-source_count
+returns-in-Some-clause-source_count g c =
+    let status = c.in-Some.status in
+    counts-status _ _ status
+    (c.in-Some.ensures.count c.if-printer.false
+    ∙ ap (λ (n : ℕ). n + (if has_failed (Some status) then 1 else 0)) c.pieces.invariant.source)
+
+pub returns-in-Some-clause-fault : goal.returns-in-Some-clause-fault
+returns-in-Some-clause-fault g c = λ is.
+    let before = c.pieces.invariant in
+    let out =
+    c.next-end.ensures.stays.same (c.if-printer.false ∙ sym before.goes_on) ∙ before.out in
+    let put = c.in-Ok.ensures.count in
+    let counted = rw is at (c.in-Some.ensures.count c.if-printer.false) in
+    let source = before.source in
+    omega (arith, out, put, counted, source)
+
+-- ---- one piece more
+
+pub pieces-preserved : goal.pieces-preserved
+pieces-preserved g c =
+    let before = c.pieces.invariant in
+    let stays = c.next-end.ensures.stays in
+    let out = stays.same (c.if-printer.false ∙ sym before.goes_on) ∙ before.out in
+    let put = c.in-Ok.ensures.count in
+    let source = before.source in
+    let counted = c.in_default.ensures.count c.if-printer.false in
+    record {
+      ready = c.in_default.ensures.ready c.if-printer.false refl;
+      source = omega (arith, source, counted);
+      same = c.put.ensures.same ∙ c.next-end.ensures.same ∙ before.same;
+      goes_on = c.in-Ok.ensures.failed ∙ c.if-printer.false;
+      out = omega (arith, out, put);
+      front =
+          front-more (g.L.Lister.lists c.args.lister.now) (g.L.Lister.lists c.pieces.lister)
+          (g.L.Lister.lists c.next-end.new.self) _ _ _ _ _ _ c.next-end.new.text.items
+          (front-kept _ _ _ _ _ _ _ before.front stays.kept)
+          (c.in_default.ensures.gives c.if-printer.false)
+          (subst
+          (Appends (g.K.Sink.contents c.next-end.new.printer.out.now)
+          (g.K.Sink.contents c.put.new.self.out.now))
+          c.as_slice.ensures.value c.in-Ok.ensures.ok);
+    }

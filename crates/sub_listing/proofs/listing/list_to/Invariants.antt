@@ -1,0 +1,20 @@
+-- No device has failed, and what was printed is the front of what may be listed.
+use Rattle.std.proofs.Common.{◌≡◌, false}
+use Rattle.sub_listing.proofs.ListingLemmas.{IsFront}
+use Rattle.sub_listing.proofs.listing.list_to.Given as goal
+
+abbrev pub invariant-pieces : goal.invariant-pieces
+invariant-pieces g l = record {
+  ready : g.L.Lister.ready l.lister;
+  source : g.S.Source.failure_count l.source ≡ g.S.Source.failure_count l.fn.source;
+  same : l.printer.out.ghost_name ≡ l.fn.printer.out.ghost_name;
+  goes_on : l.printer.failed ≡ false;
+  out : g.K.Sink.failure_count l.printer.out.now ≡ g.K.Sink.failure_count l.fn.printer.out.now;
+  front : IsFront
+      (g.L.Lister.lists l.fn.lister) (g.L.Lister.lists l.lister)
+      (g.S.Source.remaining l.fn.source) (g.S.Source.remaining l.source)
+      (g.K.Sink.contents l.fn.printer.out.now) (g.K.Sink.contents l.printer.out.now);
+}
+
+abbrev pub decreases-pieces : goal.decreases-pieces
+decreases-pieces g l = g.L.Lister.pieces l.lister

@@ -1,0 +1,8 @@
+-- The bytes that were read are the first ones of the input.
+use Rattle.std.proofs.Common.{◌∙◌}
+use Rattle.sub_listing.proofs.normal.NormalWorkWork.work.Goals as goal
+
+pub returns-clause-works : goal.returns-clause-works
+returns-clause-works g c = λ bytes told.
+    c.in-Err-put_normal.ensures.answer bytes
+    (c.as_slice.ensures.value ∙ c.in-Ok.ensures.bytes bytes told)

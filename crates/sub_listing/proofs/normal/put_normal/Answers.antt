@@ -1,0 +1,31 @@
+-- The first bytes decide it, answers_first, and a flush leaves what was taken as it is.
+use Rattle.std.proofs.Common.{Ok, Err}
+use Rattle.std.proofs.KnownBytes.{Appends-kept}
+use Rattle.sub_io.proofs.DeviceLemmas.{AppendsPrefix-whole}
+use Rattle.stl_file.specs.declared.fault.NormalFault.TheVariants.{Write}
+use Rattle.sub_listing.proofs.NormalLemmas.{answers_first}
+use Rattle.sub_listing.proofs.normal.put_normal.Goals as goal
+
+pub returns-in-Ok-flush-clause-answer : goal.returns-in-Ok-flush-clause-answer
+returns-in-Ok-flush-clause-answer g c = λ s first.
+    let w = c.in-Ok.ensures.answer in
+    answers_first s _ _ _ (Ok c.in-Ok.count) first (record {
+      subtitles = w.subtitles;
+      is_file = w.is_file;
+      count = w.count;
+      wrote = Appends-kept _ _ _ _ w.wrote c.in-Ok-flush.ensures.bytes;
+    })
+
+pub returns-in-Err-flush-clause-answer : goal.returns-in-Err-flush-clause-answer
+returns-in-Err-flush-clause-answer g c = λ s first.
+    let w = c.in-Ok.ensures.answer in
+    answers_first s _ _ _ (Err Write) first (record {
+      subtitles = w.subtitles;
+      is_file = w.is_file;
+      wrote = AppendsPrefix-whole _ _ _ (Appends-kept _ _ _ _ w.wrote c.in-Err-flush.ensures.bytes);
+    })
+
+pub returns-in-Err-clause-answer : goal.returns-in-Err-clause-answer
+returns-in-Err-clause-answer g c = λ s first.
+    answers_first s c.args.bytes.now (g.F.Sink.contents c.args.file.now)
+    (g.F.Sink.contents c.normal.new.sink) (Err c.in-Err.fault) first c.in-Err.ensures.answer

@@ -1,0 +1,10 @@
+-- So far the characters of the bytes up to the one at hand were appended.
+use Rattle.std.proofs.Common.{◌≡◌, ◌++◌, ◌+◌, map, take}
+use Rattle.arrayvec.specs.ArrayVec.{array_vec_len}
+use Rattle.sub_listing.specs.Lines.{text_glyph}
+use Rattle.sub_listing.proofs.packet.push_text_line.Given as goal
+
+abbrev pub invariant-loop-byte : goal.invariant-loop-byte
+invariant-loop-byte l =
+    (l.line.items ≡ l.initial.line.items ++ map text_glyph (take l.byte-index l.bytes))
+    × (array_vec_len l.line ≡ array_vec_len l.initial.line + l.byte-index)

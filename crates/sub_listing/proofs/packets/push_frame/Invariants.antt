@@ -1,0 +1,15 @@
+-- There is room for the lines of the units that are left, 192 bytes each, of 35 at most; these
+-- lines after those so far are the lines of all.
+use Rattle.std.proofs.Common.{◌≡◌, ◌+◌, ◌*◌, ◌≤◌, ◌++◌, drop, length}
+use Rattle.arrayvec.specs.ArrayVec.{array_vec_len}
+use Rattle.sub_listing.specs.PacketsListing.{unit_lines}
+use Rattle.sub_listing.proofs.packets.push_frame.Given as goal
+
+abbrev pub invariant-loop-number : goal.invariant-loop-number
+invariant-loop-number l = record {
+  room : array_vec_len l.text ≤ 64 + 192 * l.number;
+  few : length l.units ≤ 35;
+  lines :
+      l.text.items ++ unit_lines l.number (drop l.number l.units)
+      ≡ l.initial.text.items ++ unit_lines 0 l.units;
+}

@@ -1,0 +1,103 @@
+-- The GSI block, the line of one subtitle more, and the last one: gives-opened, gives-next,
+-- gives-last; a subtitle takes a block or more, block-rises.
+use Rattle.std.proofs.Common.{◌≡◌, ◌∙◌, ◌+◌, ap, arith, refl, rules, sym, None, Some, false}
+use Rattle.stl_file.specs.Fault.{is_read}
+use Rattle.stl_file.specs.Reader.{outcome_left}
+use Rattle.stl_file.specs.Reading.{ends, fails, gives}
+use Rattle.stl_file.specs.declared.progress.Progress.TheVariants.{Reading}
+use Rattle.sub_listing.specs.Faults.{kind_by}
+use Rattle.sub_listing.specs.Lines.{subtitle_line}
+use Rattle.sub_listing.specs.Listing.{followed}
+use Rattle.sub_listing.specs.ShowListing.{ReadsSubtitles, subtitles_listing}
+use Rattle.sub_listing.specs.Told.{status_of}
+use Rattle.sub_listing.proofs.ListingLemmas.{block-rises, gives-last, gives-next, gives-opened}
+use Rattle.sub_listing.proofs.ListingLemmas.{gives-refused, kind_by-failed}
+use Rattle.sub_listing.proofs.show.SubtitleListerLister.next.Goals as goal
+
+pub returns-in-Ok-clause-gives : goal.returns-in-Ok-clause-gives
+returns-in-Ok-clause-gives g c =
+    let none : c.args.self.now.reader ≡ None = search rules in
+    rw (none, c.requires.empty) (λ _.
+    gives-opened c.args.self.now.count c.in-Ok.reader _ _ c.in-Ok.ensures.start.0
+    c.in-Ok.ensures.taken.0 c.in-Ok.ensures.taken.1 c.in-Ok.ensures.left
+    (λ bytes told. c.in-Ok.ensures.exact bytes told refl))
+
+pub returns-in-Err-clause-gives : goal.returns-in-Err-clause-gives
+returns-in-Err-clause-gives g c =
+    let none : c.args.self.now.reader ≡ None = search rules in
+    let end : c.end_with.result ≡ Some (status_of (kind_by (is_read c.in-Err.fault))) =
+    search rules in
+    rw (none, end) (λ _.
+    gives-refused c.args.self.now.count c.in-Err.fault _ _ c.end_with.new.text.items
+    (search rules) c.in-Err.ensures.exact c.in-Err.ensures.failed c.in-Err.ensures.refused)
+
+pub returns-in-Ok-Some-clause-gives : goal.returns-in-Ok-Some-clause-gives
+returns-in-Ok-Some-clause-gives g c =
+    let count = c.args.self.now.count in
+    let old = c.in-Some.reader in
+    let new = c.next.new.self in
+    let ready = rw c.in-Some.is at c.requires.ready in
+    let line : subtitle_line c.in-Ok-Some.subtitle ≡ c.push_subtitle.new.text.items =
+    search rules in
+    rw c.in-Some.is (λ _.
+    gives-next _ (subtitles_listing count) (subtitles_listing (count + 1))
+    (outcome_left old) (outcome_left new)
+    (λ failed. ReadsSubtitles failed old.block)
+    (λ failed. ReadsSubtitles failed new.block)
+    (gives c.in-Ok-Some.subtitle new.block) _ _ c.push_subtitle.new.text.items
+    (λ o. ap (λ t. followed t (subtitles_listing (count + 1) o)) line)
+    (λ o failed end reads.
+    (_, rw c.in-Ok-Some.field-0-is at (c.in-Ok-Some.ensures.subtitle ready.0), reads))
+    (λ bytes told.
+    let answers = rw c.in-Ok-Some.field-0-is at (c.in-Ok-Some.ensures.exact bytes told refl) in
+    (answers.rest, answers.rest_is, answers.outcome))
+    ends)
+
+pub returns-in-Ok-Some-clause-ready : goal.returns-in-Ok-Some-clause-ready
+returns-in-Ok-Some-clause-ready g c = λ goes none.
+    let ready = rw c.in-Some.is at c.requires.ready in
+    let taken = rw c.in-Ok-Some.field-0-is at (c.in-Ok-Some.ensures.subtitle ready.0) in
+    let rises = block-rises _ _ _ _ _ taken in
+    let few = ready.1 in
+    let progress : c.next.new.self.progress ≡ Reading =
+    rw c.in-Ok-Some.field-0-is at c.in-Ok-Some.ensures.progress ∙ ready.0 in (
+      progress,
+      omega (arith, rises, few),
+      rw progress at c.in-Ok-Some.ensures.place,
+    )
+
+pub returns-in-Ok-Some-clause-fewer : goal.returns-in-Ok-Some-clause-fewer
+returns-in-Ok-Some-clause-fewer g c = λ goes none.
+    let ready = rw c.in-Some.is at c.requires.ready in
+    let taken = rw c.in-Ok-Some.field-0-is at (c.in-Ok-Some.ensures.subtitle ready.0) in
+    let rises = block-rises _ _ _ _ _ taken in
+    let progress : c.next.new.self.progress ≡ Reading =
+    rw c.in-Ok-Some.field-0-is at c.in-Ok-Some.ensures.progress ∙ ready.0 in
+    let most = rw progress at c.in-Ok-Some.ensures.place in
+    rw c.in-Some.is (omega (arith, rises, most))
+
+pub returns-in-Ok-None-clause-gives : goal.returns-in-Ok-None-clause-gives
+returns-in-Ok-None-clause-gives g c =
+    let ready = rw c.in-Some.is at c.requires.ready in
+    rw (c.in-Some.is, c.end_at.ensures.end) (λ _.
+    gives-last _ (subtitles_listing c.args.self.now.count) (outcome_left c.in-Some.reader)
+    (λ failed. ReadsSubtitles failed c.in-Some.reader.block) _ _ ends _ false
+    c.end_at.ensures.line refl
+    (λ bytes told ok.
+    let answers = rw c.in-Ok-None.field-0-is at (c.in-Ok-None.ensures.exact bytes told refl) in
+    sym answers.outcome)
+    (refl, _, rw c.in-Ok-None.field-0-is at (c.in-Ok-None.ensures.none ready.0)))
+
+pub returns-in-Err-next-clause-gives : goal.returns-in-Err-next-clause-gives
+returns-in-Err-next-clause-gives g c =
+    let f = c.in-Err-next.fault in
+    let ready = rw c.in-Some.is at c.requires.ready in
+    let end : c.end_with-in-Err-next.result ≡ Some (status_of (kind_by (is_read f))) =
+    search rules in
+    rw (c.in-Some.is, end) (λ _.
+    gives-last _ (subtitles_listing c.args.self.now.count) (outcome_left c.in-Some.reader)
+    (λ failed. ReadsSubtitles failed c.in-Some.reader.block) _ _
+    (fails f c.next.new.self.block) c.end_with-in-Err-next.new.text.items (is_read f)
+    (search rules) (kind_by-failed (is_read f))
+    (λ bytes told ok. sym (c.in-Err-next.ensures.exact bytes told ok).outcome)
+    (refl, c.in-Err-next.ensures.failed ready.0, c.in-Err-next.ensures.refused ready.0))

@@ -1,0 +1,12 @@
+pub mod Lines
+pub mod StaysPrinted
+pub mod Told
+pub mod Faults
+pub mod Listing
+pub mod Writing
+pub mod DeviceCall
+pub mod DisplayLines
+pub mod PacketsListing
+pub mod ShowListing
+pub mod EventLines
+pub mod Printer

@@ -1,0 +1,128 @@
+-- What the commands print, whole, and how they end.
+use Rattle.std.specs.Prelude.{◌≡◌, ◌≢◌, ◌⊎◌, ℕ, ◌+◌, ◌==◌, Bool, true, false, nat_le, List, ◌++◌}
+use Rattle.std.specs.Prelude.{drop, Option, Some, None, option_map, if◌then◌else◌}
+use Rattle.ttx_packet.specs.PacketAddress.{address, address_pair}
+use Rattle.ttx_packet.specs.PageHeader.{header}
+use Rattle.ttx_packet.specs.declared.Header.{Header}
+use Rattle.std.specs.Io.KnownBytes.{Appends}
+use Rattle.sub_io.specs.Device.{AppendsPrefix, RisesIf}
+use Rattle.sub_io.specs.Reading.{IfTold}
+use Rattle.sub_listing.specs.DeviceCall.{SinkCall, SourceCall}
+use Rattle.sub_listing.specs.Faults.{packet_told}
+use Rattle.sub_listing.specs.Lines.{address_line, header_line, text_line}
+use Rattle.sub_listing.specs.Told.{line_of, status_of}
+use Rattle.sub_listing.specs.declared.packet.PacketFault.TheVariants.{BadAddress, BadHeader}
+use Rattle.sub_listing.specs.declared.status.Status.{Status}
+use Rattle.sub_listing.specs.declared.status.Status.TheVariants.{Done, Refused, Fault}
+use Rattle.sub_listing.specs.declared.told.Told.{Told}
+
+-- A text and the status that goes with it where all of it was printed.
+pub record Listing : Type 0 where
+  pub text : List ℕ
+  pub status : Status
+
+-- A text that is all that was asked for.
+abbrev pub done : List ℕ → Listing
+done text = record { text = text; status = Done }
+
+-- The line of what is told of a fault.
+abbrev pub told_listing : Told → Listing
+told_listing t = record { text = line_of t; status = status_of t.kind }
+
+-- Lines, and what follows them.
+abbrev pub followed : List ℕ → Listing → Listing
+followed text more = record { text = text ++ more.text; status = more.status }
+
+-- ---- one packet
+
+-- Packet X/0 (EN 300 706, page header): its eight coded bytes, then 32 text bytes.
+abbrev pub header_listing : ℕ → List ℕ → Option Header → Listing
+header_listing magazine packet None = told_listing (packet_told BadHeader)
+header_listing magazine packet (Some h) =
+    done (address_line magazine 0 ++ header_line h ++ text_line (drop 10 packet))
+
+-- Packets X/1 to X/31 (EN 300 706): the rows 1 to 24 are 40 text bytes, the others are not text.
+abbrev pub row_listing : ℕ → ℕ → List ℕ → Listing
+row_listing magazine packet_number packet = if nat_le packet_number 24
+    then done (address_line magazine packet_number ++ text_line (drop 2 packet))
+    else done (address_line magazine packet_number)
+
+-- What is listed of a packet, by the magazine and the packet number that it has.
+abbrev pub addressed_listing : Option (ℕ × ℕ) → List ℕ → Listing
+addressed_listing None packet = told_listing (packet_told BadAddress)
+addressed_listing (Some a) packet = if a.1 == 0
+    then header_listing a.0 packet (header packet)
+    else row_listing a.0 a.1 packet
+
+-- What `packet` prints of the 42 bytes of a packet.
+abbrev pub packet_listing : List ℕ → Listing
+packet_listing packet = addressed_listing (option_map address_pair (address packet)) packet
+
+-- ---- statuses
+
+-- The status as the number that the system gets.
+abbrev pub exit_code : Status → ℕ
+exit_code Done = 0
+exit_code Refused = 1
+exit_code Fault = 2
+
+-- The source failed, where a listing ends so. It has no end where the sink failed before it.
+abbrev pub has_failed : Option Status → Bool
+has_failed (Some Fault) = true
+has_failed _ = false
+
+-- What may be listed of a source, by what it tells before and after and how the listing ends.
+abbrev pub IsListed : Type 1
+IsListed = Option (List ℕ) → Option (List ℕ) → Option Status → Listing → Type 0
+
+-- ---- what was printed
+
+-- All of the listing was printed, and its status is given; or the sink failed once, has a prefix of
+-- the text, and the status is `Fault`.
+unfoldable pub PrintsOrFails : SinkCall → Listing → Status → Type 0
+PrintsOrFails out listing status =
+    ((out.new_count ≡ out.old_count) × Appends out.old out.new listing.text
+    × (status ≡ listing.status))
+    ⊎ ((out.new_count ≡ out.old_count + 1) × AppendsPrefix out.old out.new listing.text
+    × (status ≡ Fault))
+
+-- The outcome of reading a source is listed: where the source tells its bytes and did not fail,
+-- these decide the outcome; where it was read to the end of the listing or failed, what was taken
+-- of it does, also where it tells nothing. The source is known by the bytes that it told before and
+-- tells after.
+pub record Lists
+    {Outcome : Type 0} (listing_of : Outcome → Listing) (given : List ℕ → Outcome)
+    (Takes : Bool → Option (List ℕ) → Outcome → Option (List ℕ) → Type 0)
+    (told left : Option (List ℕ)) (ending : Option Status) (listing : Listing)
+    : Type 0 where
+  pub outcome : Outcome
+  pub listing_is : listing ≡ listing_of outcome
+  pub exact : IfTold told (λ bytes. has_failed ending ≡ false → outcome ≡ given bytes)
+  pub taken : ending ≢ None → Takes (has_failed ending) told outcome left
+
+-- A source was read and listed, whether it failed or not, and the listing was printed, or a sink
+-- that failed has a prefix of it.
+pub record PrintsListing
+    {S : Type 0} (Lists : IsListed) (source : SourceCall S) (out : SinkCall) (status : Status)
+    : Type 0 where
+  pub ending : Option Status
+  pub listing : Listing
+  pub is_listed : Lists source.told source.left ending listing
+  pub source_count : RisesIf source.old_count (has_failed ending) source.new_count
+  pub cut : ending ≡ None → out.new_count ≢ out.old_count
+  pub printed : PrintsOrFails out listing status
+
+-- One piece of a listing was read and its lines made: whatever is listed from here on is listed
+-- after them, and something is; or they end the listing.
+abbrev pub Gives : IsListed → IsListed
+    → Option (List ℕ) → Option (List ℕ) → List ℕ → Option Status → Type 0
+Gives Before After told left text None =
+    ((end : Option (List ℕ)) (ending : Option Status) (more : Listing)
+    → After left end ending more → Before told end ending (followed text more))
+    × ((more : Listing) × After left left None more)
+Gives Before After told left text (Some status) =
+    Before told left (Some status) (record { text = text; status = status })
+
+-- A piece was not read whole, since the sink had failed: what is listed then has no end.
+abbrev pub IsCut : IsListed → Option (List ℕ) → Option (List ℕ) → Type 0
+IsCut Lists told left = (more : Listing) × Lists told left None more

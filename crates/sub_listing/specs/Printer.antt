@@ -1,0 +1,64 @@
+-- What a device does that prints a line for each event. Private functions alone cite this.
+use Rattle.std.specs.Prelude.{◌≡◌, ◌≢◌, ◌||◌, not, ℕ, ◌+◌, min, nat_lt, Bool, true, false, List}
+use Rattle.std.specs.Prelude.{Option}
+use Rattle.std.specs.Io.KnownBytes.{Appends, Keeps}
+use Rattle.sub_io.specs.Device.{AppendsPrefix}
+use Rattle.sub_rules.specs.declared.event.Event.{Event}
+use Rattle.sub_listing.specs.EventLines.{event_line, event_lines, most_counted, refusal, refusals}
+
+-- The device: what its sink has taken, where it tells that, and how often it has failed; how many
+-- refusals were counted; whether the sink failed while it printed.
+pub record PrinterValue : Type 0 where
+  pub contents : Option (List ℕ)
+  pub count : ℕ
+  pub refused : ℕ
+  pub failed : Bool
+
+-- The device by its parts.
+abbrev pub printer_value : Option (List ℕ) → ℕ → ℕ → Bool → PrinterValue
+printer_value contents count refused failed = record {
+  contents = contents;
+  count = count;
+  refused = refused;
+  failed = failed;
+}
+
+-- Whether a count of failures can rise by one more.
+abbrev pub can_fail : ℕ → Bool
+can_fail count = nat_lt count 0xFFFF_FFFF_FFFF_FFFF
+
+-- The count after more refusals: the greatest number stands for any above it too.
+unfoldable pub counted : ℕ → ℕ → ℕ
+counted refused more = min (refused + more) most_counted
+
+-- It was told an event, the sink having failed at none before. Its line was put and a refusal
+-- counted; or the sink failed once, and has a prefix of the line.
+pub record PrintsEvent (old : PrinterValue) (event : Event) (new : PrinterValue) : Type 0 where
+  pub goes_on : old.failed ≡ false
+  pub put : new.failed ≡ false → Appends old.contents new.contents (event_line event)
+  pub put_count : new.failed ≡ false → new.count ≡ old.count
+  pub put_refused : new.failed ≡ false → new.refused ≡ counted old.refused (refusal event)
+  pub cut : new.failed ≡ true → AppendsPrefix old.contents new.contents (event_line event)
+  pub cut_count : new.failed ≡ true → new.count ≡ old.count + 1
+
+-- Events were told, one after another, to a printer that has not failed: all their lines were put,
+-- or a prefix of them.
+pub record PrintsEvents (old : PrinterValue) (events : List Event) (new : PrinterValue) : Type 0
+  where
+    pub put : new.failed ≡ false → Appends old.contents new.contents (event_lines events)
+    pub put_count : new.failed ≡ false → new.count ≡ old.count
+    pub put_refused : new.failed ≡ false → new.refused ≡ counted old.refused (refusals events)
+    pub cut : new.failed ≡ true → AppendsPrefix old.contents new.contents (event_lines events)
+    pub cut_count : new.failed ≡ true → new.count ≡ old.count + 1
+
+-- Whatever was handed on, what was printed stays. Where it could not be, the sink failed once.
+pub record StaysPrinted (old new : PrinterValue) : Type 0 where
+  pub kept : Keeps old.contents new.contents
+  pub refused : new.refused ≡ old.refused
+  pub same : new.failed ≡ old.failed → new.count ≡ old.count
+  pub risen : new.failed ≢ old.failed → (new.failed ≡ true) × (new.count ≡ old.count + 1)
+
+-- It was to hand on the lines that its sink holds back, and did so where `ok`.
+pub record HandsOnLines (old : PrinterValue) (ok : Bool) (new : PrinterValue) : Type 0 where
+  pub stays : StaysPrinted old new
+  pub stopped : (new.failed || not (can_fail new.count)) ≡ not ok

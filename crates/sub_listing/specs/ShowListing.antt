@@ -1,0 +1,74 @@
+-- What `show` prints of a subtitle file.
+use Rattle.std.specs.Io.KnownBytes.{Consumes}
+use Rattle.std.specs.Prelude.{◌≡◌, ◌⊎◌, ℕ, ◌+◌, ◌<◌, List, codes, decimal, ◌++◌, length, Option}
+use Rattle.std.specs.Prelude.{Bool, true, false, None, Some, ◌-◌, ◌≤◌}
+use Rattle.stl_file.specs.Fault.{is_format, is_read}
+use Rattle.stl_file.specs.Gsi.{IsGsi, gsi_size}
+use Rattle.stl_file.specs.Reader.{FailsReading, Refuses, RefusesOpening, TakesPassed, ReaderValue}
+use Rattle.stl_file.specs.Reader.{TakesSubtitle, outcome_left, outcome_of}
+use Rattle.stl_file.specs.Reading.{Outcome, ends, fails, gives}
+use Rattle.stl_file.specs.Tti.{most_blocks}
+use Rattle.stl_file.specs.declared.fault.StlFault.{StlFault}
+use Rattle.stl_file.specs.declared.progress.Progress.TheVariants.{Reading}
+use Rattle.sub_listing.specs.Faults.{stl_told}
+use Rattle.sub_listing.specs.Lines.{subtitle_line}
+use Rattle.sub_listing.specs.Listing.{IsListed, Lists, Listing, done, followed, told_listing}
+
+-- These subtitles were taken of a source, `from` blocks after the GSI block, and then blocks that
+-- are passed over; or there is no file of what comes then. Where the source failed, it failed at
+-- this block.
+abbrev pub ReadsSubtitles : Bool → ℕ → Option (List ℕ) → Outcome → Option (List ℕ) → Type 0
+ReadsSubtitles failed from told ends left =
+    (failed ≡ false) × (to : ℕ) × TakesPassed from to told left
+ReadsSubtitles failed from told (fails f block) left =
+    (is_read f ≡ failed)
+    × (failed ≡ true → FailsReading from block told left)
+    × (is_format f ≡ true → Refuses from block told left f)
+ReadsSubtitles failed from told (gives s block more) left =
+    (behind : Option (List ℕ)) × TakesSubtitle from block told behind s
+    × ReadsSubtitles failed block behind more left
+
+-- No GSI block was read: the source failed in it, or no file begins so.
+pub record ReadsNoGsi (failed : Bool) (told : Option (List ℕ)) (outcome : Outcome)
+    (left : Option (List ℕ)) : Type 0 where
+  pub fault : StlFault
+  pub outcome_is : outcome ≡ fails fault 0
+  pub read : is_read fault ≡ failed
+  pub failure :
+      failed ≡ true → (bytes : List ℕ) × (length bytes < gsi_size) × Consumes told left bytes
+  pub refused : is_format fault ≡ true → RefusesOpening told left fault
+
+-- A GSI block was read, and subtitles after it, or none was.
+abbrev pub ReadsFile : Bool → Option (List ℕ) → Outcome → Option (List ℕ) → Type 0
+ReadsFile failed told outcome left =
+    ReadsNoGsi failed told outcome left
+    ⊎ ((behind : Option (List ℕ)) × (gsi : List ℕ) × IsGsi gsi × Consumes told behind gsi
+    × ReadsSubtitles failed 0 behind outcome left)
+
+-- What is printed after `count` subtitles: each of them in turn, and at the end their number.
+abbrev pub subtitles_listing : ℕ → Outcome → Listing
+subtitles_listing count ends = done (decimal count ++ codes " subtitles\n")
+subtitles_listing count (fails f block) = told_listing (stl_told f block)
+subtitles_listing count (gives s block more) =
+    followed (subtitle_line s) (subtitles_listing (count + 1) more)
+
+-- A subtitle file is listed.
+abbrev pub ListsSubtitles : IsListed
+ListsSubtitles = Lists (subtitles_listing 0) outcome_of ReadsFile
+
+-- What is listed after `count` subtitles, by the reader after the GSI block, or where there is none
+-- yet.
+abbrev pub ListsFrom : Option ReaderValue → ℕ → IsListed
+ListsFrom None count = Lists (subtitles_listing count) outcome_of ReadsFile
+ListsFrom (Some r) count =
+    Lists (subtitles_listing count) (outcome_left r) (λ failed. ReadsSubtitles failed r.block)
+
+-- The reader has not come to the end, and met no fault.
+abbrev pub IsReady : Option ReaderValue → ℕ → Type 0
+IsReady None count = count ≡ 0
+IsReady (Some r) count = (r.progress ≡ Reading) × (count ≤ r.block) × (r.block ≤ most_blocks)
+
+-- How many blocks it can still read at most.
+abbrev pub blocks_left : Option ReaderValue → ℕ
+blocks_left None = most_blocks + 1
+blocks_left (Some r) = most_blocks - r.block

@@ -1,0 +1,58 @@
+-- What is told of a fault, in one line that ends with a newline (own): whether the input is
+-- refused, a device or memory failed, or the words are no request; number and name; the place. The
+-- status follows from it.
+use Rattle.std.specs.Prelude.{ℕ, ◌%◌, List, [], ◌++◌, codes, decimal}
+use Rattle.sub_io.specs.FaultCode.{FaultCodeValue}
+use Rattle.stl_file.specs.TimeCode.{day}
+use Rattle.sub_listing.specs.Lines.{time_text}
+use Rattle.sub_listing.specs.declared.status.Status.{Status}
+use Rattle.sub_listing.specs.declared.status.Status.TheVariants as status
+use Rattle.sub_listing.specs.declared.told.Kind.{Kind}
+use Rattle.sub_listing.specs.declared.told.Kind.TheVariants as kind
+use Rattle.sub_listing.specs.declared.told.Told.{Told}
+use Rattle.sub_rules.specs.declared.fault_place.FaultPlace.{FaultPlace}
+use Rattle.sub_rules.specs.declared.fault_place.FaultPlace.TheVariants as place
+
+-- What is told of a fault with this code.
+abbrev pub told_as : Kind → FaultCodeValue → FaultPlace → Told
+told_as k c p = record { kind = k; code = c; place = p }
+
+-- What the line begins with.
+abbrev pub kind_text : Kind → List ℕ
+kind_text kind.Refused = codes "refused "
+kind_text kind.Fault = codes "fault "
+kind_text kind.Usage = codes "usage "
+
+-- The time of a frame of the day. Past a day the clock begins anew; no event of a file names such a
+-- frame.
+abbrev pub clock_text : ℕ → List ℕ
+clock_text frame = time_text (frame % day)
+
+-- A frame of the day.
+abbrev pub frame_text : ℕ → List ℕ
+frame_text frame = codes " frame " ++ clock_text frame
+
+-- The place.
+abbrev pub place_text : FaultPlace → List ℕ
+place_text place.Nowhere = []
+place_text (place.Pes pes) = codes " pes " ++ decimal pes
+place_text (place.Block block) = codes " block " ++ decimal block
+place_text (place.Text block at) = codes " block " ++ decimal block ++ codes " at " ++ decimal at
+place_text (place.Frame frame) = frame_text frame
+place_text (place.Packet frame packet) = frame_text frame ++ codes " packet " ++ decimal packet
+place_text (place.Cell frame row column) =
+    frame_text frame ++ codes " row " ++ decimal row ++ codes " column " ++ decimal column
+
+-- The number and the name.
+abbrev pub code_text : FaultCodeValue → List ℕ
+code_text code = decimal code.number ++ codes " " ++ code.name
+
+-- The line.
+abbrev pub line_of : Told → List ℕ
+line_of t = kind_text t.kind ++ code_text t.code ++ place_text t.place ++ codes "\n"
+
+-- The status that goes with it.
+abbrev pub status_of : Kind → Status
+status_of kind.Refused = status.Refused
+status_of kind.Fault = status.Fault
+status_of kind.Usage = status.Fault

@@ -1,0 +1,133 @@
+-- What the commands that write a file do: what the file has, and what is printed of it.
+use Rattle.std.specs.Prelude.{◌≡◌, ◌≢◌, ◌<◌, ℕ, List, [], ◌++◌, codes, decimal, length, Bool, true}
+use Rattle.std.specs.Prelude.{false, Option, Result, Ok, Err, IsOkAnd}
+use Rattle.std.specs.Io.KnownBytes.{Appends, Consumes, Keeps}
+use Rattle.sub_io.specs.Device.{AppendsPrefix, RisesIf, failed}
+use Rattle.sub_io.specs.Reading.{IfTold}
+use Rattle.stl_file.specs.Fault as stl_fault
+use Rattle.stl_file.specs.NormalForm.{NormalAnswers}
+use Rattle.stl_file.specs.Reader.{block_of_byte, outcome_of}
+use Rattle.stl_rows.specs.Fault as load_fault
+use Rattle.stl_rows.specs.Loading.{EndsRecord, FailsLoading, TellsFault, loaded}
+use Rattle.stl_rows.specs.Programme.{ProgrammeValue}
+use Rattle.stl_rows.specs.declared.fault.LoadFaultKind.TheVariants.{Memory}
+use Rattle.stl_rows.specs.declared.national.National.{National}
+use Rattle.sub_plan.specs.Fault as plan_fault
+use Rattle.sub_plan.specs.Options.{OptionsValue}
+use Rattle.sub_plan.specs.Schedule.{plan, plan_frames}
+use Rattle.sub_plan.specs.declared.fault.PlanFault.{PlanFault}
+use Rattle.sub_plan.specs.declared.fault.PlanFault.TheVariants.{NoSubtitles, Write}
+use Rattle.sub_listing.specs.Faults.{load_told, write_told}
+use Rattle.sub_listing.specs.Listing.{Listing, done, told_listing, PrintsOrFails}
+use Rattle.sub_listing.specs.Told.{line_of}
+use Rattle.sub_listing.specs.declared.normal.InputFault.{InputFault}
+use Rattle.sub_listing.specs.declared.normal.InputFault.TheVariants as input
+use Rattle.sub_listing.specs.declared.writing.WriteFault.{WriteFault}
+use Rattle.sub_listing.specs.declared.writing.WriteFault.TheVariants as write
+use Rattle.sub_listing.specs.DeviceCall.{SinkCall, SourceCall}
+use Rattle.sub_listing.specs.declared.status.Status.{Status}
+
+-- ---- how the work ends, before its line is printed
+
+-- The source failed, of the input of `normal`.
+abbrev pub is_input_read : InputFault → Bool
+is_input_read (input.Read block) = true
+is_input_read input.Memory = false
+
+-- The input failed.
+abbrev pub is_read : WriteFault → Bool
+is_read (write.Input f) = is_input_read f
+is_read (write.Load f) = load_fault.is_read f
+is_read _ = false
+
+-- The file failed.
+abbrev pub is_write : WriteFault → Bool
+is_write (write.Normal f) = stl_fault.is_write f
+is_write (write.Plan f) = plan_fault.is_write f
+is_write _ = false
+
+-- What is printed: how many things are in the file, or what is told of the fault.
+abbrev pub work_listing : List ℕ → Result ℕ WriteFault → Listing
+work_listing things (Ok count) = done (codes "written " ++ decimal count ++ things)
+work_listing things (Err f) = told_listing (write_told f)
+
+-- What the bytes of the input decide by what the file had and has, and what the input tells before
+-- and after decides where it failed.
+abbrev pub Work : Type 1
+Work = Option (List ℕ) → Option (List ℕ) → Option (List ℕ) → Option (List ℕ)
+    → Result ℕ WriteFault → Type 0
+
+-- The work of a command that writes a file has this answer, the number of things in it or a fault,
+-- and its line was printed.
+pub record EndsWork
+    {S : Type 0} (input : SourceCall S) (file out : SinkCall) (status : Status)
+    (things : List ℕ) (HasWorked : Work)
+    : Type 0 where
+  pub answer : Result ℕ WriteFault
+  pub works : HasWorked input.told input.left file.old file.new answer
+  -- The devices fail where the answer says so, and nowhere else.
+  pub input_count : RisesIf input.old_count (failed is_read answer) input.new_count
+  pub file_count : RisesIf file.old_count (failed is_write answer) file.new_count
+  pub printed : PrintsOrFails out (work_listing things answer) status
+
+-- ---- `schedule`
+
+-- The file has the schedule of a programme, and this is the number of its transmissions; or a
+-- prefix of it, where the file failed; or nothing, where there are no subtitles.
+abbrev pub WritesSchedule :
+    ProgrammeValue → OptionsValue → Bool → Option (List ℕ) → Option (List ℕ)
+    → Result ℕ PlanFault → Type 0
+WritesSchedule programme o serial old new (Ok count) =
+    Appends old new (plan programme o serial)
+    × (count ≡ length (plan_frames programme o.every))
+    × (programme.records ≢ [])
+WritesSchedule programme o serial old new (Err Write) =
+    AppendsPrefix old new (plan programme o serial) × (programme.records ≢ [])
+WritesSchedule programme o serial old new (Err NoSubtitles) =
+    Keeps old new × (programme.records ≡ [])
+
+-- The schedule of the programme that the input gives; or nothing, where it gives none: then it is
+-- told why, and at which block where the source failed.
+abbrev pub Schedules : National → OptionsValue → Bool → Work
+Schedules national o serial told left old new (Ok count) =
+    IfTold told (λ bytes. IsOkAnd (loaded national (outcome_of bytes)) (λ programme.
+    WritesSchedule programme o serial old new (Ok count)))
+Schedules national o serial told left old new (Err (write.Plan f)) =
+    IfTold told (λ bytes. IsOkAnd (loaded national (outcome_of bytes)) (λ programme.
+    WritesSchedule programme o serial old new (Err f)))
+Schedules national o serial told left old new (Err (write.Load f)) =
+    IfTold told (λ bytes. TellsFault national (outcome_of bytes) f.block f.kind)
+    × (load_fault.is_read f ≡ true → FailsLoading national told left f.block)
+    × Keeps old new
+Schedules national o serial told left old new answer = ⊥
+
+-- Want of memory is printed, with the last block of a subtitle that the file gives.
+abbrev pub PrintsMemory :
+    National → Option (List ℕ) → Option (List ℕ) → Option (List ℕ) → Type 0
+PrintsMemory national told old new =
+    (block : ℕ) × Appends old new (line_of (load_told Memory block))
+    × IfTold told (λ bytes. EndsRecord national [] block (outcome_of bytes))
+
+-- ---- `normal`
+
+-- One byte more than the longest file has.
+abbrev pub most_read : ℕ
+most_read = 12800897
+
+-- The source failed at a byte of this block, after the bytes that were taken; or memory was
+-- refused, which is wanted only for bytes that were taken.
+abbrev pub TellsRead : Option (List ℕ) → Option (List ℕ) → InputFault → Type 0
+TellsRead old new (input.Read block) =
+    (bytes : List ℕ) × Consumes old new bytes × (block ≡ block_of_byte (length bytes))
+TellsRead old new input.Memory =
+    (bytes : List ℕ) × Consumes old new bytes × (0 < length bytes)
+
+-- The file has the normal form of the input, or a prefix of it where it failed; or nothing, where
+-- the input is refused or was not read.
+abbrev pub Normalizes : Work
+Normalizes told left old new (Ok count) =
+    IfTold told (λ bytes. NormalAnswers bytes old new (Ok count))
+Normalizes told left old new (Err (write.Normal f)) =
+    IfTold told (λ bytes. NormalAnswers bytes old new (Err f))
+Normalizes told left old new (Err (write.Input f)) = TellsRead told left f × Keeps old new
+Normalizes told left old new answer = ⊥

@@ -1,0 +1,39 @@
+//! What is printed and written without a checker: lines, what is told of each fault, and the
+//! commands that show a packet, list a file or write one.
+//!
+//! Stands on `sub_request` and `sub_rules`; `sub_answer` gives each request to its command, and
+//! prints what the checker and a receiver tell by what stands here.
+//!
+//! ```text
+//! list_subtitles(&mut stl, &mut out) // Status::Done
+//! ```
+#![tactic(auto)]
+
+mod faults;
+mod hex_digits;
+mod lines;
+mod listing;
+mod normal;
+mod packet;
+mod packets;
+mod printer;
+mod printing;
+mod schedule;
+mod show;
+mod state;
+mod status;
+mod told;
+mod writing;
+
+pub use faults::{told_of_check, told_of_usage};
+pub use lines::{LINE_ROOM, Line, push_decimal, push_number, push_text};
+pub use normal::{InputFault, read_input, write_normal};
+pub use packet::show_packet;
+pub use packets::list_packets;
+pub use printer::Printer;
+pub use printing::{print_done, print_told};
+pub use schedule::write_schedule;
+pub use show::list_subtitles;
+pub use state::print_state;
+pub use status::Status;
+pub use told::{Kind, Told};

@@ -1,0 +1,257 @@
+//! Makers of the lines that the program prints.
+//!
+//! A text is made in memory first and put into a device at once. Each maker appends to an
+//! `ArrayVec` that has room: the constants below say how much, and that it is enough is proved
+//! here.
+ghost use Rattle.std.specs.Prelude.{◌≡◌, ◌+◌, ◌%◌, ◌≤◌, ◌<◌, ◌++◌, length, decimal};
+ghost use Rattle.arrayvec.specs.ArrayVec.{array_vec_len};
+ghost use Rattle.hex.specs.Hex.{encode_lower};
+ghost use Rattle.stl_file.specs.TimeCode.{day};
+ghost use Rattle.sub_listing.specs.EventLines.{ended_line, event_line, passed_line, trusted_line};
+ghost use Rattle.sub_listing.specs.Lines.{glyph, text_digits, time_text, two_digits};
+ghost use Rattle.sub_listing.specs.Told.{code_text, frame_text, line_of, place_text};
+
+use crate::faults::told_of_check;
+use crate::hex_digits::digits_of_block;
+use crate::told::{Kind, Told};
+use arrayvec::ArrayVec;
+use stl_file::TimeCode;
+use sub_io::FaultCode;
+use sub_rules::{CheckFault, EndRule, Event, FaultPlace};
+use ttx_pes::MOST_PACKETS;
+
+/// Room for a number in decimal.
+pub const NUMBER_ROOM: usize = 20;
+
+/// Room for the digits of a subtitle's text.
+pub const TEXT_DIGITS_ROOM: usize = 2016;
+
+/// Room for the number and the name of a fault: a space between them, and 16 letters.
+const CODE_ROOM: usize = NUMBER_ROOM + 17;
+
+/// Room for the place of a fault.
+const PLACE_ROOM: usize = 80;
+
+/// Room for one line: the longest, `refused 72 Content` with its cell, has 117 bytes at most.
+pub const LINE_ROOM: usize = 128;
+
+/// One line.
+pub type Line = ArrayVec<u8, LINE_ROOM>;
+
+/// Appends a text for which there is room.
+pub fn push_text<const N: usize>(line: &mut ArrayVec<u8, N>, text: &[u8])
+    requires { array_vec_len line.old + length text.now ≤ N }
+    ensures items { line.new.items ≡ line.old.items ++ text.now }
+    ensures len { array_vec_len line.new ≡ array_vec_len line.old + length text.now }
+{
+    let _ = line.try_extend_from_slice(text);
+}
+
+/// Appends a number in decimal.
+pub fn push_decimal<const N: usize>(line: &mut ArrayVec<u8, N>, number: u64)
+    requires { array_vec_len line.old + NUMBER_ROOM ≤ N }
+    ensures items { line.new.items ≡ line.old.items ++ decimal number }
+    ensures len { array_vec_len line.new ≤ array_vec_len line.old + NUMBER_ROOM }
+{
+    let mut digits = itoa::Buffer::new();
+    push_text(line, digits.format(number).as_bytes());
+}
+
+/// Appends a number in decimal after the word for it.
+pub fn push_number<const N: usize>(line: &mut ArrayVec<u8, N>, word: &[u8], number: u64)
+    requires { array_vec_len line.old + length word.now + NUMBER_ROOM ≤ N }
+    ensures items { line.new.items ≡ line.old.items ++ word.now ++ decimal number }
+    ensures len { array_vec_len line.new ≤ array_vec_len line.old + length word.now + NUMBER_ROOM }
+{
+    push_text(line, word);
+    push_decimal(line, number);
+}
+
+/// Appends a packet's bytes as lower case hexadecimal digits.
+pub fn push_lower_hex<const N: usize>(line: &mut ArrayVec<u8, N>, bytes: &[u8; 42])
+    requires { array_vec_len line.old + 84 ≤ N }
+    ensures items { line.new.items ≡ line.old.items ++ encode_lower bytes.now }
+    ensures len { array_vec_len line.new ≡ array_vec_len line.old + 84 }
+{
+    let (blocks, _) = bytes.as_chunks::<16>();
+    push_text(line, &digits_of_block(&blocks[0]));
+    push_text(line, &digits_of_block(&blocks[1]));
+    // The last ten bytes stand at the end of a block that begins six bytes before them.
+    push_text(line, &digits_of_block(bytes.last_chunk().unwrap())[12..]);
+}
+
+/// Appends two decimal digits.
+#[tactic(auto, unfolding(crate::specs::Lines::two_digits))]
+pub fn push_two_digits<const N: usize>(line: &mut ArrayVec<u8, N>, number: u8)
+    requires { array_vec_len line.old + 2 ≤ N }
+    ensures items { line.new.items ≡ line.old.items ++ two_digits number }
+    ensures len { array_vec_len line.new ≡ array_vec_len line.old + 2 }
+{
+    push_text(line, &[b'0' + number / 10, b'0' + number % 10]);
+}
+
+/// Appends a time code as `HH:MM:SS:FF`.
+#[tactic(auto, unfolding(crate::specs::Lines::time_text))]
+pub fn push_time<const N: usize>(line: &mut ArrayVec<u8, N>, time: TimeCode)
+    requires { array_vec_len line.old + 11 ≤ N }
+    ensures items { line.new.items ≡ line.old.items ++ time_text time }
+    ensures len { array_vec_len line.new ≡ array_vec_len line.old + 11 }
+{
+    let [hours, minutes, seconds, frames] = time.to_bytes();
+    push_two_digits(line, hours);
+    push_text(line, b":");
+    push_two_digits(line, minutes);
+    push_text(line, b":");
+    push_two_digits(line, seconds);
+    push_text(line, b":");
+    push_two_digits(line, frames);
+}
+
+/// Appends the text of a subtitle as lower case hexadecimal digits, or a hyphen where it is empty.
+#[tactic(auto, unfolding(crate::specs::Lines::text_digits))]
+pub fn push_text_digits<const N: usize>(line: &mut ArrayVec<u8, N>, text: &[u8])
+    requires few { length text.now ≤ 1008 }
+    requires room { array_vec_len line.old + TEXT_DIGITS_ROOM ≤ N }
+    ensures items { line.new.items ≡ line.old.items ++ text_digits text.now }
+    ensures len { array_vec_len line.new ≤ array_vec_len line.old + TEXT_DIGITS_ROOM }
+{
+    if text.len() == 0 {
+        return push_text(line, b"-");
+    }
+    let mut room = [0; TEXT_DIGITS_ROOM];
+    let (digits, _) = room.split_at_mut(2 * text.len());
+    let _ = hex::encode_to_slice(text, digits);
+    push_text(line, digits);
+}
+
+/// The character of a cell's code.
+pub fn glyph(code: u8) -> u8
+    ensures { result ≡ glyph code }
+{
+    if code >= 0x20 && code <= 0x7E {
+        code
+    } else {
+        b'.'
+    }
+}
+
+/// Appends the line of what is told of a fault.
+pub fn push_told<const N: usize>(line: &mut ArrayVec<u8, N>, told: &Told)
+    requires { array_vec_len line.old + LINE_ROOM ≤ N }
+    ensures { line.new.items ≡ line.old.items ++ line_of told.now }
+{
+    match told.kind {
+        Kind::Refused => push_text(line, b"refused "),
+        Kind::Fault => push_text(line, b"fault "),
+        Kind::Usage => push_text(line, b"usage "),
+    }
+    push_code(line, &told.code);
+    push_place(line, told.place);
+    push_text(line, b"\n");
+}
+
+/// Appends the line of an event: of a fault that is told, of a rule that stood broken up to a
+/// frame, or of frames that may be trusted.
+pub fn push_event<const N: usize>(line: &mut ArrayVec<u8, N>, event: Event)
+    requires { array_vec_len line.old + LINE_ROOM ≤ N }
+    ensures { line.new.items ≡ line.old.items ++ event_line event }
+{
+    match event {
+        Event::Told(fault) => push_told(line, &told_of_check(fault)),
+        Event::Ended { rule, frame } => push_ended(line, rule, frame),
+        Event::PassedUntil(fault) => push_passed(line, fault),
+        Event::Trusted { from, to } => push_trusted(line, from, to),
+    }
+}
+
+// Appends the line of a rule that stood broken up to a frame.
+fn push_ended<const N: usize>(line: &mut ArrayVec<u8, N>, rule: EndRule, frame: u32)
+    requires { array_vec_len line.old + LINE_ROOM ≤ N }
+    ensures { line.new.items ≡ line.old.items ++ ended_line rule frame }
+{
+    push_text(line, b"ended ");
+    push_code(line, &rule.code());
+    push_frame(line, frame);
+    push_text(line, b"\n");
+}
+
+// Appends the line of PES packets that were passed over up to the one that the fault names.
+fn push_passed<const N: usize>(line: &mut ArrayVec<u8, N>, fault: CheckFault)
+    requires { array_vec_len line.old + LINE_ROOM ≤ N }
+    ensures { line.new.items ≡ line.old.items ++ passed_line fault }
+{
+    push_text(line, b"ended ");
+    push_code(line, &fault.code());
+    push_place(line, fault.place());
+    push_text(line, b"\n");
+}
+
+// Appends the line of frames that may be trusted.
+fn push_trusted<const N: usize>(line: &mut ArrayVec<u8, N>, from: u32, to: u32)
+    requires { array_vec_len line.old + LINE_ROOM ≤ N }
+    ensures { line.new.items ≡ line.old.items ++ trusted_line from to }
+{
+    push_text(line, b"trusted frames ");
+    push_clock(line, from);
+    push_text(line, b" ");
+    push_clock(line, to);
+    push_text(line, b"\n");
+}
+
+// Appends the number and the name of a fault.
+fn push_code<const N: usize>(line: &mut ArrayVec<u8, N>, code: &FaultCode)
+    requires { array_vec_len line.old + CODE_ROOM ≤ N }
+    ensures items { line.new.items ≡ line.old.items ++ code_text code.now }
+    ensures len { array_vec_len line.new ≤ array_vec_len line.old + CODE_ROOM }
+{
+    push_decimal(line, u64::from(code.number()));
+    push_text(line, b" ");
+    push_text(line, code.name().as_bytes());
+}
+
+// Appends the place of a fault.
+fn push_place<const N: usize>(line: &mut ArrayVec<u8, N>, place: FaultPlace)
+    requires { array_vec_len line.old + PLACE_ROOM ≤ N }
+    ensures items { line.new.items ≡ line.old.items ++ place_text place }
+    ensures len { array_vec_len line.new ≤ array_vec_len line.old + PLACE_ROOM }
+{
+    match place {
+        FaultPlace::Nowhere => (),
+        FaultPlace::Pes { pes } => push_number(line, b" pes ", u64::from(pes)),
+        FaultPlace::Block { block } => push_number(line, b" block ", u64::from(block)),
+        FaultPlace::Text { block, at } => {
+            push_number(line, b" block ", u64::from(block));
+            push_number(line, b" at ", u64::from(at));
+        }
+        FaultPlace::Frame { frame } => push_frame(line, frame),
+        FaultPlace::Packet { frame, packet } => {
+            push_frame(line, frame);
+            push_number(line, b" packet ", u64::from(packet));
+        }
+        FaultPlace::Cell { frame, row, column } => {
+            push_frame(line, frame);
+            push_number(line, b" row ", u64::from(row));
+            push_number(line, b" column ", u64::from(column));
+        }
+    }
+}
+
+// Appends a frame of the day.
+fn push_frame<const N: usize>(line: &mut ArrayVec<u8, N>, frame: u32)
+    requires { array_vec_len line.old + 18 ≤ N }
+    ensures items { line.new.items ≡ line.old.items ++ frame_text frame }
+    ensures len { array_vec_len line.new ≡ array_vec_len line.old + 18 }
+{
+    push_text(line, b" frame ");
+    push_clock(line, frame);
+}
+
+// Appends the time of a frame of the day.
+fn push_clock<const N: usize>(line: &mut ArrayVec<u8, N>, frame: u32)
+    requires { array_vec_len line.old + 11 ≤ N }
+    ensures items { line.new.items ≡ line.old.items ++ time_text (frame % day) }
+    ensures len { array_vec_len line.new ≡ array_vec_len line.old + 11 }
+{
+    // Each frame of a day has one PES packet at most.
+    push_time(line, TimeCode::of_frame(frame % MOST_PACKETS));
+}

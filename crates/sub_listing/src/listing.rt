@@ -1,0 +1,153 @@
+//! How a file is listed: what is read of it is printed, one piece after the other.
+ghost use Rattle.std.specs.Prelude.{◌≡◌, ℕ, ◌+◌, ◌<◌, ◌≤◌, ◌++◌, [], None, Some, decimal, length};
+ghost use Rattle.std.specs.Prelude.{false, true};
+ghost use Rattle.sub_io.specs.Device.{CountsIf};
+ghost use Rattle.sub_listing.specs.DeviceCall.{CanFail, CountsFault, sink_call, source_call};
+ghost use Rattle.sub_listing.specs.Listing.{Gives, IsCut, IsListed, PrintsListing, has_failed};
+ghost use Rattle.sub_listing.specs.Printer.{StaysPrinted, printer_value};
+ghost use Rattle.sub_listing.specs.Told.{line_of, status_of};
+ghost use Rattle.sub_listing.specs.declared.status.Status.TheVariants.{Done};
+
+use crate::lines::{push_decimal, push_text, push_told};
+use crate::printer::Printer;
+use crate::status::Status;
+use crate::told::Told;
+use arrayvec::ArrayVec;
+use sub_io::{Ahead, Flush};
+
+/// Room for one piece: the lines of one PES packet, or of one subtitle.
+pub const PIECE: usize = 7168;
+
+/// The lines of one piece.
+pub type Text = ArrayVec<u8, PIECE>;
+
+/// Reads what is listed of a file, and makes its lines.
+pub trait Lister {
+    /// It has not come to the end, and met no fault.
+    ghost ready: { Self → Type 0 };
+
+    /// How many pieces it can still give at most.
+    ghost pieces: { Self → ℕ };
+
+    /// What may be listed from here on.
+    ghost lists: { Self → IsListed };
+
+    /// Makes the lines of the next piece. `None` where another may follow, else how the listing
+    /// ends.
+    ///
+    /// The printer may hand on the lines before it, so that they are seen before the source has to
+    /// wait. Where it can't, its sink failed, and what is read and made is of no use.
+    fn next<S: Ahead, K: Flush>(
+        &mut self,
+        source: &mut S,
+        printer: &mut Printer<'_, K>,
+        text: &mut Text,
+    ) -> Option<Status>
+        requires ready { ready self.old }
+        requires source { CanFail (S.failure_count source.old) }
+        requires out { CanFail (K.failure_count printer.old.out.now) }
+        requires goes_on { printer.old.failed ≡ false }
+        requires empty { text.old.items ≡ [] }
+        ensures same { printer.new.out.ghost_name ≡ printer.old.out.ghost_name }
+        ensures stays { StaysPrinted
+            (printer_value (K.contents printer.old.out.now) (K.failure_count printer.old.out.now)
+            printer.old.refused printer.old.failed)
+            (printer_value (K.contents printer.new.out.now) (K.failure_count printer.new.out.now)
+            printer.new.refused printer.new.failed) }
+        ensures gives { printer.new.failed ≡ false → Gives (lists self.old) (lists self.new)
+            (S.remaining source.old) (S.remaining source.new) text.new.items result }
+        ensures ready { printer.new.failed ≡ false → result ≡ None → ready self.new }
+        ensures fewer { printer.new.failed ≡ false → result ≡ None
+            → pieces self.new < pieces self.old }
+        ensures count { printer.new.failed ≡ false
+            → CountsIf S.failure_count source.old (has_failed result) source.new }
+        ensures cut { printer.new.failed ≡ true
+            → IsCut (lists self.old) (S.remaining source.old) (S.remaining source.new) }
+        ensures cut_count { printer.new.failed ≡ true
+            → S.failure_count source.new ≡ S.failure_count source.old };
+}
+
+/// Lists a file, one piece after the other as they are read.
+///
+/// Lines before a refusal stay. One piece is kept at a time, and its lines are put at once.
+pub fn list<L: Lister, S: Ahead, K: Flush>(lister: &mut L, source: &mut S, out: &mut K) -> Status
+    requires ready { L.ready lister.old }
+    requires source { CanFail (S.failure_count source.old) }
+    requires out { CanFail (K.failure_count out.old) }
+    ensures listing { PrintsListing (L.lists lister.old)
+        (source_call S.remaining S.failure_count source.old source.new)
+        (sink_call K.contents K.failure_count out.old out.new) result }
+    ensures source_count { CountsFault S.failure_count source.old result source.new }
+    ensures out_count { CountsFault K.failure_count out.old result out.new }
+    ensures fault { result ≡ Status.Fault
+        → S.failure_count source.old + K.failure_count out.old
+        < S.failure_count source.new + K.failure_count out.new }
+{
+    let mut printer = Printer {
+        out,
+        refused: 0,
+        failed: false,
+        waiting: false,
+    };
+    list_to(lister, source, &mut printer)
+}
+
+// Prints the lines of all that a lister gives, by a printer.
+fn list_to<L: Lister, S: Ahead, K: Flush>(
+    lister: &mut L,
+    source: &mut S,
+    printer: &mut Printer<'_, K>,
+) -> Status
+    requires ready { L.ready lister.old }
+    requires source { CanFail (S.failure_count source.old) }
+    requires out { CanFail (K.failure_count printer.old.out.now) }
+    requires goes_on { printer.old.failed ≡ false }
+    ensures same { printer.new.out.ghost_name ≡ printer.old.out.ghost_name }
+    ensures listing { PrintsListing (L.lists lister.old)
+        (source_call S.remaining S.failure_count source.old source.new)
+        (sink_call K.contents K.failure_count printer.old.out.now printer.new.out.now) result }
+    ensures source_count { CountsFault S.failure_count source.old result source.new }
+    ensures out_count { CountsFault K.failure_count printer.old.out.now result
+        printer.new.out.now }
+    ensures fault { result ≡ Status.Fault
+        → S.failure_count source.old + K.failure_count printer.old.out.now
+        < S.failure_count source.new + K.failure_count printer.new.out.now }
+{
+    let mut text = Text::new();
+    'pieces: loop {
+        text.clear();
+        let end = lister.next(source, printer, &mut text);
+        if printer.failed {
+            return Status::Fault;
+        }
+        match printer.put(text.as_slice()) {
+            Ok(()) => (),
+            Err(_) => return Status::Fault,
+        }
+        if let Some(status) = end {
+            return status;
+        }
+    }
+}
+
+/// Ends a listing with the line of a fault.
+pub fn end_with(text: &mut Text, told: &Told) -> Option<Status>
+    requires { text.old.items ≡ [] }
+    ensures line { text.new.items ≡ line_of told.now }
+    ensures end { result ≡ Some (status_of told.now.kind) }
+{
+    push_told(text, told);
+    Some(told.status())
+}
+
+/// Ends a listing with the number of things that were listed.
+pub fn end_at(text: &mut Text, count: u32, things: &[u8]) -> Option<Status>
+    requires empty { text.old.items ≡ [] }
+    requires few { length things.now ≤ 32 }
+    ensures line { text.new.items ≡ decimal count ++ things.now }
+    ensures end { result ≡ Some Done }
+{
+    push_decimal(text, u64::from(count));
+    push_text(text, things);
+    Some(Status::Done)
+}

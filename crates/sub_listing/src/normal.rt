@@ -1,0 +1,148 @@
+//! `normal IN OUT`: writes the normal form of a subtitle file.
+ghost use Rattle.std.specs.Prelude.{◌≡◌, ◌<◌, IfErr, IfOk, List, OnOk, codes, take, ℕ};
+ghost use Rattle.sub_io.specs.Device.{CanFail, CountsIf, failed};
+ghost use Rattle.sub_io.specs.Reading.{IfTold};
+ghost use Rattle.stl_file.specs.Fault.{is_write};
+ghost use Rattle.stl_file.specs.NormalForm.{NormalAnswers};
+ghost use Rattle.stl_file.specs.Reader.{block_of_byte};
+ghost use Rattle.sub_listing.specs.DeviceCall.{CountsFault, sink_call, source_call};
+ghost use Rattle.sub_listing.specs.Writing.{EndsWork, Normalizes, TellsRead, is_input_read};
+ghost use Rattle.sub_listing.specs.Writing.{most_read};
+
+use crate::status::Status;
+use crate::writing::{Work, WriteFault, write};
+use std::alloc::{Allocator, Global};
+use stl_file::{NormalFault, normal};
+use sub_io::{Flush, Sink, Source};
+
+/// One byte more than the longest subtitle file has: a GSI block and 99,999 TTI blocks. No byte
+/// after it can change the answer.
+const MOST_READ: usize = 12_800_897;
+
+/// Bytes that one pull asks for at most.
+const PIECE: usize = 4096;
+
+/// Why the input was not read.
+#[derive(Clone, Copy, Debug, PartialEq, Eq)]
+pub enum InputFault {
+    /// The source failed at a byte of this block, counted from 1; 0 is the GSI block.
+    Read {
+        /// The block.
+        block: u32,
+    },
+    /// Memory was refused.
+    Memory,
+}
+
+/// Writes the normal form of a subtitle file (own), and prints how many subtitles it has, or why
+/// there is none.
+///
+/// The input is read to its end before anything is written. `Fault` where a device failed or memory
+/// ran out.
+pub fn write_normal<S: Source, F: Flush, K: Sink>(
+    alloc: Global,
+    input: &mut S,
+    file: &mut F,
+    out: &mut K,
+) -> Status
+    requires input { CanFail (S.failure_count input.old) }
+    requires file { CanFail (F.failure_count file.old) }
+    requires out { CanFail (K.failure_count out.old) }
+    ensures work { EndsWork
+        (source_call S.remaining S.failure_count input.old input.new)
+        (sink_call F.contents F.failure_count file.old file.new)
+        (sink_call K.contents K.failure_count out.old out.new) result
+        (codes " subtitles\n") Normalizes }
+    ensures input_count { CountsFault S.failure_count input.old result input.new }
+    ensures file_count { CountsFault F.failure_count file.old result file.new }
+    ensures out_count { CountsFault K.failure_count out.old result out.new }
+    ensures held { result ≡ Status.Done → F.held file.new ≡ 0 }
+{
+    write(alloc, &NormalWork, b" subtitles\n", input, file, out)
+}
+
+/// The work of `write_normal`.
+#[derive(Drop)]
+pub struct NormalWork;
+
+impl Work for NormalWork {
+    ghost works = { λ w. Normalizes };
+
+    fn work<S: Source, F: Flush>(
+        &self,
+        alloc: Global,
+        input: &mut S,
+        file: &mut F,
+    ) -> Result<u32, WriteFault> {
+        let bytes = match read_input(alloc, input) {
+            Ok(bytes) => bytes,
+            Err(fault) => return Err(WriteFault::Input(fault)),
+        };
+        match put_normal(bytes.as_slice(), file) {
+            Ok(count) => Ok(count),
+            Err(fault) => Err(WriteFault::Normal(fault)),
+        }
+    }
+}
+
+// Writes the normal form of the file that has these first bytes, and flushes it.
+fn put_normal<F: Flush>(bytes: &[u8], file: &mut F) -> Result<u32, NormalFault>
+    requires { CanFail (F.failure_count file.old) }
+    ensures answer { (s : List ℕ) → bytes.now ≡ take most_read s
+        → NormalAnswers s (F.contents file.old) (F.contents file.new) result }
+    ensures count { CountsIf F.failure_count file.old (failed is_write result) file.new }
+    ensures held { OnOk result (F.held file.new ≡ 0) }
+{
+    match normal(bytes, file) {
+        Ok(count) => match file.flush() {
+            Ok(()) => Ok(count),
+            Err(_) => Err(NormalFault::Write),
+        },
+        Err(fault) => Err(fault),
+    }
+}
+
+/// Reads the input of `normal` to its end, or as far as its bytes can change the answer, into any
+/// memory, so that a test can refuse a growth.
+///
+/// # Errors
+///
+/// `Read` with the block of the byte that was asked for, or `Memory` where a growth was refused.
+pub fn read_input<A: Allocator + Drop, S: Source>(
+    alloc: A,
+    input: &mut S,
+) -> Result<Vec<u8, A>, InputFault>
+    requires { CanFail (S.failure_count input.old) }
+    ensures bytes { IfTold (S.remaining input.old) (λ bytes.
+        IfOk result (λ v. v.items ≡ take most_read bytes)) }
+    ensures read { IfErr result (TellsRead (S.remaining input.old) (S.remaining input.new)) }
+    ensures count { CountsIf S.failure_count input.old (failed is_input_read result) input.new }
+{
+    let mut bytes = Vec::new(alloc);
+    let mut room = [0; PIECE];
+    'pieces: while bytes.len() < MOST_READ {
+        let piece = &mut room[..PIECE.min(MOST_READ - bytes.len())];
+        match input.pull(piece) {
+            Ok(0) => return Ok(bytes),
+            Ok(len) => {
+                let Ok(()) = bytes.extend_from_slice(&piece[..len]) else {
+                    return Err(InputFault::Memory);
+                };
+            }
+            Err(_) => {
+                let block = block_of_byte(bytes.len());
+                return Err(InputFault::Read { block });
+            }
+        }
+    }
+    Ok(bytes)
+}
+
+// The block of the byte that stands after `len` bytes: 0 up to 1024 of them, and then one more for
+// each 128.
+fn block_of_byte(len: usize) -> u32
+    requires { len < most_read }
+    ensures { result ≡ block_of_byte len }
+{
+    (len.saturating_sub(1024 - 128) / 128) as u32
+}

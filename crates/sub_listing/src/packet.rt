@@ -1,0 +1,193 @@
+//! `packet HEX`: shows one packet.
+ghost use Rattle.std.specs.Prelude.{◌≡◌, ◌+◌, ◌≤◌, [], ◌++◌, IfErr, OnOk, length};
+ghost use Rattle.arrayvec.specs.ArrayVec.{array_vec_len};
+ghost use Rattle.sub_listing.specs.DeviceCall.{CanFail, CountsFault, sink_call};
+ghost use Rattle.sub_listing.specs.Faults.{packet_code, packet_told};
+ghost use Rattle.sub_listing.specs.Lines.{address_line, control_list, header_line, hex_two, marked};
+ghost use Rattle.sub_listing.specs.Lines.{text_line};
+ghost use Rattle.sub_listing.specs.Listing.{PrintsOrFails, done, packet_listing, told_listing};
+
+use crate::faults::told_of_packet;
+use crate::lines::{glyph, push_number, push_text};
+use crate::printing::{print_done, print_told};
+use crate::status::Status;
+use arrayvec::ArrayVec;
+use bitflags::Flags;
+use sub_io::{FaultCode, Sink};
+use ttx_packet::{Control, Header, Packet, is_odd};
+
+// Room for the line of an address.
+const ADDRESS_ROOM: usize = 64;
+
+// Room for the control bits that are set.
+const CONTROL_ROOM: usize = 40;
+
+// Room for the line of a page header.
+const HEADER_ROOM: usize = 80;
+
+// Room for the line of 40 text bytes.
+const TEXT_ROOM: usize = 48;
+
+// Room for all that is printed of one packet.
+const PACKET_ROOM: usize = 256;
+
+const _: () = prove!(ADDRESS_ROOM + HEADER_ROOM + TEXT_ROOM <= PACKET_ROOM);
+
+type Text = ArrayVec<u8, PACKET_ROOM>;
+
+const HEX_DIGITS: [u8; 16] = *b"0123456789ABCDEF";
+
+/// Why a packet is not shown.
+#[derive(Clone, Copy)]
+pub enum PacketFault {
+    /// One of the two address bytes is two bits or more away from each Hamming 8/4 code word.
+    BadAddress,
+    /// One of the eight coded bytes of a page header is.
+    BadHeader,
+}
+
+impl PacketFault {
+    /// The number and the name by which the fault is told (own).
+    pub fn code(self) -> FaultCode
+        ensures { result ≡ packet_code self }
+    {
+        match self {
+            PacketFault::BadAddress => FaultCode::new(3, "BadAddress"),
+            PacketFault::BadHeader => FaultCode::new(4, "BadHeader"),
+        }
+    }
+}
+
+/// Prints the address of a packet, its header and its text (EN 300 706, packets X/0 to X/31).
+///
+/// Refuses a packet that has no address, or whose header means nothing.
+pub fn show_packet<K: Sink>(bytes: &[u8; 42], out: &mut K) -> Status
+    requires { CanFail (K.failure_count out.old) }
+    ensures printed { PrintsOrFails (sink_call K.contents K.failure_count out.old out.new)
+        (packet_listing bytes.now) result }
+    ensures count { CountsFault K.failure_count out.old result out.new }
+    ensures fault { result ≡ Status.Fault → K.failure_count out.new ≡ K.failure_count out.old + 1 }
+{
+    let mut text = Text::new();
+    match push_packet(&mut text, &Packet::new(*bytes)) {
+        Ok(()) => print_done(text.as_slice(), out),
+        Err(fault) => print_told(&told_of_packet(fault), out),
+    }
+}
+
+// Appends what is printed of a packet.
+fn push_packet(text: &mut Text, packet: &Packet) -> Result<(), PacketFault>
+    requires { text.old.items ≡ [] }
+    ensures ok { OnOk result (packet_listing packet.now ≡ done text.new.items) }
+    ensures err { IfErr result
+        (λ fault. packet_listing packet.now ≡ told_listing (packet_told fault)) }
+{
+    let Some((magazine, packet_number)) = packet.address() else {
+        return Err(PacketFault::BadAddress);
+    };
+    push_address(text, magazine, packet_number);
+    if packet_number == 0 {
+        let Some(header) = packet.header() else {
+            return Err(PacketFault::BadHeader);
+        };
+        push_header(text, &header);
+        push_text_line(text, packet.bytes().split_at(10).1);
+    } else if packet_number <= 24 {
+        push_text_line(text, packet.data());
+    }
+    Ok(())
+}
+
+// Appends a packet's address as a line.
+fn push_address(line: &mut Text, magazine: u8, packet_number: u8)
+    requires { array_vec_len line.old + ADDRESS_ROOM ≤ PACKET_ROOM }
+    ensures items { line.new.items ≡ line.old.items ++ address_line magazine packet_number }
+    ensures len { array_vec_len line.new ≤ array_vec_len line.old + ADDRESS_ROOM }
+{
+    let shown_magazine = if magazine == 0 { 8 } else { magazine };
+    push_number(line, b"magazine ", u64::from(shown_magazine));
+    push_number(line, b" packet ", u64::from(packet_number));
+    push_text(line, b"\n");
+}
+
+// Appends what a page header says as a line.
+fn push_header(line: &mut Text, header: &Header)
+    requires { array_vec_len line.old + HEADER_ROOM ≤ PACKET_ROOM }
+    ensures items { line.new.items ≡ line.old.items ++ header_line header.now }
+    ensures len { array_vec_len line.new ≤ array_vec_len line.old + HEADER_ROOM }
+{
+    push_text(line, b"page ");
+    push_hex(line, header.page);
+    push_text(line, b" subcode ");
+    push_hex(line, (header.subcode / 256) as u8);
+    push_hex(line, (header.subcode % 256) as u8);
+    push_text(line, b" control");
+    push_control(line, header);
+    push_text(line, b"\n");
+}
+
+// Appends a byte as two upper case hexadecimal digits.
+#[tactic(auto, unfolding(crate::specs::Lines::hex_two))]
+fn push_hex(line: &mut Text, byte: u8)
+    requires { array_vec_len line.old + 2 ≤ PACKET_ROOM }
+    ensures items { line.new.items ≡ line.old.items ++ hex_two byte }
+    ensures len { array_vec_len line.new ≡ array_vec_len line.old + 2 }
+{
+    line.push(HEX_DIGITS[(byte / 16) as usize]);
+    line.push(HEX_DIGITS[(byte % 16) as usize]);
+}
+
+// Appends the control bits that are set, or ` none`.
+fn push_control(line: &mut Text, header: &Header)
+    requires { array_vec_len line.old + CONTROL_ROOM ≤ PACKET_ROOM }
+    ensures items { line.new.items ≡ line.old.items ++ control_list header.now }
+    ensures len { array_vec_len line.new ≤ array_vec_len line.old + CONTROL_ROOM }
+{
+    let control = header.control;
+    let mut names = ArrayVec::<u8, CONTROL_ROOM>::new();
+    push_name(&mut names, control.contains(Control::C4), b" C4");
+    push_name(&mut names, control.contains(Control::C5), b" C5");
+    push_name(&mut names, control.contains(Control::C6), b" C6");
+    push_name(&mut names, control.contains(Control::C7), b" C7");
+    push_name(&mut names, control.contains(Control::C8), b" C8");
+    push_name(&mut names, control.contains(Control::C9), b" C9");
+    push_name(&mut names, control.contains(Control::C10), b" C10");
+    push_name(&mut names, control.contains(Control::C11), b" C11");
+    push_name(&mut names, control.contains(Control::C12), b" C12");
+    push_name(&mut names, control.contains(Control::C13), b" C13");
+    push_name(&mut names, control.contains(Control::C14), b" C14");
+    if names.is_empty() {
+        push_text(line, b" none");
+    } else {
+        push_text(line, names.as_slice());
+    }
+}
+
+// Appends the name of a bit that is set.
+fn push_name(names: &mut ArrayVec<u8, CONTROL_ROOM>, is_set: bool, name: &[u8])
+    requires { array_vec_len names.old + length name.now ≤ CONTROL_ROOM }
+    ensures items { names.new.items ≡ names.old.items ++ marked is_set name.now }
+    ensures len { array_vec_len names.new ≤ array_vec_len names.old + length name.now }
+{
+    if is_set {
+        push_text(names, name);
+    }
+}
+
+// Appends text bytes between bars as a line.
+fn push_text_line(line: &mut Text, bytes: &[u8])
+    requires short { length bytes.now ≤ 40 }
+    requires room { array_vec_len line.old + TEXT_ROOM ≤ PACKET_ROOM }
+    ensures { line.new.items ≡ line.old.items ++ text_line bytes.now }
+{
+    push_text(line, b"text |");
+    for byte in bytes {
+        // A byte of even parity means nothing.
+        line.push(if is_odd(*byte) {
+            glyph(*byte % 128)
+        } else {
+            b'?'
+        });
+    }
+    push_text(line, b"|\n");
+}

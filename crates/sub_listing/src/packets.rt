@@ -1,0 +1,220 @@
+//! `packets PES`: lists PES packets and their Teletext units.
+ghost use Rattle.std.specs.Prelude.{◌≡◌, ◌≢◌, ℕ, ◌+◌, ◌-◌, ◌<◌, ◌≤◌, ◌++◌, [], None, IfNone};
+ghost use Rattle.std.specs.Prelude.{IfSome, false, is_none, true};
+ghost use Rattle.arrayvec.specs.ArrayVec.{array_vec_len};
+ghost use Rattle.sub_io.specs.Device.{CanFail, CountsIf, RisesIf, failed};
+ghost use Rattle.ttx_pes.specs.Comparing.{as_given};
+ghost use Rattle.ttx_pes.specs.Fault.{is_read};
+ghost use Rattle.ttx_pes.specs.Reader.{TellsPacket, given_frame, progress_after};
+ghost use Rattle.ttx_pes.specs.Outcome.{ReadsPackets, outcome_after};
+ghost use Rattle.ttx_pes.specs.Reading.{most_packets};
+ghost use Rattle.ttx_pes.specs.declared.progress.Progress.TheVariants.{Reading};
+ghost use Rattle.sub_listing.specs.Lines.{unit_line};
+ghost use Rattle.sub_listing.specs.DeviceCall.{CountsFault, sink_call, source_call};
+ghost use Rattle.sub_listing.specs.Listing.{Lists, PrintsListing};
+ghost use Rattle.sub_listing.specs.PacketsListing.{ListsPackets, frame_lines, pes_listing};
+ghost use Rattle.sub_listing.specs.Printer.{StaysPrinted, printer_value};
+
+use crate::faults::told_of_check;
+use crate::lines::{push_lower_hex, push_number, push_text};
+use crate::listing::{Lister, PIECE, Text, end_at, end_with, list};
+use crate::printer::Printer;
+use crate::status::Status;
+use sub_io::{Ahead, Flush, HandingOn};
+use sub_rules::CheckFault;
+use ttx_pes::{Compared, ComparingReader, MOST_UNITS, PesFault, Unit};
+
+/// Lists the PES packets of a file (EN 300 472), one after another as they are read, and then how
+/// many there are, or why it is refused.
+///
+/// Lines before a refusal stay. `Fault` where a device failed.
+pub fn list_packets<S: Ahead, K: Flush>(source: &mut S, out: &mut K) -> Status
+    requires source { CanFail (S.failure_count source.old) }
+    requires out { CanFail (K.failure_count out.old) }
+    ensures listing { PrintsListing ListsPackets
+        (source_call S.remaining S.failure_count source.old source.new)
+        (sink_call K.contents K.failure_count out.old out.new) result }
+    ensures source_count { CountsFault S.failure_count source.old result source.new }
+    ensures out_count { CountsFault K.failure_count out.old result out.new }
+    ensures fault { result ≡ Status.Fault
+        → S.failure_count source.old + K.failure_count out.old
+        < S.failure_count source.new + K.failure_count out.new }
+{
+    list(&mut PacketLister::new(), source, out)
+}
+
+/// What makes the lines of PES packets.
+#[derive(Drop)]
+pub struct PacketLister {
+    reader: ComparingReader,
+    index: u32,
+}
+
+impl PacketLister {
+    /// A lister at the start of a file.
+    pub fn new() -> PacketLister
+        ensures start { result.index ≡ 0 }
+        ensures ready { result.reader.progress ≡ Reading 0 }
+    {
+        PacketLister {
+            reader: ComparingReader::new(),
+            index: 0,
+        }
+    }
+
+    // Makes the lines of the PES packet that was read last.
+    fn list_read(&mut self, text: &mut Text) -> Option<Status>
+        requires few { self.old.index < most_packets }
+        requires empty { text.old.items ≡ [] }
+        ensures lines { text.new.items ≡ frame_lines self.old.index self.old.reader.frame }
+        ensures index { self.new.index ≡ self.old.index + 1 }
+        ensures reader { self.new.reader ≡ self.old.reader }
+        ensures more { result ≡ None }
+    {
+        push_frame(text, self.index, &self.reader);
+        self.index += 1;
+        None
+    }
+}
+
+impl Lister for PacketLister {
+    ghost ready = { λ l. (l.reader.progress ≡ Reading l.index) × (l.index ≤ most_packets) };
+
+    ghost pieces = { λ l. most_packets - l.index };
+
+    ghost lists = { λ l. Lists (pes_listing l.index) (outcome_after l.index) ReadsPackets };
+
+    fn next<S: Ahead, K: Flush>(
+        &mut self,
+        source: &mut S,
+        printer: &mut Printer<'_, K>,
+        text: &mut Text,
+    ) -> Option<Status> {
+        let Some(read) = next_live(&mut self.reader, source, printer) else {
+            return Some(Status::Fault);
+        };
+        match read {
+            Ok(Compared::End) => end_at(text, self.index, b" pes\n"),
+            Ok(Compared::Same) => self.list_read(text),
+            Ok(Compared::Other) => self.list_read(text),
+            Err(fault) => {
+                let pes = self.index;
+                end_with(text, &told_of_check(CheckFault::Pes { fault, pes }))
+            }
+        }
+    }
+}
+
+// Reads the next PES packet. Before the source may have to wait, the lines before it are handed on;
+// `None` where they can't be, and then nothing more was read.
+fn next_live<S: Ahead, K: Flush>(
+    reader: &mut ComparingReader,
+    source: &mut S,
+    printer: &mut Printer<'_, K>,
+) -> Option<Result<Compared, PesFault>>
+    requires source { CanFail (S.failure_count source.old) }
+    requires out { CanFail (K.failure_count printer.old.out.now) }
+    requires goes_on { printer.old.failed ≡ false }
+    ensures same { printer.new.out.ghost_name ≡ printer.old.out.ghost_name }
+    ensures stays { StaysPrinted
+        (printer_value (K.contents printer.old.out.now) (K.failure_count printer.old.out.now)
+        printer.old.refused printer.old.failed)
+        (printer_value (K.contents printer.new.out.now) (K.failure_count printer.new.out.now)
+        printer.new.refused printer.new.failed) }
+    ensures failed { printer.new.failed ≡ is_none result }
+    ensures refused { IfNone result (S.failure_count source.new ≡ S.failure_count source.old) }
+    ensures count { IfSome result (λ read.
+        CountsIf S.failure_count source.old (failed is_read read) source.new) }
+    ensures tells { IfSome result (λ read. TellsPacket reader.old.progress
+        (S.remaining source.old) (S.remaining source.new)
+        (given_frame (as_given read) reader.new.frame)) }
+    ensures progress { IfSome result (λ read. reader.new.progress
+        ≡ progress_after reader.old.progress (given_frame (as_given read) reader.new.frame)) }
+    ensures few { IfSome result (λ _.
+        (given : ℕ) → reader.new.progress ≡ Reading given → given ≤ most_packets) }
+{
+    let mut lent = HandingOn {
+        source,
+        beside: printer,
+        refused: 0,
+    };
+    let read = next_lent(reader, &mut lent);
+    if lent.refused > 0 {
+        return None;
+    }
+    Some(read)
+}
+
+// Reads the next PES packet of a source that is lent. Where a pull was refused the answer is of no
+// use.
+fn next_lent<S: Ahead, K: Flush>(
+    reader: &mut ComparingReader,
+    lent: &mut HandingOn<'_, S, Printer<'_, K>>,
+) -> Result<Compared, PesFault>
+    requires source { CanFail (S.failure_count lent.old.source.now) }
+    requires out { CanFail (K.failure_count lent.old.beside.now.out.now) }
+    requires goes_on { lent.old.beside.now.failed ≡ false }
+    requires none { lent.old.refused ≡ 0 }
+    ensures source { lent.new.source.ghost_name ≡ lent.old.source.ghost_name }
+    ensures beside { lent.new.beside.ghost_name ≡ lent.old.beside.ghost_name }
+    ensures same { lent.new.beside.now.out.ghost_name ≡ lent.old.beside.now.out.ghost_name }
+    ensures stays { StaysPrinted
+        (printer_value (K.contents lent.old.beside.now.out.now)
+        (K.failure_count lent.old.beside.now.out.now)
+        lent.old.beside.now.refused lent.old.beside.now.failed)
+        (printer_value (K.contents lent.new.beside.now.out.now)
+        (K.failure_count lent.new.beside.now.out.now)
+        lent.new.beside.now.refused lent.new.beside.now.failed) }
+    ensures goes_on { lent.new.refused ≡ 0 → lent.new.beside.now.failed ≡ false }
+    ensures stopped { lent.new.refused ≢ 0 → lent.new.beside.now.failed ≡ true }
+    ensures count { lent.new.refused ≡ 0
+        → RisesIf (S.failure_count lent.old.source.now) (failed is_read result)
+        (S.failure_count lent.new.source.now) }
+    ensures refused { lent.new.refused ≢ 0
+        → S.failure_count lent.new.source.now ≡ S.failure_count lent.old.source.now }
+    ensures tells { TellsPacket reader.old.progress (S.remaining lent.old.source.now)
+        (S.remaining lent.new.source.now) (given_frame (as_given result) reader.new.frame) }
+    ensures progress { reader.new.progress
+        ≡ progress_after reader.old.progress (given_frame (as_given result) reader.new.frame) }
+    ensures few { (given : ℕ) → reader.new.progress ≡ Reading given → given ≤ most_packets }
+{
+    reader.next(lent)
+}
+
+// Room for the line of a PES packet.
+const PES_LINE: usize = 64;
+
+// Room for the line of a Teletext unit.
+const UNIT_LINE: usize = 192;
+
+// A piece has room for the lines of a PES packet and of all its units.
+const _: () = prove!(PES_LINE + MOST_UNITS * UNIT_LINE <= PIECE);
+
+// Appends the lines of a PES packet and of its Teletext units.
+fn push_frame(text: &mut Text, index: u32, reader: &ComparingReader)
+    requires { text.old.items ≡ [] }
+    ensures { text.new.items ≡ frame_lines index reader.now.frame }
+{
+    push_number(text, b"pes ", u64::from(index));
+    push_number(text, b" pts ", reader.pts());
+    push_text(text, b"\n");
+    let units = reader.units();
+    for number in 0..units.len() {
+        push_unit(text, number, &units.unit(number));
+    }
+}
+
+// Appends the line of a Teletext unit: its fields, and its packet in Teletext's own order of bits.
+fn push_unit(text: &mut Text, number: usize, unit: &Unit)
+    requires { array_vec_len text.old + UNIT_LINE ≤ PIECE }
+    ensures items { text.new.items ≡ text.old.items ++ unit_line number unit.now }
+    ensures len { array_vec_len text.new ≤ array_vec_len text.old + UNIT_LINE }
+{
+    push_number(text, b"unit ", number as u64);
+    push_number(text, b" id 0", u64::from(unit.id()));
+    push_number(text, b" field ", u64::from(unit.field()));
+    push_number(text, b" line ", u64::from(unit.line()));
+    push_text(text, b" ");
+    push_lower_hex(text, unit.packet().bytes());
+    push_text(text, b"\n");
+}

@@ -1,0 +1,196 @@
+//! A device that prints a line for each event that it is told.
+ghost use Rattle.std.specs.Prelude.{◌≡◌, ◌||◌, OnErr, OnOk, false, is_err, is_ok, not, true};
+ghost use Rattle.std.proofs.Common.{◌∙◌};
+ghost use Rattle.std.specs.Io.KnownBytes.{Appends};
+ghost use Rattle.sub_io.specs.Device.{AppendsPrefix, CanFail, CountsFailure};
+ghost use Rattle.sub_io.proofs.HandingOnLemmas.{Tells-stays};
+ghost use Rattle.sub_listing.specs.EventLines.{refusal, subtitle_event};
+ghost use Rattle.sub_listing.specs.StaysPrinted.{line_stays, not_true};
+ghost use Rattle.sub_listing.specs.Printer.{HandsOnLines, PrintsEvent, can_fail, counted};
+ghost use Rattle.sub_listing.specs.Printer.{printer_value};
+
+use crate::lines::{Line, push_event};
+use stl_rows::LoadFault;
+use sub_io::{Audience, Flush, Live, LiveAudience, Sink, Stopped, put_all};
+use sub_rules::{CheckFault, Event};
+
+/// Prints the line of each event that it is told, at once, and counts the refusals.
+///
+/// It says stop where its sink failed: that has a prefix of the line.
+#[derive(Drop)]
+pub struct Printer<'a, K> {
+    /// Where the lines go.
+    pub out: &'a mut K,
+    /// How many refusals it was told; the greatest number stands for itself and for any above it.
+    pub refused: u64,
+    /// The sink failed.
+    pub failed: bool,
+    /// Lines were put that the sink may hold back.
+    pub waiting: bool,
+}
+
+impl<'a, K: Flush> Printer<'a, K> {
+    /// Has the sink hand on the lines that it holds back.
+    ///
+    /// # Errors
+    ///
+    /// `Stopped` where the sink fails, or has failed before.
+    fn flush(&mut self) -> Result<(), Stopped>
+        ensures same { self.new.out.ghost_name ≡ self.old.out.ghost_name }
+        ensures lines { HandsOnLines
+            (printer_value (K.contents self.old.out.now) (K.failure_count self.old.out.now)
+            self.old.refused self.old.failed) (is_ok result)
+            (printer_value (K.contents self.new.out.now) (K.failure_count self.new.out.now)
+            self.new.refused self.new.failed) }
+        ensures still { self.old.waiting ≡ false → self.new ≡ self.old }
+        ensures settled { OnOk result (self.new.waiting ≡ false) }
+        ensures held { self.old.waiting ≡ true → OnOk result (K.held self.new.out.now ≡ 0) }
+    {
+        if self.failed || self.out.failures() == u64::MAX {
+            return Err(Stopped);
+        }
+        if self.waiting {
+            if self.out.flush().is_err() {
+                self.failed = true;
+                return Err(Stopped);
+            }
+            self.waiting = false;
+        }
+        Ok(())
+    }
+}
+
+impl<'a, K: Sink> Printer<'a, K> {
+    /// Puts lines.
+    ///
+    /// # Errors
+    ///
+    /// `Stopped` where the sink failed: it has a prefix of them.
+    pub fn put(&mut self, lines: &[u8]) -> Result<(), Stopped>
+        requires { CanFail (K.failure_count self.old.out.now) }
+        ensures same { self.new.out.ghost_name ≡ self.old.out.ghost_name }
+        ensures refused { self.new.refused ≡ self.old.refused }
+        ensures ok { OnOk result (Appends
+            (K.contents self.old.out.now) (K.contents self.new.out.now) lines.now) }
+        ensures err { OnErr result (AppendsPrefix
+            (K.contents self.old.out.now) (K.contents self.new.out.now) lines.now) }
+        ensures count { CountsFailure
+            (K.failure_count self.old.out.now) result (K.failure_count self.new.out.now) }
+        ensures failed { OnOk result (self.new.failed ≡ self.old.failed) }
+        ensures stopped { OnErr result (self.new.failed ≡ true) }
+    {
+        self.waiting = true;
+        match put_all(self.out, lines) {
+            Ok(()) => Ok(()),
+            Err(_) => {
+                self.failed = true;
+                Err(Stopped)
+            }
+        }
+    }
+
+    // Puts the line of an event, and counts it where it is a refusal.
+    fn print(&mut self, event: Event) -> Result<(), Stopped>
+        requires goes_on { self.old.failed ≡ false }
+        requires count { CanFail (K.failure_count self.old.out.now) }
+        ensures same { self.new.out.ghost_name ≡ self.old.out.ghost_name }
+        ensures prints { PrintsEvent
+            (printer_value (K.contents self.old.out.now) (K.failure_count self.old.out.now)
+            self.old.refused self.old.failed) event
+            (printer_value (K.contents self.new.out.now) (K.failure_count self.new.out.now)
+            self.new.refused self.new.failed) }
+        ensures stopped { self.new.failed ≡ is_err result }
+    {
+        let mut line = Line::new();
+        push_event(&mut line, event);
+        self.put(line.as_slice())?;
+        self.count(event);
+        Ok(())
+    }
+
+    // Counts an event where it is a refusal.
+    #[tactic(auto, unfolding(crate::specs::Printer::counted))]
+    fn count(&mut self, event: Event)
+        ensures { self.new ≡ record self.old {
+          refused = counted self.old.refused (refusal event);
+        } }
+    {
+        self.refused = self.refused.saturating_add(refusal(event));
+    }
+}
+
+// 1 for a refusal, and 0 for any other event.
+fn refusal(event: Event) -> u64
+    ensures { result ≡ refusal event }
+{
+    match event {
+        Event::Told(_) => 1,
+        Event::Ended { .. } | Event::PassedUntil(_) | Event::Trusted { .. } => 0,
+    }
+}
+
+impl<K: Sink> Audience<Event> for Printer<'_, K> {
+    ghost is_told = { λ s event t. (t.out.ghost_name ≡ s.out.ghost_name)
+        × PrintsEvent
+        (printer_value (K.contents s.out.now) (K.failure_count s.out.now) s.refused s.failed) event
+        (printer_value (K.contents t.out.now) (K.failure_count t.out.now) t.refused t.failed) };
+
+    ghost has_stopped = { λ p. p.failed || not (can_fail (K.failure_count p.out.now)) };
+
+    /// Prints its line.
+    ///
+    /// # Errors
+    ///
+    /// `Stopped` where the sink failed: it has a prefix of the line.
+    fn tell(&mut self, item: Event) -> Result<(), Stopped> {
+        self.print(item)
+    }
+}
+
+impl<K: Sink> Audience<LoadFault> for Printer<'_, K> {
+    ghost is_told = { λ s fault t. (t.out.ghost_name ≡ s.out.ghost_name)
+        × PrintsEvent
+        (printer_value (K.contents s.out.now) (K.failure_count s.out.now) s.refused s.failed)
+        (subtitle_event fault)
+        (printer_value (K.contents t.out.now) (K.failure_count t.out.now) t.refused t.failed) };
+
+    ghost has_stopped = { λ p. p.failed || not (can_fail (K.failure_count p.out.now)) };
+
+    /// Prints its line, as that of an event.
+    ///
+    /// # Errors
+    ///
+    /// `Stopped` where the sink failed: it has a prefix of the line.
+    fn tell(&mut self, item: LoadFault) -> Result<(), Stopped> {
+        self.print(Event::Told(CheckFault::Subtitles(item)))
+    }
+}
+
+impl<K: Flush> Live for Printer<'_, K> {
+    ghost is_settled = { λ p. not p.waiting };
+
+    ghost is_handed_on = { λ s ok t. (t.out.ghost_name ≡ s.out.ghost_name)
+        × (s.waiting ≡ false → t ≡ s)
+        × HandsOnLines
+        (printer_value (K.contents s.out.now) (K.failure_count s.out.now) s.refused s.failed) ok
+        (printer_value (K.contents t.out.now) (K.failure_count t.out.now) t.refused t.failed) };
+
+    /// Has the sink hand on the lines that it holds back.
+    ///
+    /// # Errors
+    ///
+    /// `Stopped` where the sink fails, or has failed before.
+    fn hand_on(&mut self) -> Result<(), Stopped> {
+        self.flush()
+    }
+}
+
+impl<K: Flush> LiveAudience<Event> for Printer<'_, K> {
+    ghost stays_told = { record {
+      told = λ start old new ok items settled told on.
+          Tells-stays _ start old new items
+          (λ same. on.1 (rw same (not_true start.waiting settled)))
+          (λ d x is. (on.0 ∙ is.0, line_stays _ _ _ x is.1 on.2.stays)) told;
+      stopped = λ old new ok on. on.2.stopped;
+    } };
+}

@@ -1,0 +1,50 @@
+//! The last text that a command prints, and its status.
+ghost use Rattle.std.specs.Prelude.{◌≡◌, ◌≢◌, ◌+◌, List, ℕ};
+ghost use Rattle.sub_listing.specs.DeviceCall.{CanFail, CountsFault, sink_call};
+ghost use Rattle.sub_listing.specs.Listing.{PrintsOrFails, done, told_listing};
+ghost use Rattle.sub_listing.specs.Told.{status_of};
+
+use crate::lines::{Line, push_told};
+use crate::status::Status;
+use crate::told::Told;
+use sub_io::{Sink, put_all};
+
+/// Puts a text that is all that was asked for: `Done`.
+///
+/// `Fault` where the sink fails: then it has a prefix of the text.
+#[tactic(auto, unfolding(crate::specs::Listing::PrintsOrFails))]
+pub fn print_done<K: Sink>(text: &[u8], out: &mut K) -> Status
+    requires { CanFail (K.failure_count out.old) }
+    ensures printed { (whole : List ℕ) → whole ≡ text.now → PrintsOrFails
+        (sink_call K.contents K.failure_count out.old out.new) (done whole) result }
+    ensures count { CountsFault K.failure_count out.old result out.new }
+    ensures failed { result ≡ Status.Fault
+        → K.failure_count out.new ≡ K.failure_count out.old + 1 }
+{
+    match put_all(out, text) {
+        Ok(()) => Status::Done,
+        Err(_) => Status::Fault,
+    }
+}
+
+/// Puts the line of what is told of a fault, and gives the status that goes with it.
+///
+/// `Fault` where the sink fails: then it has a prefix of the line.
+#[tactic(auto, unfolding(crate::specs::Listing::PrintsOrFails))]
+pub fn print_told<K: Sink>(told: &Told, out: &mut K) -> Status
+    requires { CanFail (K.failure_count out.old) }
+    ensures printed { PrintsOrFails (sink_call K.contents K.failure_count out.old out.new)
+        (told_listing told.now) result }
+    ensures count { CountsFault K.failure_count out.old result out.new }
+    ensures fault { status_of told.now.kind ≡ Status.Fault → result ≡ Status.Fault }
+    ensures not_done { result ≢ Status.Done }
+    ensures failed { result ≡ Status.Fault → status_of told.now.kind ≢ Status.Fault
+        → K.failure_count out.new ≡ K.failure_count out.old + 1 }
+{
+    let mut line = Line::new();
+    push_told(&mut line, told);
+    match put_all(out, line.as_slice()) {
+        Ok(()) => told.status(),
+        Err(_) => Status::Fault,
+    }
+}

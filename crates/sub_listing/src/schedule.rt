@@ -1,0 +1,97 @@
+//! `schedule STL PES`: writes the schedule of a subtitle file.
+ghost use Rattle.std.specs.Prelude.{◌≡◌, OnOk, codes};
+ghost use Rattle.sub_io.specs.Device.{CanFail, CountsIf, failed};
+ghost use Rattle.sub_plan.specs.Fault.{is_write};
+ghost use Rattle.sub_listing.specs.DeviceCall.{CountsFault, sink_call, source_call};
+ghost use Rattle.sub_listing.specs.Writing.{EndsWork, Schedules, WritesSchedule};
+
+use crate::status::Status;
+use crate::writing::{Work, WriteFault, write};
+use std::alloc::Global;
+use stl_rows::{National, Programme, load};
+use sub_io::{Flush, Sink, Source};
+use sub_plan::{Options, PlanFault, schedule};
+
+/// Writes the schedule of a subtitle file, one PES packet for each sending (EN 300 472), and prints
+/// how many there are, or why there is none.
+///
+/// The input is read to its end before anything is written. `Fault` where a device failed or memory
+/// ran out.
+pub fn write_schedule<S: Source, F: Flush, K: Sink>(
+    alloc: Global,
+    national: National,
+    options: &Options,
+    serial: bool,
+    input: &mut S,
+    file: &mut F,
+    out: &mut K,
+) -> Status
+    requires input { CanFail (S.failure_count input.old) }
+    requires file { CanFail (F.failure_count file.old) }
+    requires out { CanFail (K.failure_count out.old) }
+    ensures work { EndsWork
+        (source_call S.remaining S.failure_count input.old input.new)
+        (sink_call F.contents F.failure_count file.old file.new)
+        (sink_call K.contents K.failure_count out.old out.new) result
+        (codes " transmissions\n") (Schedules national options.now serial) }
+    ensures input_count { CountsFault S.failure_count input.old result input.new }
+    ensures file_count { CountsFault F.failure_count file.old result file.new }
+    ensures out_count { CountsFault K.failure_count out.old result out.new }
+    ensures held { result ≡ Status.Done → F.held file.new ≡ 0 }
+{
+    let work = ScheduleWork {
+        options,
+        serial,
+        national,
+    };
+    write(alloc, &work, b" transmissions\n", input, file, out)
+}
+
+/// The work of `write_schedule`.
+#[derive(Drop)]
+pub struct ScheduleWork<'a> {
+    /// The page, the repeat bound and the PTS of frame 0.
+    pub options: &'a Options,
+    /// Whether the headers are those of serial mode.
+    pub serial: bool,
+    /// The national option by which the text is read.
+    pub national: National,
+}
+
+impl<'a> Work for ScheduleWork<'a> {
+    ghost works = { λ w. Schedules w.national w.options.now w.serial };
+
+    fn work<S: Source, F: Flush>(
+        &self,
+        alloc: Global,
+        input: &mut S,
+        file: &mut F,
+    ) -> Result<u32, WriteFault> {
+        match load(alloc, input, self.national) {
+            Ok(programme) => put_schedule(&programme, self.options, self.serial, file).map_err(
+                WriteFault::Plan,
+            ),
+            Err(fault) => Err(WriteFault::Load(fault)),
+        }
+    }
+}
+
+// Writes the schedule of a programme, and flushes it.
+fn put_schedule<F: Flush>(
+    programme: &Programme,
+    options: &Options,
+    serial: bool,
+    file: &mut F,
+) -> Result<u32, PlanFault>
+    requires { CanFail (F.failure_count file.old) }
+    ensures written { WritesSchedule programme.now options.now serial
+        (F.contents file.old) (F.contents file.new) result }
+    ensures count { CountsIf F.failure_count file.old (failed is_write result) file.new }
+    ensures held { OnOk result (F.held file.new ≡ 0) }
+{
+    let count = schedule(programme, options, serial, file)?;
+    match file.flush() {
+        Ok(()) => Ok(count),
+        Err(_) => Err(PlanFault::Write),
+    }
+}

@@ -1,0 +1,105 @@
+//! `show STL`: lists subtitles.
+ghost use Rattle.std.specs.Prelude.{◌≡◌, ◌+◌, ◌<◌, [], None};
+ghost use Rattle.sub_listing.specs.DeviceCall.{CanFail, CountsFault, sink_call, source_call};
+ghost use Rattle.sub_listing.specs.Lines.{subtitle_line};
+ghost use Rattle.sub_listing.specs.Listing.{PrintsListing};
+ghost use Rattle.sub_listing.specs.ShowListing.{IsReady, ListsFrom, ListsSubtitles, blocks_left};
+
+use crate::faults::told_of_stl;
+use crate::lines::{push_number, push_text, push_text_digits, push_time};
+use crate::listing::{Lister, Text, end_at, end_with, list};
+use crate::printer::Printer;
+use crate::status::Status;
+use stl_file::{StlReader, Subtitle, five_digits_of};
+use sub_io::{Ahead, Flush};
+
+/// Lists the subtitles of a file (EBU Tech 3264), one after another as they are read, and then how
+/// many there are, or why it is refused.
+///
+/// Lines before a refusal stay. `Fault` where a device failed.
+pub fn list_subtitles<S: Ahead, K: Flush>(source: &mut S, out: &mut K) -> Status
+    requires source { CanFail (S.failure_count source.old) }
+    requires out { CanFail (K.failure_count out.old) }
+    ensures listing { PrintsListing ListsSubtitles
+        (source_call S.remaining S.failure_count source.old source.new)
+        (sink_call K.contents K.failure_count out.old out.new) result }
+    ensures source_count { CountsFault S.failure_count source.old result source.new }
+    ensures out_count { CountsFault K.failure_count out.old result out.new }
+    ensures fault { result ≡ Status.Fault
+        → S.failure_count source.old + K.failure_count out.old
+        < S.failure_count source.new + K.failure_count out.new }
+{
+    list(&mut SubtitleLister::new(), source, out)
+}
+
+/// What makes the lines of subtitles.
+#[derive(Drop)]
+pub struct SubtitleLister {
+    // There is none before the GSI block is read, which is the first piece, without a line.
+    reader: Option<StlReader>,
+    count: u32,
+}
+
+impl SubtitleLister {
+    /// A lister at the start of a file.
+    pub fn new() -> SubtitleLister
+        ensures reader { result.reader ≡ None }
+        ensures count { result.count ≡ 0 }
+    {
+        SubtitleLister {
+            reader: None,
+            count: 0,
+        }
+    }
+}
+
+impl Lister for SubtitleLister {
+    ghost ready = { λ l. IsReady l.reader l.count };
+
+    ghost pieces = { λ l. blocks_left l.reader };
+
+    ghost lists = { λ l. ListsFrom l.reader l.count };
+
+    fn next<S: Ahead, K: Flush>(
+        &mut self,
+        source: &mut S,
+        _printer: &mut Printer<'_, K>,
+        text: &mut Text,
+    ) -> Option<Status> {
+        let Some(reader) = &mut self.reader else {
+            return match StlReader::open(source) {
+                Ok(reader) => {
+                    self.reader = Some(reader);
+                    None
+                }
+                Err(fault) => end_with(text, &told_of_stl(fault, 0)),
+            };
+        };
+        match reader.next(source) {
+            Ok(Some(subtitle)) => {
+                push_subtitle(text, &subtitle);
+                self.count += 1;
+                None
+            }
+            Ok(None) => end_at(text, self.count, b" subtitles\n"),
+            Err(fault) => end_with(text, &told_of_stl(fault, reader.block())),
+        }
+    }
+}
+
+// Appends the line of a subtitle.
+fn push_subtitle(text: &mut Text, subtitle: &Subtitle)
+    requires { text.old.items ≡ [] }
+    ensures items { text.new.items ≡ subtitle_line subtitle.now }
+{
+    push_text(text, &five_digits_of(u32::from(subtitle.sn())));
+    push_text(text, b" ");
+    push_time(text, subtitle.tci());
+    push_text(text, b" ");
+    push_time(text, subtitle.tco());
+    push_number(text, b" vp ", u64::from(subtitle.vp()));
+    push_number(text, b" jc ", u64::from(subtitle.jc()));
+    push_text(text, b" text ");
+    push_text_digits(text, subtitle.text());
+    push_text(text, b"\n");
+}

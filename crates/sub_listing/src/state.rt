@@ -1,0 +1,122 @@
+//! What is printed of a receiver with a screen.
+ghost use Rattle.std.specs.Prelude.{◌≡◌, IfSome, ◌+◌, ◌*◌, ◌≤◌, ◌<◌, ◌++◌, ◌==◌};
+ghost use Rattle.std.specs.List.{list_all};
+ghost use Rattle.arrayvec.specs.ArrayVec.{array_vec_len};
+ghost use Rattle.ttx_page.specs.Page.{IsPage, space};
+ghost use Rattle.sub_listing.specs.DeviceCall.{CanFail, CountsFault, sink_call};
+ghost use Rattle.sub_listing.specs.Lines.{glyph};
+ghost use Rattle.sub_listing.specs.Listing.{PrintsOrFails, done};
+ghost use Rattle.ttx_page.specs.Screen.{display};
+ghost use Rattle.sub_listing.specs.DisplayLines.{IsSeenWhole, display_text, page_text, row_text};
+ghost use Rattle.sub_listing.specs.DisplayLines.{seen_page, seen_text};
+
+use crate::lines::{LINE_ROOM, glyph, push_text, push_two_digits};
+use crate::printing::print_done;
+use crate::status::Status;
+use arrayvec::ArrayVec;
+use sub_io::Sink;
+use ttx_page::{Page, Receiver};
+
+// Room for the line of a row: 40 characters, and ten before and after them.
+const ROW_ROOM: usize = 50;
+
+// Room for the lines of 24 rows.
+const ROWS_ROOM: usize = 1200;
+
+const _: () = prove!(24 * ROW_ROOM <= ROWS_ROOM);
+
+// Room for these and the two lines before them.
+const STATE_ROOM: usize = 1456;
+
+const _: () = prove!(2 * LINE_ROOM + ROWS_ROOM <= STATE_ROOM);
+
+type Rows = ArrayVec<u8, ROWS_ROOM>;
+
+type Text = ArrayVec<u8, STATE_ROOM>;
+
+/// Prints what a receiver has heard, and the page that it holds; where complete pages are asked
+/// for, the one that is on its screen.
+pub fn print_state<R: Receiver, K: Sink>(
+    receiver: &R,
+    screen: &Option<Page>,
+    asks_complete: bool,
+    out: &mut K,
+) -> Status
+    requires { CanFail (K.failure_count out.old) }
+    ensures printed { PrintsOrFails (sink_call K.contents K.failure_count out.old out.new)
+        (done (display_text asks_complete (display (R.state receiver.now) screen.now))) result }
+    ensures page { IsSeenWhole asks_complete (display (R.state receiver.now) screen.now) }
+    ensures count { CountsFault K.failure_count out.old result out.new }
+    ensures fault { result ≡ Status.Fault → K.failure_count out.old < K.failure_count out.new }
+{
+    let mut text = Text::new();
+    if receiver.heard() {
+        push_text(&mut text, b"heard yes\n");
+        if receiver.open() {
+            push_text(&mut text, b"open yes\n");
+        } else {
+            push_text(&mut text, b"open no\n");
+        }
+        push_seen(&mut text, receiver, screen, asks_complete);
+    } else {
+        push_text(&mut text, b"heard no\n");
+    }
+    print_done(text.as_slice(), out)
+}
+
+// Appends the lines of the page that a receiver holds, or of its screen.
+fn push_seen<R: Receiver>(text: &mut Text, receiver: &R, screen: &Option<Page>, asks_complete: bool)
+    requires { array_vec_len text.old + ROWS_ROOM ≤ STATE_ROOM }
+    ensures items { text.new.items ≡ text.old.items
+        ++ seen_text asks_complete (display (R.state receiver.now) screen.now) }
+    ensures page { IfSome (seen_page asks_complete (display (R.state receiver.now) screen.now))
+        IsPage }
+{
+    match screen {
+        _ if !asks_complete => push_page(text, receiver.page()),
+        Some(page) => push_page(text, page),
+        None => push_text(text, b"shown no\n"),
+    }
+}
+
+// Appends the lines of the rows of a page that hold a cell other than a space.
+fn push_page(text: &mut Text, page: &Page)
+    requires { array_vec_len text.old + ROWS_ROOM ≤ STATE_ROOM }
+    ensures items { text.new.items ≡ text.old.items ++ page_text page.now }
+    ensures page { IsPage page.now }
+{
+    let mut rows = Rows::new();
+    for i in 0..24u8 {
+        push_row(&mut rows, i + 1, page.row(i + 1));
+    }
+    if rows.len() == 0 {
+        push_text(text, b"blank\n");
+    } else {
+        push_text(text, rows.as_slice());
+    }
+}
+
+// Appends the line of a row, if it holds a cell other than a space.
+fn push_row(rows: &mut Rows, row: u8, cells: &[u8; 40])
+    requires { array_vec_len rows.old + ROW_ROOM ≤ ROWS_ROOM }
+    ensures items { rows.new.items ≡ rows.old.items ++ row_text row cells.now }
+    ensures len { array_vec_len rows.new ≤ array_vec_len rows.old + ROW_ROOM }
+{
+    if is_blank(cells) {
+        return;
+    }
+    push_text(rows, b"row ");
+    push_two_digits(rows, row);
+    push_text(rows, b" |");
+    for cell in cells {
+        rows.push(glyph(*cell));
+    }
+    push_text(rows, b"|\n");
+}
+
+// Whether all cells are spaces.
+fn is_blank(cells: &[u8; 40]) -> bool
+    ensures { result ≡ list_all (λ c. c == space) cells.now }
+{
+    cells.iter().all(|cell| *cell == 0x20)
+}

@@ -1,0 +1,87 @@
+//! How a file is written: the work is done, and the line that tells of it is printed.
+ghost use Rattle.std.specs.Prelude.{◌≡◌, ◌≤◌, OnOk, length};
+ghost use Rattle.sub_io.specs.Device.{CountsIf, failed};
+ghost use Rattle.sub_listing.specs.Writing.{EndsWork, is_read, is_write};
+ghost use Rattle.sub_listing.specs.DeviceCall.{CanFail, CountsFault, sink_call, source_call};
+ghost use Rattle.sub_listing.specs.Writing as writing;
+
+use crate::faults::told_of_write;
+use crate::lines::{Line, push_number, push_text};
+use crate::normal::InputFault;
+use crate::printing::{print_done, print_told};
+use crate::status::Status;
+use std::alloc::Global;
+use stl_file::NormalFault;
+use stl_rows::LoadFault;
+use sub_io::{Flush, Sink, Source};
+use sub_plan::PlanFault;
+
+/// Why a file is not written whole.
+#[derive(Clone, Copy)]
+pub enum WriteFault {
+    /// The input of `normal` was not read.
+    Input(InputFault),
+    /// The input of `schedule` gives no programme.
+    Load(LoadFault),
+    /// The normal form was not written.
+    Normal(NormalFault),
+    /// The schedule was not written.
+    Plan(PlanFault),
+}
+
+/// The work of a command that writes a file.
+pub trait Work {
+    /// What the file has and what is answered, by what the input tells before and after.
+    ghost works: { Self → writing.Work };
+
+    /// Does the work, and answers how many things were written. The input is read to its end before
+    /// anything is written, and what the file holds back is flushed.
+    fn work<S: Source, F: Flush>(
+        &self,
+        alloc: Global,
+        input: &mut S,
+        file: &mut F,
+    ) -> Result<u32, WriteFault>
+        requires input { CanFail (S.failure_count input.old) }
+        requires file { CanFail (F.failure_count file.old) }
+        ensures works { works self.now (S.remaining input.old) (S.remaining input.new)
+            (F.contents file.old) (F.contents file.new) result }
+        ensures input_count { CountsIf S.failure_count input.old (failed is_read result) input.new }
+        ensures file_count { CountsIf F.failure_count file.old (failed is_write result) file.new }
+        ensures held { OnOk result (F.held file.new ≡ 0) };
+}
+
+/// Does the work of a command, and prints the line of it: the number of things that were written,
+/// or the fault.
+pub fn write<W: Work, S: Source, F: Flush, K: Sink>(
+    alloc: Global,
+    work: &W,
+    things: &[u8],
+    input: &mut S,
+    file: &mut F,
+    out: &mut K,
+) -> Status
+    requires few { length things.now ≤ 32 }
+    requires input { CanFail (S.failure_count input.old) }
+    requires file { CanFail (F.failure_count file.old) }
+    requires out { CanFail (K.failure_count out.old) }
+    ensures work { EndsWork
+        (source_call S.remaining S.failure_count input.old input.new)
+        (sink_call F.contents F.failure_count file.old file.new)
+        (sink_call K.contents K.failure_count out.old out.new) result
+        things.now (W.works work.now) }
+    ensures input_count { CountsFault S.failure_count input.old result input.new }
+    ensures file_count { CountsFault F.failure_count file.old result file.new }
+    ensures out_count { CountsFault K.failure_count out.old result out.new }
+    ensures held { result ≡ Status.Done → F.held file.new ≡ 0 }
+{
+    match work.work(alloc, input, file) {
+        Ok(count) => {
+            let mut line = Line::new();
+            push_number(&mut line, b"written ", u64::from(count));
+            push_text(&mut line, things);
+            print_done(line.as_slice(), out)
+        }
+        Err(fault) => print_told(&told_of_write(fault), out),
+    }
+}
