@@ -16,7 +16,7 @@ use Rattle.stl_file.specs.Reader.{outcome_of}
 use Rattle.stl_file.specs.declared.fault.StlFault.TheVariants as stl_fault
 use Rattle.stl_rows.specs.EveryFault.{FailsTelling, TellsFaults, TellsOfFile, faults}
 use Rattle.stl_rows.specs.EveryFault.{is_told_before}
-use Rattle.stl_rows.specs.Fault.{is_read}
+use Rattle.stl_rows.specs.Fault.{is_read, is_read_kind}
 use Rattle.stl_rows.specs.Loading.{EndsRecord, load_fault, loaded}
 use Rattle.stl_rows.specs.Programme.{ProgrammeValue}
 use Rattle.stl_rows.specs.declared.fault.LoadFault.{LoadFault}
@@ -38,10 +38,19 @@ use Rattle.sub_rules.specs.declared.event.Event.{Event}
 use Rattle.sub_rules.specs.declared.fault.CheckFault.{CheckFault}
 use Rattle.sub_rules.specs.declared.fault.CheckFault.TheVariants as fault
 use Rattle.sub_listing.specs.DeviceCall.{SourceCall}
-use Rattle.sub_answer.specs.EveryFault.{FailsAtBlock, TellsBoth}
+use Rattle.sub_answer.specs.EveryFault.{AreListedBefore, CanEnd, FailsAtBlock, TellsBoth}
 use Rattle.sub_listing.specs.EventLines.{most_counted, refusals, subtitle_event, subtitle_events}
 use Rattle.sub_listing.specs.Printer.{PrinterValue, PrintsEvent, PrintsEvents}
 use Rattle.sub_listing.proofs.PrinterLemmas.{as_told, prints-taken, prints_all}
+
+-- Where a source tells its bytes, these decide what else is something.
+decided : {A : Type 0} (Q : A → Type 0) (told : Option (List ℕ)) (given : List ℕ → A) (some : A)
+    → Q some
+    → IfTold told (λ bytes. Q (given bytes))
+    → (x : A) × Q x × IfTold told (λ bytes. x ≡ given bytes)
+decided Q None given some holds told = (some, holds, λ bytes heard. cc)
+decided Q (Some bytes) given some holds told =
+    (given bytes, told bytes refl, λ other heard. let same : bytes ≡ other = cc in ap given same)
 
 -- ---- the subtitle file
 
@@ -57,186 +66,130 @@ named : (f g : LoadFault)
     → f ≡ g
 named f g is = cc
 
-module _ {D N : Type 0} (IsTold : D → LoadFault → D → Type 0) (name : D → N)
-    (value : D → PrinterValue)
+module _ {D : Type 0} (IsTold : D → LoadFault → D → Type 0) (value : D → PrinterValue)
     (one : (s t : D) (x : LoadFault) → IsTold s x t
-    → (name t ≡ name s) × PrintsEvent (value s) (subtitle_event x) (value t))
-    {S T : Type 0} (national : National) (options : OptionsValue)
-    (stl : SourceCall S) (pes : SourceCall T)
+    → PrintsEvent (value s) (subtitle_event x) (value t))
+    (national : National) (options : OptionsValue) (stl pes : SourceCall) (Untouched : Type 0)
     (old new : D)
     (goes : (value old).failed ≡ false) (few : (value old).refused ≤ most_counted)
-    (pes_same : pes.new ≡ pes.old) (pes_count : RisesIf pes.old_count false pes.new_count) where
+    (untouched : Untouched) (pes_count : RisesIf pes.old_count false pes.new_count) where
   abbrev printed : (items : List LoadFault) → Tells IsTold old new items
-      → (name new ≡ name old) × PrintsEvents (value old) (subtitle_events items) (value new)
-  printed items told = prints_all IsTold name value subtitle_event one old new items goes few told
-
-  module _ (quiet : (value new).failed ≡ false) where
-    -- Memory was refused: nothing was told before.
-    refused_memory : (block : ℕ)
-        → Tells IsTold old new []
-        → RisesIf stl.old_count false stl.new_count
-        → IfTold stl.told (λ file. EndsRecord national [] block (outcome_of file))
-        → TellsBoth national options stl pes (value old) (value new)
-        (Err (fault.Subtitles (load_fault block load.Memory)))
-    refused_memory block told count memory = record {
-      events = [];
-      answer = Err (fault.Subtitles (load_fault block load.Memory));
-      same = λ holds. refl;
-      prints = (printed [] told).1;
-      stl_count = count;
-      pes_count = pes_count;
-      stl_read = λ f is read.
-          absurd (true≢false (sym read ∙ sym (ap is_read (named _ f is))));
-      pes_read = λ index is. cc;
-      before = λ is. pes_same;
-      ended = inr (refl, refl);
-      cut = λ failing. absurd (true≢false (sym failing ∙ quiet));
-      checked = λ holds file heard bytes known. tt;
-      listed = λ file told. (refl, memory file told);
-    }
-
-    -- The source failed: these were told before.
-    failed_source : (block : ℕ) (items : List LoadFault)
-        → Tells IsTold old new items
-        → RisesIf stl.old_count true stl.new_count
-        → FailsAtBlock stl.told stl.left block
-        → IfTold stl.told (λ file. items
-        ≡ filter (is_told_before block) (faults national file))
-        → TellsBoth national options stl pes (value old) (value new)
-        (Err (fault.Subtitles (load_fault block (load.File stl_fault.Read))))
-    failed_source block items told count fails are = record {
-      events = subtitle_events items;
-      answer = Err (fault.Subtitles (load_fault block (load.File stl_fault.Read)));
-      same = λ holds. refl;
-      prints = (printed items told).1;
-      stl_count = count;
-      pes_count = pes_count;
-      stl_read = λ f is read.
-          subst (λ (g : LoadFault). FailsAtBlock stl.told stl.left g.block) (named _ f is) fails;
-      pes_read = λ index is. cc;
-      before = λ is. pes_same;
-      ended = inl refl;
-      cut = λ failing. absurd (true≢false (sym failing ∙ quiet));
-      checked = λ holds file heard bytes known. tt;
-      listed = λ file told. ap subtitle_events (are file told);
-    }
-
-    -- Where the source tells its bytes, they decide what was told before it failed.
-    failed_at : (block : ℕ) (o : Option (List ℕ))
-        → stl.told ≡ o
-        → TellsSome IsTold old new
-        → RisesIf stl.old_count true stl.new_count
-        → FailsTelling national stl.told stl.left IsTold old new block
-        → TellsBoth national options stl pes (value old) (value new)
-        (Err (fault.Subtitles (load_fault block (load.File stl_fault.Read))))
-    failed_at block None is some count read =
-        failed_source block some.items some.told count
-        (record { bytes = read.bytes; consumed = read.consumed; block_is = read.block_is })
-        (λ file told. cc)
-    failed_at block (Some file) is some count read =
-        failed_source block (filter (is_told_before block) (faults national file))
-        (read.told file is) count
-        (record { bytes = read.bytes; consumed = read.consumed; block_is = read.block_is })
-        (λ other told.
-        let same : file ≡ other = cc in
-        ap (λ b. filter (is_told_before block) (faults national b)) same)
-
-    -- The subtitle file can't be read on. For `tell_every_fault`.
-    pub after_error : (block : ℕ) (kind : LoadFaultKind)
-        → (kind ≡ load.Memory) ⊎ (kind ≡ load.File stl_fault.Read)
-        → TellsSome IsTold old new
-        → (kind ≡ load.Memory → Tells IsTold old new [])
-        → RisesIf stl.old_count (is_read (load_fault block kind)) stl.new_count
-        → IfTold stl.told (λ file. kind ≡ load.Memory
-        → EndsRecord national [] block (outcome_of file))
-        → (is_read (load_fault block kind) ≡ true
-        → FailsTelling national stl.told stl.left IsTold old new block)
-        → TellsBoth national options stl pes (value old) (value new)
-        (Err (fault.Subtitles (load_fault block kind)))
-    after_error block load.Memory kinds some none count memory read =
-        refused_memory block (none refl) count (λ file told. memory file told refl)
-    after_error block (load.File stl_fault.Read) kinds some none count memory read =
-        failed_at block stl.told refl some count (read refl)
-    after_error block kind kinds some none count memory read =
-        absurd (elim kinds [ inl e ↦ cc | inr e ↦ cc ])
-
-  -- The subtitle file is refused: these are its faults, of which the sink may have a part.
-  refused_file : (items : List LoadFault)
       → PrintsEvents (value old) (subtitle_events items) (value new)
-      → 0 < length items
-      → RisesIf stl.old_count false stl.new_count
-      → IfTold stl.told (λ file. items ≡ faults national file)
-      → TellsBoth national options stl pes (value old) (value new) (Ok None)
-  refused_file items prints some count are = record {
+  printed items told = prints_all IsTold value subtitle_event one old new items goes few told
+
+  -- The subtitle file can't be read on: these were told before.
+  ended_at : (block : ℕ) (kind : LoadFaultKind) (items : List LoadFault)
+      → (value new).failed ≡ false
+      → Tells IsTold old new items
+      → RisesIf stl.old_count (is_read_kind kind) stl.new_count
+      → (is_read_kind kind ≡ true → FailsAtBlock stl.told stl.left block)
+      → CanEnd (subtitle_events items) (fault.Subtitles (load_fault block kind))
+      → IfTold stl.told (λ file.
+      AreListedBefore national file (subtitle_events items) block kind)
+      → TellsBoth national options stl pes Untouched (value old) (value new)
+      (Err (fault.Subtitles (load_fault block kind)))
+  ended_at block kind items quiet told count fails ended are = record {
     events = subtitle_events items;
-    answer = Ok None;
+    answer = Err (fault.Subtitles (load_fault block kind));
     same = λ holds. refl;
-    prints = prints;
-    stl_count = count;
-    pes_count = pes_count;
-    stl_read = λ f is. cc;
-    pes_read = λ index is. cc;
-    before = λ is. pes_same;
-    ended = tt;
-    cut = λ failing. refl;
+    prints = printed items told;
+    sources = record {
+      stl_count = count;
+      pes_count = pes_count;
+      stl_read = λ f is.
+          subst (λ (g : LoadFault). is_read g ≡ true → FailsAtBlock stl.told stl.left g.block)
+          (named _ f is) fails;
+      pes_read = λ index is. cc;
+      before = λ is. untouched;
+    };
+    ended = ended;
+    cut = λ failing. absurd (true≢false (sym failing ∙ quiet));
     checked = λ holds file heard bytes known. tt;
-    listed = λ file told.
-        (ap subtitle_events (are file told), rw (refusals-subtitles items) some);
+    listed = are;
   }
+
+  -- The subtitle file can't be read on. For `tell_every_fault`.
+  pub after_error : (block : ℕ) (kind : LoadFaultKind)
+      → (value new).failed ≡ false
+      → (kind ≡ load.Memory) ⊎ (kind ≡ load.File stl_fault.Read)
+      → TellsSome IsTold old new
+      → (kind ≡ load.Memory → Tells IsTold old new [])
+      → RisesIf stl.old_count (is_read (load_fault block kind)) stl.new_count
+      → IfTold stl.told (λ file. kind ≡ load.Memory
+      → EndsRecord national [] block (outcome_of file))
+      → (is_read (load_fault block kind) ≡ true
+      → FailsTelling national stl.told stl.left IsTold old new block)
+      → TellsBoth national options stl pes Untouched (value old) (value new)
+      (Err (fault.Subtitles (load_fault block kind)))
+  after_error block load.Memory quiet kinds some none count memory read =
+      ended_at block load.Memory [] quiet (none refl) count (λ is. cc)
+      (record { fails = refl; alone = λ read fine. refl })
+      (λ file told. (refl, memory file told refl))
+  after_error block (load.File stl_fault.Read) quiet kinds some none count memory read =
+      let f = read refl in
+      let items =
+      decided (Tells IsTold old new) stl.told
+      (λ file. filter (is_told_before block) (faults national file)) some.items some.told f.told in
+      ended_at block (load.File stl_fault.Read) items.0 quiet items.1 count
+      (λ is. record { bytes = f.bytes; consumed = f.consumed; block_is = f.block_is })
+      (record { fails = refl; alone = λ other fine. cc })
+      (λ file told. ap subtitle_events (items.2 file told))
+  after_error block kind quiet kinds some none count memory read =
+      absurd (elim kinds [ inl e ↦ cc | inr e ↦ cc ])
 
   -- What was told of a list, where the sink failed or not.
   prints-faults : (items : List LoadFault) (stopped b : Bool)
       → (value new).failed ≡ b
       → (b ≡ false → stopped ≡ false)
       → TellsFaults IsTold old new stopped items
-      → PrintsEvents (value old) (subtitle_events items) (value new)
-  prints-faults items stopped false is quiet told = (printed items (told.all (quiet refl))).1
-  prints-faults items stopped true is quiet told =
+      → PrintsEvents (value old) (subtitle_events items) (value new) × (0 < length items)
+  prints-faults items stopped b is quiet told =
       let p = told.prefix in
-      prints-taken subtitle_event (value old) (value new) p.0 items is
-      (printed (take p.0 items) p.3).1
-
-  go_faults : (o : Option (List ℕ)) (stopped : Bool)
-      → stl.told ≡ o
-      → ((value new).failed ≡ false → stopped ≡ false)
-      → TellsOfFile IsTold old new
-      → IfTold stl.told (λ file. TellsFaults IsTold old new stopped
-      (faults national file))
-      → RisesIf stl.old_count false stl.new_count
-      → TellsBoth national options stl pes (value old) (value new) (Ok None)
-  go_faults None stopped is quiet some told count =
-      refused_file some.faults (printed some.faults some.told).1 some.some count (λ file heard. cc)
-  go_faults (Some file) stopped is quiet some told count =
-      let here = told file is in
-      let p = here.prefix in
       let least : 0 < p.0 = p.1 in
-      let most : p.0 ≤ length (faults national file) = p.2 in
-      refused_file (faults national file)
-      (prints-faults (faults national file) stopped (value new).failed refl quiet here)
-      (omega (arith, least, most)) count
-      (λ other heard.
-      let same : file ≡ other = cc in
-      ap (λ b. faults national b) same)
+      let most : p.0 ≤ length items = p.2 in
+      (go b is quiet, omega (arith, least, most))
+    where
+      go : (b : Bool) → (value new).failed ≡ b → (b ≡ false → stopped ≡ false)
+          → PrintsEvents (value old) (subtitle_events items) (value new)
+      go false is quiet = printed items (told.all (quiet refl))
+      go true is quiet =
+          let p = told.prefix in
+          prints-taken subtitle_event (value old) (value new) p.0 items is
+          (printed (take p.0 items) p.3)
 
-  -- The subtitle file is refused. For `tell_every_fault`.
+  -- The subtitle file is refused: these are its faults, of which the sink may have a part. For
+  -- `tell_every_fault`.
   pub after_faults : (stopped : Bool)
       → ((value new).failed ≡ false → (value new).count ≡ (value old).count → stopped ≡ false)
       → TellsOfFile IsTold old new
-      → IfTold stl.told (λ file. TellsFaults IsTold old new stopped
-      (faults national file))
+      → IfTold stl.told (λ file. TellsFaults IsTold old new stopped (faults national file))
       → RisesIf stl.old_count false stl.new_count
-      → (name new ≡ name old)
-      × TellsBoth national options stl pes (value old) (value new) (Ok None)
+      → TellsBoth national options stl pes Untouched (value old) (value new) (Ok None)
   after_faults stopped quiet some told count =
-      let here = printed some.faults some.told in (
-        here.0,
-        go_faults stl.told stopped refl (λ holds. quiet holds (here.1.put_count holds)) some told
-            count,
-      )
-
-  -- The name of what it prints into stays.
-  pub same_sink : TellsSome IsTold old new → name new ≡ name old
-  same_sink some = (printed some.items some.told).0
+      let here = printed some.faults some.told in
+      let items =
+      decided (λ (fs : List LoadFault). PrintsEvents (value old) (subtitle_events fs) (value new)
+      × (0 < length fs)) stl.told (faults national) some.faults (here, some.some)
+      (λ file heard. prints-faults (faults national file) stopped (value new).failed refl
+      (λ holds. quiet holds (here.put_count holds)) (told file heard)) in
+      record {
+        events = subtitle_events items.0;
+        answer = Ok None;
+        same = λ holds. refl;
+        prints = items.1.0;
+        sources = record {
+          stl_count = count;
+          pes_count = pes_count;
+          stl_read = λ f is. cc;
+          pes_read = λ index is. cc;
+          before = λ is. untouched;
+        };
+        ended = tt;
+        cut = λ failing. refl;
+        checked = λ holds file heard bytes known. tt;
+        listed = λ file heard.
+            (ap subtitle_events (items.2 file heard), rw (refusals-subtitles items.0) items.1.1);
+      }
 
 -- ---- the PES file
 
@@ -283,70 +236,18 @@ read_at : (f : CheckFault)
 read_at (fault.Pes n pes_fault.Read) is = (n, refl)
 read_at f is = cc
 
-module _ {D N : Type 0} (IsTold : D → Event → D → Type 0) (name : D → N)
-    (value : D → PrinterValue)
-    (one : (s t : D) (x : Event) → IsTold s x t
-    → (name t ≡ name s) × PrintsEvent (value s) x (value t))
-    {S T : Type 0} (national : National) (options : OptionsValue)
-    (stl : SourceCall S) (pes : SourceCall T) (programme : ProgrammeValue)
-    (old new : D)
+module _ {D : Type 0} (IsTold : D → Event → D → Type 0) (value : D → PrinterValue)
+    (one : (s t : D) (x : Event) → IsTold s x t → PrintsEvent (value s) x (value t))
+    (national : National) (options : OptionsValue) (stl pes : SourceCall) (Untouched : Type 0)
+    (programme : ProgrammeValue) (old new : D)
     (goes : (value old).failed ≡ false) (few : (value old).refused ≤ most_counted)
     (loads : IfTold stl.told (λ file. loaded national (outcome_of file) ≡ Ok programme))
     (stl_count : RisesIf stl.old_count false stl.new_count) where
   put : (items : List Event) → Tells IsTold old new items
-      → (name new ≡ name old) × PrintsEvents (value old) items (value new)
+      → PrintsEvents (value old) items (value new)
   put items told =
-      let all = prints_all IsTold name value (λ (e : Event). e) one old new items goes few told in
-      (all.0, as_told (value old) (value new) items all.1)
-
-  -- The source failed at this PES packet: these were told before.
-  failed_pes : (n : ℕ) (items : List Event)
-      → (value new).failed ≡ false
-      → Tells IsTold old new items
-      → RisesIf pes.old_count true pes.new_count
-      → ((index : ℕ) → n ≡ index → FailsAtPiece index pes.told pes.left)
-      → IfTold pes.told (λ bytes. (n ≤ length (piece_file_of options.origin bytes).pieces)
-      × (items ≡ events_of_first_pieces programme options bytes n))
-      → TellsBoth national options stl pes (value old) (value new)
-      (Err (fault.Pes n pes_fault.Read))
-  failed_pes n items quiet told count fails are = record {
-    events = items;
-    answer = Err (fault.Pes n pes_fault.Read);
-    same = λ holds. refl;
-    prints = (put items told).1;
-    stl_count = stl_count;
-    pes_count = count;
-    stl_read = λ f is. cc;
-    pes_read = λ index is. fails index cc;
-    before = λ is. cc;
-    ended = refl;
-    cut = λ failing. absurd (true≢false (sym failing ∙ quiet));
-    checked = λ holds file heard bytes known. tt;
-    listed = λ file told. record { programme = programme; loads = loads file told; listed = are };
-  }
-
-  go_pes : (o : Option (List ℕ)) (n : ℕ)
-      → pes.told ≡ o
-      → (value new).failed ≡ false
-      → TellsSome IsTold old new
-      → IfTold pes.told (λ bytes. TellsEvents programme options bytes IsTold old new
-      (Err (fault.Pes n pes_fault.Read)))
-      → RisesIf pes.old_count true pes.new_count
-      → ((index : ℕ) → n ≡ index → FailsAtPiece index pes.told pes.left)
-      → TellsBoth national options stl pes (value old) (value new)
-      (Err (fault.Pes n pes_fault.Read))
-  go_pes None n is quiet some told count fails =
-      failed_pes n some.items quiet some.told count fails (λ bytes heard. cc)
-  go_pes (Some bytes) n is quiet some told count fails =
-      let here = told bytes is in
-      let at : here.0 ≡ n = let e = here.2 in cc in
-      failed_pes n (events_of_first_pieces programme options bytes n) quiet
-      (subst (λ (m : ℕ). Tells IsTold old new (events_of_first_pieces programme options bytes m))
-      at here.3) count fails
-      (λ other heard.
-      let same : bytes ≡ other = cc in
-      rw (sym same)
-      (subst (λ (m : ℕ). m ≤ length (piece_file_of options.origin bytes).pieces) at here.1, refl))
+      as_told (value old) (value new) items
+      (prints_all IsTold value (λ (e : Event). e) one old new items goes few told)
 
   -- The source of the PES file failed.
   after_pes_error : (f : CheckFault)
@@ -359,15 +260,47 @@ module _ {D N : Type 0} (IsTold : D → Event → D → Type 0) (name : D → N)
       → (let r : Result (Option Accepted) CheckFault = Err f in r)
       ≡ Err (fault.Pes index pes_fault.Read)
       → FailsAtPiece index pes.told pes.left)
-      → TellsBoth national options stl pes (value old) (value new) (Err f)
+      → TellsBoth national options stl pes Untouched (value old) (value new) (Err f)
   after_pes_error f is quiet some told count fails = go (read_at f is).0 (read_at f is).1
     where
       go : (n : ℕ) → f ≡ fault.Pes n pes_fault.Read
-          → TellsBoth national options stl pes (value old) (value new) (Err f)
-      go n same = rw same
-          (go_pes pes.told n refl quiet some (rw same at told) (rw same at count)
-          (λ index e. fails index (ap (λ m. let r : Result (Option Accepted) CheckFault
-          = Err m in r) (same ∙ ap (λ m. fault.Pes m pes_fault.Read) e))))
+          → TellsBoth national options stl pes Untouched (value old) (value new) (Err f)
+      go n same =
+          let events =
+          decided (λ (es : List Event). Tells IsTold old new es) pes.told
+          (λ bytes. events_of_first_pieces programme options bytes n) some.items some.told
+          (λ bytes heard.
+          let here = told bytes heard in
+          let at : here.0 ≡ n = let e = here.2 in cc in
+          subst (λ (m : ℕ). Tells IsTold old new
+          (events_of_first_pieces programme options bytes m)) at here.3) in
+          let are : IfTold pes.told (λ bytes.
+          (n ≤ length (piece_file_of options.origin bytes).pieces)
+          × (events.0 ≡ events_of_first_pieces programme options bytes n)) =
+          λ bytes heard.
+          let here = told bytes heard in
+          let at : here.0 ≡ n = let e = here.2 in cc in (
+            subst (λ (m : ℕ). m ≤ length (piece_file_of options.origin bytes).pieces) at here.1,
+            events.2 bytes heard,
+          ) in
+          record {
+            events = events.0;
+            answer = Err f;
+            same = λ holds. refl;
+            prints = put events.0 events.1;
+            sources = record {
+              stl_count = rw same stl_count;
+              pes_count = count;
+              stl_read = λ g e. let other = rw same at e in cc;
+              pes_read = fails;
+              before = λ e. let other = rw same at e in cc;
+            };
+            ended = rw same (record { fails = refl; alone = λ read fine. cc });
+            cut = λ failing. absurd (true≢false (sym failing ∙ quiet));
+            checked = λ holds file heard bytes known. tt;
+            listed = λ file heard.
+                rw same (record { programme = programme; loads = loads file heard; listed = are });
+          }
 
   -- These are the events of the PES file, of which the sink may have a part.
   read_pes : (items : List Event) (a : Accepted) (given : Result (Option Accepted) CheckFault)
@@ -378,17 +311,19 @@ module _ {D N : Type 0} (IsTold : D → Event → D → Type 0) (name : D → N)
       × CountsRead options.page (frames_read options bytes) a)
       → ((value new).failed ≡ false
       → IfTold pes.told (λ bytes. IsChecked programme options bytes (first_answer items a)))
-      → TellsBoth national options stl pes (value old) (value new) given
+      → TellsBoth national options stl pes Untouched (value old) (value new) given
   read_pes items a given prints same count are verdict = record {
     events = items;
     answer = Ok (Some a);
     same = same;
     prints = prints;
-    stl_count = stl_count;
-    pes_count = count;
-    stl_read = λ f is. cc;
-    pes_read = λ index is. cc;
-    before = λ is. cc;
+    sources = record {
+      stl_count = stl_count;
+      pes_count = count;
+      stl_read = λ f is. cc;
+      pes_read = λ index is. cc;
+      before = λ is. cc;
+    };
     ended = tt;
     cut = λ failing. refl;
     checked = λ holds file heard bytes known other is.
@@ -400,53 +335,48 @@ module _ {D N : Type 0} (IsTold : D → Event → D → Type 0) (name : D → N)
   }
 
   -- The PES file was read.
-  after_all : (o : Option (List ℕ)) (given : Accepted)
-      → pes.told ≡ o
+  after_all : (given : Accepted)
       → TellsSome IsTold old new
       → IfTold pes.told (λ bytes. TellsEvents programme options bytes IsTold old new
       (Ok (Some given)))
       → IfTold pes.told (λ bytes. IsChecked programme options bytes
       (first_answer (all_events_of programme options bytes) given))
       → RisesIf pes.old_count false pes.new_count
-      → TellsBoth national options stl pes (value old) (value new) (Ok (Some given))
-  after_all None given is some told first count =
-      read_pes some.items given (Ok (Some given)) (put some.items some.told).1 (λ holds. refl) count
-      (λ bytes heard. cc) (λ holds bytes heard. cc)
-  after_all (Some bytes) given is some told first count =
-      let whole = all_events_of programme options bytes in
-      let here = told bytes is in
-      read_pes whole given (Ok (Some given)) (put whole here.0).1 (λ holds. refl) count
-      (λ other heard.
-      let same : bytes ≡ other = cc in
-      rw (sym same) (refl, here.1))
-      (λ quiet other heard. let same : bytes ≡ other = cc in rw (sym same) (first bytes is))
+      → TellsBoth national options stl pes Untouched (value old) (value new) (Ok (Some given))
+  after_all given some told first count =
+      let events =
+      decided (λ (es : List Event). Tells IsTold old new es) pes.told
+      (all_events_of programme options) some.items some.told (λ bytes heard. (told bytes heard).0)
+      in
+      read_pes events.0 given (Ok (Some given)) (put events.0 events.1) (λ holds. refl) count
+      (λ bytes heard. (events.2 bytes heard, (told bytes heard).1))
+      (λ quiet bytes heard. rw (events.2 bytes heard) (first bytes heard))
 
   -- The sink failed.
-  after_stop : (o : Option (List ℕ))
-      → pes.told ≡ o
-      → (value new).failed ≡ true
+  after_stop : (value new).failed ≡ true
       → TellsSome IsTold old new
       → IfTold pes.told (λ bytes. TellsEvents programme options bytes IsTold old new (Ok None))
       → RisesIf pes.old_count false pes.new_count
-      → TellsBoth national options stl pes (value old) (value new) (Ok None)
-  after_stop None is failing some told count =
-      read_pes some.items (record { frames = 0; transmissions = 0 }) (Ok None)
-      (put some.items some.told).1 (λ holds. absurd (true≢false (sym failing ∙ holds))) count
-      (λ bytes heard. cc) (λ holds bytes heard. cc)
-  after_stop (Some bytes) is failing some told count =
+      → TellsBoth national options stl pes Untouched (value old) (value new) (Ok None)
+  after_stop failing some told count =
+      let counts = λ (bytes : List ℕ).
+      some_counts options.page (frames_read options bytes) (length (frames_read options bytes)) refl
+      in
+      let events =
+      decided (λ (x : List Event × Accepted). PrintsEvents (value old) x.0 (value new)) pes.told
+      (λ bytes. (all_events_of programme options bytes, (counts bytes).0))
+      (some.items, record { frames = 0; transmissions = 0 }) (put some.items some.told)
+      (λ bytes heard.
+      let p = told bytes heard in
       let whole = all_events_of programme options bytes in
-      let frames = frames_read options bytes in
-      let counts = some_counts options.page frames (length frames) refl in
-      let p = told bytes is in
-      let part =
-      prints_all IsTold name value (λ (e : Event). e) one old new (take p.0 whole) goes few p.2 in
-      read_pes whole counts.0 (Ok None)
-      (as_told (value old) (value new) whole
-      (prints-taken (λ (e : Event). e) (value old) (value new) p.0 whole failing part.1))
+      as_told (value old) (value new) whole
+      (prints-taken (λ (e : Event). e) (value old) (value new) p.0 whole failing
+      (prints_all IsTold value (λ (e : Event). e) one old new (take p.0 whole) goes few p.2)))
+      in
+      read_pes events.0.0 events.0.1 (Ok None) events.1
       (λ holds. absurd (true≢false (sym failing ∙ holds))) count
-      (λ other heard.
-      let same : bytes ≡ other = cc in
-      rw (sym same) (refl, counts.1))
+      (λ bytes heard.
+      rw (events.2 bytes heard) (refl, (counts bytes).1))
       (λ quiet. absurd (true≢false (sym failing ∙ quiet)))
 
   -- The PES file was read, or its source failed, or the sink. For `tell_every_fault`.
@@ -464,23 +394,19 @@ module _ {D N : Type 0} (IsTold : D → Event → D → Type 0) (name : D → N)
       → ((index : ℕ)
       → r ≡ Err (fault.Pes index pes_fault.Read)
       → FailsAtPiece index pes.told pes.left)
-      → TellsBoth national options stl pes (value old) (value new) r
+      → TellsBoth national options stl pes Untouched (value old) (value new) r
   after_pes (Ok (Some a)) stopped stops quiet some told first is goes_on only count fails =
-      after_all pes.told a refl some told first count
+      after_all a some told first count
   after_pes (Ok None) stopped stops quiet some told first is goes_on only count fails =
-      after_stop pes.told refl (failing (value new).failed refl) some told count
+      after_stop (failing (value new).failed refl) some told count
     where
       failing : (b : Bool) → (value new).failed ≡ b → (value new).failed ≡ true
       failing true e = e
       failing false e =
-          absurd (true≢false (sym is ∙ quiet e ((put some.items some.told).1.put_count e)))
+          absurd (true≢false (sym is ∙ quiet e ((put some.items some.told).put_count e)))
   after_pes (Err f) stopped stops quiet some told first is goes_on only count fails =
       after_pes_error f only (calm (value new).failed refl) some told count fails
     where
       calm : (b : Bool) → (value new).failed ≡ b → (value new).failed ≡ false
       calm true e = absurd (true≢false (sym (stops e) ∙ goes_on))
       calm false e = e
-
-  -- The name of what it prints into stays.
-  pub same_out : TellsSome IsTold old new → name new ≡ name old
-  same_out some = (put some.items some.told).0

@@ -1,3 +1,4 @@
+pub mod BothFilesLemmas
 pub mod AnsweringLemmas
 pub mod ListenListingLemmas
 pub mod EveryFaultLemmas

@@ -45,7 +45,7 @@ listens_from
     }
 
 -- What is answered by what a receiver leaves in a cell whose byte has even parity. For `answer`.
-pub answers_as : {S : Type 0} (leaves left : ℕ → ℕ) (l : Listening) (pes : SourceCall S)
+pub answers_as : (leaves left : ℕ → ℕ) (l : Listening) (pes : SourceCall)
     → (out : SinkCall) (status : Status)
     → leaves ≡ left
     → AnswersListen left l pes out status

@@ -1,17 +1,15 @@
 -- What is said of the answer to `check --all`.
-use Rattle.std.specs.Prelude.{◌≡◌, ◌≢◌, ◌↔◌, ⊤, ℕ, ◌<◌, ◌≤◌, length, Bool, true, false, List, []}
-use Rattle.std.specs.Prelude.{Option, Some, None, Result, Ok, Err, IfErr, IsOk, IsTrue, ◌⊎◌}
+use Rattle.std.specs.Prelude.{◌≡◌, ◌≢◌, ⊤, ℕ, ◌<◌, ◌≤◌, length, Bool, true, false, List, []}
+use Rattle.std.specs.Prelude.{Option, Some, None, Result, Ok, Err, IfErr, IsOk}
 use Rattle.std.specs.List.{filter}
 use Rattle.std.specs.Io.KnownBytes.{Consumes}
-use Rattle.sub_io.specs.Device.{RisesIf, failed}
+use Rattle.sub_io.specs.Device.{failed}
 use Rattle.sub_io.specs.Reading.{IfTold}
 use Rattle.ttx_pes.specs.declared.fault.PesFault.TheVariants.{Read}
 use Rattle.stl_file.specs.Reader.{block_of_byte, outcome_of}
 use Rattle.stl_rows.specs.EveryFault.{faults, is_told_before}
-use Rattle.stl_rows.specs.Fault.{is_read}
 use Rattle.stl_rows.specs.Loading.{EndsRecord, loaded}
 use Rattle.stl_rows.specs.Programme.{ProgrammeValue}
-use Rattle.stl_rows.specs.declared.fault.LoadFault.{LoadFault}
 use Rattle.stl_rows.specs.declared.fault.LoadFaultKind.{LoadFaultKind}
 use Rattle.stl_rows.specs.declared.fault.LoadFaultKind.TheVariants.{File, Memory}
 use Rattle.stl_rows.specs.declared.national.National.{National}
@@ -20,24 +18,20 @@ use Rattle.sub_plan.specs.Options.{OptionsValue}
 use Rattle.sub_check.specs.CheckedFiles.{IsChecked, all_events_of, events_of_first_pieces}
 use Rattle.sub_check.specs.CheckedFiles.{first_answer, frames_read}
 use Rattle.sub_checker.specs.Telling.{CountsRead}
-use Rattle.sub_rules.specs.Fault.{is_pes_read, is_stl_read, is_subtitle_fault}
-use Rattle.sub_rules.specs.Good.{Good}
-use Rattle.sub_laws.specs.OnScreen.{Complete}
-use Rattle.sub_rules.specs.PesFrames.{Carries}
+use Rattle.sub_rules.specs.Fault.{is_failure, is_pes_read, is_stl_read, is_subtitle_fault}
 use Rattle.sub_rules.specs.Pieces.{FailsAtPiece, piece_file_of}
-use Rattle.sub_rules.specs.Transmission.{Transmission}
 use Rattle.sub_checker.specs.declared.telling.Accepted.{Accepted}
 use Rattle.sub_rules.specs.declared.event.Event.{Event}
 use Rattle.sub_rules.specs.declared.fault.CheckFault.{CheckFault}
 use Rattle.sub_rules.specs.declared.fault.CheckFault.TheVariants.{Pes, Subtitles}
 use Rattle.sub_listing.specs.DeviceCall.{SinkCall, SourceCall}
+use Rattle.sub_answer.specs.BothFiles.{TellsSources, TellsStatus}
 use Rattle.sub_answer.specs.FaultListing.{all_listing}
 use Rattle.sub_listing.specs.EventLines.{refusals, subtitle_events}
 use Rattle.sub_listing.specs.Listing.{PrintsOrFails}
 use Rattle.sub_listing.specs.Printer.{PrinterValue, PrintsEvents}
-use Rattle.sub_listing.specs.Writing.{PrintsMemory}
 use Rattle.sub_listing.specs.declared.status.Status.{Status}
-use Rattle.sub_listing.specs.declared.status.Status.TheVariants.{Done, Fault}
+use Rattle.sub_listing.specs.declared.status.Status.TheVariants.{Fault}
 
 -- An answer, `None` for a refused subtitle file, refuses that file or could not read it.
 abbrev pub is_of_subtitles : Result (Option Accepted) CheckFault → Bool
@@ -96,17 +90,6 @@ pub record FailsAtBlock (told left : Option (List ℕ)) (block : ℕ) : Type 0 w
   pub consumed : Consumes told left bytes
   pub block_is : block ≡ block_of_byte (length bytes)
 
--- The files are accepted: the subtitle file gives a programme, and the PES file carries a
--- transmission that is good for it, of complete pages where these are asked for.
-pub record IsAccepted
-    (national : National) (options : OptionsValue) (file bytes : List ℕ) : Type 0 where
-  pub programme : ProgrammeValue
-  pub frames : Transmission
-  pub loads : loaded national (outcome_of file) ≡ Ok programme
-  pub carries : Carries options.origin bytes frames
-  pub good : Good programme frames options
-  pub complete : IsTrue options.asks_complete → Complete frames options
-
 -- Where both files were read, the answer of `check`, which the first event decides, is one of the
 -- bytes: what is accepted is good and robust.
 abbrev pub IsVerdict :
@@ -120,33 +103,30 @@ IsVerdict national options file bytes events answer = ⊤
 
 -- What can end the listing before its end: that a source failed; or want of memory, before any
 -- event.
-abbrev pub CanEnd : List Event → CheckFault → Type 0
-CanEnd events (Subtitles f) = (is_read f ≡ true) ⊎ ((f.kind ≡ Memory) × (events ≡ []))
-CanEnd events f = is_pes_read f ≡ true
+pub record CanEnd (events : List Event) (f : CheckFault) : Type 0 where
+  pub fails : is_failure f ≡ true
+  pub alone : is_stl_read f ≡ false → is_pes_read f ≡ false → events ≡ []
+
+-- The answer tells so of the sources of both files: that one failed is told at the block of the
+-- byte that was asked for, or at the piece within which it failed. Where the subtitle file is
+-- refused or can't be read, no PES byte is read.
+abbrev pub TellsBothSources :
+    SourceCall → SourceCall → Type 0 → Result (Option Accepted) CheckFault → Type 0
+TellsBothSources stl pes Untouched answer =
+    TellsSources (FailsAtBlock stl.told stl.left) (λ index. FailsAtPiece index pes.told pes.left)
+    Untouched (is_of_subtitles answer) stl pes answer
 
 -- What a printer was told of the events of both files, and the answer, which is the one that was
 -- given where its sink has not failed.
 pub record TellsBoth
-    {S T : Type 0} (national : National) (options : OptionsValue)
-    (stl : SourceCall S) (pes : SourceCall T) (old new : PrinterValue)
-    (given : Result (Option Accepted) CheckFault)
+    (national : National) (options : OptionsValue) (stl pes : SourceCall) (Untouched : Type 0)
+    (old new : PrinterValue) (given : Result (Option Accepted) CheckFault)
     : Type 0 where
   pub events : List Event
   pub answer : Result (Option Accepted) CheckFault
   pub same : new.failed ≡ false → answer ≡ given
   pub prints : PrintsEvents old events new
-  pub stl_count : RisesIf stl.old_count (failed is_stl_read answer) stl.new_count
-  pub pes_count : RisesIf pes.old_count (failed is_pes_read answer) pes.new_count
-  pub stl_read :
-      (f : LoadFault)
-      → answer ≡ Err (Subtitles f)
-      → is_read f ≡ true
-      → FailsAtBlock stl.told stl.left f.block
-  pub pes_read :
-      (index : ℕ)
-      → answer ≡ Err (Pes index Read)
-      → FailsAtPiece index pes.told pes.left
-  pub before : is_of_subtitles answer ≡ true → pes.new ≡ pes.old
+  pub sources : TellsBothSources stl pes Untouched answer
   pub ended : IfErr answer (CanEnd events)
   pub cut : new.failed ≡ true → IsOk answer
   pub checked :
@@ -156,31 +136,17 @@ pub record TellsBoth
   pub listed :
       IfTold stl.told (λ file. AreListed national options file pes.told events answer)
 
--- `check --all` tells events, and has one answer; the bytes of both files decide them.
+-- `check --all` tells events, and has one answer; the bytes of both files decide them. `Untouched`
+-- says that no byte of the PES file was read.
 pub record AnswersAll
-    {S T : Type 0} (national : National) (options : OptionsValue)
-    (stl : SourceCall S) (pes : SourceCall T) (out : SinkCall) (status : Status)
+    (national : National) (options : OptionsValue) (stl pes : SourceCall) (Untouched : Type 0)
+    (out : SinkCall) (status : Status)
     : Type 0 where
   pub events : List Event
   pub answer : Result (Option Accepted) CheckFault
   -- Their lines and the last line are printed, or `out` failed and has a prefix of them.
   pub printed : PrintsOrFails out (all_listing events answer) status
-  -- The answer tells which device failed.
-  pub stl_count : RisesIf stl.old_count (failed is_stl_read answer) stl.new_count
-  pub pes_count : RisesIf pes.old_count (failed is_pes_read answer) pes.new_count
-  -- That a source failed is told at the block of the byte that was asked for, or at the piece
-  -- within which it failed.
-  pub stl_read :
-      (f : LoadFault)
-      → answer ≡ Err (Subtitles f)
-      → is_read f ≡ true
-      → FailsAtBlock stl.told stl.left f.block
-  pub pes_read :
-      (index : ℕ)
-      → answer ≡ Err (Pes index Read)
-      → FailsAtPiece index pes.told pes.left
-  -- Where the subtitle file is refused or can't be read, no PES byte is read.
-  pub before : is_of_subtitles answer ≡ true → pes.new ≡ pes.old
+  pub sources : TellsBothSources stl pes Untouched answer
   -- Where the files tell their bytes, these decide the events.
   pub listed :
       IfTold stl.told (λ file. AreListed national options file pes.told events answer)
@@ -190,17 +156,4 @@ pub record AnswersAll
       status ≢ Fault
       → IfTold stl.told (λ file.
       IfTold pes.told (λ bytes. IsVerdict national options file bytes events answer))
-  -- Failing devices and want of memory aside, the status is `Done` exactly where the files are
-  -- accepted.
-  pub done :
-      IfTold stl.told (λ file.
-      IfTold pes.told (λ bytes.
-      status ≢ Fault
-      → (status ≡ Done) ↔ IsAccepted national options file bytes))
-  -- The status is `Fault` only where a device failed, or want of memory is printed.
-  pub fault :
-      status ≡ Fault
-      → stl.new_count ≡ stl.old_count
-      → pes.new_count ≡ pes.old_count
-      → out.new_count ≡ out.old_count
-      → PrintsMemory national stl.told out.old out.new
+  pub ends : TellsStatus national options stl pes out status

@@ -1,3 +1,4 @@
+pub mod BothFiles
 pub mod Answering
 pub mod ListenListing
 pub mod FaultListing

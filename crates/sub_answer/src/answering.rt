@@ -48,7 +48,7 @@ pub fn answer<S: Ahead, T: Ahead, F: Flush, K: Flush>(
     // What is printed and written of what the devices tell, command by command.
     ensures answers { Answers request.now
         (source_call S.remaining S.failure_count first.old first.new)
-        (source_call T.remaining T.failure_count second.old second.new)
+        (source_call T.remaining T.failure_count second.old second.new) (second.new ≡ second.old)
         (sink_call F.contents F.failure_count file.old file.new)
         (sink_call K.contents K.failure_count out.old out.new) result }
 

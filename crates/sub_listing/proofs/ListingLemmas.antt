@@ -124,8 +124,8 @@ front-more Before At After told left rest old now new text i gives p = record {
 
 -- The last lines were printed. For `list`.
 pub front-end :
-    {S : Type 0} (Before At After : IsListed)
-    (source : SourceCall S) (out : SinkCall) (left now : Option (List ℕ)) (text : List ℕ)
+    (Before At After : IsListed) (source : SourceCall) (out : SinkCall)
+    (left now : Option (List ℕ)) (text : List ℕ)
     (status : Status)
     → IsFront Before At source.told left out.old now
     → Gives At After left source.left text (Some status)
@@ -146,8 +146,8 @@ front-end Before At After source out left now text status i gives p same counted
 
 -- The sink failed at these lines, whatever should follow them. For `list`.
 pub front-cut :
-    {S : Type 0} (Before At After : IsListed)
-    (source : SourceCall S) (out : SinkCall) (left now : Option (List ℕ)) (text : List ℕ)
+    (Before At After : IsListed) (source : SourceCall) (out : SinkCall)
+    (left now : Option (List ℕ)) (text : List ℕ)
     (end : Option Status)
     → IsFront Before At source.told left out.old now
     → Gives At After left source.left text end
@@ -183,8 +183,7 @@ front-cut Before At After source out left now text (Some status) i gives p risen
 
 -- Lines were cut, since the sink failed as the lines before were handed on. For `list`.
 pub front-stopped :
-    {S : Type 0} (Before At : IsListed)
-    (source : SourceCall S) (out : SinkCall) (left now : Option (List ℕ))
+    (Before At : IsListed) (source : SourceCall) (out : SinkCall) (left now : Option (List ℕ))
     → IsFront Before At source.told left out.old now
     → IsCut At left source.left
     → Keeps now out.new

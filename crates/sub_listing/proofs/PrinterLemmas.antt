@@ -8,7 +8,7 @@ use Rattle.std.proofs.lemmas.Bool.Decides.{nat_tests}
 use Rattle.std.proofs.KnownBytes.{Appends-nil, Appends-trans, Keeps-refl, Keeps-trans}
 use Rattle.sub_io.proofs.DeviceLemmas.{AppendsPrefix-first, AppendsPrefix-second}
 use Rattle.sub_io.specs.Device.{AppendsPrefix}
-use Rattle.sub_io.specs.Telling.{Tells, TellsInTurn}
+use Rattle.sub_io.specs.Telling.{Tells, TellsInTurn, TellsSome}
 use Rattle.sub_rules.specs.declared.event.Event.{Event}
 use Rattle.sub_listing.specs.EventLines.{event_line, event_lines, most_counted, refusal, refusals}
 use Rattle.sub_listing.specs.Printer.{PrinterValue, PrintsEvent, PrintsEvents, StaysPrinted}
@@ -110,48 +110,57 @@ prints-taken event a b n items failing prints =
     subst (λ (es : List Event). PrintsEvents a es b) whole
     (prints-prefix a b (map event (take n items)) (map event (drop n items)) failing prints)
 
-module _ {A D N : Type 0} (IsTold : D → A → D → Type 0) (name : D → N) (value : D → PrinterValue)
+-- What stays as each thing is told stays as all are. For `tell_every_fault`.
+same-in_turn : {A D N : Type 0} (IsTold : D → A → D → Type 0) (name : D → N)
+    (one : (s t : D) (x : A) → IsTold s x t → name t ≡ name s) (old new : D) (items : List A)
+    → TellsInTurn IsTold old new items
+    → name new ≡ name old
+same-in_turn IsTold name one old new [] told = ap name told
+same-in_turn IsTold name one old new (x ∷ xs) (mid, first, rest) =
+    same-in_turn IsTold name one mid new xs rest ∙ one old mid x first
+
+pub same_all : {A D N : Type 0} (IsTold : D → A → D → Type 0) (name : D → N)
+    (one : (s t : D) (x : A) → IsTold s x t → name t ≡ name s) (old new : D)
+    → TellsSome IsTold old new
+    → name new ≡ name old
+same_all IsTold name one old new some =
+    same-in_turn IsTold name one old new some.items some.told.in_turn
+
+module _ {A D : Type 0} (IsTold : D → A → D → Type 0) (value : D → PrinterValue)
     (event : A → Event)
-    (one : (s t : D) (x : A) → IsTold s x t
-    → (name t ≡ name s) × PrintsEvent (value s) (event x) (value t)) where
+    (one : (s t : D) (x : A) → IsTold s x t → PrintsEvent (value s) (event x) (value t)) where
   -- Nothing is told to one whose sink failed.
   last_told : (mid new : D) (items : List A) → TellsInTurn IsTold mid new items
       → (value mid).failed ≡ true
       → (items ≡ []) × (new ≡ mid)
   last_told mid new [] told failing = (refl, told)
   last_told mid new (y ∷ ys) (next, second, others) failing =
-      absurd (true≢false (sym failing ∙ (one mid next y second).1.goes_on))
+      absurd (true≢false (sym failing ∙ (one mid next y second).goes_on))
 
   -- One thing and then others.
   step : (old mid new : D) (x : A) (xs : List A) (b : Bool) → (value mid).failed ≡ b
-      → name mid ≡ name old
       → PrintsEvent (value old) (event x) (value mid)
       → TellsInTurn IsTold mid new xs
       → ((value mid).failed ≡ false → (value mid).refused ≤ most_counted
-      → (name new ≡ name mid) × PrintsEvents (value mid) (map event xs) (value new))
-      → (name new ≡ name old) × PrintsEvents (value old) (map event (x ∷ xs)) (value new)
-  step old mid new x xs true failing same here rest more =
+      → PrintsEvents (value mid) (map event xs) (value new))
+      → PrintsEvents (value old) (map event (x ∷ xs)) (value new)
+  step old mid new x xs true failing here rest more =
       let end = last_told mid new xs rest failing in
-      rw (end.0, end.1) (same, prints-cut (value old) (value mid) (event x) [] here failing)
-  step old mid new x xs false holds same here rest more =
+      rw (end.0, end.1) (prints-cut (value old) (value mid) (event x) [] here failing)
+  step old mid new x xs false holds here rest more =
       let bound : (value mid).refused ≤ most_counted =
       rw (here.put_refused holds) (counted-few (value old).refused (refusal (event x))) in
-      let others = more holds bound in (
-        others.0 ∙ same,
-        prints-more (value old) (value mid) (value new) (event x) (map event xs) here holds
-            others.1,
-      )
+      prints-more (value old) (value mid) (value new) (event x) (map event xs) here holds
+      (more holds bound)
 
   in_turn : (old new : D) (items : List A)
       → (value old).failed ≡ false
       → (value old).refused ≤ most_counted
       → TellsInTurn IsTold old new items
-      → (name new ≡ name old) × PrintsEvents (value old) (map event items) (value new)
-  in_turn old new [] goes few told =
-      rw told (refl, prints-none (value old) goes few)
+      → PrintsEvents (value old) (map event items) (value new)
+  in_turn old new [] goes few told = rw told (prints-none (value old) goes few)
   in_turn old new (x ∷ xs) goes few (mid, first, rest) =
-      let here = one old mid x first in
-      step old mid new x xs (value mid).failed refl here.0 here.1 rest
+      step old mid new x xs (value mid).failed refl (one old mid x first) rest
       (λ holds bound. in_turn mid new xs holds bound rest)
 
   -- A printer that was told these has printed them.
@@ -159,7 +168,7 @@ module _ {A D N : Type 0} (IsTold : D → A → D → Type 0) (name : D → N) (
       → (value old).failed ≡ false
       → (value old).refused ≤ most_counted
       → Tells IsTold old new items
-      → (name new ≡ name old) × PrintsEvents (value old) (map event items) (value new)
+      → PrintsEvents (value old) (map event items) (value new)
   prints_all old new items goes few told = in_turn old new items goes few told.in_turn
 
 -- An event is told as it is.

@@ -4,11 +4,9 @@ use Rattle.sub_listing.specs.declared.status.Status.{Status}
 use Rattle.sub_listing.specs.declared.status.Status.TheVariants.{Fault}
 pub use Rattle.sub_io.specs.Device.{CanFail}
 
--- A source in a call: as it was and as it is, the bytes that it had left before and has left after,
--- where it tells them, and how often it had failed before and after.
-pub record SourceCall (S : Type 0) : Type 0 where
-  pub old : S
-  pub new : S
+-- A source in a call: the bytes that it had left before and has left after, where it tells them,
+-- and how often it had failed before and after.
+pub record SourceCall : Type 0 where
   pub told : Option (List ℕ)
   pub left : Option (List ℕ)
   pub old_count : ℕ
@@ -23,10 +21,8 @@ pub record SinkCall : Type 0 where
   pub new_count : ℕ
 
 -- A source in a call, by what is left in such a source and how often it has failed.
-abbrev pub source_call : {S : Type 0} → (S → Option (List ℕ)) → (S → ℕ) → S → S → SourceCall S
+abbrev pub source_call : {S : Type 0} → (S → Option (List ℕ)) → (S → ℕ) → S → S → SourceCall
 source_call remaining failure_count old new = record {
-  old = old;
-  new = new;
   told = remaining old;
   left = remaining new;
   old_count = failure_count old;

@@ -103,7 +103,7 @@ pub record Lists
 -- A source was read and listed, whether it failed or not, and the listing was printed, or a sink
 -- that failed has a prefix of it.
 pub record PrintsListing
-    {S : Type 0} (Lists : IsListed) (source : SourceCall S) (out : SinkCall) (status : Status)
+    (Lists : IsListed) (source : SourceCall) (out : SinkCall) (status : Status)
     : Type 0 where
   pub ending : Option Status
   pub listing : Listing

@@ -35,16 +35,16 @@ is_input_read (input.Read block) = true
 is_input_read input.Memory = false
 
 -- The input failed.
-abbrev pub is_read : WriteFault → Bool
-is_read (write.Input f) = is_input_read f
-is_read (write.Load f) = load_fault.is_read f
-is_read _ = false
+abbrev pub is_input_failure : WriteFault → Bool
+is_input_failure (write.Input f) = is_input_read f
+is_input_failure (write.Load f) = load_fault.is_read f
+is_input_failure _ = false
 
 -- The file failed.
-abbrev pub is_write : WriteFault → Bool
-is_write (write.Normal f) = stl_fault.is_write f
-is_write (write.Plan f) = plan_fault.is_write f
-is_write _ = false
+abbrev pub is_file_failure : WriteFault → Bool
+is_file_failure (write.Normal f) = stl_fault.is_write f
+is_file_failure (write.Plan f) = plan_fault.is_write f
+is_file_failure _ = false
 
 -- What is printed: how many things are in the file, or what is told of the fault.
 abbrev pub work_listing : List ℕ → Result ℕ WriteFault → Listing
@@ -60,14 +60,14 @@ Work = Option (List ℕ) → Option (List ℕ) → Option (List ℕ) → Option 
 -- The work of a command that writes a file has this answer, the number of things in it or a fault,
 -- and its line was printed.
 pub record EndsWork
-    {S : Type 0} (input : SourceCall S) (file out : SinkCall) (status : Status)
+    (input : SourceCall) (file out : SinkCall) (status : Status)
     (things : List ℕ) (HasWorked : Work)
     : Type 0 where
   pub answer : Result ℕ WriteFault
   pub works : HasWorked input.told input.left file.old file.new answer
   -- The devices fail where the answer says so, and nowhere else.
-  pub input_count : RisesIf input.old_count (failed is_read answer) input.new_count
-  pub file_count : RisesIf file.old_count (failed is_write answer) file.new_count
+  pub input_count : RisesIf input.old_count (failed is_input_failure answer) input.new_count
+  pub file_count : RisesIf file.old_count (failed is_file_failure answer) file.new_count
   pub printed : PrintsOrFails out (work_listing things answer) status
 
 -- ---- `schedule`

@@ -1,7 +1,7 @@
 //! How a file is written: the work is done, and the line that tells of it is printed.
 ghost use Rattle.std.specs.Prelude.{◌≡◌, ◌≤◌, OnOk, length};
 ghost use Rattle.sub_io.specs.Device.{CountsIf, failed};
-ghost use Rattle.sub_listing.specs.Writing.{EndsWork, is_read, is_write};
+ghost use Rattle.sub_listing.specs.Writing.{EndsWork, is_file_failure, is_input_failure};
 ghost use Rattle.sub_listing.specs.DeviceCall.{CanFail, CountsFault, sink_call, source_call};
 ghost use Rattle.sub_listing.specs.Writing as writing;
 
@@ -46,8 +46,10 @@ pub trait Work {
         requires file { CanFail (F.failure_count file.old) }
         ensures works { works self.now (S.remaining input.old) (S.remaining input.new)
             (F.contents file.old) (F.contents file.new) result }
-        ensures input_count { CountsIf S.failure_count input.old (failed is_read result) input.new }
-        ensures file_count { CountsIf F.failure_count file.old (failed is_write result) file.new }
+        ensures input_count { CountsIf S.failure_count input.old (failed is_input_failure result)
+            input.new }
+        ensures file_count { CountsIf F.failure_count file.old (failed is_file_failure result)
+            file.new }
         ensures held { OnOk result (F.held file.new ≡ 0) };
 }
 

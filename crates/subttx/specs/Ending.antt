@@ -49,7 +49,7 @@ buffered_call contents failure_count old new =
 
 -- What was held back is handed on, for a run that would end with a status: it ends with it, and
 -- the sink below has taken all; or one more call has failed, and it ends with `Fault`.
-pub record HandsOnLines (old : Lines) (status : Status) (new : Lines) (result : Status)
+pub record HandsOnHeldLines (old : Lines) (status : Status) (new : Lines) (result : Status)
     : Type 0 where
   pub kept : Keeps old.taken new.taken
   pub ends :
@@ -72,16 +72,17 @@ pub record HandsOnBeside
   pub call : IsHandedOn printed file status new result
 
 -- A request was answered, of these devices, and then the lines were handed on. The file is closed
--- between the two, so what it tells in the end is not what it told of the answer.
+-- between the two, so what it tells in the end is not what it told of the answer. `Untouched` says
+-- that no byte of the second source was read.
 pub record EndsWith
-    {S T : Type 0} (request : Request) (first : SourceCall S) (second : SourceCall T)
-    (file : SinkCall) (old new : Lines) (result : Status)
+    (request : Request) (first second : SourceCall) (Untouched : Type 0) (file : SinkCall)
+    (old new : Lines) (result : Status)
     : Type 0 where
   pub status : Status
   pub written : Option (List ℕ)
   pub printed : Lines
   pub answers :
-      Answers request first second (record file { new = written })
+      Answers request first second Untouched (record file { new = written })
       (record {
         old = old.taken;
         new = printed.taken;
@@ -89,49 +90,37 @@ pub record EndsWith
         new_count = printed.count;
       })
       status
-  pub handed_on : HandsOnLines printed status new result
+  pub handed_on : HandsOnHeldLines printed status new result
 
 -- A request was answered of two sources and of a file that was empty, and then the lines were
 -- handed on.
 pub record EndsFromBoth
-    {S T : Type 0} (request : Request) (first : SourceCall S) (second : SourceCall T)
-    (old new : Lines) (result : Status)
+    (request : Request) (first second : SourceCall) (Untouched : Type 0) (old new : Lines)
+    (result : Status)
     : Type 0 where
   pub file : SinkCall
   pub file_is_empty : file.old ≡ Some []
-  pub ends : EndsWith request first second file old new result
-
--- A source of which only what it told and how often it failed is kept.
-abbrev pub forgotten : {S : Type 0} → SourceCall S → SourceCall ⊤
-forgotten s = record {
-  old = tt;
-  new = tt;
-  told = s.told;
-  left = s.left;
-  old_count = s.old_count;
-  new_count = s.new_count;
-}
+  pub ends : EndsWith request first second Untouched file old new result
 
 -- A request was answered of one source, beside an empty one and a file that was empty, and then the
 -- lines were handed on.
 pub record EndsFrom
-    {S : Type 0} (request : Request) (first : SourceCall S) (old new : Lines) (result : Status)
+    (request : Request) (first : SourceCall) (old new : Lines) (result : Status)
     : Type 0 where
-  pub second : SourceCall ⊤
+  pub second : SourceCall
   pub second_is_empty : second.told ≡ Some []
   pub file : SinkCall
   pub file_is_empty : file.old ≡ Some []
-  pub ends : EndsWith request first second file old new result
+  pub ends : EndsWith request first second ⊤ file old new result
 
 -- A request was answered of one source, beside an empty one, and of a file, and then the lines were
 -- handed on.
 pub record EndsWithFile
-    {S : Type 0} (request : Request) (first : SourceCall S) (file : SinkCall) (old new : Lines)
-    (result : Status)
+    (request : Request) (first : SourceCall) (file : SinkCall) (old new : Lines) (result : Status)
     : Type 0 where
-  pub second : SourceCall ⊤
+  pub second : SourceCall
   pub second_is_empty : second.told ≡ Some []
-  pub ends : EndsWith request first second file old new result
+  pub ends : EndsWith request first second ⊤ file old new result
 
 -- What devices tell before a request is answered of them: the bytes that the sources have to give,
 -- and those that the file has taken.
@@ -144,13 +133,13 @@ pub record Given : Type 0 where
 -- the lines were handed on.
 pub record EndsOver (request : Request) (given : Given) (old new : Lines) (result : Status)
     : Type 0 where
-  pub first : SourceCall ⊤
+  pub first : SourceCall
   pub first_is : first.told ≡ given.first
-  pub second : SourceCall ⊤
+  pub second : SourceCall
   pub second_is : second.told ≡ given.second
   pub file : SinkCall
   pub file_is : file.old ≡ given.file
-  pub ends : EndsWith request first second file old new result
+  pub ends : EndsWith request first second ⊤ file old new result
 
 -- What is told of the files that were opened, by what a file tells that is read, and one that is
 -- written. An empty device stands for each that was not.
@@ -212,7 +201,7 @@ pub record Says (fault : UsageFault) (old new : Lines) (result : Status) : Type 
         new_count = printed.count;
       })
       (told_listing (usage_told fault)) Fault
-  pub handed_on : HandsOnLines printed Fault new result
+  pub handed_on : HandsOnHeldLines printed Fault new result
 
 -- No request was answered, and the line of the fault was printed that tells why.
 pub record IsUnanswered (given : Result (List Text) UsageFault) (old new : Lines) (result : Status)

@@ -46,7 +46,7 @@ pub fn answer_pair<S: Ahead, T: Ahead, K: Sink>(
     requires out { failures_and_refused (K.failure_count out.old.device) out.old.refused ≡ 0 }
     ensures { EndsFromBoth request.now
         (source_call S.remaining S.failure_count first.old first.new)
-        (source_call T.remaining T.failure_count second.old second.new)
+        (source_call T.remaining T.failure_count second.old second.new) (second.new ≡ second.old)
         (lines_of K.contents K.failure_count out.old)
         (lines_of K.contents K.failure_count out.new) result }
 {
@@ -99,7 +99,7 @@ fn answer_and_hand_on<S: Ahead, T: Ahead, F: Close, O: HandOn<F>>(
     requires out { O.failure_count out.old ≡ 0 }
     ensures ends { EndsWith request.now
         (source_call S.remaining S.failure_count first.old first.new)
-        (source_call T.remaining T.failure_count second.old second.new)
+        (source_call T.remaining T.failure_count second.old second.new) (second.new ≡ second.old)
         (buffered_call F.contents F.failure_count file.old file.new)
         (lines_in O.contents O.held_back O.failure_count out.old)
         (lines_in O.contents O.held_back O.failure_count out.new) result }

@@ -3,7 +3,7 @@ ghost use Rattle.std.specs.Prelude.{◌≡◌, ℕ, List, true};
 ghost use Rattle.sub_io.specs.Buffered.{HeldBack, failures_and_refused};
 ghost use Rattle.sub_io.specs.Device.{CanFail};
 ghost use Rattle.sub_listing.specs.declared.status.Status.{Status};
-ghost use Rattle.subttx.specs.Ending.{HandsOnLines, lines_in, lines_of};
+ghost use Rattle.subttx.specs.Ending.{HandsOnHeldLines, lines_in, lines_of};
 
 use sub_answer::Status;
 use sub_io::{BufferedSink, Close, Flush, Sink};
@@ -26,7 +26,7 @@ pub trait HandOn<F: Close>: Flush {
         requires count { CanFail (Self.failure_count self.old) }
         requires closed { F.is_closed file.now.device ≡ true }
         ensures call { is_handed_on self.old file.now status self.new result }
-        ensures lines { HandsOnLines
+        ensures lines { HandsOnHeldLines
             (lines_in Self.contents held_back Self.failure_count self.old) status
             (lines_in Self.contents held_back Self.failure_count self.new) result };
 }
@@ -47,7 +47,7 @@ impl<F: Close, K: Sink> HandOn<F> for BufferedSink<'_, K> {
 pub fn hand_on_all<K: Sink>(status: Status, out: &mut BufferedSink<'_, K>) -> Status
     requires { CanFail (failures_and_refused
         (K.failure_count out.old.device) out.old.refused) }
-    ensures { HandsOnLines (lines_of K.contents K.failure_count out.old) status
+    ensures { HandsOnHeldLines (lines_of K.contents K.failure_count out.old) status
         (lines_of K.contents K.failure_count out.new) result }
 {
     match out.flush() {

@@ -31,7 +31,7 @@ pub fn print_verdict<S: Source, T: Source, K: Sink>(
     requires out { CanFail (K.failure_count out.old) }
     ensures check { AnswersCheck national options.now
         (source_call S.remaining S.failure_count stl.old stl.new)
-        (source_call T.remaining T.failure_count pes.old pes.new)
+        (source_call T.remaining T.failure_count pes.old pes.new) (pes.new ≡ pes.old)
         (sink_call K.contents K.failure_count out.old out.new) result }
     ensures stl_count { CountsFault S.failure_count stl.old result stl.new }
     ensures pes_count { CountsFault T.failure_count pes.old result pes.new }

@@ -34,7 +34,7 @@ pub fn print_every_fault<S: Source, T: Ahead, K: Flush>(
     requires out { CanFail (K.failure_count out.old) }
     ensures all { AnswersAll national options.now
         (source_call S.remaining S.failure_count stl.old stl.new)
-        (source_call T.remaining T.failure_count pes.old pes.new)
+        (source_call T.remaining T.failure_count pes.old pes.new) (pes.new ≡ pes.old)
         (sink_call K.contents K.failure_count out.old out.new) result }
     ensures stl_count { CountsFault S.failure_count stl.old result stl.new }
     ensures pes_count { CountsFault T.failure_count pes.old result pes.new }
@@ -78,7 +78,7 @@ fn tell_every_fault<S: Source, T: Ahead, K: Flush>(
     ensures same { printer.new.out.ghost_name ≡ printer.old.out.ghost_name }
     ensures told { TellsBoth national options.now
         (source_call S.remaining S.failure_count stl.old stl.new)
-        (source_call T.remaining T.failure_count pes.old pes.new)
+        (source_call T.remaining T.failure_count pes.old pes.new) (pes.new ≡ pes.old)
         (printer_value (K.contents printer.old.out.now) (K.failure_count printer.old.out.now)
         printer.old.refused printer.old.failed)
         (printer_value (K.contents printer.new.out.now) (K.failure_count printer.new.out.now)

@@ -4,7 +4,7 @@ use Rattle.subttx.proofs.answering.read_both.Goals as goal
 
 pub returns : goal.returns
 returns g c =
-    ends_over _ _ _ _ _ _ _ _ c.answer_pair.ensures.ends
+    ends_over _ _ _ _ _ _ _ _ _ c.answer_pair.ensures.ends
     (rw (c.new-first.ensures, c.new.ensures, c.into_file.ensures) (prepend_known-nil _))
     (rw (c.new-second.ensures, c.new-2.ensures, c.into_file-2.ensures) (prepend_known-nil _))
     c.answer_pair.ensures.file_is_empty

@@ -4,6 +4,6 @@ use Rattle.subttx.proofs.answering.read_nothing.Goals as goal
 
 pub returns : goal.returns
 returns g c =
-    ends_over _ _ _ _ _ _ _ _ c.answer_from.ensures.ends
+    ends_over _ _ _ _ _ _ _ _ _ c.answer_from.ensures.ends
     (ap Some c.new.ensures)
     c.answer_from.ensures.second_is_empty c.answer_from.ensures.file_is_empty

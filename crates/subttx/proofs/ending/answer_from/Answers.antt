@@ -3,4 +3,4 @@ use Rattle.subttx.proofs.EndingLemmas.{ends_from}
 use Rattle.subttx.proofs.ending.answer_from.Goals as goal
 
 pub returns : goal.returns
-returns g c = ends_from _ _ _ _ _ _ c.answer_pair.ensures (ap Some c.new.ensures)
+returns g c = ends_from _ _ _ _ _ _ _ c.answer_pair.ensures (ap Some c.new.ensures)

@@ -7,9 +7,8 @@ use Rattle.sub_answer.specs.EveryFault.{TellsBoth}
 use Rattle.sub_listing.specs.EventLines.{subtitle_event}
 use Rattle.sub_listing.specs.Printer.{PrinterValue, PrintsEvent, printer_value}
 use Rattle.sub_listing.specs.declared.printer.Printer.{Printer}
-use Rattle.sub_answer.proofs.EveryFaultLemmas.{after_error, after_faults, after_pes, same_out}
-use Rattle.sub_answer.proofs.EveryFaultLemmas.{same_sink}
-use Rattle.sub_listing.proofs.PrinterLemmas.{cannot_fail, has_stopped, still_goes}
+use Rattle.sub_answer.proofs.EveryFaultLemmas.{after_error, after_faults, after_pes}
+use Rattle.sub_listing.proofs.PrinterLemmas.{cannot_fail, has_stopped, same_all, still_goes}
 use Rattle.sub_answer.proofs.answering.check_all.tell_every_fault.Goals as goal
 
 -- The printer by what is known of its sink.
@@ -29,77 +28,52 @@ IsToldEvent contents count s x t = (t.out.ghost_name ≡ s.out.ghost_name)
 
 pub returns-in-Err-clause-same : goal.returns-in-Err-clause-same
 returns-in-Err-clause-same g c =
-    same_sink (IsToldFault g.K.Sink.contents g.K.Sink.failure_count)
-    (λ (p : Printer g.row.K.Denot). p.out.ghost_name)
-    (value_of g.K.Sink.contents g.K.Sink.failure_count) (λ s t x h. h)
-    c.args.national c.args.options.now
-    (source_call g.S.Source.remaining g.S.Source.failure_count c.args.stl.now c.load_all.new.source)
-    (source_call g.T.Source.remaining g.T.Source.failure_count c.args.pes.now c.args.pes.now)
-    c.args.printer.now c.load_all.new.audience c.requires.goes_on (omega (arith, c.requires.none))
-    refl (omega arith) c.in-Err.ensures.some_before
+    same_all (IsToldFault g.K.Sink.contents g.K.Sink.failure_count)
+    (λ (p : Printer g.row.K.Denot). p.out.ghost_name) (λ s t x h. h.0) _ _
+    c.in-Err.ensures.some_before
 
 pub returns-in-Err-clause-told : goal.returns-in-Err-clause-told
 returns-in-Err-clause-told g c =
     let e = c.in-Err.ensures in
     after_error (IsToldFault g.K.Sink.contents g.K.Sink.failure_count)
-    (λ (p : Printer g.row.K.Denot). p.out.ghost_name)
-    (value_of g.K.Sink.contents g.K.Sink.failure_count) (λ s t x h. h)
+    (value_of g.K.Sink.contents g.K.Sink.failure_count) (λ s t x h. h.1)
     c.args.national c.args.options.now
     (source_call g.S.Source.remaining g.S.Source.failure_count c.args.stl.now c.load_all.new.source)
     (source_call g.T.Source.remaining g.T.Source.failure_count c.args.pes.now c.args.pes.now)
+    (c.args.pes.now ≡ c.args.pes.now)
     c.args.printer.now c.load_all.new.audience c.requires.goes_on (omega (arith, c.requires.none))
     refl (omega arith)
-    (cannot_fail _ _ (λ h. let r = e.stopped h in cc))
-    c.in-Err.fault.block c.in-Err.fault.kind e.kinds e.some_before e.none_before e.count e.memory
-    e.read
+    c.in-Err.fault.block c.in-Err.fault.kind (cannot_fail _ _ (λ h. let r = e.stopped h in cc))
+    e.kinds e.some_before e.none_before e.count e.memory e.read
 
 pub returns-in-Ok-None-clause-same : goal.returns-in-Ok-None-clause-same
 returns-in-Ok-None-clause-same g c =
-    let e = c.in-Ok-None.ensures in
-    (after_faults (IsToldFault g.K.Sink.contents g.K.Sink.failure_count)
-    (λ (p : Printer g.row.K.Denot). p.out.ghost_name)
-    (value_of g.K.Sink.contents g.K.Sink.failure_count) (λ s t x h. h)
-    c.args.national c.args.options.now
-    (source_call g.S.Source.remaining g.S.Source.failure_count c.args.stl.now c.load_all.new.source)
-    (source_call g.T.Source.remaining g.T.Source.failure_count c.args.pes.now c.args.pes.now)
-    c.args.printer.now c.load_all.new.audience c.requires.goes_on (omega (arith, c.requires.none))
-    refl (omega arith) _ (λ holds same. still_goes _ _ _ c.requires.out holds same)
-    (e.some (let is = c.in-Ok-None.field-0-is in cc))
-    (λ file told. e.told file told (let is = c.in-Ok-None.field-0-is in cc)) e.count).0
+    let some = c.in-Ok-None.ensures.some (let is = c.in-Ok-None.field-0-is in cc) in
+    same_all (IsToldFault g.K.Sink.contents g.K.Sink.failure_count)
+    (λ (p : Printer g.row.K.Denot). p.out.ghost_name) (λ s t x h. h.0) _ _
+    (record { items = some.faults; told = some.told })
 
 pub returns-in-Ok-None-clause-told : goal.returns-in-Ok-None-clause-told
 returns-in-Ok-None-clause-told g c =
     let e = c.in-Ok-None.ensures in
-    (after_faults (IsToldFault g.K.Sink.contents g.K.Sink.failure_count)
-    (λ (p : Printer g.row.K.Denot). p.out.ghost_name)
-    (value_of g.K.Sink.contents g.K.Sink.failure_count) (λ s t x h. h)
+    after_faults (IsToldFault g.K.Sink.contents g.K.Sink.failure_count)
+    (value_of g.K.Sink.contents g.K.Sink.failure_count) (λ s t x h. h.1)
     c.args.national c.args.options.now
     (source_call g.S.Source.remaining g.S.Source.failure_count c.args.stl.now c.load_all.new.source)
     (source_call g.T.Source.remaining g.T.Source.failure_count c.args.pes.now c.args.pes.now)
+    (c.args.pes.now ≡ c.args.pes.now)
     c.args.printer.now c.load_all.new.audience c.requires.goes_on (omega (arith, c.requires.none))
     refl (omega arith) _ (λ holds same. still_goes _ _ _ c.requires.out holds same)
     (e.some (let is = c.in-Ok-None.field-0-is in cc))
-    (λ file told. e.told file told (let is = c.in-Ok-None.field-0-is in cc)) e.count).1
+    (λ file told. e.told file told (let is = c.in-Ok-None.field-0-is in cc)) e.count
 
 pub returns-in-Ok-Some-clause-same : goal.returns-in-Ok-Some-clause-same
 returns-in-Ok-Some-clause-same g c =
-    let first = c.in-Ok-Some.ensures in
-    let none = rw c.in-Ok-Some.field-0-is at first.none in
-    let kept = none.in_turn in
-    same_out (IsToldEvent g.K.Sink.contents g.K.Sink.failure_count)
-    (λ (p : Printer g.row.K.Denot). p.out.ghost_name)
-    (value_of g.K.Sink.contents g.K.Sink.failure_count) (λ s t x h. h)
-    c.args.national c.args.options.now
-    (source_call g.S.Source.remaining g.S.Source.failure_count c.args.stl.now c.load_all.new.source)
-    (source_call g.T.Source.remaining g.T.Source.failure_count c.args.pes.now
-    c.check_all.new.source)
-    _ c.load_all.new.audience c.check_all.new.audience
-    (ap (λ (p : Printer g.row.K.Denot). p.failed) kept ∙ c.requires.goes_on)
-    (let n = ap (λ (p : Printer g.row.K.Denot). p.refused) kept ∙ c.requires.none in
-    omega (arith, n))
-    (λ file told. rw c.in-Ok-Some.field-0-is at (first.exact file told)) first.count
+    let none = rw c.in-Ok-Some.field-0-is at c.in-Ok-Some.ensures.none in
+    same_all (IsToldEvent g.K.Sink.contents g.K.Sink.failure_count)
+    (λ (p : Printer g.row.K.Denot). p.out.ghost_name) (λ s t x h. h.0) _ _
     c.check_all.ensures.some
-    ∙ ap (λ (p : Printer g.row.K.Denot). p.out.ghost_name) kept
+    ∙ ap (λ (p : Printer g.row.K.Denot). p.out.ghost_name) none.in_turn
 
 pub returns-in-Ok-Some-clause-told : goal.returns-in-Ok-Some-clause-told
 returns-in-Ok-Some-clause-told g c =
@@ -110,17 +84,16 @@ returns-in-Ok-Some-clause-told g c =
     subst (λ (p : Printer g.row.K.Denot). TellsBoth c.args.national c.args.options.now
     (source_call g.S.Source.remaining g.S.Source.failure_count c.args.stl.now c.load_all.new.source)
     (source_call g.T.Source.remaining g.T.Source.failure_count c.args.pes.now
-    c.check_all.new.source)
+    c.check_all.new.source) (c.check_all.new.source ≡ c.args.pes.now)
     (value_of g.K.Sink.contents g.K.Sink.failure_count p)
     (value_of g.K.Sink.contents g.K.Sink.failure_count c.check_all.new.audience)
     c.check_all.result) kept
     (after_pes (IsToldEvent g.K.Sink.contents g.K.Sink.failure_count)
-    (λ (p : Printer g.row.K.Denot). p.out.ghost_name)
-    (value_of g.K.Sink.contents g.K.Sink.failure_count) (λ s t x h. h)
+    (value_of g.K.Sink.contents g.K.Sink.failure_count) (λ s t x h. h.1)
     c.args.national c.args.options.now
     (source_call g.S.Source.remaining g.S.Source.failure_count c.args.stl.now c.load_all.new.source)
     (source_call g.T.Source.remaining g.T.Source.failure_count c.args.pes.now
-    c.check_all.new.source)
+    c.check_all.new.source) _
     _ c.load_all.new.audience c.check_all.new.audience
     (ap (λ (p : Printer g.row.K.Denot). p.failed) kept ∙ c.requires.goes_on)
     (let n = ap (λ (p : Printer g.row.K.Denot). p.refused) kept ∙ c.requires.none in

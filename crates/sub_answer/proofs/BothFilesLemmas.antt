@@ -1,0 +1,173 @@
+-- What the status of a check tells of both files, by the listing that goes with it. Main lemmas:
+-- status-told, good-accepted, accepted-ok, memory-printed.
+use Rattle.std.proofs.Common.{◌≡◌, ◌≢◌, ◌↔◌, ◌∙◌, ap, refl, sym, subst, ℕ, List, Bool, true}
+use Rattle.std.proofs.Common.{false, Option, Result, Ok}
+use Rattle.std.specs.Prelude.{⊤, [], IsOk}
+use Rattle.std.proofs.lemmas.Bool.{true≢false}
+use Rattle.std.specs.Io.KnownBytes.{Appends}
+use Rattle.sub_io.specs.Device.{failed}
+use Rattle.sub_io.specs.Reading.{IfTold}
+use Rattle.stl_file.specs.Reader.{outcome_of}
+use Rattle.stl_rows.specs.Fault.{is_read_kind}
+use Rattle.stl_rows.specs.Loading.{EndsRecord, load_fault, loaded}
+use Rattle.stl_rows.specs.Programme.{ProgrammeValue}
+use Rattle.stl_rows.specs.declared.fault.LoadFaultKind.{LoadFaultKind}
+use Rattle.stl_rows.specs.declared.fault.LoadFaultKind.TheVariants as load
+use Rattle.stl_rows.specs.declared.national.National.{National}
+use Rattle.sub_plan.specs.Options.{OptionsValue}
+use Rattle.sub_rules.specs.Fault.{is_failure, is_failure_kind, is_pes_read, is_stl_read}
+use Rattle.sub_rules.specs.Fault.{is_subtitle_fault}
+use Rattle.sub_rules.specs.declared.fault.CheckFault.{CheckFault}
+use Rattle.sub_rules.specs.declared.fault.CheckFault.TheVariants as fault
+use Rattle.sub_checker.specs.declared.telling.Accepted.{Accepted}
+use Rattle.sub_check.specs.CheckedFiles.{IsChecked}
+use Rattle.sub_listing.specs.DeviceCall.{SinkCall, SourceCall}
+use Rattle.sub_listing.specs.Faults.{check_told, kind_by}
+use Rattle.sub_listing.specs.Listing.{Listing, PrintsOrFails}
+use Rattle.sub_listing.specs.Told.{line_of, status_of}
+use Rattle.sub_listing.specs.Writing.{PrintsMemory}
+use Rattle.sub_listing.specs.declared.status.Status.{Status}
+use Rattle.sub_listing.specs.declared.status.Status.TheVariants.{Done, Fault}
+use Rattle.sub_listing.proofs.PrintingLemmas.{printed-status, printed-whole}
+use Rattle.sub_answer.specs.BothFiles.{IsAccepted, TellsSources, TellsStatus}
+
+-- ---- what is told of a fault, and its status
+
+-- It never ends as what is done does.
+pub told-not_done : (b : Bool) → status_of (kind_by b) ≢ Done
+told-not_done true e = cc
+told-not_done false e = cc
+
+-- It ends as a failure only where it is one.
+pub told-fails : (b : Bool) → status_of (kind_by b) ≡ Fault → b ≡ true
+told-fails true e = refl
+told-fails false e = cc
+
+-- Where it is none, it ends otherwise.
+pub told-runs : (b : Bool) → status_of (kind_by b) ≢ Fault → b ≡ false
+told-runs true other = absurd (other refl)
+told-runs false other = refl
+
+-- That the source of the subtitle file failed is a failure.
+kind-fails : (kind : LoadFaultKind) → is_read_kind kind ≡ true → is_failure_kind kind ≡ true
+kind-fails load.Memory is = refl
+kind-fails kind is = is
+
+pub stl-fails : (f : CheckFault) → is_stl_read f ≡ true → is_failure f ≡ true
+stl-fails (fault.Subtitles f) is = kind-fails f.kind is
+stl-fails f is = absurd (true≢false (sym is))
+
+-- So is that of the PES file.
+pub pes-fails : (f : CheckFault) → is_pes_read f ≡ true → is_failure f ≡ true
+pes-fails (fault.Subtitles f) is = absurd (true≢false (sym is))
+pes-fails f is = is
+
+-- A failure of neither source is want of memory.
+memory-kind : (kind : LoadFaultKind)
+    → is_failure_kind kind ≡ true
+    → is_read_kind kind ≡ false
+    → kind ≡ load.Memory
+memory-kind load.Memory fails read = refl
+memory-kind kind fails read = absurd (true≢false (sym fails ∙ read))
+
+memory-fault : (f : CheckFault)
+    → is_failure f ≡ true
+    → is_stl_read f ≡ false
+    → is_pes_read f ≡ false
+    → (block : ℕ) × (f ≡ fault.Subtitles (load_fault block load.Memory))
+memory-fault (fault.Subtitles f) fails read fine =
+    let kind = memory-kind f.kind fails read in
+    (f.block, ap (λ k. fault.Subtitles (load_fault f.block k)) kind)
+memory-fault f fails read fine = absurd (true≢false (sym fails ∙ fine))
+
+-- The line of a failure of neither source is that of want of memory.
+pub memory-printed :
+    (national : National) (told old new : Option (List ℕ)) (f : CheckFault)
+    → is_failure f ≡ true
+    → is_stl_read f ≡ false
+    → is_pes_read f ≡ false
+    → Appends old new (line_of (check_told f))
+    → ((block : ℕ)
+    → f ≡ fault.Subtitles (load_fault block load.Memory)
+    → IfTold told (λ file. EndsRecord national [] block (outcome_of file)))
+    → PrintsMemory national told old new
+memory-printed national told old new f fails read fine line tells =
+    let memory = memory-fault f fails read fine in (
+      memory.0,
+      subst (λ (g : CheckFault). Appends old new (line_of (check_told g))) memory.1 line,
+      tells memory.0 memory.1,
+    )
+
+-- ---- what is accepted
+
+-- A programme with a good transmission.
+pub good-accepted :
+    (national : National) (options : OptionsValue) (file bytes : List ℕ)
+    (programme : ProgrammeValue) (a : Accepted)
+    → loaded national (outcome_of file) ≡ Ok programme
+    → IsChecked programme options bytes (Ok a)
+    → IsAccepted national options file bytes
+good-accepted national options file bytes programme a loads checked =
+    let good = (checked.accepted refl refl).0 refl in
+    record {
+      programme = programme;
+      frames = good.0;
+      loads = loads;
+      carries = good.1;
+      good = good.2;
+      complete = good.3;
+    }
+
+-- No rule refuses it.
+pub accepted-ok :
+    (national : National) (options : OptionsValue) (file bytes : List ℕ)
+    (programme : ProgrammeValue) (answer : Result Accepted CheckFault)
+    → loaded national (outcome_of file) ≡ Ok programme
+    → IsChecked programme options bytes answer
+    → failed is_subtitle_fault answer ≡ false
+    → failed is_pes_read answer ≡ false
+    → IsAccepted national options file bytes
+    → IsOk answer
+accepted-ok national options file bytes programme answer loads checked looked fine is =
+    let one : programme ≡ is.programme = let both = sym loads ∙ is.loads in cc in
+    ((subst (λ (p : ProgrammeValue). IsChecked p options bytes answer) one checked).accepted
+    looked fine).1 (is.frames, is.carries, is.good, is.complete)
+
+-- The status that was printed with a listing, by what that tells of the files.
+pub status-told :
+    (national : National) (options : OptionsValue) (stl pes : SourceCall) (out : SinkCall)
+    (listing : Listing) (status : Status)
+    → PrintsOrFails out listing status
+    → (listing.status ≢ Fault
+    → IfTold stl.told (λ file.
+    IfTold pes.told (λ bytes.
+    (listing.status ≡ Done) ↔ IsAccepted national options file bytes)))
+    → (listing.status ≡ Fault
+    → stl.new_count ≡ stl.old_count
+    → pes.new_count ≡ pes.old_count
+    → Appends out.old out.new listing.text
+    → PrintsMemory national stl.told out.old out.new)
+    → TellsStatus national options stl pes out status
+status-told national options stl pes out listing status printed done fault = record {
+  done = λ file told bytes heard other.
+      let is = printed-status out listing status printed other in
+      rw is (done (λ fails. other (is ∙ fails)) file told bytes heard);
+  fault = λ is stl_same pes_same out_same.
+      let whole = printed-whole out listing status printed out_same in
+      fault (sym whole.1 ∙ is) stl_same pes_same whole.0;
+}
+
+-- What an answer tells of the sources of both files, without whether that of the PES file was
+-- touched. For `subttx`.
+pub sources-touched :
+    {Counts : Type 0} (AtBlock AtPes : ℕ → Type 0) (Untouched : Type 0) (is : Bool)
+    (stl pes : SourceCall) (answer : Result Counts CheckFault)
+    → TellsSources AtBlock AtPes Untouched is stl pes answer
+    → TellsSources AtBlock AtPes ⊤ is stl pes answer
+sources-touched AtBlock AtPes Untouched is stl pes answer tells = record {
+  stl_count = tells.stl_count;
+  pes_count = tells.pes_count;
+  stl_read = tells.stl_read;
+  pes_read = tells.pes_read;
+  before = λ refused. tt;
+}

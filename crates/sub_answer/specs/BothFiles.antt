@@ -1,0 +1,69 @@
+-- What the answers to `check` and to `check --all` both say of a subtitle file and a PES file.
+use Rattle.std.specs.Prelude.{◌≡◌, ◌≢◌, ◌↔◌, ℕ, Bool, true, List, Result, Ok, Err, IsTrue}
+use Rattle.sub_io.specs.Device.{RisesIf, failed}
+use Rattle.sub_io.specs.Reading.{IfTold}
+use Rattle.ttx_pes.specs.declared.fault.PesFault.TheVariants.{Read}
+use Rattle.stl_file.specs.Reader.{outcome_of}
+use Rattle.stl_rows.specs.Fault.{is_read}
+use Rattle.stl_rows.specs.Loading.{loaded}
+use Rattle.stl_rows.specs.Programme.{ProgrammeValue}
+use Rattle.stl_rows.specs.declared.fault.LoadFault.{LoadFault}
+use Rattle.stl_rows.specs.declared.national.National.{National}
+use Rattle.sub_plan.specs.Options.{OptionsValue}
+use Rattle.sub_rules.specs.Fault.{is_pes_read, is_stl_read}
+use Rattle.sub_rules.specs.Good.{Good}
+use Rattle.sub_rules.specs.PesFrames.{Carries}
+use Rattle.sub_rules.specs.Transmission.{Transmission}
+use Rattle.sub_rules.specs.declared.fault.CheckFault.{CheckFault}
+use Rattle.sub_rules.specs.declared.fault.CheckFault.TheVariants.{Pes, Subtitles}
+use Rattle.sub_laws.specs.OnScreen.{Complete}
+use Rattle.sub_listing.specs.DeviceCall.{SinkCall, SourceCall}
+use Rattle.sub_listing.specs.Writing.{PrintsMemory}
+use Rattle.sub_listing.specs.declared.status.Status.{Status}
+use Rattle.sub_listing.specs.declared.status.Status.TheVariants.{Done, Fault}
+
+-- The files are accepted: the subtitle file gives a programme, and the PES file carries a
+-- transmission that is good for it, of complete pages where these are asked for.
+pub record IsAccepted
+    (national : National) (options : OptionsValue) (file bytes : List ℕ) : Type 0 where
+  pub programme : ProgrammeValue
+  pub frames : Transmission
+  pub loads : loaded national (outcome_of file) ≡ Ok programme
+  pub carries : Carries options.origin bytes frames
+  pub good : Good programme frames options
+  pub complete : IsTrue options.asks_complete → Complete frames options
+
+-- What an answer tells of the sources of both files, by what it means that one of them failed at
+-- this block or at this PES packet.
+pub record TellsSources
+    {Counts : Type 0} (FailsAtBlock FailsAtPes : ℕ → Type 0) (Untouched : Type 0)
+    (is_of_subtitles : Bool) (stl pes : SourceCall) (answer : Result Counts CheckFault)
+    : Type 0 where
+  -- It tells which of them failed.
+  pub stl_count : RisesIf stl.old_count (failed is_stl_read answer) stl.new_count
+  pub pes_count : RisesIf pes.old_count (failed is_pes_read answer) pes.new_count
+  -- That a source failed is told where it did.
+  pub stl_read :
+      (f : LoadFault) → answer ≡ Err (Subtitles f) → is_read f ≡ true → FailsAtBlock f.block
+  pub pes_read : (index : ℕ) → answer ≡ Err (Pes index Read) → FailsAtPes index
+  -- Where it refuses the subtitle file or could not read that, no PES byte is read.
+  pub before : is_of_subtitles ≡ true → Untouched
+
+-- What the status tells of both files.
+pub record TellsStatus
+    (national : National) (options : OptionsValue) (stl pes : SourceCall) (out : SinkCall)
+    (status : Status)
+    : Type 0 where
+  -- Failing devices and want of memory aside, it is `Done` exactly where the files are accepted.
+  pub done :
+      IfTold stl.told (λ file.
+      IfTold pes.told (λ bytes.
+      status ≢ Fault
+      → (status ≡ Done) ↔ IsAccepted national options file bytes))
+  -- It is `Fault` only where a device failed, or want of memory is printed.
+  pub fault :
+      status ≡ Fault
+      → stl.new_count ≡ stl.old_count
+      → pes.new_count ≡ pes.old_count
+      → out.new_count ≡ out.old_count
+      → PrintsMemory national stl.told out.old out.new
