@@ -1,5 +1,6 @@
 //! Lists as people write them.
-ghost use Rattle.std.specs.Prelude.{◌≡◌, ◌==◌, ℕ, Bool, IfOk, List, [], Option, map, option_map};
+ghost use Rattle.std.specs.Prelude.{◌≡◌, ◌==◌, ℕ, Bool, IfOk, List, [], None, Option, Some, map};
+ghost use Rattle.std.specs.Prelude.{if◌then◌else◌, option_map};
 ghost use Rattle.std.specs.List.{list_any, slice_split};
 ghost use Rattle.sub_words.specs.Texts.{comma, items_after, list_of_text};
 
@@ -63,16 +64,30 @@ fn items_of<A: Allocator + Drop, T: Item + Drop>(
         ≡ items_after T.said T.same [] (map (λ x. x.now) texts.now)) }
 {
     let mut list = Vec::new(alloc);
+    let all = add_items(&mut list, texts)?;
+    Ok(if all { Some(list) } else { None })
+}
+
+// Adds the items that texts are to a list, up to the first text that is none, or the same as one
+// before it. Whether all were added.
+fn add_items<A: Allocator, T: Item>(
+    list: &mut Vec<T, A>,
+    texts: &[&str],
+) -> Result<bool, AllocError>
+    ensures { IfOk result (λ all.
+        items_after T.said T.same list.old.items (map (λ x. x.now) texts.now)
+        ≡ (if all then Some list.new.items else None)) }
+{
     for text in texts {
         let Some(item) = T::read(text) else {
-            return Ok(None);
+            return Ok(false);
         };
         if stands_in(&item, list.as_slice()) {
-            return Ok(None);
+            return Ok(false);
         }
         list.push(item)?;
     }
-    Ok(Some(list))
+    Ok(true)
 }
 
 // Whether an item stands in a list.

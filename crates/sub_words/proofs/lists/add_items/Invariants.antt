@@ -1,10 +1,10 @@
 -- The items so far, and those of the texts that are left, are those of all texts.
-use Rattle.std.proofs.Common.{◌≡◌, [], drop, map}
+use Rattle.std.proofs.Common.{◌≡◌, drop, map}
 use Rattle.sub_words.specs.Texts.{items_after}
-use Rattle.sub_words.proofs.lists.items_of.Given as goal
+use Rattle.sub_words.proofs.lists.add_items.Given as goal
 
 abbrev pub invariant-loop-text : goal.invariant-loop-text
 invariant-loop-text g l =
     let rest = items_after g.T.Item.said g.T.Item.same in
     rest l.list.items (map (λ x. x.now) (drop l.text-index l.texts))
-    ≡ rest [] (map (λ x. x.now) l.texts)
+    ≡ rest l.fn.list.items (map (λ x. x.now) l.texts)
