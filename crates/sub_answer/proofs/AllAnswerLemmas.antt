@@ -10,12 +10,12 @@ use Rattle.std.specs.Io.KnownBytes.{Appends}
 use Rattle.std.proofs.KnownBytes.{Appends-trans}
 use Rattle.sub_io.proofs.DeviceLemmas.{AppendsPrefix-first, AppendsPrefix-second}
 use Rattle.sub_io.specs.Device.{AppendsPrefix, RisesIf, failed}
-use Rattle.sub_io.specs.Reading.{IfTold}
 use Rattle.stl_file.specs.Reader.{outcome_of}
 use Rattle.stl_rows.specs.EveryFault.{faults}
-use Rattle.stl_rows.specs.Loading.{loaded}
+use Rattle.stl_rows.specs.Loading.{load_fault, loaded}
 use Rattle.stl_rows.specs.Programme.{ProgrammeValue}
 use Rattle.stl_rows.proofs.EveryFaultLemmas.{every_fault}
+use Rattle.stl_rows.specs.declared.fault.LoadFaultKind.TheVariants as load
 use Rattle.stl_rows.specs.declared.national.National.{National}
 use Rattle.sub_plan.specs.Options.{OptionsValue}
 use Rattle.sub_check.specs.CheckedFiles.{IsChecked, all_events_of, answer_by, events_of}
@@ -29,22 +29,22 @@ use Rattle.sub_rules.specs.Fault.{is_failure, is_pes_read, is_stl_read}
 use Rattle.sub_checker.specs.declared.telling.Accepted.{Accepted}
 use Rattle.sub_rules.specs.declared.event.Event.{Event}
 use Rattle.sub_rules.specs.declared.fault.CheckFault.{CheckFault}
+use Rattle.sub_rules.specs.declared.fault.CheckFault.TheVariants as fault
 use Rattle.sub_listing.specs.DeviceCall.{Counts, SinkCall, SourceCall}
 use Rattle.sub_answer.specs.BothFiles.{IsAccepted}
 use Rattle.sub_answer.specs.EveryFault.{AnswersAll, AreListed, CanEnd}
 use Rattle.sub_answer.specs.EveryFault.{IsVerdict, TellsBoth}
 use Rattle.sub_answer.specs.FaultListing.{all_listing, last_listing}
 use Rattle.sub_listing.specs.EventLines.{event_lines, most_counted, refusals, subtitle_events}
-use Rattle.sub_listing.specs.Faults.{check_told, kind_by}
+use Rattle.sub_listing.specs.Faults.{kind_by, load_told}
 use Rattle.sub_listing.specs.Listing.{Listing, PrintsOrFails, followed}
 use Rattle.sub_listing.specs.Printer.{PrinterValue, counted}
 use Rattle.sub_listing.specs.Told.{line_of, status_of}
-use Rattle.sub_listing.specs.Writing.{PrintsMemory}
 use Rattle.sub_listing.specs.declared.status.Status.{Status}
 use Rattle.sub_listing.specs.declared.status.Status.TheVariants.{Done, Fault, Refused}
-use Rattle.sub_listing.proofs.PrintingLemmas.{did_not_rise}
-use Rattle.sub_answer.proofs.BothFilesLemmas.{accepted-ok, good-accepted, memory-printed}
-use Rattle.sub_answer.proofs.BothFilesLemmas.{pes-fails, status-told, stl-fails}
+use Rattle.sub_listing.proofs.PrintingLemmas.{printed-status}
+use Rattle.sub_answer.proofs.BothFilesLemmas.{accepted-ok, good-accepted, pes-fails}
+use Rattle.sub_answer.proofs.BothFilesLemmas.{status-told, stl-fails}
 
 -- A sink in a call, by what it had taken and has taken.
 abbrev sink : Option (List ℕ) → ℕ → Option (List ℕ) → ℕ → SinkCall
@@ -109,35 +109,28 @@ never-fault : (o : Option CheckFault) → by_first o ≢ Fault
 never-fault None e = cc
 never-fault (Some f) e = cc
 
--- An answer with the status `Fault`, where neither source failed, is want of memory.
-memory-told :
-    (national : National) (options : OptionsValue) (told pes old new : Option (List ℕ))
-    (events : List Event) (answer : Result (Option Accepted) CheckFault)
-    (so sn po pn : ℕ)
-    → (all_listing events answer).status ≡ Fault
+-- An answer with the status `Fault` is a failure.
+answer-fails : (events : List Event) (answer : Result (Option Accepted) CheckFault)
     → IfErr answer (CanEnd events)
-    → RisesIf so (failed is_stl_read answer) sn
-    → sn ≡ so
-    → RisesIf po (failed is_pes_read answer) pn
-    → pn ≡ po
-    → Appends old new (all_listing events answer).text
-    → IfTold told (λ file. AreListed national options file pes events answer)
-    → PrintsMemory national told old new
-memory-told national options told pes old new events (Ok None) so sn po pn is ended sc ss pc ps text
-    are = cc
-memory-told national options told pes old new events (Ok (Some a)) so sn po pn is ended sc ss pc ps
-    text are =
+    → (all_listing events answer).status ≡ Fault
+    → failed is_failure answer ≡ true
+answer-fails events (Ok None) ended is = cc
+answer-fails events (Ok (Some a)) ended is =
     absurd (never-fault (first_told events) (sym (read-status events a) ∙ is))
-memory-told national options told pes old new events (Err f) so sn po pn is ended sc ss pc ps text
-    are =
-    let read = did_not_rise (is_stl_read f) so sn sc ss in
-    let fine = did_not_rise (is_pes_read f) po pn pc ps in
-    memory-printed national told old new f ended.fails read fine
-    (subst (λ (es : List Event). Appends old new (event_lines es ++ line_of (check_told f)))
-    (ended.alone read fine) text)
-    (λ block memory file heard.
-    (subst (λ (g : CheckFault). AreListed national options file pes events (Err g)) memory
-    (are file heard)).1)
+answer-fails events (Err f) ended is = ended.fails
+
+-- Want of memory is told alone.
+memory-alone : (old new : Option (List ℕ)) (events : List Event)
+    (answer : Result (Option Accepted) CheckFault) (block : ℕ)
+    → IfErr answer (CanEnd events)
+    → answer ≡ Err (fault.Subtitles (load_fault block load.Memory))
+    → Appends old new (all_listing events answer).text
+    → Appends old new (line_of (load_told load.Memory block))
+memory-alone old new events answer block ended memory text =
+    let can = rw memory at ended in
+    subst (λ (es : List Event). Appends old new
+    (event_lines es ++ line_of (load_told load.Memory block)))
+    (can.alone refl refl) (rw memory at text)
 
 -- A subtitle file that gives a programme has no fault.
 no-fault : (national : National) (file : List ℕ) (programme : ProgrammeValue)
@@ -263,13 +256,18 @@ answers_end national options stl pes Untouched old new given end end_count statu
       listed = t.listed;
       checked = λ other. t.checked holds;
       ends = status-told national options stl pes (sink old.contents old.count end end_count)
-          (all_listing t.events t.answer) status printed
+          (all_listing t.events t.answer) status t.answer printed t.sources
           (λ runs file heard bytes known.
           done-exactly national options file bytes pes.told t.events t.answer known runs t.ended
           (t.listed file heard) (t.checked holds file heard bytes known))
-          (λ is stl_same pes_same text.
-          memory-told national options stl.told pes.told old.contents end t.events t.answer _ _ _ _
-          is t.ended t.sources.stl_count stl_same t.sources.pes_count pes_same text t.listed);
+          (answer-fails t.events t.answer t.ended)
+          (λ block memory text. (
+            block,
+            memory-alone old.contents end t.events t.answer block t.ended memory text,
+            λ file heard.
+                (subst (AreListed national options file pes.told t.events) memory
+                (t.listed file heard)).1,
+          ));
     }
 
 -- The same of a sink that stands so. For `print_every_fault`.
@@ -288,10 +286,10 @@ answers_at national options stl pes Untouched old mid new m n p status answers s
 -- A device whose failure ends with `Fault` fails once at most, and not where the status is another.
 counted_by : (b : Bool) (old new : ℕ) (status : Status)
     → RisesIf old b new
-    → (b ≡ true → status ≡ Fault)
+    → (b ≡ true → status ≢ Fault → ⊥)
     → Counts old status new
 counted_by true old new status rises is = record {
-  kept = λ other. absurd (other (is refl));
+  kept = λ other. absurd (is refl other);
   risen = omega (arith, rises);
   once = omega (arith, rises);
 }
@@ -301,37 +299,26 @@ counted_by false old new status rises is = record {
   once = omega (arith, rises);
 }
 
--- The status of a listing that tells a failure.
-printed-fault : (out : SinkCall) (events : List Event)
-    (answer : Result (Option Accepted) CheckFault) (status : Status)
-    → PrintsOrFails out (all_listing events answer) status
-    → failed is_failure answer ≡ true
-    → status ≡ Fault
-unfolding PrintsOrFails
-printed-fault out events (Ok a) status printed fails = absurd (true≢false (sym fails))
-printed-fault out events (Err f) status (inl p) fails =
-    p.2 ∙ ap (λ b. status_of (kind_by b)) fails
-printed-fault out events (Err f) status (inr p) fails = p.2
-
--- An answer that tells so of a source fails.
-answer-fails : (is_one : CheckFault → Bool)
+-- An answer that tells that a source failed has the status `Fault`.
+fault-status : (is_one : CheckFault → Bool)
     → ((f : CheckFault) → is_one f ≡ true → is_failure f ≡ true)
-    → (answer : Result (Option Accepted) CheckFault)
+    → (events : List Event) (answer : Result (Option Accepted) CheckFault)
     → failed is_one answer ≡ true
-    → failed is_failure answer ≡ true
-answer-fails is_one fails (Ok a) is = is
-answer-fails is_one fails (Err f) is = fails f is
+    → (all_listing events answer).status ≡ Fault
+fault-status is_one fails events (Ok a) is = absurd (true≢false (sym is))
+fault-status is_one fails events (Err f) is = ap (λ b. status_of (kind_by b)) (fails f is)
 
 -- The source of either file fails once at most, and not where the status is another than `Fault`.
 pub counts : (national : National) (options : OptionsValue) (stl pes : SourceCall)
     (Untouched : Type 0) (out : SinkCall) (status : Status)
     → AnswersAll national options stl pes Untouched out status
     → Counts stl.old_count status stl.new_count × Counts pes.old_count status pes.new_count
-counts national options stl pes Untouched out status a = (
-  counted_by (failed is_stl_read a.answer) stl.old_count stl.new_count status a.sources.stl_count
-      (λ is. printed-fault out a.events a.answer status a.printed
-      (answer-fails is_stl_read stl-fails a.answer is)),
-  counted_by (failed is_pes_read a.answer) pes.old_count pes.new_count status a.sources.pes_count
-      (λ is. printed-fault out a.events a.answer status a.printed
-      (answer-fails is_pes_read pes-fails a.answer is)),
-)
+counts national options stl pes Untouched out status a =
+    let own = printed-status out (all_listing a.events a.answer) status a.printed in (
+      counted_by (failed is_stl_read a.answer) _ _ status a.sources.stl_count
+          (λ is other.
+          other (own other ∙ fault-status is_stl_read stl-fails a.events a.answer is)),
+      counted_by (failed is_pes_read a.answer) _ _ status a.sources.pes_count
+          (λ is other.
+          other (own other ∙ fault-status is_pes_read pes-fails a.events a.answer is)),
+    )

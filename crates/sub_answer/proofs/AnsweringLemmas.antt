@@ -1,10 +1,10 @@
 -- The answer of a check by the contract of `check_files`: as_answered; where the files are
 -- accepted, `done-exactly`.
-use Rattle.std.proofs.Common.{◌≡◌, ◌≢◌, ◌↔◌, ℕ, List, Option, Some, Result, Ok, Err, true, false}
+use Rattle.std.proofs.Common.{◌≡◌, ◌≢◌, ◌↔◌, ℕ, List, Some, Result, Ok, Err, true, false}
 use Rattle.std.proofs.Common.{refl, sym, subst, ◌∙◌}
 use Rattle.std.proofs.lemmas.Bool.{true≢false}
 use Rattle.std.specs.Io.KnownBytes.{Appends}
-use Rattle.sub_io.specs.Device.{RisesIf, failed}
+use Rattle.sub_io.specs.Device.{failed}
 use Rattle.sub_io.specs.Reading.{IfTold}
 use Rattle.ttx_pes.specs.Reader.{FailsAtPacket}
 use Rattle.stl_file.specs.declared.fault.StlFault.TheVariants as stl
@@ -18,7 +18,7 @@ use Rattle.stl_rows.specs.Loading.{FailsLoading, TellsFault, loaded}
 use Rattle.stl_rows.specs.Programme.{ProgrammeValue}
 use Rattle.sub_plan.specs.Options.{OptionsValue}
 use Rattle.sub_check.specs.CheckedFiles.{AreChecked, TellsSubtitles}
-use Rattle.sub_rules.specs.Fault.{is_failure, is_failure_kind, is_pes_read, is_stl_read}
+use Rattle.sub_rules.specs.Fault.{is_failure, is_failure_kind, is_pes_read}
 use Rattle.sub_rules.specs.Fault.{is_subtitle_fault}
 use Rattle.sub_checker.specs.declared.telling.Accepted.{Accepted}
 use Rattle.sub_rules.specs.declared.fault.CheckFault.{CheckFault}
@@ -27,12 +27,10 @@ use Rattle.sub_answer.specs.Answering.{AnswersCheck, verdict}
 use Rattle.sub_answer.specs.BothFiles.{IsAccepted, TellsSources}
 use Rattle.sub_listing.specs.DeviceCall.{SinkCall, SourceCall}
 use Rattle.sub_listing.specs.Listing.{PrintsOrFails}
-use Rattle.sub_listing.specs.Writing.{PrintsMemory}
 use Rattle.sub_listing.specs.declared.status.Status.{Status}
 use Rattle.sub_listing.specs.declared.status.Status.TheVariants.{Done, Fault}
-use Rattle.sub_listing.proofs.PrintingLemmas.{did_not_rise}
-use Rattle.sub_answer.proofs.BothFilesLemmas.{accepted-ok, good-accepted, memory-printed}
-use Rattle.sub_answer.proofs.BothFilesLemmas.{status-told, told-fails, told-not_done, told-runs}
+use Rattle.sub_answer.proofs.BothFilesLemmas.{accepted-ok, good-accepted, status-told}
+use Rattle.sub_answer.proofs.BothFilesLemmas.{told-fails, told-not_done, told-runs}
 
 -- A file whose PES file was looked at gives a programme. For `done-exactly`.
 has_programme :
@@ -102,25 +100,12 @@ done-exactly national options file bytes (Err f) are other = (
       cc,
 )
 
--- An answer with the status `Fault`, where neither source failed, is want of memory.
-memory-answered :
-    (national : National) (told old new : Option (List ℕ)) (answer : Result Accepted CheckFault)
-    (stl_old stl_new pes_old pes_new : ℕ)
+-- An answer with the status `Fault` is a failure.
+answer-fails : (answer : Result Accepted CheckFault)
     → (verdict answer).status ≡ Fault
-    → RisesIf stl_old (failed is_stl_read answer) stl_new
-    → stl_new ≡ stl_old
-    → RisesIf pes_old (failed is_pes_read answer) pes_new
-    → pes_new ≡ pes_old
-    → IfTold told (λ file. TellsSubtitles national (outcome_of file) answer)
-    → Appends old new (verdict answer).text
-    → PrintsMemory national told old new
-memory-answered national told old new (Ok a) so sn po pn is sc ss pc ps tells line = cc
-memory-answered national told old new (Err f) so sn po pn is sc ss pc ps tells line =
-    memory-printed national told old new f (told-fails (is_failure f) is)
-    (did_not_rise (is_stl_read f) so sn sc ss) (did_not_rise (is_pes_read f) po pn pc ps) line
-    (λ block memory file heard.
-    subst (λ (g : CheckFault). TellsSubtitles national (outcome_of file) (Err g)) memory
-    (tells file heard))
+    → failed is_failure answer ≡ true
+answer-fails (Ok a) is = cc
+answer-fails (Err f) is = told-fails (is_failure f) is
 
 -- What `check_files` tells of both files, and the line that is printed. For `print_verdict`.
 pub as_answered :
@@ -137,10 +122,15 @@ as_answered national options stl pes Untouched out status answer printed sources
   printed = printed;
   sources = sources;
   checked = checked;
-  ends = status-told national options stl pes out (verdict answer) status printed
+  ends = status-told national options stl pes out (verdict answer) status answer printed sources
       (λ other file told bytes heard.
       done-exactly national options file bytes answer (rw heard at (checked file told)) other)
-      (λ is stl_same pes_same line.
-      memory-answered national stl.told out.old out.new answer _ _ _ _ is sources.stl_count
-      stl_same sources.pes_count pes_same (λ file told. (checked file told).subtitles) line);
+      (answer-fails answer)
+      (λ block memory line. (
+        block,
+        subst (λ (r : Result Accepted CheckFault). Appends out.old out.new (verdict r).text)
+            memory line,
+        λ file told.
+            subst (TellsSubtitles national (outcome_of file)) memory (checked file told).subtitles,
+      ));
 }

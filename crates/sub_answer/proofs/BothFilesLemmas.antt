@@ -1,15 +1,15 @@
 -- What the status of a check tells of both files, by the listing that goes with it. Main lemmas:
--- status-told, good-accepted, accepted-ok, memory-printed.
+-- status-told, good-accepted, accepted-ok.
 use Rattle.std.proofs.Common.{◌≡◌, ◌≢◌, ◌↔◌, ◌∙◌, ap, refl, sym, subst, ℕ, List, Bool, true}
-use Rattle.std.proofs.Common.{false, Option, Result, Ok}
-use Rattle.std.specs.Prelude.{⊤, [], IsOk}
+use Rattle.std.proofs.Common.{false, Result, Ok, Err}
+use Rattle.std.specs.Prelude.{⊤, IsOk}
 use Rattle.std.proofs.lemmas.Bool.{true≢false}
 use Rattle.std.specs.Io.KnownBytes.{Appends}
 use Rattle.sub_io.specs.Device.{failed}
 use Rattle.sub_io.specs.Reading.{IfTold}
 use Rattle.stl_file.specs.Reader.{outcome_of}
 use Rattle.stl_rows.specs.Fault.{is_read_kind}
-use Rattle.stl_rows.specs.Loading.{EndsRecord, load_fault, loaded}
+use Rattle.stl_rows.specs.Loading.{load_fault, loaded}
 use Rattle.stl_rows.specs.Programme.{ProgrammeValue}
 use Rattle.stl_rows.specs.declared.fault.LoadFaultKind.{LoadFaultKind}
 use Rattle.stl_rows.specs.declared.fault.LoadFaultKind.TheVariants as load
@@ -22,13 +22,13 @@ use Rattle.sub_rules.specs.declared.fault.CheckFault.TheVariants as fault
 use Rattle.sub_checker.specs.declared.telling.Accepted.{Accepted}
 use Rattle.sub_check.specs.CheckedFiles.{IsChecked}
 use Rattle.sub_listing.specs.DeviceCall.{SinkCall, SourceCall}
-use Rattle.sub_listing.specs.Faults.{check_told, kind_by}
+use Rattle.sub_listing.specs.Faults.{kind_by}
 use Rattle.sub_listing.specs.Listing.{Listing, PrintsOrFails}
-use Rattle.sub_listing.specs.Told.{line_of, status_of}
+use Rattle.sub_listing.specs.Told.{status_of}
 use Rattle.sub_listing.specs.Writing.{PrintsMemory}
 use Rattle.sub_listing.specs.declared.status.Status.{Status}
 use Rattle.sub_listing.specs.declared.status.Status.TheVariants.{Done, Fault}
-use Rattle.sub_listing.proofs.PrintingLemmas.{printed-status, printed-whole}
+use Rattle.sub_listing.proofs.PrintingLemmas.{did_not_rise, printed-status, printed-whole}
 use Rattle.sub_answer.specs.BothFiles.{IsAccepted, TellsSources, TellsStatus}
 
 -- ---- what is told of a fault, and its status
@@ -70,33 +70,16 @@ memory-kind : (kind : LoadFaultKind)
 memory-kind load.Memory fails read = refl
 memory-kind kind fails read = absurd (true≢false (sym fails ∙ read))
 
-memory-fault : (f : CheckFault)
-    → is_failure f ≡ true
-    → is_stl_read f ≡ false
-    → is_pes_read f ≡ false
-    → (block : ℕ) × (f ≡ fault.Subtitles (load_fault block load.Memory))
-memory-fault (fault.Subtitles f) fails read fine =
+memory-fault : {Counts : Type 0} (answer : Result Counts CheckFault)
+    → failed is_failure answer ≡ true
+    → failed is_stl_read answer ≡ false
+    → failed is_pes_read answer ≡ false
+    → (block : ℕ) × (answer ≡ Err (fault.Subtitles (load_fault block load.Memory)))
+memory-fault (Ok a) fails read fine = absurd (true≢false (sym fails))
+memory-fault (Err (fault.Subtitles f)) fails read fine =
     let kind = memory-kind f.kind fails read in
-    (f.block, ap (λ k. fault.Subtitles (load_fault f.block k)) kind)
-memory-fault f fails read fine = absurd (true≢false (sym fails ∙ fine))
-
--- The line of a failure of neither source is that of want of memory.
-pub memory-printed :
-    (national : National) (told old new : Option (List ℕ)) (f : CheckFault)
-    → is_failure f ≡ true
-    → is_stl_read f ≡ false
-    → is_pes_read f ≡ false
-    → Appends old new (line_of (check_told f))
-    → ((block : ℕ)
-    → f ≡ fault.Subtitles (load_fault block load.Memory)
-    → IfTold told (λ file. EndsRecord national [] block (outcome_of file)))
-    → PrintsMemory national told old new
-memory-printed national told old new f fails read fine line tells =
-    let memory = memory-fault f fails read fine in (
-      memory.0,
-      subst (λ (g : CheckFault). Appends old new (line_of (check_told g))) memory.1 line,
-      tells memory.0 memory.1,
-    )
+    (f.block, ap (λ k. Err (fault.Subtitles (load_fault f.block k))) kind)
+memory-fault (Err f) fails read fine = absurd (true≢false (sym fails ∙ fine))
 
 -- ---- what is accepted
 
@@ -135,27 +118,34 @@ accepted-ok national options file bytes programme answer loads checked looked fi
 
 -- The status that was printed with a listing, by what that tells of the files.
 pub status-told :
+    {Counts : Type 0} {AtBlock AtPes : ℕ → Type 0} {Untouched : Type 0} {is_of_subtitles : Bool}
     (national : National) (options : OptionsValue) (stl pes : SourceCall) (out : SinkCall)
-    (listing : Listing) (status : Status)
+    (listing : Listing) (status : Status) (answer : Result Counts CheckFault)
     → PrintsOrFails out listing status
+    → TellsSources AtBlock AtPes Untouched is_of_subtitles stl pes answer
     → (listing.status ≢ Fault
     → IfTold stl.told (λ file.
     IfTold pes.told (λ bytes.
     (listing.status ≡ Done) ↔ IsAccepted national options file bytes)))
-    → (listing.status ≡ Fault
-    → stl.new_count ≡ stl.old_count
-    → pes.new_count ≡ pes.old_count
+    → (listing.status ≡ Fault → failed is_failure answer ≡ true)
+    → ((block : ℕ)
+    → answer ≡ Err (fault.Subtitles (load_fault block load.Memory))
     → Appends out.old out.new listing.text
     → PrintsMemory national stl.told out.old out.new)
     → TellsStatus national options stl pes out status
-status-told national options stl pes out listing status printed done fault = record {
-  done = λ file told bytes heard other.
-      let is = printed-status out listing status printed other in
-      rw is (done (λ fails. other (is ∙ fails)) file told bytes heard);
-  fault = λ is stl_same pes_same out_same.
-      let whole = printed-whole out listing status printed out_same in
-      fault (sym whole.1 ∙ is) stl_same pes_same whole.0;
-}
+status-told national options stl pes out listing status answer printed sources done fails memory =
+    record {
+      done = λ file told bytes heard other.
+          let is = printed-status out listing status printed other in
+          rw is (done (λ failing. other (is ∙ failing)) file told bytes heard);
+      fault = λ is stl_same pes_same out_same.
+          let whole = printed-whole out listing status printed out_same in
+          let wanted =
+          memory-fault answer (fails (sym whole.1 ∙ is))
+          (did_not_rise (failed is_stl_read answer) _ _ sources.stl_count stl_same)
+          (did_not_rise (failed is_pes_read answer) _ _ sources.pes_count pes_same) in
+          memory wanted.0 wanted.1 whole.0;
+    }
 
 -- What an answer tells of the sources of both files, without whether that of the PES file was
 -- touched. For `subttx`.
