@@ -3,11 +3,12 @@
 use Rattle.std.proofs.Common.{◌≡◌, ◌≢◌, ◌∙◌, true, false, List, [], Option, Some, None, Ok, Err}
 use Rattle.std.proofs.Common.{refl, ap, subst, inl, inr, arith}
 use Rattle.std.specs.Borrow.{Bor}
-use Rattle.std.specs.Prelude.{Box, IfErr, Result, option_map, ◌==◌, ◌<◌, ◌∷◌, ℕ, length}
+use Rattle.std.specs.Prelude.{Box, IfErr, Result, option_map, ◌==◌, ◌<◌, ◌∷◌, ℕ, length, map}
 use Rattle.std.specs.Box.{box_value}
 use Rattle.std.proofs.lemmas.Bool.{and_parts, not-true}
 use Rattle.std.proofs.lemmas.Bool.Decides.{nat_tests}
 use Rattle.clap.specs.Words.{App, FailsBy, HasKind, HasMatchesOf, IsAmong, IsParsedFrom, Kinds, Row}
+use Rattle.clap.specs.Words.{Rule}
 use Rattle.clap.specs.Words.{Text, app_of, fault_of, has_subcommand, is_simple, is_simple_and_free}
 use Rattle.clap.specs.Words.{kind_of, subcommand_rows, subcommand_rows_of}
 use Rattle.clap.specs.Words.{takes}
@@ -20,7 +21,9 @@ use Rattle.clap.specs.declared.parser.matches.ArgMatches.TheViews.{out-SubComman
 use Rattle.clap.specs.declared.parser.matches.SubCommand.{SubCommand}
 use Rattle.clap.proofs.OnLiterals.{clap_on_literals}
 use Rattle.clap.proofs.WalkLemmas.{first_value-rows}
-use Rattle.sub_words.specs.Commands.{are_sound, command_in, clap_refusals, subttx_app, texts_of}
+use Rattle.sub_words.specs.Commands.{are_sound, clap_rule, command_in, clap_refusals, subttx_app}
+use Rattle.sub_words.specs.Commands.{texts_of}
+use Rattle.sub_words.specs.declared.command.Argument.{Argument}
 use Rattle.sub_words.specs.Requests.{Asked, IsFaultIn, IsFaultOf, IsReadAs, IsReadExactly}
 use Rattle.sub_words.specs.Requests.{asked_for, asked_in, is_own}
 use Rattle.sub_request.specs.declared.request.Request.{Request}
@@ -36,6 +39,10 @@ is_simple-subttx = refl
 is_free-subttx : is_simple_and_free subttx_app ≡ true
 unfolding subttx_app clap_on_literals
 is_free-subttx = refl
+
+-- What the program's table says of a command.
+abbrev pub table_of : Bor Text × Bor (List Argument) → Text × List Rule
+table_of command = (command.0.now, map clap_rule command.1.now)
 
 -- No words are those of no command.
 none-refused : (clap_refusals [] ≢ []) × (are_sound [] ≢ true)

@@ -72,10 +72,6 @@ commands =
     )
     ∷ []
 
--- What the program's table says of a command.
-abbrev pub table_of : Bor Text × Bor (List Argument) → Text × List Rule
-table_of command = (command.0.now, map clap_rule command.1.now)
-
 -- A program with one more command.
 abbrev pub with_command : App → Text × List Rule → App
 with_command app command =

@@ -4,7 +4,8 @@ use Rattle.std.proofs.Common.{sym}
 use Rattle.std.proofs.lemmas.List.{at_drop_more}
 use Rattle.std.specs.List.{fold}
 use Rattle.clap.specs.Words.{app_of, with_subcommand}
-use Rattle.sub_words.specs.Commands.{subttx_app, table_of, with_command}
+use Rattle.sub_words.specs.Commands.{subttx_app, with_command}
+use Rattle.sub_words.proofs.CommandLemmas.{table_of}
 use Rattle.sub_words.proofs.command.subttx_command.Goals as goal
 
 pub loop-command-init : goal.loop-command-init

@@ -2,7 +2,8 @@
 use Rattle.std.proofs.Common.{◌≡◌, drop, map}
 use Rattle.std.specs.List.{fold}
 use Rattle.clap.specs.Words.{app_of}
-use Rattle.sub_words.specs.Commands.{subttx_app, table_of, with_command}
+use Rattle.sub_words.specs.Commands.{subttx_app, with_command}
+use Rattle.sub_words.proofs.CommandLemmas.{table_of}
 use Rattle.sub_words.proofs.command.subttx_command.Given as goal
 
 abbrev pub invariant-loop-command : goal.invariant-loop-command
