@@ -7,6 +7,8 @@ use Rattle.std.proofs.lemmas.Bool.{true≢false}
 use Rattle.std.specs.Io.KnownBytes.{Appends}
 use Rattle.sub_io.specs.Device.{failed}
 use Rattle.sub_io.specs.Reading.{IfTold}
+use Rattle.ttx_pes.specs.declared.fault.PesFault.TheVariants as pes_fault
+use Rattle.stl_file.specs.declared.fault.StlFault.TheVariants as stl
 use Rattle.stl_file.specs.Reader.{outcome_of}
 use Rattle.stl_rows.specs.Fault.{is_read_kind}
 use Rattle.stl_rows.specs.Loading.{load_fault, loaded}
@@ -50,8 +52,8 @@ told-runs false other = refl
 
 -- That the source of the subtitle file failed is a failure.
 kind-fails : (kind : LoadFaultKind) → is_read_kind kind ≡ true → is_failure_kind kind ≡ true
-kind-fails load.Memory is = refl
-kind-fails kind is = is
+kind-fails (load.File stl.Read) is = refl
+kind-fails kind is = cc
 
 pub stl-fails : (f : CheckFault) → is_stl_read f ≡ true → is_failure f ≡ true
 stl-fails (fault.Subtitles f) is = kind-fails f.kind is
@@ -59,8 +61,8 @@ stl-fails f is = absurd (true≢false (sym is))
 
 -- So is that of the PES file.
 pub pes-fails : (f : CheckFault) → is_pes_read f ≡ true → is_failure f ≡ true
-pes-fails (fault.Subtitles f) is = absurd (true≢false (sym is))
-pes-fails f is = is
+pes-fails (fault.Pes pes pes_fault.Read) is = refl
+pes-fails f is = cc
 
 -- A failure of neither source is want of memory.
 memory-kind : (kind : LoadFaultKind)
@@ -68,7 +70,8 @@ memory-kind : (kind : LoadFaultKind)
     → is_read_kind kind ≡ false
     → kind ≡ load.Memory
 memory-kind load.Memory fails read = refl
-memory-kind kind fails read = absurd (true≢false (sym fails ∙ read))
+memory-kind (load.File stl.Read) fails read = cc
+memory-kind kind fails read = cc
 
 memory-fault : {Counts : Type 0} (answer : Result Counts CheckFault)
     → failed is_failure answer ≡ true
@@ -79,7 +82,8 @@ memory-fault (Ok a) fails read fine = absurd (true≢false (sym fails))
 memory-fault (Err (fault.Subtitles f)) fails read fine =
     let kind = memory-kind f.kind fails read in
     (f.block, ap (λ k. Err (fault.Subtitles (load_fault f.block k))) kind)
-memory-fault (Err f) fails read fine = absurd (true≢false (sym fails ∙ fine))
+memory-fault (Err (fault.Pes pes pes_fault.Read)) fails read fine = cc
+memory-fault (Err f) fails read fine = cc
 
 -- ---- what is accepted
 

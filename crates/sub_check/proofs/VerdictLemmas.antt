@@ -18,7 +18,7 @@ use Rattle.stl_rows.specs.declared.national.National.{National}
 use Rattle.ttx_pes.specs.PesPacket.{IsPesPacket}
 use Rattle.sub_plan.specs.Options.{OptionsValue, IsOptions}
 use Rattle.sub_plan.specs.Schedule.{plan}
-use Rattle.sub_check.specs.CheckedFiles.{AreAccepted, IsChecked, Mean, ServesReceivers, HasCounts}
+use Rattle.sub_check.specs.CheckedFiles.{AreAccepted, IsChecked, Mean, HasCounts}
 use Rattle.sub_check.specs.CheckedFiles.{TellsEvents, all_events_of, answer_by, events_of}
 use Rattle.sub_check.specs.CheckedFiles.{first_answer}
 use Rattle.sub_check.specs.FirstTold.{IsRuleFault}
@@ -28,6 +28,7 @@ use Rattle.sub_rules.specs.Events.{events, events_of_first, first_told}
 use Rattle.sub_rules.specs.FrameRules.{Unread, task_of}
 use Rattle.sub_rules.specs.Good.{Good}
 use Rattle.sub_laws.specs.OnScreen.{Complete}
+use Rattle.sub_laws.specs.Stretch.{HasPromises}
 use Rattle.sub_rules.specs.PesFrames.{Carries, IsSentAs}
 use Rattle.sub_rules.specs.PesReading.{PesFileValue, ReadsAs, pes_file_of}
 use Rattle.sub_rules.specs.Pieces.{Piece, ReadsPieces, piece_file_of}
@@ -218,13 +219,7 @@ module _ (programme : ProgrammeValue) (options : OptionsValue) (is : IsOptions o
     accepted = λ looked fine. accepted_from bytes result (decides fine);
     serves = λ t carries ok.
         let (good, complete) = accepted_is bytes t result decides carries ok in
-        let promises = law_of_good programme t options good in
-        record {
-          robust = promises.robust;
-          robust_to_loss = promises.to_loss;
-          recovers = promises.recovers;
-          shown = λ asks. promises.shown (complete asks);
-        };
+        (law_of_good programme t options good, complete);
     counts = λ t carries. counts_from bytes t result decides carries;
     first = λ looked fine. first_from bytes result (decides fine);
     read = λ pes e.
@@ -342,9 +337,6 @@ module _ (national : National) (options : OptionsValue) (stl pes : List ℕ)
     module _ (subtitles : List SubtitleValue) (transmission : Transmission)
         (mean : Mean national options.origin stl pes subtitles transmission)
       where
-        carries_of : Carries options.origin pes transmission
-        carries_of = record { values = mean.values; file = mean.pes_file; sent = mean.sent }
-
         programme_is : programme ≡ record { national = national; records = subtitles }
         programme_is =
             same_programme programme _ (loaded national (outcome_of stl)) given
@@ -371,11 +363,14 @@ module _ (national : National) (options : OptionsValue) (stl pes : List ℕ)
                     (grind (arith, nat_tests)),
                 λ g.
                     exactly.1
-                    (grind (arith, nat_tests, carries_of g.0 g.1 g.2, programme_is g.0 g.1 g.2)),
+                    (grind (arith, nat_tests, g.2.carries, programme_is g.0 g.1 g.2)),
               );
           serves = λ s t mean ok.
-              subst (λ (p : ProgrammeValue). ServesReceivers p t options) (programme_is s t mean)
-              (checked.serves t (carries_of s t mean) ok);
+              let (promises, complete) = checked.serves t mean.carries ok in (
+                subst (λ (p : ProgrammeValue). HasPromises p t options) (programme_is s t mean)
+                    promises,
+                complete,
+              );
         }
 
 -- A fault of loading that is no failure is the file's own.

@@ -5,7 +5,6 @@ use Rattle.std.specs.Prelude.{All, Contains, IsOk}
 use Rattle.std.specs.Prelude.{Result, Ok, Err, IfOk, IfErr, IsTrue}
 use Rattle.sub_io.specs.Device.{failed}
 use Rattle.sub_io.specs.Reading.{IfTold}
-use Rattle.ttx_pes.specs.PesPacket.{PesValue}
 use Rattle.ttx_pes.specs.declared.fault.PesFault.TheVariants.{Read}
 use Rattle.stl_file.specs.File.{IsFile}
 use Rattle.stl_file.specs.Reader.{outcome_of}
@@ -19,7 +18,6 @@ use Rattle.sub_plan.specs.Schedule.{plan}
 use Rattle.sub_io.specs.Telling.{Tells, TellsPrefix}
 use Rattle.std.specs.Prelude.{◌+◌, flat_map, ⊤}
 use Rattle.ttx_packet.specs.PageId.{PageIdValue}
-use Rattle.ttx_page.specs.Receiver.{ReceiverClass}
 use Rattle.stl_file.specs.Reading.{Outcome}
 use Rattle.stl_rows.specs.Loading.{TellsFault}
 use Rattle.sub_rules.specs.Events.{events, events_of_first, first_told}
@@ -31,12 +29,10 @@ use Rattle.sub_rules.specs.declared.event.Event.TheVariants.{Trusted}
 use Rattle.sub_laws.specs.TrustedFrames.{MayStay, rising_part}
 use Rattle.sub_rules.specs.Fault.{is_failure, is_pes_read, is_subtitle_fault}
 use Rattle.sub_rules.specs.Good.{Good}
-use Rattle.sub_laws.specs.LostRows.{RobustToMarkedLoss}
-use Rattle.sub_laws.specs.OnScreen.{Complete, Shown}
-use Rattle.sub_rules.specs.PesFrames.{AreSentAs, Carries, IsPesFile}
+use Rattle.sub_laws.specs.OnScreen.{Complete}
+use Rattle.sub_rules.specs.PesFrames.{Carries}
 use Rattle.sub_rules.specs.PesReading.{pes_file_of}
-use Rattle.sub_laws.specs.Recovery.{Recovers}
-use Rattle.sub_laws.specs.Robust.{Robust}
+use Rattle.sub_laws.specs.Stretch.{HasPromises}
 use Rattle.sub_rules.specs.PieceEvents.{all_of_pieces, events_of_pieces}
 use Rattle.sub_rules.specs.Pieces.{frames_of, piece_file_of}
 use Rattle.sub_rules.specs.WrongContent.{IsWrongEverywhere}
@@ -44,24 +40,6 @@ use Rattle.sub_checker.specs.Telling.{CountsRead}
 use Rattle.sub_checker.specs.declared.telling.Accepted.{Accepted}
 use Rattle.sub_rules.specs.declared.fault.CheckFault.{CheckFault}
 use Rattle.sub_rules.specs.declared.fault.CheckFault.TheVariants as fault
-
--- ---- what acceptance promises
-
--- What every receiver makes of an accepted transmission.
-pub record ServesReceivers
-    (programme : ProgrammeValue) (transmission : Transmission) (options : OptionsValue)
-    : Type 0 where
-  -- It is robust.
-  pub robust : Robust programme transmission options
-  -- With lost rows too.
-  pub robust_to_loss : RobustToMarkedLoss programme transmission options
-  -- By it receivers recover from whatever they held before.
-  pub recovers : (class : ReceiverClass) → Recovers class programme transmission options
-  -- Where complete pages are asked for, it is shown by every receiver that waits for a page's end.
-  pub shown :
-      IsTrue options.asks_complete
-      → (class : ReceiverClass)
-      → Shown class programme transmission options
 
 -- ---- what an answer tells, and counts
 
@@ -91,11 +69,9 @@ pub record Mean
   -- They are in order and disjoint, and each has a page.
   pub in_order : AreInOrder subtitles
   pub drawable : All (λ t. IsOk (drawn national t)) subtitles
-  -- The other is PES packets of these values, joined (EN 300 472), one for each frame of the
-  -- transmission, with the PTS and the Teletext packets of that frame.
-  pub values : List PesValue
-  pub pes_file : IsPesFile values pes
-  pub sent : AreSentAs origin values transmission
+  -- The other is PES packets, joined (EN 300 472), one for each frame of the transmission, with the
+  -- PTS and the Teletext packets of that frame.
+  pub carries : Carries origin pes transmission
 
 -- What acceptance means for the bytes of both files.
 pub record AreAccepted
@@ -113,12 +89,13 @@ pub record AreAccepted
       × Mean national options.origin stl pes subtitles transmission
       × Good (record { national = national; records = subtitles }) transmission options
       × (IsTrue options.asks_complete → Complete transmission options))
-  -- What is accepted serves receivers.
+  -- What is accepted keeps all promises; and its pages are complete where the options ask for it.
   pub serves :
       (subtitles : List SubtitleValue) (transmission : Transmission)
       → Mean national options.origin stl pes subtitles transmission
       → IsOk answer
-      → ServesReceivers (record { national = national; records = subtitles }) transmission options
+      → HasPromises (record { national = national; records = subtitles }) transmission options
+      × (IsTrue options.asks_complete → Complete transmission options)
 
 -- ---- a PES file, against a programme
 
@@ -163,12 +140,13 @@ pub record IsChecked
       × Carries options.origin bytes transmission
       × Good programme transmission options
       × (IsTrue options.asks_complete → Complete transmission options))
-  -- What is accepted serves receivers.
+  -- What is accepted keeps all promises; and its pages are complete where the options ask for it.
   pub serves :
       (transmission : Transmission)
       → Carries options.origin bytes transmission
       → IsOk answer
-      → ServesReceivers programme transmission options
+      → HasPromises programme transmission options
+      × (IsTrue options.asks_complete → Complete transmission options)
   -- The counts of what is accepted are those of the transmission.
   pub counts :
       (transmission : Transmission)

@@ -4,7 +4,7 @@ use Rattle.std.proofs.lemmas.Bool.Decides.{nat_tests, Decides-and, Decides-eqb, 
 use Rattle.std.proofs.lemmas.Bool.Decides.{Decides-ltb}
 use Rattle.std.proofs.lemmas.List.Kept.{AllPairs-cons}
 use Rattle.std.specs.List.{list_all}
-use Rattle.std.proofs.Common.{◌≡◌, ◌↔◌, ◌⊎◌, ℕ, suc, ◌+◌, ◌-◌, ◌≤◌, inl, inr, ◌==◌, Bool}
+use Rattle.std.proofs.Common.{◌≡◌, ◌⊎◌, ℕ, suc, ◌+◌, ◌-◌, ◌≤◌, inl, inr, ◌==◌, Bool}
 use Rattle.std.proofs.Common.{true, not, None, IsFalse}
 use Rattle.std.proofs.Common.{◌&&◌, ◌||◌, nat_le, nat_lt, List, [], ◌++◌, length, take, refl, sym}
 use Rattle.std.proofs.Common.{ap, ◌∙◌, arith, eqb-true}
@@ -55,15 +55,16 @@ before = record {
 
 -- ---- not robust
 
--- One may listen from packet j of frame g to the end of frame f.
-abbrev may_listen : Transmission → ℕ → ℕ → ℕ → Bool
-may_listen frames g j f =
-    nat_le (first_frame frames) g
-    && (nat_le g f && (nat_le f (last_frame frames) && nat_le j (length (packets_of frames g))))
+-- One may listen from packet j of frame g to the end of frame f, within the frames from a to b.
+abbrev may_listen : Transmission → ℕ → ℕ → ℕ → ℕ → ℕ → Bool
+may_listen frames a b g j f =
+    nat_le a g && (nat_le g f && (nat_le f b && nat_le j (length (packets_of frames g))))
 
 pub listening :
-    (frames : Transmission) (g j f : ℕ) → may_listen frames g j f ≡ true → IsListening frames g j f
-listening frames g j f e = grind (arith, nat_tests, and_parts, nat_le, leb-true, length)
+    (frames : Transmission) (a b g j f : ℕ)
+    → may_listen frames a b g j f ≡ true
+    → IsListening frames a b g j f
+listening frames a b g j f e = grind (arith, nat_tests, and_parts, nat_le, leb-true, length)
 
 -- The code in a cell is none that a receiver may hold.
 abbrev is_wrong : ℕ → ℕ → Bool
@@ -82,7 +83,7 @@ is_unserved programme o g f sent new =
 abbrev pub is_refuted :
     ProgrammeValue → Transmission → OptionsValue → ℕ → ℕ → ℕ → List (List ℕ) → Bool
 is_refuted programme frames o g j f got =
-    may_listen frames g j f
+    may_listen frames (first_frame frames) (last_frame frames) g j f
     && (near_packets (on_air frames g j f) got
     && is_unserved programme o g f (on_air frames g j f) (state_after o.page before got))
 
@@ -91,7 +92,7 @@ not_served :
     (late has heard : Bool) (code due : ℕ)
     → (late && not has || (not (is_same_bit heard has) || (has && is_wrong code due))) ≡ true
     → (late ≡ true → has ≡ true)
-    → (heard ≡ true ↔ has ≡ true)
+    → heard ≡ has
     → (has ≡ true → (code ≡ due) ⊎ (code ≡ space))
     → ⊥
 not_served late has heard code due e in_time hears cells =
@@ -105,13 +106,13 @@ pub refuted :
     → Robust programme frames o
     → ⊥
 refuted programme frames o g j f got e robust =
-    let a = and_parts (may_listen frames g j f) _ e in
+    let a = and_parts (may_listen frames _ _ g j f) _ e in
     let b = and_parts (near_packets (on_air frames g j f) got) _ a.1 in
     let sent : List (List ℕ) = on_air frames g j f in
     let new : State = state_after o.page before got in
     let served =
-    robust g j f got before new (listening frames g j f a.0) (packets_tested sent got b.0) refl refl
-    (heard_so o.page before got) in
+    robust g j f got before new (listening frames _ _ g j f a.0) (packets_tested sent got b.0) refl
+    refl (heard_so o.page before got) in
     not_served (nat_le (g + o.every) f) (holds_header (kind o.page) sent) new.heard
     (cell new.page 1 0) (cell (due_in programme f) 1 0) b.1
     (λ late. served.in_time (leb-true (g + o.every) f late)) served.heard

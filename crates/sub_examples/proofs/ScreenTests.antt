@@ -31,7 +31,6 @@ use Rattle.sub_examples.specs.Examples.{header_888, row_22, closing, one_frame, 
 use Rattle.sub_rules.specs.Good.{Good}
 use Rattle.stl_rows.specs.DuePage.{due}
 use Rattle.ttx_packet.specs.declared.header.Header.{Header}
-use Rattle.sub_laws.specs.Robust.{IsListening}
 use Rattle.sub_examples.specs.ScreenExamples.{unheard, ExampleOfEndedPage, ExampleOfPageNotEnded}
 use Rattle.sub_examples.specs.ScreenExamples.{ExampleOfPageBegunAgain, ExampleOfNoEnd}
 use Rattle.sub_rules.specs.Transmission.{Transmission}
@@ -163,15 +162,19 @@ example_of_no_end = record {
   not_shown = λ shown.
       let sent : List (List ℕ) = header_888 ∷ [] in
       let none : 0 ≤ length (sent ++ []) = omega arith in
-      let listening : IsListening no_end 900000 0 900000 = record {
-        not_before = le_refl 900000;
-        in_order = le_refl 900000;
-        not_after = le_refl 900000;
-        in_frame = none;
-      } in
       let due =
-      shown 900000 0 900000 (true ∷ []) sent (unheard None) (open_with None) listening
-      (le_refl 900000) (le_refl 900000) ((λ e. absurd (true≢false e)), tt) (AreNear-themselves sent)
+      shown 900000 0 900000 (true ∷ []) sent (unheard None) (open_with None)
+      (record {
+        listening =
+            record {
+              from = le_refl 900000;
+              in_order = le_refl 900000;
+              to = le_refl 900000;
+              in_frame = none;
+            };
+        marked = ((λ e. absurd (true≢false e)), tt);
+        near = AreNear-themselves sent;
+      })
       (open_with None, (opens (unheard None).held, first_header), refl) holds in
-      none-some due.page due.is;
+      none-some due.0 due.1;
 }

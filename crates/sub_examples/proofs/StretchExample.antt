@@ -57,9 +57,12 @@ example_of_clean_stretch = record {
       clean).trusted in
       let restored =
       trusted.recovers Storing 900001 0 900001 (all_kept sent) got old new
-      (listening damaged_first 900001 0 900001 refl) (omega arith) (omega arith) (may_all sent) near
-      hears in
-      elim (restored.cells refl 22 19 (omega arith, omega arith, omega arith)) [
+      (record {
+        listening = listening damaged_first 900001 900002 900001 0 900001 refl;
+        marked = may_all sent;
+        near = near;
+      }) hears in
+      elim (restored.served.cells refl 22 19 (omega arith, omega arith, omega arith)) [
         | inl due ↦ inl due
         | inr hit ↦ inr hit.0
       ];

@@ -16,7 +16,7 @@ use Rattle.sub_laws.specs.CleanStretch.Part.{DueContent, ExactAddresses, ExactHe
 use Rattle.sub_laws.specs.CleanStretch.Part.{HeadersInTime, OddRows, SameRows, SubtitleHeaders}
 use Rattle.sub_rules.specs.FrameRules.{task_of}
 use Rattle.sub_rules.specs.Good.{Good}
-use Rattle.sub_laws.specs.Recovery.{Recovers}
+use Rattle.sub_laws.specs.Recovery.{RecoversWithin}
 use Rattle.sub_laws.specs.Robust.{Robust}
 
 -- ---- packets
@@ -128,7 +128,10 @@ pub record IsNeeded
       → IsKeptWithin other (task_of programme options None) transmission
       (first_frame transmission) (last_frame transmission)
   pub not_robust : Robust programme transmission options → ⊥
-  pub not_trusted : Recovers Storing programme transmission options → ⊥
+  pub not_trusted :
+      RecoversWithin Storing programme transmission options (first_frame transmission)
+      (last_frame transmission)
+      → ⊥
 
 -- Row 1 blank, and then with an exclamation mark.
 abbrev pub changed_row : Transmission

@@ -8,8 +8,8 @@ use Rattle.sub_plan.specs.Options.{OptionsValue}
 use Rattle.sub_plan.specs.Examples.{page_888}
 use Rattle.sub_examples.specs.Examples.{header_888, row_22, closing, one_frame, each, no_subtitles}
 use Rattle.sub_rules.specs.Good.{Good}
-use Rattle.sub_laws.specs.OnScreen.{Complete, Shown}
-use Rattle.sub_rules.specs.Transmission.{Transmission}
+use Rattle.sub_laws.specs.OnScreen.{Complete, ShownWithin}
+use Rattle.sub_rules.specs.Transmission.{Transmission, first_frame, last_frame}
 
 -- A receiver that has heard nothing, with a blank page, and this on its screen.
 abbrev pub unheard : Option Rows → Display
@@ -46,7 +46,10 @@ pub record IsHeldAndNotShown
     : Type 0 where
   pub good : Good programme transmission options
   pub not_complete : Complete transmission options → ⊥
-  pub not_shown : Shown Storing programme transmission options → ⊥
+  pub not_shown :
+      ShownWithin Storing programme transmission options (first_frame transmission)
+      (last_frame transmission)
+      → ⊥
 
 -- A header and nothing after it.
 abbrev pub ExampleOfNoEnd : Type 0

@@ -201,11 +201,9 @@ module _ (programme : ProgrammeValue) (transmission : Transmission) (options : O
 -- A clean stretch may be trusted.
 pub law_of_clean_stretch : LawOfCleanStretch
 law_of_clean_stretch programme transmission options unread a b clean =
-    let trusted =
-    law_of_stretch programme transmission options a b
-    (enough programme transmission options unread a b clean) in
     record {
-      trusted = trusted;
-      shown = λ asks ended.
-          trusted.shown (complete programme transmission options unread a b clean asks ended);
+      trusted =
+          law_of_stretch programme transmission options a b
+          (enough programme transmission options unread a b clean);
+      complete = complete programme transmission options unread a b clean;
     }

@@ -75,6 +75,21 @@ module _ {Named : CheckFault → Type 0} where
       → FirstOf Named B xs
   FirstOf-like to back a = grind (arith, nat_tests)
 
+  -- What is told of n things, and then of the next.
+  FirstOf-next : {P : ℕ → Type 0} {xs ys : List Event} (n : ℕ)
+      → FirstOf Named ((j : ℕ) → j < n → P j) xs
+      → (((j : ℕ) → j < n → P j) → FirstOf Named (P n) ys)
+      → FirstOf Named ((j : ℕ) → j < suc n → P j) (xs ++ ys)
+  FirstOf-next {P} n before next =
+      FirstOf-append before
+      (λ past. FirstOf-like
+      (λ here j l. elim (cases_lt j n) [
+        | inl earlier ↦ past j earlier
+        | inr last ↦ let e : n ≡ j = omega arith in subst P e here
+      ])
+      (λ all. all n (omega arith)) (next past))
+      (λ all j l. all j (omega arith))
+
   -- A refusal, where a test says so.
   told_if : {A : Type 0} (b : Bool) (f : CheckFault) → Named f → Decides (not b) A
       → FirstOf Named A (if b then Told f ∷ [] else [])
@@ -154,19 +169,25 @@ module _ (g : Task) (frames : Transmission) (Named : CheckFault → Type 0)
 
   module _ (n : ℕ) (past : AreOk g frames n) (there : n < length frames) (some : 0 < n)
       (order : OrderOk g frames n) where
-    -- The frame before.
+    -- The number of the frame before: the greatest so far.
     abbrev last : ℕ
-    last = frame_at frames (n - 1)
+    last = latest frames n
 
-    last_is : latest frames n ≡ last
+    last_is : last ≡ frame_at frames (n - 1)
     last_is = latest_at frames n (λ i a b. (past i b).order.rises a) some
 
-    -- Nothing stands broken at its end and at those of the m frames of the day after it.
-    abbrev QuietFor : ℕ → Type 0
-    QuietFor m = (d : ℕ) → last ≤ d → d ≤ last + m → IsQuiet g frames n d
+    -- Nothing stands broken at its end.
+    quiet_first : IsQuiet g frames n last
+    quiet_first = let is = last_is in grind (arith, nat_tests)
 
-    quiet_first : QuietFor 0
-    quiet_first d low high = grind (arith, nat_tests)
+    -- Nor at those of the m frames of the day after it.
+    abbrev QuietFor : ℕ → Type 0
+    QuietFor m = (d : ℕ) → d < m → IsQuiet g frames n (last + suc d)
+
+    quiet_at : {m : ℕ} → QuietFor m → (d : ℕ) → d ≤ m → IsQuiet g frames n (last + d)
+    quiet_at quiet zero l =
+        let e : last ≡ last + 0 = omega arith in subst (IsQuiet g frames n) e quiet_first
+    quiet_at quiet (suc d) l = quiet d (omega arith)
 
     -- Nothing stood broken at the end before one of them.
     nothing_before : (f d : ℕ) → end_before frames n f ≡ d → IsQuiet g frames n d
@@ -175,24 +196,16 @@ module _ (g : Task) (frames : Transmission) (Named : CheckFault → Type 0)
 
     -- One frame of the day more.
     gap_next : (m : ℕ) → suc m ≤ gap_length frames n → QuietFor m
-        → Tells (QuietFor (suc m)) (events_at_end g frames n n (latest frames n + suc m))
+        → Tells (IsQuiet g frames n (last + suc m)) (events_at_end g frames n n (last + suc m))
     gap_next m l quiet =
-        let f : ℕ = latest frames n + suc m in
+        let f : ℕ = last + suc m in
         let is = last_is in
         let long = gap_length-is frames n some in
-        let nothing : standing_before g frames n f ≡ nothing_stands =
-        nothing_before f (last + m) (grind (arith, nat_tests))
-        (quiet (last + m) (omega arith) (omega arith)) in
         subst
-        (λ s. Tells (QuietFor (suc m))
+        (λ s. Tells (IsQuiet g frames n f)
         (end_events s (end_before frames n f) (standing_at g frames n f) f))
-        (sym nothing)
-        (FirstOf-like
-        (λ now d low high. elim (cases_lt d f) [
-          | inl earlier ↦ quiet d low (omega arith)
-          | inr here ↦ let e : f ≡ d = omega arith in subst (IsQuiet g frames n) e now
-        ])
-        (λ all. all f (omega arith) (omega arith))
+        (sym
+        (nothing_before f (last + m) (grind (arith, nat_tests)) (quiet_at quiet m (omega arith))))
         (quiet_told n f (end_before frames n f) (record {
           some = some;
           fits = omega arith;
@@ -201,45 +214,42 @@ module _ (g : Task) (frames : Transmission) (Named : CheckFault → Type 0)
           next = λ more. inr (omega arith);
           packets = λ i b. (past i b).packets;
           header = (past 0 some).header refl;
-        })))
+        }))
 
     -- The ends one after another.
     gap_told : (m : ℕ) → m ≤ gap_length frames n → Tells (QuietFor m) (gap_events g frames n m)
     unfolding gap_events
-    gap_told zero l = nothing_told quiet_first
-    gap_told (suc m) l =
-        FirstOf-append (gap_told m (omega arith)) (gap_next m l)
-        (λ quiet d low high. quiet d low (omega arith))
+    gap_told zero l = nothing_told (λ d l. absurd (omega arith))
+    gap_told (suc m) l = FirstOf-next m (gap_told m (omega arith)) (gap_next m l)
 
     -- All of them.
     abbrev GapOk : Type 0
     GapOk = (f : ℕ) → IsInGap frames n f → IsQuiet g frames n f
 
-    long_is : gap_length frames n ≡ frame_at frames n - (last + 1)
-    long_is = gap_length-is frames n some ∙ ap (λ x. frame_at frames n - (x + 1)) last_is
-
     quiet_all : GapOk → QuietFor (gap_length frames n)
-    quiet_all quiet d low high =
-        let long = long_is in
-        elim (cases_lt last d) [
-          | inl after ↦ quiet d (some, there, after, omega arith)
-          | inr no_later ↦ quiet_first d low (omega arith)
-        ]
+    quiet_all quiet d l =
+        let is = last_is in
+        let long = gap_length-is frames n some in
+        quiet (last + suc d) (some, there, omega arith, omega arith)
 
     gap_part : Tells GapOk (gap_events g frames n (gap_length frames n))
     gap_part =
         FirstOf-like
-        (λ quiet f gap. let long = long_is in quiet f (omega (arith, gap.2)) (omega (arith, gap.2)))
+        (λ quiet f gap.
+        let is = last_is in
+        let long = gap_length-is frames n some in
+        let e : last + suc (f - (last + 1)) ≡ f = omega (arith, gap.2) in
+        subst (IsQuiet g frames n) e (quiet (f - (last + 1)) (omega (arith, gap.2))))
         quiet_all (gap_told (gap_length frames n) (omega arith))
 
     -- What stood broken at the end before the frame's own.
     pub nothing_stood : GapOk → standing_before g frames n (frame_at frames n) ≡ nothing_stands
     nothing_stood quiet =
         let is = last_is in
-        let long = long_is in
+        let long = gap_length-is frames n some in
         let rises = order.rises some in
         nothing_before (frame_at frames n) (last + gap_length frames n) (grind (arith, nat_tests))
-        (quiet_all quiet (last + gap_length frames n) (omega arith) (omega arith))
+        (quiet_at (quiet_all quiet) (gap_length frames n) (omega arith))
 
   gap_of : (n : ℕ) → AreOk g frames n → n < length frames → OrderOk g frames n
       → Tells ((f : ℕ) → IsInGap frames n f → IsQuiet g frames n f)
@@ -305,22 +315,14 @@ module _ (g : Task) (frames : Transmission) (Named : CheckFault → Type 0)
 
     -- One packet.
     packet_told : (k : ℕ) → k < length ps → PacketsOk g frames n k
-        → Tells (PacketsOk g frames n (suc k))
+        → Tells (KeepsAllRules g.watched (before frames n k) (packet_at frames n k))
         (rules_told g.watched (frame_at frames n) k (before frames n k) (packet_at frames n k))
     unfolding rules_told broken_rules
     packet_told k l ok =
         let clean = clean_before k (omega arith) ok in
         let is = each_at IsPacket frames n k whole there l in
         let keeps = clean_decided g.watched (before frames n k) (packet_at frames n k) clean is in
-        FirstOf-like
-        (λ untold j m. elim (cases_lt j k) [
-          | inl earlier ↦ ok j earlier
-          | inr here ↦
-              let e : k ≡ j = omega arith in
-              subst (λ i. KeepsAllRules g.watched (before frames n i) (packet_at frames n i)) e
-              (keeps.0 untold)
-        ])
-        (λ all. keeps.1 (all k (omega arith)))
+        FirstOf-like keeps.0 keeps.1
         (rules_one (λ r. breaks r g.watched (before frames n k) (packet_at frames n k))
         (frame_at frames n) k packet_rules)
 
@@ -331,8 +333,7 @@ module _ (g : Task) (frames : Transmission) (Named : CheckFault → Type 0)
     unfolding packet_events
     packets_told zero l = nothing_told (λ j m. absurd (omega arith))
     packets_told (suc k) l =
-        FirstOf-append (packets_told k (omega arith)) (packet_told k (omega arith))
-        (λ all j m. all j (omega arith))
+        FirstOf-next k (packets_told k (omega arith)) (packet_told k (omega arith))
 
   -- ---- its header, its end, and all of it
 
@@ -417,15 +418,7 @@ module _ (g : Task) (frames : Transmission) (Named : CheckFault → Type 0)
     unfolding events_of_first
     frames_told zero l = nothing_told (λ j m. absurd (omega arith))
     frames_told (suc n) l =
-        FirstOf-append (frames_told n (omega arith))
-        (λ past. FirstOf-like
-        (λ ok j m. elim (cases_lt j n) [
-          | inl earlier ↦ past j earlier
-          | inr here ↦ let e : n ≡ j = omega arith in subst (FrameOk g frames) e ok
-        ])
-        (λ all. all n (omega arith))
-        (frame_told n past (omega arith)))
-        (λ all j m. all j (omega arith))
+        FirstOf-next n (frames_told n (omega arith)) (λ past. frame_told n past (omega arith))
 
   -- ---- the whole
 

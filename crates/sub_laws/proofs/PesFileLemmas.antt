@@ -187,9 +187,12 @@ law_of_pes_files origin bytes frames fit = (
       let few = s.few in
       record {
         values = s.values;
-        file =
-            record { packets = s.packets; each = s.each; few = omega arith; joined = s.joined };
-        sent = record { each = s.sent; rising = rising };
+        packets = s.packets;
+        each = s.each;
+        few = omega arith;
+        joined = s.joined;
+        sent = s.sent;
+        rising = rising;
       },
-  λ is. (carried_is_read origin bytes frames is, is.sent.rising),
+  λ is. (carried_is_read origin bytes frames is, is.rising),
 )

@@ -50,4 +50,4 @@ law_of_good programme transmission options good =
 pub law_of_window : LawOfWindow
 law_of_window programme transmission options g j f good listening =
     window programme transmission options _ _ (suffices programme transmission options good) g j f
-    listening listening.not_before listening.not_after
+    listening

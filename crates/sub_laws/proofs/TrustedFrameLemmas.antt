@@ -280,5 +280,5 @@ law_of_trusted programme options unread pieces from to told =
     record {
       header = header_there g frames from to stays;
       trusted = trusted.trusted;
-      shown = λ asks class. trusted.shown asks (complete g frames from to stays) class;
+      complete = λ asks. trusted.complete asks (complete g frames from to stays);
     }

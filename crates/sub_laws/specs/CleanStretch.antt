@@ -6,14 +6,13 @@ use Rattle.std.specs.Prelude.{slice_index_or, Option, IsTrue}
 use Rattle.ttx_page.specs.declared.packet_kind.PacketKind.TheVariants.{Row}
 use Rattle.ttx_page.specs.Page.{IsCell}
 use Rattle.ttx_page.specs.PacketKind.{is_row, kind}
-use Rattle.ttx_page.specs.Receiver.{ReceiverClass}
 use Rattle.ttx_page.specs.Span.{is_open_after, span}
 use Rattle.stl_rows.specs.Programme.{ProgrammeValue}
 use Rattle.sub_plan.specs.Options.{OptionsValue}
 use Rattle.sub_rules.specs.Events.{standing_at}
 use Rattle.sub_rules.specs.FrameRules.{IsCovered, IsEnded, ShowsDue, Task, Unread, frame_at}
 use Rattle.sub_rules.specs.FrameRules.{packets_before, packets_of_frame, task_of}
-use Rattle.sub_laws.specs.OnScreen.{ShownWithin}
+use Rattle.sub_laws.specs.OnScreen.{CompleteWithin}
 use Rattle.sub_rules.specs.PacketRules.{codes_of, KeepsRule}
 use Rattle.sub_rules.specs.PacketTests.{breaks}
 use Rattle.sub_laws.specs.Stretch.{MayBeTrusted}
@@ -126,18 +125,17 @@ pub record IsCleanStretch (g : Task) (frames : Transmission) (a b : ℕ) : Type 
 
 -- ---- what may be trusted of it
 
--- What may be trusted of a clean stretch; and where complete pages are asked for, and the page is
--- open at no end in it, what is due is on the screens too.
+-- A clean stretch may be trusted; and where complete pages are asked for, and the page is open at
+-- no end in it, its pages are complete, so that what is due is on the screens too.
 pub record IsTrusted
     (programme : ProgrammeValue) (transmission : Transmission) (options : OptionsValue)
     (unread : Option Unread) (a b : ℕ)
     : Type 0 where
   pub trusted : MayBeTrusted programme transmission options a b
-  pub shown :
+  pub complete :
       IsTrue options.asks_complete
       → AtEnds (λ n f. IsEnded (task_of programme options unread) transmission n) transmission a b
-      → (class : ReceiverClass)
-      → ShownWithin class programme transmission options a b
+      → CompleteWithin transmission options a b
 
 -- A clean stretch may be trusted.
 -- So who reads what is told of a refused transmission knows what to trust of the rest: where frames

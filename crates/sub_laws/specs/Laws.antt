@@ -4,7 +4,7 @@ use Rattle.ttx_page.specs.PacketKind.{kind}
 use Rattle.ttx_page.specs.Span.{holds_header}
 use Rattle.stl_rows.specs.Programme.{ProgrammeValue}
 use Rattle.sub_plan.specs.Options.{OptionsValue}
-use Rattle.sub_rules.specs.Transmission.{Transmission, on_air}
+use Rattle.sub_rules.specs.Transmission.{Transmission, first_frame, last_frame, on_air}
 use Rattle.sub_rules.specs.Good.{Good}
 use Rattle.sub_laws.specs.Robust.{IsListening, Robust}
 use Rattle.sub_laws.specs.LostRows.{IsRobustWithMarks}
@@ -18,7 +18,7 @@ LawOfWindow =
     (programme : ProgrammeValue) (transmission : Transmission) (options : OptionsValue)
     → (g j f : ℕ)
     → Good programme transmission options
-    → IsListening transmission g j f
+    → IsListening transmission (first_frame transmission) (last_frame transmission) g j f
     → g + options.every ≤ f
     → IsTrue (holds_header (kind options.page) (on_air transmission g j f))
 
@@ -35,7 +35,7 @@ LawOfGood =
 abbrev pub LawOfAllKept : Type 0
 LawOfAllKept =
     (programme : ProgrammeValue) (transmission : Transmission) (options : OptionsValue)
-    → ((g j f : ℕ) (marks : List Bool)
+    → ((marks : List Bool)
     → All IsTrue marks
-    → IsRobustWithMarks programme transmission options g j f marks)
+    → IsRobustWithMarks programme transmission options marks)
     ↔ Robust programme transmission options

@@ -1,5 +1,5 @@
 -- What every receiver holds of a transmission, wherever it starts and whatever bits are wrong.
-use Rattle.std.specs.Prelude.{◌≡◌, ◌↔◌, ℕ, ◌+◌, ◌≤◌, ◌⊎◌, List, length, IsTrue, IsFalse}
+use Rattle.std.specs.Prelude.{◌≡◌, ℕ, ◌+◌, ◌≤◌, ◌⊎◌, ◌||◌, List, length, IsTrue, IsFalse}
 use Rattle.std.specs.List.{AllZip}
 use Rattle.ttx_packet.specs.OneBit.{AreNear}
 use Rattle.ttx_page.specs.Page.{Rows, space, cell, IsCell}
@@ -12,12 +12,12 @@ use Rattle.sub_plan.specs.Options.{OptionsValue}
 use Rattle.sub_rules.specs.Transmission.{Transmission, first_frame, last_frame, packets_of, on_air}
 use Rattle.sub_plan.specs.Schedule.{due_in}
 
--- A start at packet j of frame g, and a stop at the end of frame f, within the transmission. With j
--- the number of packets of frame g, one starts after all of them.
-pub record IsListening (transmission : Transmission) (g j f : ℕ) : Type 0 where
-  pub not_before : first_frame transmission ≤ g
+-- A start at packet j of frame g, and a stop at the end of frame f, within the frames from a to b.
+-- With j the number of packets of frame g, one starts after all of them.
+pub record IsListening (transmission : Transmission) (a b g j f : ℕ) : Type 0 where
+  pub from : a ≤ g
   pub in_order : g ≤ f
-  pub not_after : f ≤ last_frame transmission
+  pub to : f ≤ b
   pub in_frame : j ≤ length (packets_of transmission g)
 
 -- Each cell of a page holds the code of the page that is due at the frame, or is an excused space.
@@ -29,16 +29,16 @@ HoldsDuePage programme f IsExcused page =
     ⊎ ((cell page row column ≡ space) × IsExcused row column)
 
 -- What is promised to a receiver that listened from frame g to the end of frame f, where these
--- packets were sent, and its state is now this one.
+-- packets were sent, and its state was the one before, and is now the other.
 pub record IsServed
     (programme : ProgrammeValue) (options : OptionsValue) (g f : ℕ)
-    (sent : List (List ℕ)) (IsExcused : ℕ → ℕ → Type 0) (new : State)
+    (sent : List (List ℕ)) (IsExcused : ℕ → ℕ → Type 0) (old new : State)
     : Type 0 where
   -- By the end of frame g + every a header of its page was sent.
   pub in_time : g + options.every ≤ f → IsTrue (holds_header (kind options.page) sent)
-  -- It has heard its page exactly where a header of it was sent.
-  pub heard : IsTrue new.heard ↔ IsTrue (holds_header (kind options.page) sent)
-  -- Then each cell holds the due page's code, or it is an excused space.
+  -- It has heard its page exactly where it had before, or a header of it was sent.
+  pub heard : new.heard ≡ (old.heard || holds_header (kind options.page) sent)
+  -- Once one was sent, each cell holds the due page's code, or it is an excused space.
   pub cells :
       IsTrue (holds_header (kind options.page) sent)
       → HoldsDuePage programme f IsExcused new.page
@@ -49,10 +49,10 @@ pub record IsServed
 abbrev pub Robust : ProgrammeValue → Transmission → OptionsValue → Type 0
 Robust programme transmission options =
     (g j f : ℕ) (got : List (List ℕ)) (old new : State)
-    → IsListening transmission g j f
+    → IsListening transmission (first_frame transmission) (last_frame transmission) g j f
     → AllZip AreNear (on_air transmission g j f) got
     → IsFalse old.heard
     → IsFalse old.is_open
     → Hears options.page old got new
     → IsServed programme options g f (on_air transmission g j f)
-    (IsHit options.page (on_air transmission g j f) got) new
+    (IsHit options.page (on_air transmission g j f) got) old new

@@ -5,8 +5,8 @@ use Rattle.ttx_page.specs.Receiver.ReceiverClass.{Storing}
 use Rattle.stl_rows.specs.Programme.{ProgrammeValue}
 use Rattle.sub_plan.specs.Options.{OptionsValue}
 use Rattle.sub_laws.specs.LostRows.{RobustToMarkedLoss}
-use Rattle.sub_laws.specs.OnScreen.{Complete, CompleteWithin, Shown, ShownWithin}
-use Rattle.sub_laws.specs.Recovery.{Recovers, RecoversWithin}
+use Rattle.sub_laws.specs.OnScreen.{CompleteWithin, ShownWithin}
+use Rattle.sub_laws.specs.Recovery.{RecoversWithin}
 use Rattle.sub_laws.specs.Robust.{Robust}
 use Rattle.sub_rules.specs.Transmission.{Transmission, first_frame, last_frame}
 
@@ -22,25 +22,27 @@ pub record MayBeTrusted
       → (class : ReceiverClass)
       → ShownWithin class programme transmission options a b
 
--- What is promised of a whole transmission: the headline; with lost rows too; after whatever a
--- receiver held before; and on the screens.
+-- What is promised of a whole transmission.
 pub record HasPromises
     (programme : ProgrammeValue) (transmission : Transmission) (options : OptionsValue)
     : Type 0 where
+  -- The headline.
   pub robust : Robust programme transmission options
+  -- With lost rows too.
   pub to_loss : RobustToMarkedLoss programme transmission options
-  pub recovers : (class : ReceiverClass) → Recovers class programme transmission options
-  pub shown :
-      Complete transmission options
-      → (class : ReceiverClass)
-      → Shown class programme transmission options
+  -- In all frames receivers recover from whatever they held before, and where pages are complete,
+  -- what is due is on their screens.
+  pub trusted :
+      MayBeTrusted programme transmission options (first_frame transmission)
+      (last_frame transmission)
 
 -- The headline, with lost rows too, follows from recovery in all frames alone.
 -- So whoever shows recovery of a stretch has shown the headline there too.
 abbrev pub LawOfWholeRecovery : Type 0
 LawOfWholeRecovery =
     (programme : ProgrammeValue) (transmission : Transmission) (options : OptionsValue)
-    → Recovers Storing programme transmission options
+    → RecoversWithin Storing programme transmission options (first_frame transmission)
+    (last_frame transmission)
     → Robust programme transmission options
     × RobustToMarkedLoss programme transmission options
 

@@ -3,7 +3,6 @@
 use Rattle.std.specs.Prelude.{◌≡◌, ◌≢◌, ℕ, zero, suc, ◌<◌, ◌≤◌, ◌==◌, ◌&&◌, nat_lt, Bool, true}
 use Rattle.std.specs.Prelude.{List, [], ◌∷◌, ◌++◌, ◌⊎◌, Contains, length, take, Option, Some}
 use Rattle.std.specs.Prelude.{IsFalse, IsTrue, if◌then◌else◌}
-use Rattle.ttx_page.specs.Receiver.{ReceiverClass}
 use Rattle.stl_rows.specs.Programme.{ProgrammeValue}
 use Rattle.sub_plan.specs.Options.{OptionsValue}
 use Rattle.sub_rules.specs.Events.{standing_at}
@@ -15,7 +14,7 @@ use Rattle.sub_rules.specs.Pieces.Piece.{Passed}
 use Rattle.sub_rules.specs.Transmission.{Transmission, last_frame}
 use Rattle.sub_rules.specs.declared.event.Event.TheVariants.{Trusted}
 use Rattle.sub_laws.specs.CleanStretch.{AtEnds, IsUntold}
-use Rattle.sub_laws.specs.OnScreen.{ShownWithin}
+use Rattle.sub_laws.specs.OnScreen.{CompleteWithin}
 use Rattle.sub_laws.specs.Stretch.{MayBeTrusted}
 
 -- ---- the rising part
@@ -39,17 +38,15 @@ rising_part frames = take (rising_count frames (length frames)) frames
 
 -- The frames from one to another may stay on air as they are, by what is sent up to the last of
 -- them: the first one holds a header of the page, so whoever tunes in at one of them recovers there
--- whatever he held before; and where complete pages are asked for, what is due is on the screens.
+-- whatever he held before; and where complete pages are asked for, pages are complete there, so
+-- that what is due is on the screens.
 pub record MayStay
     (programme : ProgrammeValue) (transmission : Transmission) (options : OptionsValue)
     (from to : ℕ)
     : Type 0 where
   pub header : HoldsHeader options.page transmission from
   pub trusted : MayBeTrusted programme transmission options from to
-  pub shown :
-      IsTrue options.asks_complete
-      → (class : ReceiverClass)
-      → ShownWithin class programme transmission options from to
+  pub complete : IsTrue options.asks_complete → CompleteWithin transmission options from to
 
 -- Frames that are told as trusted of a PES file may stay, in the part of what is sent in which
 -- frames rise: whatever is broken elsewhere, and whatever the pieces put on air that are passed

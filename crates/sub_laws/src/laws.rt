@@ -6,6 +6,7 @@ ghost use Rattle.sub_laws.specs.CleanStretch.{LawOfCleanStretch, LawOfUntoldStre
 ghost use Rattle.sub_laws.specs.Laws.{LawOfAllKept, LawOfGood, LawOfWindow};
 ghost use Rattle.sub_laws.specs.OnScreen.{LawOfCompletePlan};
 ghost use Rattle.sub_rules.specs.PesReading.{LawOfPesFiles};
+ghost use Rattle.sub_rules.specs.PieceEvents.{LawOfFirstTold};
 ghost use Rattle.sub_laws.specs.Planned.{LawOfPlan, LawOfPlanRead};
 ghost use Rattle.sub_laws.specs.StepByStep.{LawOfCleanSpans, LawOfRepeats, LawOfSpansByPacket};
 ghost use Rattle.sub_laws.specs.Stretch.{LawOfWholeRecovery, LawOfWholeStretch};
@@ -24,7 +25,6 @@ pub fn law_of_window()
 /// kept, and a cell of a lost row counts as hit. The same holds whatever a receiver held before, of
 /// those that drop rows too, where a byte of the cell's row was hit; and of the screens of those
 /// that show a page only when a later header has ended it, where pages are complete.
-#[tactic(auto, using(crate::proofs::RobustLemmas::law_of_good))]
 pub fn law_of_good()
     ensures { LawOfGood }
 {}
@@ -134,6 +134,13 @@ pub fn law_of_pes_files()
 /// told first is the first place that is broken.
 pub fn law_of_broken_places()
     ensures { LawOfBrokenPlaces }
+{}
+
+/// Of a PES file that is read on behind what can't be read, the refusal is told first that is told
+/// where reading stops there.
+#[tactic(auto, using(sub_rules::proofs::PieceEventLemmas::first_told_is))]
+pub fn law_of_first_told()
+    ensures { LawOfFirstTold }
 {}
 
 /// Nothing is told of a transmission exactly where it is good, of complete pages where these are

@@ -2,10 +2,11 @@
 -- faults are those of a device, of memory or of the one file.
 use Rattle.std.specs.Prelude.{ℕ, Bool, true, false, codes}
 use Rattle.sub_io.specs.FaultCode.{FaultCodeValue, fault_code}
+use Rattle.stl_file.specs.declared.fault.StlFault.TheVariants as stl
 use Rattle.stl_rows.specs.Fault as load
 use Rattle.stl_rows.specs.Fault.{load_code}
 use Rattle.stl_rows.specs.declared.fault.LoadFaultKind.{LoadFaultKind}
-use Rattle.stl_rows.specs.declared.fault.LoadFaultKind.TheVariants.{Memory, Row}
+use Rattle.stl_rows.specs.declared.fault.LoadFaultKind.TheVariants.{File, Memory, Row}
 use Rattle.sub_rules.specs.declared.end_rule.EndRule.{EndRule}
 use Rattle.sub_rules.specs.declared.end_rule.EndRule.TheVariants as end
 use Rattle.sub_rules.specs.declared.fault.CheckFault.{CheckFault}
@@ -14,6 +15,7 @@ use Rattle.sub_rules.specs.declared.fault_place.FaultPlace.{FaultPlace}
 use Rattle.sub_rules.specs.declared.fault_place.FaultPlace.TheVariants as place
 use Rattle.ttx_pes.specs.Fault as pes
 use Rattle.ttx_pes.specs.Fault.{pes_code}
+use Rattle.ttx_pes.specs.declared.fault.PesFault.TheVariants.{Read}
 
 -- A rule of a frame's end.
 abbrev pub rule_code : EndRule → FaultCodeValue
@@ -91,9 +93,11 @@ is_subtitle_fault _ = false
 -- The subtitle file was not loaded since its source failed or memory was refused.
 abbrev pub is_failure_kind : LoadFaultKind → Bool
 is_failure_kind Memory = true
-is_failure_kind kind = load.is_read_kind kind
+is_failure_kind (File stl.Read) = true
+is_failure_kind _ = false
 
 -- A source failed or memory was refused: that tells nothing of the files.
 abbrev pub is_failure : CheckFault → Bool
 is_failure (fault.Subtitles f) = is_failure_kind f.kind
-is_failure f = is_pes_read f
+is_failure (fault.Pes index Read) = true
+is_failure _ = false

@@ -16,22 +16,13 @@ pub record IsSentAs (origin : ℕ) (pes : PesValue) (s : SentFrame) : Type 0 whe
   pub pts : pes.pts ≡ pts_of origin s.frame
   pub packets : s.packets ≡ map (λ (u : UnitValue). u.packet) pes.units
 
--- PES packets, read with an origin, are a transmission: one frame for each, and the frames rise.
-pub record AreSentAs (origin : ℕ) (pes : List PesValue) (frames : Transmission) : Type 0 where
-  pub each : AllZip (IsSentAs origin) pes frames
-  pub rising : IsRising frames
-
--- A PES file of these values: at most as many PES packets as a day has frames, one for each value,
--- joined.
-pub record IsPesFile (values : List PesValue) (bytes : List ℕ) : Type 0 where
+-- The bytes are a PES file that carries the transmission: PES packets, joined, at most as many as a
+-- day has frames. Read with an origin each is sent as one of its frames, and these rise.
+pub record Carries (origin : ℕ) (bytes : List ℕ) (frames : Transmission) : Type 0 where
+  pub values : List PesValue
   pub packets : List (List ℕ)
   pub each : AllZip IsPesPacket values packets
   pub few : length packets ≤ most_packets
   pub joined : bytes ≡ concat packets
-
--- The bytes are a PES file that carries the transmission: PES packets of these values, joined, that
--- are sent as its frames.
-pub record Carries (origin : ℕ) (bytes : List ℕ) (frames : Transmission) : Type 0 where
-  pub values : List PesValue
-  pub file : IsPesFile values bytes
-  pub sent : AreSentAs origin values frames
+  pub sent : AllZip (IsSentAs origin) values frames
+  pub rising : IsRising frames
