@@ -60,9 +60,7 @@ module _ (g : Task) (pieces : List Piece) (a b : ℕ) (can : CanStay g pieces a 
       let ps = packets-take frames m k l in
       let at = frame_at-take frames m k l in
       let earlier = take-take k m frames (omega arith) in
-      rw (ps, earlier) at
-      (can.untold.packets r needed k p (omega arith) (subst (λ xs. p < length xs) (sym ps) below)
-      (omega arith) (omega arith))
+      grind (arith, nat_tests)
 
   -- Nothing stands at its ends.
   ends_quiet : (n f : ℕ) → IsEnd part n f → 0 < m → n ≤ m → a ≤ f → f ≤ b
@@ -76,13 +74,7 @@ module _ (g : Task) (pieces : List Piece) (a b : ℕ) (can : CanStay g pieces a 
 
   own_end : (k : ℕ) → k < m → a ≤ frame_at frames k → frame_at frames k ≤ b
       → stands_none (standing_at g frames (suc k) (frame_at frames k)) ≡ true
-  own_end k l low high =
-      let all = part_length frames in
-      let back : suc k - 1 ≡ k = omega arith in
-      let at = frame_at-take frames m k l ∙ refl in
-      ends_quiet (suc k) (frame_at frames k)
-      (omega arith, omega arith, inl (sym (ap (frame_at part) back ∙ at))) (omega arith)
-      (omega arith) low high
+  own_end k l low high = grind (arith, nat_tests, part_length, frame_at-take, ends_quiet)
 
   gap_end : (n f : ℕ) → 0 < n → n < m → frame_at frames (n - 1) < f → f < frame_at frames n
       → a ≤ f → f ≤ b

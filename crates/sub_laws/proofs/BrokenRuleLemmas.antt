@@ -1,5 +1,5 @@
 -- The rules of a packet, as tests decide them: `rule_decided`; all of them: `clean_decided`.
-use Rattle.std.proofs.Common.{◌≡◌, ℕ, zero, suc, ◌+◌, ◌<◌, ◌≤◌, inl, inr, Bool, true, false, not}
+use Rattle.std.proofs.Common.{◌≡◌, ℕ, zero, suc, ◌<◌, ◌≤◌, inl, inr, Bool, true, false, not}
 use Rattle.std.proofs.Common.{◌&&◌, List, [], ◌∷◌, Option, Some, None, option_map, refl, sym, ◌∙◌}
 use Rattle.std.proofs.Common.{◌↔◌, arith, length, get_or, subst, is_some, take, All, IsTrue, ◌++◌}
 use Rattle.std.proofs.Common.{add-one, ap, cond}

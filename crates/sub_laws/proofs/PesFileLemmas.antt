@@ -2,7 +2,7 @@
 -- `carried_is_read`.
 use Rattle.std.proofs.lemmas.Bool.Decides.{nat_tests}
 use Rattle.std.proofs.Common.{◌≡◌, ℕ, zero, suc, ◌+◌, ◌≤◌, Bool, true, false, cond, ◌==◌, List, []}
-use Rattle.std.proofs.Common.{◌∷◌, ◌++◌, length, Option, Some, None, Result, Ok, Err, refl, sym, ap}
+use Rattle.std.proofs.Common.{◌∷◌, ◌++◌, length, Some, None, Result, Ok, Err, refl, sym, ap}
 use Rattle.std.proofs.Common.{◌∙◌, subst, arith, drop}
 use Rattle.std.specs.List.{AllZip, concat}
 use Rattle.std.proofs.lemmas.List.{drop_at}
@@ -17,7 +17,7 @@ use Rattle.ttx_pes.proofs.ReadingLemmas.{rest_after-packet}
 use Rattle.stl_file.specs.TimeCode.{day}
 use Rattle.sub_rules.specs.PacketRules.{packets_of_units}
 use Rattle.sub_rules.specs.PesFrames.{Carries, IsSentAs}
-use Rattle.sub_rules.specs.PesReading.{LawOfPesFiles, PesFileValue, ReadsAs, file_at, file_with}
+use Rattle.sub_rules.specs.PesReading.{LawOfPesFiles, PesFileValue, ReadsAs, file_at}
 use Rattle.sub_rules.specs.PesReading.{frame_of_pts}
 use Rattle.sub_rules.specs.Transmission.{Transmission}
 use Rattle.sub_rules.proofs.PesReadingLemmas.{file_at-next, file_by, found_below, reads-below}
@@ -115,25 +115,7 @@ sent_by :
     → ((v : PesValue) → answer_at given bytes ≡ Ok (Some v) → OthersAreSent origin given bytes)
     → AreSent origin given bytes frames
 sent_by origin given bytes frames fit few reads others =
-    go (answer_at given bytes) refl (sym (file_at-next origin given bytes few) ∙ reads)
-  where
-    found :
-        (v : PesValue) (o : Option ℕ)
-        → answer_at given bytes ≡ Ok (Some v)
-        → frame_of_pts origin v.pts ≡ o
-        → file_with o (packets_of_units v.units) (file_at origin (given + 1) (rest_after bytes))
-        ≡ record { frames = frames; unread = None }
-        → OthersAreSent origin given bytes
-        → AreSent origin given bytes frames
-    found v o at is e others = grind (arith, nat_tests, with_packet)
-
-    go :
-        (r : Result (Option PesValue) PesFault)
-        → answer_at given bytes ≡ r
-        → file_by origin r (file_at origin (given + 1) (rest_after bytes))
-        ≡ record { frames = frames; unread = None }
-        → AreSent origin given bytes frames
-    go r at e = grind (arith, nat_tests, nothing_sent, found)
+    grind (arith, nat_tests, file_at-next, with_packet, file_by, nothing_sent)
 
 -- What is read to the end are PES packets that are sent as the frames.
 sent_of :

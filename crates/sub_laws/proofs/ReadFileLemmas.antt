@@ -4,7 +4,7 @@ use Rattle.std.proofs.lemmas.Bool.Decides.{nat_tests}
 use Rattle.std.proofs.Common.{◌≡◌, ℕ, zero, suc, ◌+◌, ◌-◌, ◌*◌, ◌/◌, ◌<◌, ◌≤◌, Bool, true, false}
 use Rattle.std.proofs.Common.{List, [], ◌∷◌, length, map, take, drop, slice_index, Option, None}
 use Rattle.std.proofs.Common.{Some, Result, Ok, Err, MatchResult, IfSome, cond, refl, nat_lt}
-use Rattle.std.proofs.Common.{if◌then◌else◌, ◌∙◌, sym, subst, arith, length-take, length-drop}
+use Rattle.std.proofs.Common.{if◌then◌else◌, ◌∙◌, arith, length-take, length-drop}
 use Rattle.std.proofs.lemmas.List.{length-map}
 use Rattle.std.specs.List.{AllByRecursion}
 use Rattle.std.specs.Prelude.{⊤}
@@ -186,9 +186,8 @@ unfolding packets_from
 outcome_sound origin zero given [] = record { whole = tt; fault = λ g e. cc }
 outcome_sound origin zero given (x ∷ b) = grind (arith, nat_tests, by_sound, refused)
 outcome_sound origin (suc room) given b =
-    subst IsSoundFile (sym (file_of-then origin (answer_at given b) _))
-    (by_sound origin (answer_at given b) _ (answer_sound given b)
-    (outcome_sound origin room (given + 1) (rest_after b)))
+    let rest = outcome_sound origin room (given + 1) (rest_after b) in
+    grind (arith, nat_tests, file_of-then, by_sound, answer_sound)
 
 pub file_sound : (origin given : ℕ) (b : List ℕ) → IsSoundFile (file_at origin given b)
 unfolding file_at

@@ -89,9 +89,7 @@ module _ (programme : ProgrammeValue) (transmission : Transmission) (options : O
   window far =
       let found =
       enough.repeats (g + 1) (omega (arith, listening.from)) (omega (arith, listening.to)) in
-      subst (λ ps. holds_header K ps ≡ true) (sym on_air-cut)
-      (holds-append_right K (drop j (packets_of transmission g)) _
-      (later_holds found.0 found.1 (omega (arith, found.2)) found.3))
+      grind (arith, nat_tests, on_air-cut, holds-append_right, later_holds)
 
   -- The packets from frame c on that come before those that are heard.
   abbrev before : ℕ → List (List ℕ)

@@ -25,9 +25,8 @@ pub packets_between-none :
     → packets_between frames a b ≡ []
 packets_between-none [] a b later = refl
 packets_between-none (s ∷ frames) a b later =
-    ap₂ ◌++◌
-    (ap (λ t. cond t s.packets []) (and_right (nat_le a s.frame) _ (le-ltb s.frame b later.0)))
-    (packets_between-none frames a b later.1)
+    let rest = packets_between-none frames a b later.1 in
+    grind (arith, nat_tests, and_right, le-ltb)
 
 -- No packet stands from a frame up to one that is not after it.
 pub packets_between-void :

@@ -2,7 +2,7 @@
 use Rattle.std.proofs.lemmas.Bool.Decides.{nat_tests}
 use Rattle.std.specs.Bool.{Decides}
 use Rattle.std.proofs.Common.{◌≡◌, ℕ, zero, suc, ◌+◌, ◌-◌, ◌<◌, ◌≤◌, inl, inr, true, false, length}
-use Rattle.std.proofs.Common.{take, None, refl, sym, ap, ◌∙◌, subst, arith}
+use Rattle.std.proofs.Common.{take, None, refl, ap, ◌∙◌, subst, arith}
 use Rattle.std.proofs.lemmas.Bool.{cases_lt, cases_eq}
 use Rattle.std.proofs.lemmas.List.{length-take-le, take-take}
 use Rattle.std.proofs.lemmas.List.Elements.{All-contains}
@@ -139,20 +139,7 @@ module _ (g : Task) (frames : Transmission) (from to : ℕ) (stays : StaysTo g f
   end_whole n f (some_n, below, inl is) =
       grind (arith, nat_tests, part_length, risen_low, frame_at-take)
   end_whole n f (some_n, below, inr (there, high, low)) =
-      let all = part_length frames in
-      let w = risen_low frames in
-      let at = frame_at-take frames m n (omega arith) in (
-        some_n,
-        omega arith,
-        inr (
-          omega arith,
-          omega arith,
-          λ i l.
-              let e = frame_at-take frames m i (omega arith) in
-              let h = low i l in
-              omega arith,
-        ),
-      )
+      grind (arith, nat_tests, part_length, risen_low, frame_at-take)
 
   end_few : (n f : ℕ) → IsEnd part n f → f ≤ to → n ≤ stays.n
   end_few n f (some_n, below, place) high =
@@ -167,32 +154,7 @@ module _ (g : Task) (frames : Transmission) (from to : ℕ) (stays : StaysTo g f
 
   -- It ends in this part.
   last_low : to ≤ frame_at frames (m - 1)
-  last_low = elim (cases_lt stays.n m) [
-    | inl less ↦
-        let next = stays.next (let w = risen_low frames in omega arith) in
-        let one = order (stays.n - 1) (m - 1) (omega arith) (omega arith) in
-        let two = order stays.n (m - 1) (omega arith) (omega arith) in
-        elim next [
-          | inl up_there ↦ let h = up_there.1 in omega arith
-          | inr before ↦ omega arith
-        ]
-    | inr all ↦
-        let same : stays.n ≡ m = let l = n_low in omega arith in
-        let at = ap (λ k. frame_at frames (k - 1)) same in
-        elim (cases_lt stays.n (length frames)) [
-          | inl there ↦ elim (stays.next there) [
-            | inr before ↦ omega arith
-            | inl up_there ↦
-                let more = rises_more frames stays.n there stays.run.rises up_there.0 in
-                absurd (omega arith)
-          ]
-          | inr whole ↦
-              let is : stays.n ≡ length frames = let w = stays.within in omega arith in
-              let high = stays.last is in
-              let end = ap (λ k. frame_at frames (k - 1)) (sym is ∙ same) in
-              omega arith
-        ]
-  ]
+  last_low = grind (arith, nat_tests, cases_lt, risen_low, order, before, n_low, rises_more)
 
   -- The frame of its header.
   j_low : stays.run.j < m
@@ -200,20 +162,18 @@ module _ (g : Task) (frames : Transmission) (from to : ℕ) (stays : StaysTo g f
 
   stretch : IsStretch part from to
   stretch =
-      let all = part_length frames in
-      let first = first-same part in
-      let last = part_last frames some in
-      let before = stays.before in
-      let at = stays.run.at in
-      let zero_at = frame_at-take frames m 0 some in
-      let low = order 0 stays.run.j (omega arith) j_low in
-      let high = last_low in
-      record {
-        not_empty = let s = some in omega arith;
-        from = omega arith;
-        in_order = omega arith;
-        to = omega arith;
-      }
+      grind (
+        arith,
+        nat_tests,
+        part_length,
+        first-same,
+        part_last,
+        some,
+        frame_at-take,
+        order,
+        j_low,
+        last_low,
+      )
 
   packets_quiet : (r : PacketRule) (i k : ℕ)
       → is_needed r ≡ true

@@ -16,7 +16,7 @@ use Rattle.sub_rules.specs.Transmission.{Transmission}
 use Rattle.sub_rules.specs.Trusted.{doubted, frame_before, tells_none, trust_end}
 use Rattle.sub_rules.specs.declared.event.Event.{Event}
 use Rattle.sub_rules.specs.declared.event.Event.TheVariants.{Told}
-use Rattle.sub_rules.proofs.TrustedLemmas.{plain_closing, plain_frame}
+use Rattle.sub_rules.proofs.TrustedLemmas.{own_frame, plain_closing}
 use Rattle.std.proofs.lemmas.List.Elements.{All-append, All-cons, All-nil}
 use Rattle.sub_laws.proofs.DoubtLemmas.{EachTrusted, OnTrusted, each-announced, each-at, each-ended}
 use Rattle.sub_laws.proofs.DoubtLemmas.{each-plain, each-put, first_doubt, trusted_in_run}
@@ -108,7 +108,7 @@ module _ (g : Task) (frames : Transmission) where
       All-append (OnTrusted StaysTo) (map (at_pes pes) (told_of_frame g frames n kept)) _
       (each-at StaysTo pes (told_of_frame g frames n kept)
       (trusted_in_run StaysTo (frame_before frames n) kept (frame_events g frames n)
-      (each-plain StaysTo _ (plain_frame g frames n))
+      (each-plain StaysTo _ (own_frame g frames n).plain)
       (λ x from e run l. frame_stays n (omega arith) x from e (before from run) l)))
       (each_stays (suc pes) (suc n) (run_at g frames n kept) pieces (omega arith)
       (run_next g frames n kept (omega arith) before))

@@ -2,15 +2,13 @@
 -- first piece that is passed over. Main lemma: first_told_is.
 use Rattle.std.proofs.Common.{◌≡◌, ℕ, zero, suc, ◌+◌, ◌&&◌, ◌||◌, Bool, true, false, not, List, []}
 use Rattle.std.proofs.Common.{◌∷◌, ◌++◌, length, map, Option, Some, None, refl, sym, ap, ◌∙◌, arith}
-use Rattle.std.proofs.Common.{append_assoc, length-append}
+use Rattle.std.proofs.Common.{ap₂, append_assoc, length-append}
 use Rattle.std.proofs.lemmas.Bool.Decides.{nat_tests}
 use Rattle.std.proofs.lemmas.List.{append-nil, map-append}
 use Rattle.std.specs.Prelude.{option_map}
-use Rattle.sub_rules.specs.Events.{Standing, closing_events, content_events, end_events, endings}
-use Rattle.sub_rules.specs.Events.{events, events_of_first, first_header_events, frame_events}
-use Rattle.sub_rules.specs.Events.{gap_events, late_events, nothing_stands, order_events}
-use Rattle.sub_rules.specs.Events.{first_told, packet_events, packet_fault, rest_events}
-use Rattle.sub_rules.specs.Events.{rule_events, rules_told, unread_fault}
+use Rattle.sub_rules.specs.Events.{Standing, closing_events, end_events, endings, events}
+use Rattle.sub_rules.specs.Events.{events_of_first, first_told, frame_events, nothing_stands}
+use Rattle.sub_rules.specs.Events.{rest_events, unread_fault}
 use Rattle.sub_rules.specs.FrameRules.{Task, Unread}
 use Rattle.sub_rules.specs.PieceEvents.{LawOfFirstTold, PassedRun, all_announced, all_of_pieces}
 use Rattle.sub_rules.specs.PieceEvents.{announced, at_pes, closing_of_pieces, ended_run}
@@ -20,16 +18,13 @@ use Rattle.sub_rules.specs.PieceEvents.{told_of_each, told_of_frame, told_of_pas
 use Rattle.sub_rules.specs.PieceEvents.{told_of_pieces, until_passed}
 use Rattle.sub_rules.specs.Pieces.{Piece, frames_of, read_until_passed}
 use Rattle.sub_rules.specs.Pieces.Piece.{Passed, Sent}
-use Rattle.sub_rules.specs.Transmission.{SentFrame, Transmission}
+use Rattle.sub_rules.specs.Transmission.{Transmission}
 use Rattle.sub_rules.specs.Trusted.{doubted, kept, tells_none, trusted, trusted_before, with_run}
-use Rattle.sub_rules.specs.declared.end_rule.EndRule.{EndRule}
-use Rattle.sub_rules.specs.declared.end_rule.EndRule.TheVariants as end
 use Rattle.sub_rules.specs.declared.event.Event.{Event}
 use Rattle.sub_rules.specs.declared.event.Event.TheVariants.{Ended, PassedUntil, Told, Trusted}
 use Rattle.sub_rules.specs.declared.fault.CheckFault.{CheckFault}
-use Rattle.sub_rules.specs.declared.fault.CheckFault.TheVariants as fault
-use Rattle.sub_rules.specs.declared.packet_rule.PacketRule.{PacketRule}
 use Rattle.sub_rules.proofs.PrefixEventLemmas.{frame_events-prefix}
+use Rattle.sub_rules.proofs.TrustedLemmas.{Names, own_end, own_frame}
 
 -- ---- what is told first of two lists
 
@@ -92,62 +87,6 @@ ended_first run = grind (arith, nat_tests)
 
 -- ---- refusals that name the PES packet already
 
--- Of a list whose frames are counted as PES packets: each event names PES packet `pes`, if one.
-abbrev pub Names : ℕ → List Event → Type 0
-Names pes es = map (at_pes pes) es ≡ es
-
-names_two : (pes : ℕ) (xs ys : List Event) → Names pes xs → Names pes ys → Names pes (xs ++ ys)
-names_two pes xs ys p q =
-    map-append (at_pes pes) xs ys
-    ∙ ap (λ (l : List Event). l ++ map (at_pes pes) ys) p
-    ∙ ap (λ (l : List Event). xs ++ l) q
-
-names_end : (pes : ℕ) (old new : Standing) (before f : ℕ) → Names pes (end_events old before new f)
-unfolding end_events at_pes
-names_end pes old new before f = grind (arith, nat_tests)
-
-names_order : (g : Task) (frames : Transmission) (i : ℕ) → Names i (order_events g frames i)
-unfolding order_events at_pes
-names_order g frames zero = grind (arith, nat_tests)
-names_order g frames (suc i) = grind (arith, nat_tests)
-
-names_gap : (pes : ℕ) (g : Task) (frames : Transmission) (i n : ℕ)
-    → Names pes (gap_events g frames i n)
-unfolding gap_events
-names_gap pes g frames i zero = refl
-names_gap pes g frames i (suc n) =
-    names_two pes (gap_events g frames i n) _ (names_gap pes g frames i n)
-    (names_end pes _ _ _ _)
-
-names_rule : (pes : ℕ) (rules : List PacketRule) (frame k : ℕ)
-    → Names pes (map (λ (r : PacketRule). Told (packet_fault r frame k)) rules)
-unfolding at_pes
-names_rule pes [] frame k = refl
-names_rule pes (r ∷ rules) frame k =
-    let rest = names_rule pes rules frame k in grind (arith, nat_tests)
-
-names_packets : (pes : ℕ) (g : Task) (frame : ℕ) (before packets : List (List ℕ)) (n : ℕ)
-    → Names pes (packet_events g.watched frame before packets n)
-unfolding packet_events rules_told
-names_packets pes g frame before packets zero = refl
-names_packets pes g frame before packets (suc n) =
-    names_two pes (packet_events g.watched frame before packets n) _
-    (names_packets pes g frame before packets n) (names_rule pes _ frame n)
-
-names_header : (pes : ℕ) (g : Task) (frames : Transmission) (i : ℕ)
-    → Names pes (first_header_events g frames i)
-unfolding first_header_events at_pes
-names_header pes g frames zero = grind (arith, nat_tests)
-names_header pes g frames (suc i) = refl
-
--- What is told of a frame.
-names_frame : (g : Task) (frames : Transmission) (i : ℕ) → Names i (frame_events g frames i)
-unfolding frame_events
-names_frame g frames i =
-    names_two i _ _ (names_two i _ _ (names_two i _ _ (names_two i _ _ (names_order g frames i)
-    (names_gap i g frames i _)) (names_packets i g _ _ _ _)) (names_header i g frames i))
-    (names_end i _ _ _ _)
-
 -- What is told after the last frame.
 names_closing : (g : Task) (frames : Transmission) (n : ℕ) → length frames ≡ n
     → Names n (closing_events g frames n)
@@ -157,7 +96,9 @@ names_closing g frames zero all = rest g.unread
     rest : (u : Option Unread) → Names 0 (Told (unread_fault 0 u) ∷ [])
     rest u = grind (arith, nat_tests)
 names_closing g frames (suc n) all =
-    names_two (suc n) _ _ (names_end (suc n) _ _ _ _) (rest g.unread)
+    let ended = (own_end g frames (suc n) _ _ nothing_stands _).names in
+    map-append (at_pes (suc n)) (endings _ _) (rest_events g frames g.unread)
+    ∙ ap₂ ◌++◌ ended (rest g.unread)
   where
     rest : (u : Option Unread) → Names (suc n) (rest_events g frames u)
     rest u = grind (arith, nat_tests)
@@ -182,7 +123,7 @@ frame_first g frames i run =
     first_at i (told_of_frame g frames i run)
     ∙ ap (option_map (fault_at_pes i)) (with_run_first _ run (frame_events g frames i))
     ∙ sym (first_at i (frame_events g frames i))
-    ∙ ap first_told (names_frame g frames i)
+    ∙ ap first_told (own_frame g frames i).names
 
 -- Bytes that can't be read on are told first after the last frame: what stood broken has ended.
 endings_first : (last : Standing) (f : ℕ) → first_told (endings last f) ≡ None

@@ -1,15 +1,14 @@
 -- What is told of a frame is told by the frames up to it alone: `frame_events-prefix`,
 -- `events_of_first-prefix`.
-use Rattle.std.proofs.Common.{◌≡◌, ℕ, zero, suc, max, ◌+◌, ◌-◌, ◌<◌, ◌≤◌, List, [], ◌∷◌, ◌++◌}
-use Rattle.std.proofs.Common.{length, map, take, get_or, Option, refl, sym, ap, ◌∙◌, arith}
-use Rattle.std.proofs.Common.{length-append}
+use Rattle.std.proofs.Common.{◌≡◌, ℕ, zero, suc, ◌+◌, ◌-◌, ◌<◌, ◌≤◌, List, [], ◌++◌}
+use Rattle.std.proofs.Common.{length, map, get_or, Option, refl, ap, ◌∙◌, arith}
 use Rattle.std.proofs.lemmas.List.{get_or_append_left, length-map, map-append}
 use lib.Seq.{take-append-le}
-use Rattle.sub_rules.specs.Events.{end_before, end_events, events_at_end, events_of_first}
+use Rattle.sub_rules.specs.Events.{end_before, events_at_end}
 use Rattle.sub_rules.specs.Events.{first_header_events, frame_events, gap_events, gap_length}
-use Rattle.sub_rules.specs.Events.{is_gap, is_incomplete, latest, order_events, packet_events}
+use Rattle.sub_rules.specs.Events.{is_gap, is_incomplete, latest, order_events}
 use Rattle.sub_rules.specs.Events.{standing_at, standing_before}
-use Rattle.sub_rules.specs.FrameRules.{Task, Unread, frame_at, packets_before, packets_of_frame}
+use Rattle.sub_rules.specs.FrameRules.{Task, Unread, frame_at, packets_of_frame}
 use Rattle.sub_rules.specs.Transmission.{SentFrame, Transmission}
 use Rattle.sub_rules.specs.declared.event.Event.{Event}
 

@@ -3,13 +3,14 @@
 -- those that tell what is broken: `untrusted-all`, `untrusted-first`.
 use Rattle.std.proofs.lemmas.Bool.Decides.{nat_tests}
 use Rattle.std.proofs.Common.{◌≡◌, ℕ, zero, suc, List, [], ◌∷◌, ◌++◌, length, map, Option, Some}
-use Rattle.std.proofs.Common.{None, refl, sym, ap, ◌∙◌, append_assoc, arith}
-use Rattle.std.proofs.lemmas.List.{append-nil}
-use Rattle.sub_rules.specs.Events.{Standing, closing_events, end_events, events, events_of_first}
-use Rattle.sub_rules.specs.Events.{first_header_events, frame_events, gap_events, late_events}
-use Rattle.sub_rules.specs.Events.{first_told, order_events, packet_events, packet_fault}
-use Rattle.sub_rules.specs.Events.{rest_events, rules_told}
-use Rattle.sub_rules.specs.FrameRules.{Task, Unread, end_frame}
+use Rattle.std.proofs.Common.{None, refl, sym, ap, ap₂, ◌∙◌, append_assoc, arith}
+use Rattle.std.proofs.lemmas.List.{append-nil, map-append}
+use Rattle.sub_rules.specs.Events.{Standing, closing_events, end_events, endings, events}
+use Rattle.sub_rules.specs.Events.{events_of_first, first_header_events, first_told, frame_events}
+use Rattle.sub_rules.specs.Events.{gap_events, nothing_stands, order_events, packet_events}
+use Rattle.sub_rules.specs.Events.{packet_fault, rest_events, rules_told}
+use Rattle.sub_rules.specs.FrameRules.{Task, Unread}
+use Rattle.sub_rules.specs.PieceEvents.{at_pes}
 use Rattle.sub_rules.specs.Transmission.{Transmission}
 use Rattle.sub_rules.specs.Trusted.{all_events, all_events_of_first, all_frame_events, doubted}
 use Rattle.sub_rules.specs.Trusted.{frame_before, kept, last_trusted, run_after, run_over}
@@ -90,9 +91,6 @@ first_told-untrusted (Ended rule f ∷ es) = first_told-untrusted es
 abbrev pub IsPlain : List Event → Type 0
 IsPlain es = untrusted es ≡ es
 
-plain-append : (xs ys : List Event) → IsPlain xs → IsPlain ys → IsPlain (xs ++ ys)
-plain-append xs ys p q = grind (arith, untrusted-append)
-
 -- What is put in is none of the others.
 untrusted-put : (run d : Option ℕ) → untrusted (trusted_before run d) ≡ []
 untrusted-put run d = grind (arith, nat_tests)
@@ -112,64 +110,82 @@ both_none : {A : Type 0} (xs ys : List A) → xs ++ ys ≡ [] → (xs ≡ []) ×
 both_none [] ys none = (refl, none)
 both_none (x ∷ xs) ys none = cc
 
+-- Events that name PES packet `pes`, if one: of a list whose frames are counted as PES packets.
+abbrev pub Names : ℕ → List Event → Type 0
+Names pes es = map (at_pes pes) es ≡ es
+
+-- They name it, and tell nothing of what is trusted.
+pub record AreOwn (pes : ℕ) (es : List Event) : Type 0 where
+  pub plain : IsPlain es
+  pub names : Names pes es
+
+none_own : (pes : ℕ) → AreOwn pes []
+none_own pes = record { plain = refl; names = refl }
+
+pub own_two : (pes : ℕ) (xs ys : List Event) → AreOwn pes xs → AreOwn pes ys → AreOwn pes (xs ++ ys)
+own_two pes xs ys p q = grind (arith, untrusted-append, map-append)
+
 module _ (g : Task) (frames : Transmission) where
-  plain_end : (old : Standing) (before : ℕ) (new : Standing) (f : ℕ)
-      → IsPlain (end_events old before new f)
-  unfolding end_events
-  plain_end old before new f = grind (arith, nat_tests)
+  pub own_end : (pes : ℕ) (old : Standing) (before : ℕ) (new : Standing) (f : ℕ)
+      → AreOwn pes (end_events old before new f)
+  unfolding end_events at_pes
+  own_end pes old before new f = grind (arith, nat_tests)
 
-  plain_order : (i : ℕ) → IsPlain (order_events g frames i)
-  unfolding order_events
-  plain_order zero = grind (arith, nat_tests)
-  plain_order (suc i) = grind (arith, nat_tests)
+  own_order : (i : ℕ) → AreOwn i (order_events g frames i)
+  unfolding order_events at_pes
+  own_order zero = grind (arith, nat_tests)
+  own_order (suc i) = grind (arith, nat_tests)
 
-  plain_gap : (i n : ℕ) → IsPlain (gap_events g frames i n)
+  own_gap : (pes i n : ℕ) → AreOwn pes (gap_events g frames i n)
   unfolding gap_events
-  plain_gap i zero = refl
-  plain_gap i (suc n) = plain-append _ _ (plain_gap i n) (plain_end _ _ _ _)
+  own_gap pes i zero = none_own pes
+  own_gap pes i (suc n) = own_two pes _ _ (own_gap pes i n) (own_end pes _ _ _ _)
 
-  plain_rules : (frame k : ℕ) (rs : List PacketRule)
-      → IsPlain (map (λ (r : PacketRule). Told (packet_fault r frame k)) rs)
-  plain_rules frame k [] = refl
-  plain_rules frame k (r ∷ rs) =
-      ap (λ l. Told (packet_fault r frame k) ∷ l) (plain_rules frame k rs)
+  own_rules : (pes frame k : ℕ) (rs : List PacketRule)
+      → AreOwn pes (map (λ (r : PacketRule). Told (packet_fault r frame k)) rs)
+  unfolding at_pes
+  own_rules pes frame k [] = none_own pes
+  own_rules pes frame k (r ∷ rs) =
+      let rest = own_rules pes frame k rs in grind (arith, nat_tests)
 
-  plain_packets : (w : Watched) (frame : ℕ) (before packets : List (List ℕ)) (n : ℕ)
-      → IsPlain (packet_events w frame before packets n)
+  own_packets : (pes : ℕ) (w : Watched) (frame : ℕ) (before packets : List (List ℕ)) (n : ℕ)
+      → AreOwn pes (packet_events w frame before packets n)
   unfolding packet_events rules_told
-  plain_packets w frame before packets zero = refl
-  plain_packets w frame before packets (suc n) =
-      plain-append _ _ (plain_packets w frame before packets n) (plain_rules _ _ _)
+  own_packets pes w frame before packets zero = none_own pes
+  own_packets pes w frame before packets (suc n) =
+      own_two pes _ _ (own_packets pes w frame before packets n) (own_rules pes _ _ _)
 
-  plain_header : (i : ℕ) → IsPlain (first_header_events g frames i)
-  unfolding first_header_events
-  plain_header zero = grind (arith, nat_tests)
-  plain_header (suc i) = refl
+  own_header : (pes i : ℕ) → AreOwn pes (first_header_events g frames i)
+  unfolding first_header_events at_pes
+  own_header pes zero = grind (arith, nat_tests)
+  own_header pes (suc i) = none_own pes
 
-  pub plain_frame : (i : ℕ) → IsPlain (frame_events g frames i)
+  -- What is told of a frame.
+  pub own_frame : (i : ℕ) → AreOwn i (frame_events g frames i)
   unfolding frame_events
-  plain_frame i =
-      plain-append _ _
-      (plain-append _ _
-      (plain-append _ _ (plain-append _ _ (plain_order i) (plain_gap i _))
-      (plain_packets _ _ _ _ _)) (plain_header i)) (plain_end _ _ _ _)
+  own_frame i =
+      own_two i _ _
+      (own_two i _ _
+      (own_two i _ _ (own_two i _ _ (own_order i) (own_gap i i _)) (own_packets i _ _ _ _ _))
+      (own_header i i)) (own_end i _ _ _ _)
 
   plain_first : (n : ℕ) → IsPlain (events_of_first g frames n)
   unfolding events_of_first
   plain_first zero = refl
-  plain_first (suc n) = plain-append _ _ (plain_first n) (plain_frame n)
-
-  plain_late : (o : Option ℕ) (f : ℕ) → IsPlain (late_events o f)
-  plain_late o f = grind (arith, nat_tests)
-
-  plain_rest : (u : Option Unread) → IsPlain (rest_events g frames u)
-  plain_rest None = plain_late g.last_out (end_frame frames)
-  plain_rest (Some u) = refl
+  plain_first (suc n) =
+      let rest = plain_first n in
+      let here = (own_frame n).plain in
+      grind (arith, untrusted-append)
 
   pub plain_closing : (n : ℕ) → IsPlain (closing_events g frames n)
   unfolding closing_events
   plain_closing zero = refl
-  plain_closing (suc n) = plain-append _ _ (plain_end _ _ _ _) (plain_rest g.unread)
+  plain_closing (suc n) =
+      untrusted-append (endings _ _) (rest_events g frames g.unread)
+      ∙ ap₂ ◌++◌ (own_end n _ _ nothing_stands _).plain (rest g.unread)
+    where
+      rest : (u : Option Unread) → IsPlain (rest_events g frames u)
+      rest u = grind (arith, nat_tests)
 
   -- The first frames.
   pub untrusted-first : (n : ℕ)
@@ -182,7 +198,7 @@ module _ (g : Task) (frames : Transmission) where
       ∙ ap (λ l. l ++ untrusted more) (untrusted-first n)
       ∙ ap (λ l. events_of_first g frames n ++ l)
       (untrusted-run (frame_before frames n) (run_after g frames n) (frame_events g frames n)
-      ∙ plain_frame n)
+      ∙ (own_frame n).plain)
 
   -- All.
   pub untrusted-all : untrusted (all_events g frames) ≡ events g frames
