@@ -108,6 +108,37 @@ module _ {D : Type 0} (IsTold : D → LoadFault → D → Type 0) (value : D →
     listed = are;
   }
 
+  -- Memory was refused before anything was told.
+  at_memory : (block : ℕ)
+      → (value new).failed ≡ false
+      → Tells IsTold old new []
+      → RisesIf stl.old_count (is_read (load_fault block load.Memory)) stl.new_count
+      → IfTold stl.told (λ file. EndsRecord national [] block (outcome_of file))
+      → TellsBoth national options stl pes Untouched (value old) (value new)
+      (Err (fault.Subtitles (load_fault block load.Memory)))
+  at_memory block quiet told count memory =
+      ended_at block load.Memory [] quiet told count
+      (λ is. cc)
+      (record { fails = refl; alone = λ read fine. refl })
+      (λ file known. (refl, memory file known))
+
+  -- The source failed.
+  at_read : (block : ℕ)
+      → (value new).failed ≡ false
+      → TellsSome IsTold old new
+      → RisesIf stl.old_count (is_read (load_fault block (load.File stl_fault.Read))) stl.new_count
+      → FailsTelling national stl.told stl.left IsTold old new block
+      → TellsBoth national options stl pes Untouched (value old) (value new)
+      (Err (fault.Subtitles (load_fault block (load.File stl_fault.Read))))
+  at_read block quiet some count f =
+      let items =
+      decided (Tells IsTold old new) stl.told
+      (λ file. filter (is_told_before block) (faults national file)) some.items some.told f.told in
+      ended_at block (load.File stl_fault.Read) items.0 quiet items.1 count
+      (λ is. record { bytes = f.bytes; consumed = f.consumed; block_is = f.block_is })
+      (record { fails = refl; alone = λ other fine. cc })
+      (λ file told. ap subtitle_events (items.2 file told))
+
   -- The subtitle file can't be read on. For `tell_every_fault`.
   pub after_error : (block : ℕ) (kind : LoadFaultKind)
       → (value new).failed ≡ false
@@ -121,21 +152,22 @@ module _ {D : Type 0} (IsTold : D → LoadFault → D → Type 0) (value : D →
       → FailsTelling national stl.told stl.left IsTold old new block)
       → TellsBoth national options stl pes Untouched (value old) (value new)
       (Err (fault.Subtitles (load_fault block kind)))
-  after_error block load.Memory quiet kinds some none count memory read =
-      ended_at block load.Memory [] quiet (none refl) count (λ is. cc)
-      (record { fails = refl; alone = λ read fine. refl })
-      (λ file told. (refl, memory file told refl))
-  after_error block (load.File stl_fault.Read) quiet kinds some none count memory read =
-      let f = read refl in
-      let items =
-      decided (Tells IsTold old new) stl.told
-      (λ file. filter (is_told_before block) (faults national file)) some.items some.told f.told in
-      ended_at block (load.File stl_fault.Read) items.0 quiet items.1 count
-      (λ is. record { bytes = f.bytes; consumed = f.consumed; block_is = f.block_is })
-      (record { fails = refl; alone = λ other fine. cc })
-      (λ file told. ap subtitle_events (items.2 file told))
   after_error block kind quiet kinds some none count memory read =
-      absurd (elim kinds [ inl e ↦ cc | inr e ↦ cc ])
+      let Answers : LoadFaultKind → Type 0 =
+      λ k. TellsBoth national options stl pes Untouched (value old) (value new)
+      (Err (fault.Subtitles (load_fault block k))) in
+      let Counts : LoadFaultKind → Type 0 =
+      λ k. RisesIf stl.old_count (is_read (load_fault block k)) stl.new_count in
+      elim kinds [
+        | inl e ↦
+            subst Answers (sym e)
+            (at_memory block quiet (none e) (subst Counts e count)
+            (λ file told. memory file told e))
+        | inr e ↦
+            subst Answers (sym e)
+            (at_read block quiet some (subst Counts e count)
+            (read (ap (λ k. is_read (load_fault block k)) e)))
+      ]
 
   -- What was told of a list, where the sink failed or not.
   prints-faults : (items : List LoadFault) (stopped b : Bool)
