@@ -15,7 +15,7 @@ from typing import Callable, Iterable, Iterator, Sequence
 
 from .pes import UNIT, sliced
 from .units import (
-    ADDRESS, CODED, IS_EVEN, IS_LOW, LENGTH, TELETEXT, Units, of_magazine)
+    ADDRESS, CODED, IS_EVEN, IS_LOW, LENGTH, TELETEXT, Units, both, of_magazine)
 
 LENGTHS = {184 * count for count in range(1, 10)}  # bytes of a PES packet
 ODD = bytes(range(1, 0x100, 2))
@@ -23,7 +23,8 @@ ODD = bytes(range(1, 0x100, 2))
 # a PTS alone, the header's length, the PTS with its marker bits, the data_identifier.
 HEAD_BYTES = {6: bytes(range(0x80, 0x90)), 7: bytes(range(0x80, 0xC0)), 8: b"\x24",
               9: bytes(range(0x21, 0x30, 2)), 11: ODD, 13: ODD, 45: bytes(range(0x10, 0x20))}
-PTS = struct.Struct(">9xBHH32x")  # of a head: the parts of its PTS
+PTS = ">9xBHH{}x"  # the parts of a PTS, and how many bytes come after them
+AFTER_PTS = 14  # where these begin
 # By the id, the field with the line, and the framing code of a unit: whether it has Teletext, the
 # place of the line, those of the first field first, 0 where none is named, and whether it is right.
 OF_TELETEXT, FRAMED, LINE = 0x80, 0x40, 0x3F
@@ -37,12 +38,26 @@ class Batch:
     """PES packets: bytes, and where in these each begins, then where the last ends.
 
     What is asked of all units by their numbers, heads and data units, is right where each has whole
-    units alone.
+    units alone. `length` is that of each, 0 where one is longer than another.
     """
 
     def __init__(self, data: bytes, begins: Sequence[int]) -> None:
         self.data, self.begins, self.end = data, begins, begins[-1]
-        self.heads = b"".join([data[begin:begin + UNIT] for begin in begins[:-1]])
+        self.length = begins.step if isinstance(begins, range) else 0
+
+    @functools.cached_property
+    def heads(self) -> bytes:
+        """The heads of all, one after another."""
+        return b"".join([self.data[begin:begin + UNIT] for begin in self.begins[:-1]])
+
+    def head(self, byte: int) -> bytes:
+        """A byte of the head of each."""
+        return self.data[byte:self.end:self.length] if self.length else self.heads[byte::UNIT]
+
+    def lengths(self) -> set[int]:
+        """How long they are."""
+        return {self.length} if self.length else \
+            set(map(operator.sub, self.begins[1:], self.begins))
 
     def __len__(self) -> int:
         return len(self.begins) - 1
@@ -53,8 +68,10 @@ class Batch:
 
     def pts(self) -> list[int]:
         """The PTS of each."""
+        data = memoryview(self.data)[:self.end] if self.length else self.heads
+        after = (self.length or UNIT) - AFTER_PTS
         return [(high & 14) << 29 | (middle & 0xFFFE) << 14 | low >> 1
-                for high, middle, low in PTS.iter_unpack(self.heads)]
+                for high, middle, low in struct.iter_unpack(PTS.format(after), data)]
 
     def column(self, byte: int, table: bytes) -> bytes:
         """What a table says of a byte of each unit."""
@@ -66,9 +83,8 @@ class Batch:
 
     def may_be_headers(self) -> list[int]:
         """Where units are that may be a page header."""
-        data = self.data  # few are left by the second byte of their address
-        return [at for at in marked(self.column(ADDRESS.start + 1, IS_LOW))
-                if IS_EVEN[data[at + ADDRESS.start]]]
+        return marked(both(self.column(ADDRESS.start, IS_EVEN),
+                           self.column(ADDRESS.start + 1, IS_LOW)))
 
     def coded(self, places: Iterable[int]) -> list[bytes]:
         """The coded bytes of units that may be a page header."""
@@ -76,7 +92,9 @@ class Batch:
 
     def owners(self, places: Iterable[int]) -> list[int]:
         """The numbers of the PES packets to which some places belong."""
-        return [bisect.bisect_right(self.begins, at) - 1 for at in places]
+        length = self.length
+        return [at // length for at in places] if length else \
+            [bisect.bisect_right(self.begins, at) - 1 for at in places]
 
 
 def of_packets(packets: Sequence[bytes]) -> Batch:
@@ -92,23 +110,25 @@ def marked(marks: bytes) -> list[int]:
 def is_whole(batch: Batch) -> bool:
     """Whether all have whole units, each as long as its length says."""
     lengths = batch.data[1:batch.end:UNIT]
-    return all(begin % UNIT == 0 for begin in batch.begins) \
-        and not batch.heads[8::UNIT].strip(bytes([UNIT - 10])) \
+    return not any(length % UNIT for length in batch.lengths()) \
+        and not batch.head(8).strip(bytes([UNIT - 10])) \
         and lengths.count(LENGTH) + len(batch) >= len(lengths)
 
 
 def is_listed(batch: Batch) -> bool:
     """Whether `subttx packets` lists them all: they have the bytes that PES packets with Teletext
     may have. Each begins with its start and its length."""
-    if not set(map(operator.sub, batch.begins[1:], batch.begins)) <= LENGTHS:
+    if not batch.lengths() <= LENGTHS:
         return False
-    if any(batch.heads[byte::UNIT].translate(None, allowed)
-           for byte, allowed in HEAD_BYTES.items()):
+    if any(batch.head(byte).translate(None, allowed) for byte, allowed in HEAD_BYTES.items()):
         return False
     if batch.data[1:batch.end:UNIT].count(LENGTH) + len(batch) != batch.end // UNIT:
         return False
-    joined = either(batch.column(0, IS_TELETEXT), batch.column(2, PLACES),
-                    batch.column(3, IS_FRAMING))
+    columns = [batch.column(0, IS_TELETEXT), batch.column(2, PLACES), batch.column(3, IS_FRAMING)]
+    of_first = [column[:batch.length // UNIT] for column in columns]
+    if columns == [marks * len(batch) for marks in of_first]:
+        return are_units(either(*of_first))  # which all others are like
+    joined = either(*columns)
     units = [begin // UNIT for begin in batch.begins]
     return all(map(are_units, set(sliced(joined, units))))
 

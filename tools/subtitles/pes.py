@@ -1,6 +1,7 @@
 """PES packets with Teletext (EN 300 472)."""
 from __future__ import annotations
 
+import itertools
 from typing import Iterator, Sequence
 
 from .files import Damaged, Source
@@ -9,7 +10,7 @@ from .teletext import mirrored
 START = b"\0\0\1\xbd"  # of a PES packet of private_stream_1
 HEAD = 6  # bytes of one up to its length and with it
 AT_A_TIME = 1 << 18  # bytes that are read, so that they stay near the processor
-AT_ONCE = 64  # PES packets that are looked for in one step
+AT_ONCE = 64  # PES packets that are looked for in the first step
 FIRST_LINE = 7
 UNIT = 46  # bytes of a data unit
 DATA = 46  # where those that `subttx` writes begin: after 45 bytes and the data_identifier
@@ -43,18 +44,21 @@ def pes_packet(pts: int, packets: Sequence[bytes]) -> bytes:
     return made + STUFFING_UNIT * (4 * blocks - 1 - len(packets))
 
 
-def pes_runs(file: Source) -> Iterator[tuple[bytes, list[int]]]:
+def pes_runs(file: Source) -> Iterator[tuple[bytes, Sequence[int]]]:
     """The PES packets of a file, as many at a time as have come: bytes, and where in these each
     begins, then where the last ends. `Damaged` where the file holds something else, after those
     before it."""
-    rest, count = b"", 0
-    while piece := file.read(AT_A_TIME):
+    rest, count, size = b"", 0, AT_A_TIME
+    while piece := file.read(size):
         data = rest + piece
         begins = begins_in(data)
+        rest = data[begins[-1]:]
         if len(begins) > 1:
             yield data, begins
+            # Where those that come are as long as the last one nothing is left over, nor copied.
+            length = begins[-1] - begins[-2]
+            size = AT_A_TIME // length * length - len(rest)
         count += len(begins) - 1
-        rest = data[begins[-1]:]
         if len(rest) >= HEAD and not rest.startswith(START):
             raise Damaged(f"PES packet {count} does not begin with 00 00 01 BD")
     if rest:
@@ -78,23 +82,28 @@ def sliced(data: bytes, begins: Sequence[int]) -> list[bytes]:
     return [data[begin:end] for begin, end in zip(begins, begins[1:])]
 
 
-def begins_in(data: bytes) -> list[int]:
-    """Where the PES packets begin with which some bytes do, and where the last one ends."""
-    begins: list[int] = []
-    at, size = 0, len(data)
+def begins_in(data: bytes) -> Sequence[int]:
+    """Where the PES packets begin with which some bytes do, and where the last one ends: a range
+    where all are as long as the first."""
+    runs: list[range] = []
+    at, size, most = 0, len(data), AT_ONCE
     while size - at >= HEAD and data.startswith(START, at):
         head = data[at:at + HEAD]
         length = HEAD + (head[4] << 8 | head[5])
-        # Most have the length of the one before: of some, each byte is asked in one step.
-        count = min((size - at) // length, AT_ONCE)
+        # Most have the length of the one before: of some, each byte is asked in one step, and of
+        # more in the next one where that is so.
+        count = wanted = min((size - at) // length, most)
         for place in range(HEAD):
             column = data[at + place:at + count * length:length]
             count = len(column) - len(column.lstrip(head[place:place + 1]))
         if count == 0:
             break
-        begins.extend(range(at, at + count * length, length))
+        runs.append(range(at, at + count * length, length))
         at += count * length
-    return [*begins, at]
+        most = most * AT_ONCE if count == wanted else AT_ONCE
+    if len({run.step for run in runs}) == 1:
+        return range(0, at + 1, runs[0].step)
+    return [*itertools.chain.from_iterable(runs), at]
 
 
 def pes_packets(file: Source) -> Iterator[bytes]:

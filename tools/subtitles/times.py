@@ -2,7 +2,7 @@
 from __future__ import annotations
 
 import re
-from typing import Iterable
+from typing import Iterable, Sequence
 
 FRAMES_A_SECOND = 25
 FRAMES_OF_A_DAY = 2_160_000
@@ -49,8 +49,12 @@ def frame_at(pts: int, origin: int) -> int | None:
     return None if frame == NO_FRAME else frame
 
 
-def frames_at(several: list[int], origin: int) -> list[int]:
+def frames_at(several: list[int], origin: int) -> Sequence[int]:
     """The frame of the day of each of several PTS, `NO_FRAME` where it is not the PTS of one."""
-    end = TICKS * FRAMES_OF_A_DAY
+    end, count = TICKS * FRAMES_OF_A_DAY, len(several)
+    if several and several == list(range(several[0], several[0] + TICKS * count, TICKS)):
+        ticks = (several[0] - origin) % CLOCK
+        if ticks % TICKS == 0 and ticks + TICKS * count <= end:
+            return range(ticks // TICKS, ticks // TICKS + count)  # as of most recordings
     return [NO_FRAME if ticks % TICKS or ticks >= end else ticks // TICKS
             for ticks in [(pts - origin) % CLOCK for pts in several]]

@@ -76,7 +76,8 @@ class Units:
     def header(self, number: int) -> Header | None:
         """The page header that one of them is; `None` where it is something else."""
         at = self.first + UNIT * number
-        if self.data[at] not in TELETEXT:
+        kind, first, second = self.data[at], self.data[at + 4], self.data[at + 5]
+        if kind not in TELETEXT or not IS_EVEN[first] or not IS_LOW[second]:
             return None
         return header_in(self.data[at + CODED.start:at + CODED.stop])
 

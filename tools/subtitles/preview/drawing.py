@@ -4,11 +4,13 @@ A cell is 12 by 15 units. What stands outside of a box is faint, since a receive
 """
 from __future__ import annotations
 
+import codecs
 import functools
 import html
 import itertools
+import operator
 import re
-from typing import Callable, Iterable, Iterator, NamedTuple, TypeVar
+from typing import Any, Callable, Iterable, Iterator, NamedTuple, TypeVar
 
 from ..teletext import NEWSFLASH, SUBTITLE, has_bit
 from .letters import letters
@@ -40,19 +42,24 @@ class Span(NamedTuple):
     boxed: bool
     double: bool
 
-    def look(self) -> Look:
-        return self.ink, self.flash, self.boxed, self.double
 
-    def ground(self) -> Ground:
-        return self.paper, self.boxed
+# What neighbours are drawn together by.
+letters_of: Callable[[Span], str] = operator.attrgetter("letters")
+look_of: Callable[[Span], Look] = operator.attrgetter("ink", "flash", "boxed", "double")
+ground_of: Callable[[Span], Ground] = operator.attrgetter("paper", "boxed")
 
 
 @functools.lru_cache(maxsize=None)
-def drawn_letters(option: int, is_mosaic: bool) -> str:
-    """The letter of each byte."""
+def letter_table(option: int, is_mosaic: bool) -> Any:
+    """The letter of each byte: a text, which `codecs` takes, though mypy does not know it."""
     table = letters(option)
     return "".join("\u2592" if is_mosaic and byte & 0x20 and byte & 0x7F != SPACE
                    else table[byte & 0x7F] for byte in range(256))
+
+
+def drawn_letters(cells: bytes, option: int, is_mosaic: bool = False) -> str:
+    """The letters of some cells."""
+    return codecs.charmap_decode(cells, "strict", letter_table(option, is_mosaic))[0]
 
 
 def spans_of(row: bytes, number: int, option: int, is_boxed_page: bool) -> list[Span]:
@@ -63,7 +70,9 @@ def spans_of(row: bytes, number: int, option: int, is_boxed_page: bool) -> list[
     for part in PARTS.findall(row):
         code = part[0] & 0x7F
         # These hold from their own cell on, a box from between its two codes.
-        if code == 0x09:
+        if code >= SPACE:
+            pass
+        elif code == 0x09:
             flash = False
         elif code == 0x0C:
             double = False
@@ -73,16 +82,18 @@ def spans_of(row: bytes, number: int, option: int, is_boxed_page: bool) -> list[
             paper = ink
         elif code in (0x0A, 0x0B) and code == last and is_boxed_page:
             boxed = code == 0x0B
-        letters_ = part.decode("latin-1").translate(drawn_letters(option, mosaic))
+        letters_ = drawn_letters(part, option, mosaic)
         spans.append(Span(letters_, ink, paper, flash, boxed, double))
+        last = code
         # These hold from the next cell on.
-        if code < 8 or 0x10 <= code < 0x18:
+        if code >= SPACE:
+            pass
+        elif code < 8 or 0x10 <= code < 0x18:
             ink, mosaic = code & 7, code >= 0x10
         elif code == 0x08:
             flash = True
         elif code == 0x0D:
             double = number < 23  # the last rows have none to reach into
-        last = code
     return spans
 
 
@@ -90,7 +101,7 @@ def grouped(spans: Iterable[Span], key: Callable[[Span], Key]) -> Iterator[tuple
     """Neighbours with the same key, as the first column and the letters."""
     column = 0
     for value, several in itertools.groupby(spans, key):
-        letters_ = "".join(one.letters for one in several)
+        letters_ = "".join(map(letters_of, several))
         yield value, column, letters_
         column += len(letters_)
 
@@ -116,11 +127,11 @@ def row_drawing(row: bytes, number: int, option: int, is_boxed_page: bool) -> tu
     is_tall = any(one.double for one in spans)
     height = HEIGHT * (2 if is_tall else 1)
     parts = [f'<g transform="translate(0 {(number - 1) * HEIGHT})">']
-    for (paper, boxed), column, letters_ in grouped(spans, Span.ground):
+    for (paper, boxed), column, letters_ in grouped(spans, ground_of):
         if boxed:
             parts.append(f'<rect class="p{paper}" x="{column * WIDTH}" '
                          f'width="{len(letters_) * WIDTH}" height="{height}"/>')
-    for look, column, letters_ in grouped(spans, Span.look):
+    for look, column, letters_ in grouped(spans, look_of):
         parts.append(text_of(look, column, letters_))
     for found in MARKED.finditer(row):
         name, (begin, end) = "hit" if found[0][0] == HIT else "old", found.span()
@@ -239,9 +250,7 @@ def label_of(words: str) -> str:
 
 def words_of(rows: Rows, option: int) -> str:
     """The letters of a page, row by row, for people who hear them."""
-    table = drawn_letters(option, False)
-    lines = (" ".join(row.decode("latin-1").translate(table).split())
-             for row in rows if row != BLANK_ROW)
+    lines = (" ".join(drawn_letters(row, option).split()) for row in rows if row != BLANK_ROW)
     return " / ".join(line for line in lines if line) or "blank"
 
 

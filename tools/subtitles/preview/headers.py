@@ -27,9 +27,9 @@ class Found:
         places = [at for at in batch.may_be_headers() if data[at] in TELETEXT]
         self.coded, self.owners = batch.coded(places), batch.owners(places)
 
-    def of(self, coded: set[bytes]) -> list[int]:
-        """The PES packets with a header that is one of some."""
-        return sorted({owner for one, owner in zip(self.coded, self.owners) if one in coded})
+    def of(self, coded: set[bytes]) -> list[tuple[bytes, int]]:
+        """Those that are one of some, each with its PES packet."""
+        return [(one, owner) for one, owner in zip(self.coded, self.owners) if one in coded]
 
 
 class Headers:

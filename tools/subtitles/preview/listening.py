@@ -5,7 +5,7 @@ import array
 import bisect
 import itertools
 import operator
-from typing import Iterable, Iterator
+from typing import Iterable, Iterator, Sequence
 
 from ..batch import Batch
 from ..pes import UNIT
@@ -73,7 +73,7 @@ class Kinds:
 
     def learn(self, several: Iterable[bytes]) -> None:
         """Looks at those that are new."""
-        for coded in set(several) - self.known:
+        for coded in set(several).difference(self.known):
             self.known.add(coded)
             header = header_in(coded)
             if header and header[:2] == self.page:
@@ -91,7 +91,9 @@ class Sendings:
     def __init__(self, found: Found, kinds: Kinds) -> None:
         kinds.learn(found.coded)
         self.batch, self.found, self.kinds = found.batch, found, kinds
-        self.of_page, self.erasing = found.of(kinds.own), found.of(kinds.erasing)
+        own = found.of(kinds.own)
+        self.of_page = owners_of(own)
+        self.erasing = owners_of(one for one in own if one[0] in kinds.erasing)
         self.while_open: list[int] | None = None
 
     def heard(self, receiver: Receiver, begin: int, end: int) -> Iterator[int]:
@@ -110,8 +112,14 @@ class Sendings:
         """Those with a packet of the page's magazine, or a header that closes all pages."""
         if self.while_open is None:
             own = set(self.batch.owners(self.batch.of_magazine(self.kinds.page[0])))
-            self.while_open = sorted(own.union(self.found.of(self.kinds.closing)))
+            closing = owners_of(self.found.of(self.kinds.closing))
+            self.while_open = sorted(own.union(closing))
         return self.while_open
+
+
+def owners_of(headers: Iterable[tuple[bytes, int]]) -> list[int]:
+    """The PES packets of some headers, each once."""
+    return list(dict.fromkeys(owner for _, owner in headers))
 
 
 class Heard:
@@ -165,12 +173,14 @@ class Heard:
             self.before = frame
         self.count += len(frames)
 
-    def rising(self, frames: list[int]) -> list[int]:
+    def rising(self, frames: Sequence[int]) -> Sequence[int]:
         """The first of some frames, as long as each is after the one before."""
+        if isinstance(frames, range) and self.last < frames[0]:
+            return frames
         rises = list(map(operator.lt, [self.last, *frames], frames))
         return frames if all(rises) else frames[:rises.index(False)]
 
-    def hear(self, batch: Batch, frames: list[int], sendings: Sendings) -> None:
+    def hear(self, batch: Batch, frames: Sequence[int], sendings: Sendings) -> None:
         """Hears the first PES packets of a batch, whose frames rise."""
         for begin, end in self.stretches(frames, sendings.erasing):
             for number in sendings.heard(self.receiver, begin, end):
@@ -187,7 +197,7 @@ class Heard:
         at, self.last = len(frames) - 1, frames[-1]
         self.last_pes = self.passed.number(self.count + at), batch.packet(at)
 
-    def stretches(self, frames: list[int], erasing: list[int]) -> Iterator[tuple[int, int]]:
+    def stretches(self, frames: Sequence[int], erasing: list[int]) -> Iterator[tuple[int, int]]:
         """The PES packets of a batch that have to be heard, each time the first and the one after
         the last. What the page was before one that erases it nobody needs to know: those alone are
         heard after which a frame is asked for, and the last, with which the next batch goes on."""

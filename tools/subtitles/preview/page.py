@@ -5,7 +5,6 @@ import os
 from typing import TYPE_CHECKING
 
 from ..words import counted
-from .blocks import Blocks, block_place, printed, refused_blocks
 from .counts import heads, meaning_of_verdict, numbers_table
 from .manual import shown
 from .places import place_of_pts
@@ -80,10 +79,11 @@ def report_page(report: Report) -> str:
 
 def refused_file_parts(report: Report) -> list[str]:
     """What is said of a subtitle file that is refused."""
+    from . import blocks  # a subtitle file that is read needs nothing of it
     told = (verdict_of(line, 1) for line in report.faults.of_blocks)
-    blocks = Blocks(report.stl, told)
-    return [block_place(report, blocks), faults_head(report), refused_blocks(report, blocks),
-            printed(report)]
+    known = blocks.Blocks(report.stl, told)
+    return [blocks.block_place(report, known), faults_head(report),
+            blocks.refused_blocks(report, known), blocks.printed(report)]
 
 
 def transmission_parts(report: Report, looks: Looks) -> list[str]:
@@ -150,9 +150,9 @@ def navigation(report: Report) -> str:
 def foot(report: Report) -> str:
     """What the page is made from, by what, and when."""
     rows = "".join(
-        f'<tr><th scope="row">{one.kind}</th><td class="long">{shown(one.name)}</td>'
+        f'<tr><th scope="row">{kind}</th><td class="long">{shown(one.name)}</td>'
         f'<td>{one.size:,} bytes</td><td class="long"><code>{one.sha256}</code></td></tr>'
-        for one in report.files)
+        for kind, one in report.files)
     proved = report.made_with.proved
     made = [("Date", report.date), ("Version", report.made_with.version),
             ("Options", f"<code>{shown(report.asked.options())}</code>"),

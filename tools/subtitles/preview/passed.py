@@ -5,13 +5,15 @@ import array
 import bisect
 import contextlib
 import os
-from typing import Collection, Iterable, Iterator
+from typing import Collection, Iterable, Iterator, Sequence
 
 from ..batch import Batch, of_packets
 from ..files import Damaged, Input
 from ..pes import pes_runs, pts_or_none
 from ..times import NO_FRAME, frame_at
 from .faults import Spans
+
+Run = tuple[bytes, Sequence[int]]  # of PES packets: their bytes, and where each begins
 
 
 class Passed:
@@ -80,21 +82,20 @@ def frame_in(pes: bytes, origin: int) -> int:
 
 def packets_at(path: str, numbers: Iterable[int]) -> Iterator[bytes]:
     """The PES packets of a file with some numbers, which rise; no bytes where there is none."""
-    first, data, begins = 0, b"", [0]
+    first = 0
+    run: Run | None = b"", range(1)
     with Input(path) as file:
         runs = readable(pes_runs(file))
         for number in numbers:
-            while number - first >= len(begins) - 1:
+            while run and number - first >= len(run[1]) - 1:
+                first += len(run[1]) - 1
                 run = next(runs, None)
-                if run is None:
-                    break
-                first += len(begins) - 1
-                data, begins = run
+            data, begins = run or (b"", range(1))
             at = number - first
             yield data[begins[at]:begins[at + 1]] if 0 <= at < len(begins) - 1 else b""
 
 
-def readable(runs: Iterator[tuple[bytes, list[int]]]) -> Iterator[tuple[bytes, list[int]]]:
-    """The PES packets of a file as far as it can be read."""
+def readable(runs: Iterator[Run]) -> Iterator[Run]:
+    """The PES packets of a file, up to where it can't be read on."""
     with contextlib.suppress(Damaged):
         yield from runs

@@ -2,8 +2,6 @@
 from __future__ import annotations
 
 import contextlib
-import dataclasses
-import hashlib
 import os
 import re
 import subprocess
@@ -31,17 +29,13 @@ class NoReport(Stop):
     """No report can be made; its text is the line for standard error."""
 
 
-@dataclasses.dataclass(frozen=True)
 class Subtitle:
     """A subtitle: its place in the file from 1, its SN, the frames of its TCI and TCO."""
 
-    index: int
-    number: str
-    first: int
-    end: int
-    row: int
-    justify: int
-    text: bytes
+    def __init__(self, index: int, number: str, first: int, end: int, row: int, justify: int,
+                 text: bytes) -> None:
+        self.index, self.number, self.first, self.end = index, number, first, end
+        self.row, self.justify, self.text = row, justify, text
 
 
 class Verdict(NamedTuple):
@@ -222,16 +216,3 @@ def answered(command: str, verdict: Verdict) -> Verdict:
     if verdict.status == 2 or not verdict.line:
         raise NoReport(f"{command} was not answered: {verdict.line or 'it printed nothing'}")
     return verdict
-
-
-def digest_of(path: str) -> tuple[str, int]:
-    """The SHA-256 and the size of a file."""
-    digest, size = hashlib.sha256(), 0
-    try:
-        with open(path, "rb") as file:
-            while chunk := file.read(1 << 20):
-                digest.update(chunk)
-                size += len(chunk)
-    except OSError as error:
-        raise NoReport(f"{path} can't be read: {error.strerror}") from None
-    return digest.hexdigest(), size

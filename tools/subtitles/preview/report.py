@@ -5,11 +5,11 @@ import os
 import shlex
 import tempfile
 import time
-from concurrent.futures import ThreadPoolExecutor
-from typing import Iterator, NamedTuple
+from typing import NamedTuple
 
 from ..built import behind_script
-from ..qc.made_with import Program as MadeWith, program_at
+from ..qc.made_with import program_at
+from ..qc.sums import File, Files
 from ..teletext import Page, page_name
 from ..times import NO_FRAME, time_of
 from ..words import counted
@@ -22,7 +22,7 @@ from .listening import Changes, Heard
 from .manual import meanings
 from .counts import place_words
 from .passed import Passed
-from .program import NoReport, Program, Subtitle, Verdict, digest_of
+from .program import NoReport, Program, Subtitle, Verdict
 from .receiver import Rows
 from .subtitles import Entries
 from .timeline import Timeline
@@ -59,15 +59,6 @@ class Asked(NamedTuple):
                                       map(time_of, self.window))])
 
 
-class File(NamedTuple):
-    """A file of the report: what it is, its name as it was typed, its size, its SHA-256."""
-
-    kind: str
-    name: str
-    size: int
-    sha256: str
-
-
 class Report:
     """A verdict, the faults, and what there is to see of them.
 
@@ -76,16 +67,19 @@ class Report:
 
     def __init__(self, asked: Asked) -> None:
         self.asked, self.stl, self.pes = asked, asked.stl, asked.pes
-        program = Program(asked.program, asked.program_path, page_name(*asked.page),
+        path = behind_script(asked.program_path)  # the script looks for it at each call
+        program = Program(asked.program, path, page_name(*asked.page),
                           str(asked.every), str(asked.origin), asked.option, asked.is_complete)
         self.page, self.origin = page_name(*asked.page), asked.origin
         self.command_line = shlex.join(["tools/preview", *asked.words])
         self.date = time.strftime("%Y-%m-%d %H:%M:%S UTC", time.gmtime())
-        self.made_with = program_at(asked.program_path)
-        with ThreadPoolExecutor(1) as pool:  # sums are made while the files are read
-            files = pool.submit(lambda: list(files_of(asked, self.made_with)))
-            self.read(program)
-            self.files = files.result()
+        self.made_with = program_at(path)
+        summed = Files([name for name in (asked.stl, asked.pes) if name is not None])
+        self.read(program)
+        # Each with what it is; those that come with the pair are summed up while they are read.
+        kinds = ["STL", "PES"] if asked.pes else ["STL"]
+        own = File(asked.program, os.path.getsize(path), self.made_with.sha256)
+        self.files = list(zip([*kinds, "Program"], [*summed.all(), own]))
         self.looks = None if self.is_refused_file else Looks(self, program)
 
     def read(self, program: Program) -> None:
@@ -143,16 +137,6 @@ class Looks:
         self.fault_list = FaultList(report, self, program)
         self.timeline = Timeline(report.subtitles, held.sendings, self.entries, faults, broken,
                                  report.verdict.line, end_of_knowledge(held, report.subtitles))
-
-
-def files_of(asked: Asked, made_with: MadeWith) -> Iterator[File]:
-    """The files that were read, and the program."""
-    for kind, name in (("STL", asked.stl), ("PES", asked.pes)):
-        if name is not None:
-            sha256, size = digest_of(name)
-            yield File(kind, name, size, sha256)
-    size = os.path.getsize(behind_script(asked.program_path))
-    yield File("Program", asked.program, size, made_with.sha256)
 
 
 def pages_of_content(faults: Faults, held: Heard, figures: Figures) -> dict[int, tuple[Rows, Rows]]:

@@ -206,9 +206,9 @@ class Strip:
         close = self.timeline.close
         runs: list[list[float]] = []
         for begin, end in self.timeline.sendings.between(self.begin, self.end):
-            left, right = self.x(begin), self.x(min(end, self.end - 1))
-            is_alone = self.x(begin + 1) - left >= close
-            if begin < end and is_alone:
+            left = self.x(begin)
+            right = self.x(min(end, self.end - 1)) if begin < end else left
+            if begin < end and self.x(begin + 1) - left >= close:
                 runs += [[self.x(frame)] * 2 for frame in range(max(begin, self.begin),
                                                                min(end + 1, self.end))]
             elif runs and left - runs[-1][1] < close:

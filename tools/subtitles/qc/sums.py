@@ -5,10 +5,10 @@ import hashlib
 import os
 import queue
 import threading
-from typing import NamedTuple
+from typing import Iterable, NamedTuple
 
 PIECES = 4  # that wait to be summed up
-ROOM = 1 << 20
+ROOM = 1 << 18  # bytes that are read at once, into the same room
 
 
 class File(NamedTuple):
@@ -17,6 +17,29 @@ class File(NamedTuple):
     name: str
     size: int
     sha256: str
+
+
+class Files:
+    """The files of some names, summed up beside what else is done."""
+
+    def __init__(self, names: Iterable[str]) -> None:
+        self.names, self.found = names, list[File]()
+        self.reason: OSError | None = None
+        self.thread = threading.Thread(target=self.work, daemon=True)
+        self.thread.start()
+
+    def work(self) -> None:
+        try:
+            self.found += [file_of(name, name) for name in self.names]
+        except OSError as reason:
+            self.reason = reason
+
+    def all(self) -> list[File]:
+        """All of them, once they are summed up."""
+        self.thread.join()
+        if self.reason:
+            raise self.reason
+        return self.found
 
 
 class Summing:
@@ -47,8 +70,8 @@ class Summing:
 
 def file_of(path: str, name: str) -> File:
     """A file that is read for its sum alone."""
-    digest = hashlib.sha256()
-    with open(path, "rb") as file:
-        while data := file.read(ROOM):
-            digest.update(data)
+    digest, room = hashlib.sha256(), memoryview(bytearray(ROOM))
+    with open(path, "rb", buffering=0) as file:
+        while count := file.readinto(room):
+            digest.update(room[:count])
         return File(name, os.fstat(file.fileno()).st_size, digest.hexdigest())
