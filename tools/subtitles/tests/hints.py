@@ -1,4 +1,4 @@
-"""The type hints of tools/, by mypy --strict."""
+"""The type hints of tools/ and bench/, by mypy --strict."""
 from __future__ import annotations
 
 import os
@@ -8,7 +8,7 @@ import subprocess
 from ..built import TOP
 from .bench import SECONDS, Case
 
-TOOLS = os.path.join(TOP, "tools")
+TOOLS, BENCH = os.path.join(TOP, "tools"), os.path.join(TOP, "bench")
 
 
 def is_python(path: str) -> bool:
@@ -33,7 +33,8 @@ def modules(folder: str) -> list[str]:
 
 def scripts() -> list[str]:
     """The scripts in Python."""
-    paths = (os.path.join(TOOLS, name) for name in sorted(os.listdir(TOOLS)))
+    paths = (os.path.join(folder, name) for folder in (TOOLS, BENCH)
+             for name in sorted(os.listdir(folder)))
     return list(filter(is_python, paths))
 
 
