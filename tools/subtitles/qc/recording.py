@@ -108,7 +108,7 @@ class Recording:
                     self.show(source, feed)
         except NoTeletext as reason:
             raise Unclear(said(f"{self.name}: {reason}", carriers),
-                          self.again("--pid", "PID")) from None
+                          *self.other_pids(carriers)) from None
         carriers.close()
         self.carrier = carrier = self.chosen(carriers)
         if not feed.live:
@@ -141,7 +141,7 @@ class Recording:
             if carrier.count:
                 return carrier
             raise Unclear(said(f"{self.name} has no PES packets of {pid_name(carrier.pid)}",
-                               carriers), self.again("--pid", "PID"))
+                               carriers), *self.other_pids(carriers))
         found = carriers.with_page()
         if len(found) == 1:
             return found[0]
@@ -150,6 +150,14 @@ class Recording:
                           *([self.again("--page", "P")] if carriers.by_pid else []))
         raise Unclear(said(f"page {page} is sent on {len(found)} PIDs of {self.name}", carriers),
                       *(self.again("--pid", f"0x{carrier.pid:X}") for carrier in found))
+
+    def other_pids(self, carriers: Carriers) -> list[str]:
+        """What to type in the place of a PID that is wrong: those that send the page, as far as
+        they were heard."""
+        streams = carriers.listing.streams
+        known = [f"0x{pid:X}" for pid in sorted(streams)
+                 if self.asked.page_name in streams[pid].pages()]
+        return [self.again("--pid", word) for word in known or ["PID"] * bool(streams)]
 
     def again(self, *more: str) -> str:
         return again(self.asked, self.typed, *more)

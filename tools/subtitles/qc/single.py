@@ -10,8 +10,9 @@ import tempfile
 import time
 from typing import Iterator
 
+from ..extracting import TOLD
 from ..files import OWN_OUTPUT, as_file, refuse_name, whole_file
-from ..words import Stop, line_of
+from ..words import Stop, counted, line_of
 from . import junit, machine, table
 from .asked import Asked, asked_of
 from .faults import faults_of
@@ -63,8 +64,10 @@ def end(verdict: Verdict, speech: Speech) -> None:
     """Says the verdict, after what was lost and what is not clear."""
     for line in verdict.lines():
         speech.say(line)
-    for gap in verdict.gaps:
+    for gap in verdict.gaps[:TOLD]:
         speech.tell(gap.line() + ("" if gap.is_judged else ", outside of what is judged"))
+    if len(verdict.gaps) > TOLD:
+        speech.tell(f"and at {counted(len(verdict.gaps) - TOLD, 'more place')}")
     if verdict.is_lost and not verdict.asked.is_loss_allowed:
         speech.tell("nobody saw what was sent there; --allow-lost accepts the recording "
                     "without it")

@@ -6,7 +6,7 @@ import shlex
 import shutil
 import sys
 
-from ..built import TOP
+from ..built import TOP, behind_script
 from ..words import INSTALLED, Stop
 
 
@@ -24,9 +24,10 @@ class Typed:
         self.folder = folder
         self.program_word = program or self.beside()
         self.program_words = ["-p", program] if program else []
-        self.program_path = os.path.abspath(program or os.path.join(TOP, "subttx"))
-        if os.path.isdir(self.program_path) or not os.access(self.program_path, os.X_OK):
+        path = os.path.abspath(program or os.path.join(TOP, "subttx"))
+        if os.path.isdir(path) or not os.access(path, os.X_OK):
             raise Stop(f"{self.program_word} is no program")
+        self.program_path = behind_script(path)  # the script looks for it at each call
 
     def beside(self) -> str:
         """The program as it is typed where it stands by the tools."""
