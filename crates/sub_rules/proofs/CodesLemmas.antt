@@ -23,8 +23,7 @@ upper_odd code l =
 
 -- A byte below 128 and the one 128 above it are not both odd. For `odd_same`.
 one_odd : (b c : ℕ) → b < 128 → c ≡ b + 128 → is_odd b ≡ true → is_odd c ≡ true → ⊥
-one_odd b c l s ob oc =
-    true≢false (sym (subst (λ x. is_odd x ≡ true) s oc) ∙ upper_odd b l ∙ ap not ob)
+one_odd b c l s ob oc = grind (arith, nat_tests, true≢false, upper_odd)
 
 -- Odd bytes with one code are equal. For `same_packet`.
 odd_same :

@@ -95,12 +95,9 @@ pub first_header-append :
     (xs ys : List (List ℕ))
     → first_header (xs ++ ys) ≡ option_or (first_header xs) (first_header ys)
 first_header-append [] ys = refl
-first_header-append (x ∷ xs) ys =
-    ap (λ o. option_or (header x) o) (first_header-append xs ys)
-    ∙ or_assoc (header x) (first_header xs) (first_header ys)
+first_header-append (x ∷ xs) ys = grind (arith, nat_tests, or_assoc, first_header-append xs ys)
 
 -- The first header of a list that goes on by one packet.
 pub first_header-push : (xs : List (List ℕ)) (x : List ℕ)
     → first_header (xs ++ x ∷ []) ≡ option_or (first_header xs) (header x)
-first_header-push xs x =
-    first_header-append xs (x ∷ []) ∙ ap (option_or (first_header xs)) (or-none (header x))
+first_header-push xs x = grind (arith, nat_tests, first_header-append, or-none)

@@ -118,8 +118,7 @@ pub reads_ended :
     → given ≤ most_packets
     → EndsReading origin given bytes u
     → ReadsAs origin given bytes [] u
-reads_ended origin given bytes u few ends =
-    file_at-next origin given bytes few ∙ ended origin given bytes u _ ends
+reads_ended origin given bytes u few ends = grind (arith, nat_tests, file_at-next, ended)
 
 -- A PES packet is read only after fewer than the most.
 pub reads-below :
@@ -140,11 +139,7 @@ begins :
     ≡ file_with (Some frame) (packets_of_units v.units)
     (file_at origin (given + 1) (rest_after bytes))
 begins origin given bytes v frame few is in_day pts =
-    let rest = file_at origin (given + 1) (rest_after bytes) in
-    file_at-next origin given bytes few
-    ∙ ap (λ (r : Result (Option PesValue) PesFault). file_by origin r rest) is
-    ∙ ap (λ (o : Option ℕ). file_with o (packets_of_units v.units) rest)
-    (frame_found origin v.pts frame in_day pts)
+    grind (arith, nat_tests, file_at-next, frame_found)
 
 -- A PES packet that is sent as a frame comes before the others.
 pub reads_more :

@@ -14,7 +14,7 @@ use Rattle.sub_rules.specs.PieceEvents.{LawOfFirstTold, PassedRun, all_announced
 use Rattle.sub_rules.specs.PieceEvents.{announced, at_pes, closing_of_pieces, ended_run}
 use Rattle.sub_rules.specs.PieceEvents.{fault_at_pes, joins, last_of_run, no_run}
 use Rattle.sub_rules.specs.PieceEvents.{passed_after, passed_after_all, run_after_each, run_at}
-use Rattle.sub_rules.specs.PieceEvents.{told_of_each, told_of_frame, told_of_passed}
+use Rattle.sub_rules.specs.PieceEvents.{told_of_each, told_of_frame}
 use Rattle.sub_rules.specs.PieceEvents.{told_of_pieces, until_passed}
 use Rattle.sub_rules.specs.Pieces.{Piece, frames_of, read_until_passed}
 use Rattle.sub_rules.specs.Pieces.Piece.{Passed, Sent}
@@ -66,12 +66,8 @@ with_run_first : (last : ℕ) (run : Option ℕ) (es : List Event)
 unfolding with_run
 with_run_first last run [] = refl
 with_run_first last run (e ∷ es) =
-    first_of_two (trusted_before run (doubted last e)) _
-    ∙ ap (λ (o : Option CheckFault). or_else o (first_told (e ∷ with_run last
-    (kept run (doubted last e)) es))) (trusted_first run (doubted last e))
-    ∙ first_of_two (e ∷ []) (with_run last (kept run (doubted last e)) es)
-    ∙ ap (or_else (first_told (e ∷ []))) (with_run_first last (kept run (doubted last e)) es)
-    ∙ sym (first_of_two (e ∷ []) es)
+    let rest = with_run_first last (kept run (doubted last e)) es in
+    grind (arith, nat_tests, first_of_two, trusted_first)
 
 -- Nor does up to which piece a run goes, where none was passed over before.
 announced_first : (es : List Event) → first_told (all_announced no_run es) ≡ first_told es
@@ -136,9 +132,7 @@ closing_first : (g : Task) (frames : Transmission) (n : ℕ) (u : Unread)
     → first_told (closing_events g frames n) ≡ Some (unread_fault n (Some u))
 unfolding closing_events
 closing_first g frames zero u all is = rw is refl
-closing_first g frames (suc n) u all is =
-    first_of_two (endings _ _) (rest_events g frames g.unread)
-    ∙ rw (endings_first _ _, is) (ap (λ (k : ℕ). Some (unread_fault k (Some u))) all)
+closing_first g frames (suc n) u all is = grind (arith, nat_tests, first_of_two, endings_first)
 
 -- What is told of frames, the first of them frame i of the list.
 told_plain : Task → Transmission → ℕ → Transmission → List Event
@@ -149,9 +143,7 @@ plain_all : (g : Task) (frames : Transmission) (i n : ℕ) (others : Transmissio
     → i + length others ≡ n
     → events_of_first g frames n ≡ events_of_first g frames i ++ told_plain g frames i others
 unfolding told_plain events_of_first
-plain_all g frames i n [] e =
-    ap (events_of_first g frames) (let is : n ≡ i = omega arith in is)
-    ∙ sym (append-nil (events_of_first g frames i))
+plain_all g frames i n [] e = grind (arith, nat_tests, append-nil)
 plain_all g frames i n (s ∷ others) e =
     plain_all g frames (suc i) n others (omega arith)
     ∙ append_assoc (events_of_first g frames i) (frame_events g frames i)
@@ -174,13 +166,7 @@ unfolding told_of_each frames_of read_until_passed told_plain
 walk g done all first n run [] u after size all_is first_is u_is closing =
     closing refl ∙ rw (all_is, first_is, u_is) refl
 walk g done all first n run (Passed v ∷ pieces) u after size all_is first_is u_is closing =
-    let none : length first ≡ n = ap length (first_is ∙ append-nil done) ∙ size in
-    ap (λ (o : Option CheckFault). or_else o after)
-    (first_of_two (told_of_passed all n n run v) _
-    ∙ ap (λ (o : Option CheckFault). or_else o (first_told (told_of_each g all (suc n) n None
-    pieces))) (with_run_first _ run (Told (unread_fault n (Some v)) ∷ [])))
-    ∙ sym (closing_first (record g { unread = u }) first n v none u_is)
-    ∙ ap (λ (k : ℕ). first_told (closing_events (record g { unread = u }) first k)) (sym none)
+    grind (arith, nat_tests, append-nil, first_of_two, with_run_first, closing_first)
 walk g done all first n run (Sent s ∷ pieces) u after size all_is first_is u_is closing =
     let next = done ++ s ∷ [] in
     let stop = read_until_passed pieces g.unread in
@@ -265,8 +251,7 @@ pub all_announced-append : (run : PassedRun) (xs ys : List Event)
 unfolding all_announced passed_after_all
 all_announced-append run [] ys = refl
 all_announced-append run (x ∷ xs) ys =
-    ap (λ (l : List Event). announced run x ++ l) (all_announced-append (passed_after run x) xs ys)
-    ∙ sym (append_assoc (announced run x) (all_announced (passed_after run x) xs) _)
+    grind (arith, nat_tests, append_assoc, all_announced-append (passed_after run x) xs ys)
 
 -- ---- pieces, and then more of them
 
@@ -300,18 +285,15 @@ pub told_of_each-append : (g : Task) (frames : Transmission) (pes n i k : ℕ) (
     ≡ told_of_each g frames pes i run xs
     ++ told_of_each g frames n k (run_after_each g frames i run xs) ys
 unfolding told_of_each run_after_each frames_of
-told_of_each-append g frames pes n i k run [] ys d e =
-    ap (λ (m : ℕ). told_of_each g frames m i run ys) (let is : pes ≡ n = omega arith in is)
-    ∙ ap (λ (m : ℕ). told_of_each g frames n m run ys) (let is : i ≡ k = omega arith in is)
+told_of_each-append g frames pes n i k run [] ys d e = grind (arith, nat_tests)
 told_of_each-append g frames pes n i k run (Sent s ∷ xs) ys d e =
-    ap (λ (es : List Event). map (at_pes pes) (told_of_frame g frames i run) ++ es)
-    (told_of_each-append g frames (suc pes) n (suc i) k (run_at g frames i run) xs ys (omega arith)
-    (omega arith))
-    ∙ sym (append_assoc (map (at_pes pes) (told_of_frame g frames i run)) _ _)
+    let rest =
+    told_of_each-append g frames (suc pes) n (suc i) k (run_at g frames i run) xs ys (omega arith)
+    (omega arith) in
+    grind (arith, nat_tests, append_assoc)
 told_of_each-append g frames pes n i k run (Passed u ∷ xs) ys d e =
-    ap (λ (es : List Event). told_of_passed frames pes i run u ++ es)
-    (told_of_each-append g frames (suc pes) n i k None xs ys (omega arith) e)
-    ∙ sym (append_assoc (told_of_passed frames pes i run u) _ _)
+    let rest = told_of_each-append g frames (suc pes) n i k None xs ys (omega arith) e in
+    grind (arith, nat_tests, append_assoc)
 
 -- ---- where nothing is told
 
@@ -348,17 +330,4 @@ pub passed_at : (pes last : ℕ) (run : Option ℕ) (u : Option Unread)
     → map (at_pes pes) (with_run last run (Told (unread_fault pes u) ∷ []))
     ≡ with_run last run (Told (unread_fault pes u) ∷ [])
 unfolding with_run at_pes
-passed_at pes last run u =
-    map-append (at_pes pes) (trusted_before run (doubted last (Told (unread_fault pes u)))) _
-    ∙ ap (λ (es : List Event). es ++ map (at_pes pes) (Told (unread_fault pes u) ∷ []))
-    (before_at (doubted last (Told (unread_fault pes u))))
-    ∙ ap (λ (es : List Event). trusted_before run (doubted last (Told (unread_fault pes u))) ++ es)
-    (own u)
-  where
-    before_at : (d : Option ℕ) → map (at_pes pes) (trusted_before run d) ≡ trusted_before run d
-    before_at None = refl
-    before_at (Some f) = trusted_at pes run f
-
-    own : (u : Option Unread)
-        → map (at_pes pes) (Told (unread_fault pes u) ∷ []) ≡ Told (unread_fault pes u) ∷ []
-    own u = grind (arith, nat_tests)
+passed_at pes last run u = grind (arith, nat_tests, map-append, trusted_at)

@@ -4,7 +4,7 @@ use Rattle.std.proofs.lemmas.Bool.Decides.{nat_tests}
 use Rattle.std.proofs.Common.{◌≡◌, ◌≢◌, ℕ, zero, suc, ◌+◌, ◌<◌, ◌≤◌, Bool, true, false, List, []}
 use Rattle.std.proofs.Common.{◌∷◌, Option, Some, None, Result, Ok, Err, refl, sym, ap, ◌∙◌, arith}
 use Rattle.std.proofs.Common.{cond}
-use Rattle.std.proofs.Common.{◌++◌, length, length-append}
+use Rattle.std.proofs.Common.{◌++◌, length-append}
 use Rattle.std.proofs.KnownBytes.{Consumes-nil, Consumes-trans}
 use Rattle.std.proofs.lemmas.List.{append-nil}
 use Rattle.std.proofs.lemmas.List.Folds.{concat-append}
@@ -93,9 +93,7 @@ pub reads_sent : (origin n : ℕ) (bytes : List ℕ) (pieces : List Piece) (unre
     (Sent (record { frame = frame; packets = packets_of_units v.units }))
 unfolding piece_of
 reads_sent origin n bytes pieces unread v frame few reads is of =
-    reads_piece origin n bytes pieces unread _ (Ok (Some v)) few reads is (λ rest.
-    ap (λ (f : Option ℕ). before (piece_with f (packets_of_units v.units)) rest)
-    (frame_found origin v.pts frame of.in_day of.is))
+    grind (arith, nat_tests, reads_piece, frame_found)
 
 -- One with none is passed over.
 pub reads_off : (origin n : ℕ) (bytes : List ℕ) (pieces : List Piece) (unread : Option Unread)
@@ -107,9 +105,7 @@ pub reads_off : (origin n : ℕ) (bytes : List ℕ) (pieces : List Piece) (unrea
     → ReadsPiece origin n bytes pieces unread (Passed NoFrame)
 unfolding piece_of
 reads_off origin n bytes pieces unread v few reads is none =
-    reads_piece origin n bytes pieces unread _ (Ok (Some v)) few reads is (λ rest.
-    ap (λ (f : Option ℕ). before (piece_with f (packets_of_units v.units)) rest)
-    (no_frame_found origin v.pts none))
+    grind (arith, nat_tests, reads_piece, no_frame_found)
 
 -- A piece that is no PES packet is passed over.
 pub reads_bad : (origin n : ℕ) (bytes : List ℕ) (pieces : List Piece) (unread : Option Unread)
@@ -120,8 +116,7 @@ pub reads_bad : (origin n : ℕ) (bytes : List ℕ) (pieces : List Piece) (unrea
     → is_of_piece f ≡ true
     → ReadsPiece origin n bytes pieces unread (Passed (BadPacket f))
 unfolding piece_of
-reads_bad origin n bytes pieces unread f few reads is kind =
-    reads_piece origin n bytes pieces unread _ (Err f) few reads is (λ rest. rw kind refl)
+reads_bad origin n bytes pieces unread f few reads is kind = grind (arith, nat_tests, reads_piece)
 
 -- Where no piece is left, the list is at its end.
 pub pieces_end : (origin n : ℕ) (bytes : List ℕ) (pieces : List Piece) (unread : Option Unread)
@@ -193,15 +188,7 @@ until_step : (origin given : ℕ) (bytes : List ℕ) (r : Result (Option PesValu
     ≡ read_until_passed (pieces_at origin given bytes).pieces
     (pieces_at origin given bytes).unread
 until_step origin given bytes r rest few is same rest_is =
-    let more = pieces_at origin (given + 1) (behind_piece bytes) in
-    file_at-next origin given bytes few
-    ∙ ap (λ (x : Result (Option PesValue) PesFault). file_by origin x
-    (file_at origin (given + 1) (rest_after bytes))) is
-    ∙ ap (file_by origin r) (sym rest_is)
-    ∙ same
-    ∙ until_by origin r more
-    ∙ ap (λ (f : PieceFileValue). read_until_passed f.pieces f.unread)
-    (sym (pieces_at-next origin given bytes r few is))
+    grind (arith, nat_tests, file_at-next, file_by, until_by, pieces_at-next)
 
 -- A file is read up to the first piece that is passed over, by what is read after a PES packet.
 until_one : (origin given : ℕ) (bytes : List ℕ)
@@ -214,20 +201,7 @@ until_one : (origin given : ℕ) (bytes : List ℕ)
     → file_at origin given bytes
     ≡ read_until_passed (pieces_at origin given bytes).pieces
     (pieces_at origin given bytes).unread
-until_one origin given bytes few sent = by (answer_at given bytes) refl
-  where
-    next : PesFileValue
-    next = file_at origin (given + 1) (rest_after bytes)
-
-    by : (r : Result (Option PesValue) PesFault) → answer_at given bytes ≡ r
-        → file_at origin given bytes
-        ≡ read_until_passed (pieces_at origin given bytes).pieces
-        (pieces_at origin given bytes).unread
-    by (Ok (Some v)) is =
-        until_step origin given bytes (Ok (Some v)) next few is
-        (ap (file_by origin (Ok (Some v))) (sent v is)) refl
-    by (Ok None) is = until_step origin given bytes (Ok None) next few is refl refl
-    by (Err f) is = until_step origin given bytes (Err f) next few is refl refl
+until_one origin given bytes few sent = grind (arith, nat_tests, until_step, file_by)
 
 -- What is read up to the first piece that is passed over is what is read where reading stops
 -- there.
@@ -259,13 +233,7 @@ packet_is_piece v b h =
     let parts = packet_of_body v b h in
     let size = h.size.0 in
     let c = body_complete v b h in
-    record {
-      n = h.n;
-      body = body;
-      bytes = parts;
-      size = h.size;
-      long = ap length parts ∙ omega (arith, length-append (six_of h.n) body, c.1);
-    }
+    grind (arith, nat_tests, length-append, six_of)
 
 -- The PES packet that was taken, as a piece.
 pub packet_taken : (old new : Option (List ℕ)) (v : PesValue) (field : List ℕ)

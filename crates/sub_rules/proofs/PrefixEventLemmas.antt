@@ -1,7 +1,8 @@
 -- What is told of a frame is told by the frames up to it alone: `frame_events-prefix`,
 -- `events_of_first-prefix`.
-use Rattle.std.proofs.Common.{◌≡◌, ℕ, zero, suc, ◌+◌, ◌-◌, ◌<◌, ◌≤◌, List, [], ◌++◌}
-use Rattle.std.proofs.Common.{length, map, get_or, Option, refl, ap, ◌∙◌, arith}
+use Rattle.std.proofs.lemmas.Bool.Decides.{nat_tests}
+use Rattle.std.proofs.Common.{◌≡◌, ℕ, zero, suc, ◌-◌, ◌<◌, ◌≤◌, ◌++◌}
+use Rattle.std.proofs.Common.{length, get_or, Option, refl, arith}
 use Rattle.std.proofs.lemmas.List.{get_or_append_left, length-map, map-append}
 use lib.Seq.{take-append-le}
 use Rattle.sub_rules.specs.Events.{end_before, events_at_end}
@@ -9,8 +10,7 @@ use Rattle.sub_rules.specs.Events.{first_header_events, frame_events, gap_events
 use Rattle.sub_rules.specs.Events.{is_gap, is_incomplete, latest, order_events}
 use Rattle.sub_rules.specs.Events.{standing_at, standing_before}
 use Rattle.sub_rules.specs.FrameRules.{Task, Unread, frame_at, packets_of_frame}
-use Rattle.sub_rules.specs.Transmission.{SentFrame, Transmission}
-use Rattle.sub_rules.specs.declared.event.Event.{Event}
+use Rattle.sub_rules.specs.Transmission.{Transmission}
 
 -- Frames, more of them, and a task with another end of reading.
 module _ (g : Task) (u : Option Unread) (done more : Transmission) where
@@ -21,16 +21,10 @@ module _ (g : Task) (u : Option Unread) (done more : Transmission) where
   all = done ++ more
 
   at : (k : ℕ) → k < length done → frame_at all k ≡ frame_at done k
-  at k l =
-      ap (λ xs. get_or xs k 0) (map-append (λ (s : SentFrame). s.frame) done more)
-      ∙ get_or_append_left (map (λ (s : SentFrame). s.frame) done) _ 0 k
-      (omega (arith, length-map done (λ (s : SentFrame). s.frame)))
+  at k l = grind (arith, nat_tests, get_or, map-append, get_or_append_left, length-map)
 
   packets : (k : ℕ) → k < length done → packets_of_frame all k ≡ packets_of_frame done k
-  packets k l =
-      ap (λ xs. get_or xs k []) (map-append (λ (s : SentFrame). s.packets) done more)
-      ∙ get_or_append_left (map (λ (s : SentFrame). s.packets) done) _ [] k
-      (omega (arith, length-map done (λ (s : SentFrame). s.packets)))
+  packets k l = grind (arith, nat_tests, get_or, map-append, get_or_append_left, length-map)
 
   latest_same : (k : ℕ) → k ≤ length done → latest all k ≡ latest done k
   unfolding latest
@@ -55,20 +49,14 @@ module _ (g : Task) (u : Option Unread) (done more : Transmission) where
 
   end_same : (i n f : ℕ) → 0 < length done → i ≤ length done → n ≤ length done
       → events_at_end g all i n f ≡ events_at_end h done i n f
-  end_same i n f some l m =
-      rw (stood_same i f some l, before_same i f some l, standing_same n f some m) refl
+  end_same i n f some l m = grind (arith, nat_tests, stood_same, before_same, standing_same)
 
   gap_same : (i n : ℕ) → 0 < length done → i ≤ length done
       → gap_events g all i n ≡ gap_events h done i n
   unfolding gap_events
   gap_same i zero some l = refl
   gap_same i (suc n) some l =
-      ap (λ (es : List Event). es ++ events_at_end g all i i (latest all i + suc n))
-      (gap_same i n some l)
-      ∙ ap (λ (es : List Event). gap_events h done i n ++ es)
-      (end_same i i (latest all i + suc n) some l l)
-      ∙ ap (λ (k : ℕ). gap_events h done i n ++ events_at_end h done i i (k + suc n))
-      (latest_same i l)
+      grind (arith, nat_tests, end_same, latest_same, gap_same i n some l)
 
   length_same : (i : ℕ) → i < length done → gap_length all i ≡ gap_length done i
   unfolding gap_length

@@ -12,8 +12,8 @@ use Rattle.sub_rules.specs.Events.{packet_fault, rest_events, rules_told}
 use Rattle.sub_rules.specs.FrameRules.{Task, Unread}
 use Rattle.sub_rules.specs.PieceEvents.{at_pes}
 use Rattle.sub_rules.specs.Transmission.{Transmission}
-use Rattle.sub_rules.specs.Trusted.{all_events, all_events_of_first, all_frame_events, doubted}
-use Rattle.sub_rules.specs.Trusted.{frame_before, kept, last_trusted, run_after, run_over}
+use Rattle.sub_rules.specs.Trusted.{all_events, all_events_of_first, doubted}
+use Rattle.sub_rules.specs.Trusted.{kept, last_trusted, run_over}
 use Rattle.sub_rules.specs.Trusted.{trusted_before, with_run}
 use Rattle.sub_rules.specs.declared.event.Event.{Event}
 use Rattle.sub_rules.specs.declared.event.Event.TheVariants.{Ended, PassedUntil, Told, Trusted}
@@ -39,10 +39,7 @@ pub with_run-none : (last : ℕ) (es : List Event) → with_run last None es ≡
 unfolding with_run
 with_run-none last [] = refl
 with_run-none last (e ∷ es) =
-    ap (λ l. l ++ e ∷ with_run last (kept None (doubted last e)) es)
-    (trusted-none (doubted last e))
-    ∙ ap (λ run. e ∷ with_run last run es) (kept-none (doubted last e))
-    ∙ ap (λ l. e ∷ l) (with_run-none last es)
+    grind (arith, nat_tests, trusted-none, kept-none, with_run-none last es)
 
 -- One list after another.
 pub run_over-append : (last : ℕ) (run : Option ℕ) (xs ys : List Event)
@@ -193,12 +190,7 @@ module _ (g : Task) (frames : Transmission) where
   unfolding all_events_of_first events_of_first
   untrusted-first zero = refl
   untrusted-first (suc n) =
-      let more : List Event = all_frame_events g frames n in
-      untrusted-append (all_events_of_first g frames n) more
-      ∙ ap (λ l. l ++ untrusted more) (untrusted-first n)
-      ∙ ap (λ l. events_of_first g frames n ++ l)
-      (untrusted-run (frame_before frames n) (run_after g frames n) (frame_events g frames n)
-      ∙ (own_frame n).plain)
+      grind (arith, nat_tests, untrusted-append, untrusted-run, own_frame, untrusted-first n)
 
   -- All.
   pub untrusted-all : untrusted (all_events g frames) ≡ events g frames
