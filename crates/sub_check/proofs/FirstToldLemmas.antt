@@ -1,12 +1,11 @@
--- What a device was told that keeps the first fault of a rule decides the answer of `check`:
--- `nothing_kept`, `fault_kept`, `none_before`; and all events do, `first_decides`.
+-- A device that keeps the first fault of a rule keeps what is told first, `kept_is`; that is of a
+-- rule, `first_named`, and decides the answer of `check`, `first_decides`.
 use Rattle.std.proofs.lemmas.Bool.Decides.{nat_tests}
-use Rattle.std.proofs.Common.{◌≡◌, ℕ, zero, suc, ◌≤◌, List, [], ◌∷◌, length, take, Option, Some}
-use Rattle.std.proofs.Common.{None, is_some, Result, Ok, Err, refl, sym, ap, ◌∙◌, subst}
-use Rattle.std.proofs.Common.{arith, All, MatchResult, cond, false, true}
+use Rattle.std.proofs.Common.{◌≡◌, ℕ, ◌≤◌, List, [], ◌∷◌, length, Option, Some}
+use Rattle.std.proofs.Common.{None, Result, Err, refl, sym, ap, ◌∙◌, subst}
+use Rattle.std.proofs.Common.{arith, All, MatchResult, cond, true}
 use Rattle.std.specs.List.{AllByRecursion}
 use Rattle.std.proofs.lemmas.Bool.{true≢false}
-use Rattle.std.proofs.lemmas.List.{take_all}
 use Rattle.std.proofs.lemmas.List.Elements.{All-from_recursion}
 use Rattle.sub_io.specs.Telling.{TellsInTurn}
 use Rattle.ttx_packet.specs.PacketAddress.{IsPacket}
@@ -15,7 +14,6 @@ use Rattle.stl_rows.specs.Programme.{ProgrammeValue}
 use Rattle.sub_plan.specs.Options.{OptionsValue}
 use Rattle.sub_check.specs.CheckedFiles.{answer_by, first_answer}
 use Rattle.sub_check.specs.FirstTold.{IsRuleFault, KeepsFirstFault, is_of_rule}
-use Rattle.sub_checker.specs.Telling.{IsRead, TellsAll}
 use Rattle.sub_checker.specs.declared.telling.Accepted.{Accepted}
 use Rattle.sub_rules.specs.Events.{events, events_of_first, first_told, unread_fault}
 use Rattle.sub_rules.specs.Fault.{is_pes_read}
@@ -23,14 +21,11 @@ use Rattle.sub_rules.specs.FrameRules.{Task, Unread, task_of}
 use Rattle.sub_rules.specs.FrameRules.Unread.{BadPacket, NoFrame}
 use Rattle.sub_rules.specs.PesReading.{ReadsAs}
 use Rattle.sub_rules.specs.Transmission.{EachPacket, SentFrame, Transmission}
-use Rattle.sub_rules.specs.Trusted.{all_events, all_events_of_first}
 use Rattle.sub_rules.specs.WrongContent.{IsWrongEverywhere}
 use Rattle.sub_rules.specs.declared.event.Event.{Event}
 use Rattle.sub_rules.specs.declared.event.Event.TheVariants.{Ended, PassedUntil, Told, Trusted}
 use Rattle.sub_rules.specs.declared.fault.CheckFault.{CheckFault}
 use Rattle.sub_rules.specs.declared.fault.CheckFault.TheVariants as fault
-use Rattle.sub_rules.proofs.TrustedLemmas.{first_told-all, first_told-untrusted, untrusted}
-use Rattle.sub_rules.proofs.TrustedLemmas.{untrusted-all, untrusted-first}
 use Rattle.sub_laws.proofs.ContentLemmas.{wrong_everywhere}
 use Rattle.sub_laws.proofs.EventLemmas.{FirstOf, all_told, frames_told, is_plain}
 use Rattle.sub_laws.specs.BrokenPlaces.{WrongFirst}
@@ -62,6 +57,31 @@ pub no_read : (f : CheckFault) (pes : ℕ)
 no_read f pes own is =
     let same : f ≡ fault.Pes pes Read = cc in
     true≢false (sym (ap is_pes_read same) ∙ own.no_source)
+
+-- ---- what the device keeps
+
+-- Once it keeps one it is told no more.
+kept_last : (f : CheckFault) (new : Option CheckFault) (xs : List Event)
+    → TellsInTurn KeepsFirstFault (Some f) new xs → new ≡ Some f
+kept_last f new [] told = told
+kept_last f new (x ∷ xs) (mid, keeps, rest) = let none = keeps.0 in cc
+
+-- Of events it keeps the refusal that is told first, if that is of a rule.
+pub kept_is : (new : Option CheckFault) (xs : List Event)
+    → ((f : CheckFault) → first_told xs ≡ Some f → is_of_rule f ≡ true)
+    → TellsInTurn KeepsFirstFault None new xs
+    → first_told xs ≡ new
+kept_is new [] named told = sym told
+kept_is new (Told f ∷ xs) named (mid, keeps, rest) =
+    let kept : mid ≡ Some f =
+    keeps.1 ∙ ap (λ b. cond b (Some f) None) (named f refl) in
+    sym (kept_last f new xs (rw kept at rest))
+kept_is new (Trusted from to ∷ xs) named (mid, keeps, rest) =
+    kept_is new xs named (subst (λ m. TellsInTurn KeepsFirstFault m new xs) keeps.1 rest)
+kept_is new (Ended rule f ∷ xs) named (mid, keeps, rest) =
+    kept_is new xs named (subst (λ m. TellsInTurn KeepsFirstFault m new xs) keeps.1 rest)
+kept_is new (PassedUntil f ∷ xs) named (mid, keeps, rest) =
+    kept_is new xs named (subst (λ m. TellsInTurn KeepsFirstFault m new xs) keeps.1 rest)
 
 -- ---- what is told of a file that is read
 
@@ -108,12 +128,12 @@ module _ (programme : ProgrammeValue) (options : OptionsValue) (bytes : List ℕ
     all_named : FirstOf Named (AllOk g frames) (events g frames)
     all_named = all_told g frames Named plain of_unread of_wrong packets_whole
 
-    frames_named : (n : ℕ) → n ≤ length frames
+    pub frames_named : (n : ℕ) → n ≤ length frames
         → FirstOf Named (AreOk g frames n) (events_of_first g frames n)
     frames_named = frames_told g frames Named plain of_unread of_wrong packets_whole
 
     -- What is told first.
-    first_named : (f : CheckFault) → first_told (events g frames) ≡ Some f → Named f
+    pub first_named : (f : CheckFault) → first_told (events g frames) ≡ Some f → Named f
     first_named f e = go (events g frames) all_named e
       where
         go : (xs : List Event) → FirstOf Named (AllOk g frames) xs → first_told xs ≡ Some f
@@ -131,106 +151,13 @@ module _ (programme : ProgrammeValue) (options : OptionsValue) (bytes : List ℕ
     wrong_of_first frame row column e = (first_named _ e).1 frame row column refl
 
     -- Where no fault is told first, nothing is told.
-    none_told : {Holds : Type 0} (xs : List Event) → FirstOf Named Holds xs → first_told xs ≡ None
+    pub none_told : {Holds : Type 0} (xs : List Event)
+        → FirstOf Named Holds xs
+        → first_told xs ≡ None
         → xs ≡ []
     none_told [] told e = refl
     none_told (x ∷ xs) told e =
         let (first, is, named) = told.first x xs refl in let s = rw is at e in cc
-
-    -- ---- what the device keeps
-
-    -- Once it keeps one it is told no more.
-    kept_last : (f : CheckFault) (new : Option CheckFault) (xs : List Event)
-        → TellsInTurn KeepsFirstFault (Some f) new xs → new ≡ Some f
-    kept_last f new [] told = told
-    kept_last f new (x ∷ xs) (mid, keeps, rest) = let none = keeps.0 in cc
-
-    -- So of the first events it keeps the fault that is told first.
-    kept_is : {Holds : Type 0} (n : ℕ) (new : Option CheckFault) (xs : List Event)
-        → FirstOf Named Holds (untrusted xs) → TellsInTurn KeepsFirstFault None new (take n xs)
-        → first_told (take n xs) ≡ new
-    kept_is zero new xs told is = sym is
-    kept_is (suc n) new [] told is = sym is
-    kept_is (suc n) new (Trusted from to ∷ xs) told (mid, keeps, rest) =
-        kept_is n new xs told
-        (subst (λ m. TellsInTurn KeepsFirstFault m new (take n xs)) keeps.1 rest)
-    kept_is (suc n) new (Told f ∷ xs) told (mid, keeps, rest) =
-        let (first, e, named) = told.first (Told f) (untrusted xs) refl in
-        let same : f ≡ first = cc in
-        let kept : mid ≡ Some first =
-        rw same at keeps.1 ∙ ap (λ b. cond b (Some first) None) named.0 in
-        let last : new ≡ Some first = kept_last first new (take n xs) (rw kept at rest) in
-        ap (λ x. Some x) same ∙ sym last
-    kept_is (suc n) new (Ended rule f ∷ xs) told (mid, keeps, rest) =
-        let (first, e, named) = told.first (Ended rule f) (untrusted xs) refl in cc
-    kept_is (suc n) new (PassedUntil f ∷ xs) told (mid, keeps, rest) =
-        let (first, e, named) = told.first (PassedUntil f) (untrusted xs) refl in cc
-
-    first_taken : (n : ℕ) (xs : List Event) (f : CheckFault) → first_told (take n xs) ≡ Some f
-        → first_told xs ≡ Some f
-    first_taken zero xs f e = cc
-    first_taken (suc n) [] f e = cc
-    first_taken (suc n) (Told first ∷ xs) f e = e
-    first_taken (suc n) (Ended rule frame ∷ xs) f e = first_taken n xs f e
-    first_taken (suc n) (PassedUntil last ∷ xs) f e = first_taken n xs f e
-    first_taken (suc n) (Trusted from to ∷ xs) f e = first_taken n xs f e
-
-    -- The same of all events and of some, without what is trusted.
-    all_kept : FirstOf Named (AllOk g frames) (untrusted (all_events g frames))
-    all_kept = subst (FirstOf Named (AllOk g frames)) (sym (untrusted-all g frames)) all_named
-
-    first_all : first_told (events g frames) ≡ first_told (all_events g frames)
-    first_all = sym (first_told-all g frames)
-
-    -- It kept nothing: nothing was told.
-    pub nothing_kept : (none kept : Option CheckFault) (a : Accepted) → none ≡ None
-        → is_some kept ≡ false
-        → TellsAll g options.origin bytes frames KeepsFirstFault none kept (Ok (Some a))
-        → IsRead g options.origin bytes frames a × (events g frames ≡ [])
-    nothing_kept (Some x) kept a e quiet told = cc
-    nothing_kept None (Some x) a e quiet told = cc
-    nothing_kept None None a e quiet (told, read) =
-        let xs = all_events g frames in
-        let all = take_all (length xs) xs (omega arith) in (
-          read,
-          none_told (events g frames) all_named
-              (first_all ∙ ap first_told (sym all)
-              ∙ kept_is (length xs) None xs all_kept (rw all told.in_turn)),
-        )
-
-    -- It kept a fault: that was told first.
-    pub fault_kept : (none kept : Option CheckFault) (f : CheckFault) → none ≡ None
-        → kept ≡ Some f
-        → TellsAll g options.origin bytes frames KeepsFirstFault none kept (Ok None)
-        → first_told (events g frames) ≡ Some f
-    fault_kept (Some x) kept f e is told = cc
-    fault_kept None kept f e is (n, l, told) =
-        first_all
-        ∙ first_taken n (all_events g frames) f
-        (kept_is n kept (all_events g frames) all_kept told.in_turn ∙ is)
-
-    -- The source failed, and it had kept nothing.
-    pub none_before : (none kept : Option CheckFault) (f : CheckFault) (pes : ℕ) → none ≡ None
-        → is_some kept ≡ false
-        → TellsAll g options.origin bytes frames KeepsFirstFault none kept (Err f)
-        → f ≡ fault.Pes pes Read
-        → (pes ≤ length frames) × (events_of_first g frames pes ≡ [])
-    none_before (Some x) kept f pes e quiet told failed = cc
-    none_before None (Some x) f pes e quiet told failed = cc
-    none_before None None f pes e quiet (n, l, is, told) failed =
-        let same : fault.Pes n Read ≡ fault.Pes pes Read = sym is ∙ failed in
-        let at : n ≡ pes = cc in
-        let xs = all_events_of_first g frames n in
-        let all = take_all (length xs) xs (omega arith) in
-        let some = untrusted-first g frames n in
-        let first = frames_named n l in
-        subst (λ m. (m ≤ length frames) × (events_of_first g frames m ≡ [])) at (
-          l,
-          none_told (events_of_first g frames n) first
-              (ap first_told (sym some) ∙ first_told-untrusted xs ∙ ap first_told (sym all)
-              ∙ kept_is (length xs) None xs
-              (subst (FirstOf Named (AreOk g frames n)) (sym some) first) (rw all told.in_turn)),
-        )
 
     -- ---- the answer of `check` by all events
 

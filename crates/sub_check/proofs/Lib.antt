@@ -1,3 +1,4 @@
+pub mod FirstFaultLemmas
 pub mod FirstToldLemmas
 pub mod ReadOnLemmas
 pub mod VerdictLemmas

@@ -1,10 +1,10 @@
--- What the steps show of the whole file decides the answer of `check`, `checked_from`; and what is
--- told of both files that of `check_files`, `files_accepted`, `files_refused`.
+-- What is told of the whole file decides the answer of `check`, `checked_from`; and what is told of
+-- both files that of `check_files`, `files_accepted`, `files_refused`.
 use Rattle.std.proofs.lemmas.Bool.Decides.{nat_tests}
 use Rattle.std.proofs.lemmas.Slice.Zip.{AllZip-long}
-use Rattle.std.proofs.Common.{◌≡◌, ◌≢◌, ◌↔◌, ℕ, ◌≤◌, List, [], Bool, Option, Some, None, Result}
-use Rattle.std.proofs.Common.{Ok, Err, IsOk, IfOk, IsTrue, false, MatchResult, refl, sym, ap, ◌∙◌}
-use Rattle.std.proofs.Common.{subst, arith, length, append-nil}
+use Rattle.std.proofs.Common.{◌≡◌, ◌≢◌, ◌↔◌, ℕ, ◌≤◌, List, [], Bool, Option, Some, None}
+use Rattle.std.proofs.Common.{Result, Ok, Err, IsOk, IfOk, IsTrue, false, MatchResult}
+use Rattle.std.proofs.Common.{refl, sym, ap, ◌∙◌, subst, arith, length, append-nil}
 use Rattle.std.specs.List.{concat}
 use Rattle.std.specs.Prelude.{IfErr, IfSome}
 use Rattle.sub_io.specs.Device.{failed}
@@ -37,9 +37,11 @@ use Rattle.sub_rules.specs.Transmission.{Transmission}
 use Rattle.sub_checker.specs.declared.telling.Accepted.{Accepted}
 use Rattle.sub_rules.specs.declared.event.Event.{Event}
 use Rattle.sub_rules.specs.declared.fault.CheckFault.{CheckFault}
-use Rattle.sub_check.proofs.FirstToldLemmas.{first_decides, no_read, packets_whole}
+use Rattle.sub_check.proofs.FirstToldLemmas.{first_decides}
+use Rattle.sub_check.proofs.FirstToldLemmas.{no_read, packets_whole}
 use Rattle.sub_check.proofs.FirstToldLemmas.{wrong_of_first}
-use Rattle.sub_check.proofs.ReadOnLemmas.{first_of_pieces, read_whole}
+use Rattle.sub_check.proofs.ReadOnLemmas.{first_of_pieces}
+use Rattle.sub_check.proofs.ReadOnLemmas.{read_whole}
 use Rattle.sub_laws.proofs.EventLemmas.{law_of_nothing_told}
 use Rattle.sub_laws.proofs.GoodLemmas.{rises_each, whole-is}
 use Rattle.sub_laws.proofs.PrefixLemmas.{first-same, last-same}
@@ -209,11 +211,12 @@ module _ (programme : ProgrammeValue) (options : OptionsValue) (is : IsOptions o
       (bytes : List ℕ) (result : Result Accepted CheckFault)
       → IsProgramme programme.national programme.records
       → (failed is_pes_read result ≡ false → Decides programme options bytes result)
-      → ((frames : Transmission) (unread : Option Unread) (pes : ℕ)
-      → ReadsAs options.origin 0 bytes frames unread
+      → ((pes : ℕ)
       → result ≡ Err (fault.Pes pes Pes.Read)
-      → (pes ≤ length frames)
-      × (events_of_first (task_of programme options unread) frames pes ≡ []))
+      → (pes ≤ length (pes_file_of options.origin bytes).frames)
+      × (events_of_first (task_of programme options (pes_file_of options.origin bytes).unread)
+      (pes_file_of options.origin bytes).frames pes
+      ≡ []))
       → IsChecked programme options bytes result
   checked_from bytes result p decides so_far = record {
     accepted = λ looked fine. accepted_from bytes result (decides fine);
@@ -222,9 +225,7 @@ module _ (programme : ProgrammeValue) (options : OptionsValue) (is : IsOptions o
         (law_of_good programme t options good, complete);
     counts = λ t carries. counts_from bytes t result decides carries;
     first = λ looked fine. first_from bytes result (decides fine);
-    read = λ pes e.
-        so_far (pes_file_of options.origin bytes).frames
-        (pes_file_of options.origin bytes).unread pes refl e;
+    read = so_far;
     content = λ frame row column e.
         wrong_of_first programme options bytes (pes_file_of options.origin bytes).frames
         (pes_file_of options.origin bytes).unread refl frame row column
@@ -234,6 +235,20 @@ module _ (programme : ProgrammeValue) (options : OptionsValue) (is : IsOptions o
         plan_accepted serial result p some
         (subst (λ b. Decides programme options b result) planned (decides fine));
   }
+
+  -- A refusal that is told first is the answer.
+  pub refused_first :
+      (bytes : List ℕ) (f : CheckFault)
+      → IsProgramme programme.national programme.records
+      → first_told (events_of programme options bytes) ≡ Some f
+      → IsRuleFault f
+      → IsChecked programme options bytes (Err f)
+  refused_first bytes f p first own =
+      checked_from bytes (Err f) p
+      (λ fine frames unread reads.
+      ap (λ (file : PesFileValue). first_told (events (task_of programme options file.unread)
+      file.frames)) (sym reads) ∙ first)
+      (λ pes is. absurd (no_read f pes own is))
 
 -- ---- all events
 
@@ -274,13 +289,8 @@ checked_first programme options bytes IsTold old new (Ok (Some a)) fine p told =
           subst (IsRead (task_of programme options unread) options.origin bytes frames) (sym same)
               (read_whole programme options bytes frames unread a reads end.2 read),
           empty,
-        )) (λ frames unread pes reads is. cc)
-    by_first (Err f) read (first, own) =
-        checked_from programme options fine bytes (Err f) p
-        (λ fine frames unread reads.
-        ap (λ (f : PesFileValue). first_told (events (task_of programme options f.unread) f.frames))
-        (sym reads) ∙ first)
-        (λ frames unread pes reads is. absurd (no_read f pes own is))
+        )) (λ pes is. cc)
+    by_first (Err f) read (first, own) = refused_first programme options fine bytes f p first own
 checked_first programme options bytes IsTold old new (Ok None) fine p told = tt
 checked_first programme options bytes IsTold old new (Err f) fine p told = tt
 

@@ -10,8 +10,9 @@ ghost use Rattle.sub_check.specs.CheckedFiles.{IsChecked, TellsEvents, TellsWhat
 ghost use Rattle.sub_check.specs.CheckedFiles.{all_events_of, first_answer};
 
 use crate::first_fault::FirstFault;
+use crate::never_asks::NeverAsks;
 use stl_rows::Programme;
-use sub_checker::{Accepted, tell_all, tell_pieces};
+use sub_checker::{Accepted, tell_pieces};
 use sub_io::{Ahead, LiveAudience, Source};
 use sub_plan::Options;
 use sub_rules::{CheckFault, Event};
@@ -54,8 +55,29 @@ pub fn check<S: Source>(
     ensures no_write { failed is_pes_write result ≡ false }
     ensures count { CountsIf S.failure_count source.old (failed is_pes_read result) source.new }
 {
+    let mut never = NeverAsks { source };
+    check_lent(programme, &mut never, options)
+}
+
+// Checks a PES file that is read of a source that is lent.
+fn check_lent<S: Source>(
+    programme: &Programme,
+    source: &mut NeverAsks<'_, S>,
+    options: &Options,
+) -> Result<Accepted, CheckFault>
+    requires { CanFail (S.failure_count source.old.source.now) }
+    ensures same { source.new.source.ghost_name ≡ source.old.source.ghost_name }
+    ensures checked { IfTold (S.remaining source.old.source.now) (λ bytes.
+        IsChecked programme.now options.now bytes result) }
+    ensures read { (pes : ℕ) → result ≡ Err (CheckFault.Pes pes PesFault.Read) → FailsAtPacket pes
+        (S.remaining source.old.source.now) (S.remaining source.new.source.now) }
+    ensures own { failed is_subtitle_fault result ≡ false }
+    ensures no_write { failed is_pes_write result ≡ false }
+    ensures count { CountsIf S.failure_count source.old.source.now (failed is_pes_read result)
+        source.new.source.now }
+{
     let mut first = FirstFault::new();
-    match tell_all(programme, source, options, &mut first) {
+    match tell_pieces(programme, source, options, &mut first) {
         Err(fault) => Err(fault),
         Ok(Some(counts)) => Ok(counts),
         Ok(None) => Err(first.into_fault()),

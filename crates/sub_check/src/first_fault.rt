@@ -1,10 +1,12 @@
 //! The device that `check` tells what is broken to.
-ghost use Rattle.std.specs.Prelude.{◌≡◌, Option, None, Some, IfSome, is_some, true};
+ghost use Rattle.std.specs.Prelude.{◌≡◌, Option, None, Some, IfSome, is_some, not, true};
+ghost use Rattle.std.proofs.Common.{subst, sym};
+ghost use Rattle.sub_io.specs.Telling.{Tells};
 ghost use Rattle.sub_check.specs.FirstTold.{IsRuleFault, KeepsFirstFault, is_of_rule};
 ghost use Rattle.sub_rules.specs.declared.fault.CheckFault.{CheckFault};
 
 use std::marker::Model;
-use sub_io::{Audience, Stopped};
+use sub_io::{Audience, Live, LiveAudience, Stopped};
 use sub_rules::{CheckFault, Event};
 use ttx_pes::PesFault;
 
@@ -61,6 +63,28 @@ impl Audience<Event> for FirstFault {
             _ => Ok(()),
         }
     }
+}
+
+impl Live for FirstFault {
+    ghost is_settled = { λ _. true };
+
+    ghost is_handed_on = { λ old ok new. (new ≡ old) × (is_some new ≡ not ok) };
+
+    // Nothing: it keeps what it was told.
+    fn hand_on(&mut self) -> Result<(), Stopped> {
+        if self.fault.is_some() {
+            return Err(Stopped);
+        }
+        Ok(())
+    }
+}
+
+impl LiveAudience<Event> for FirstFault {
+    ghost stays_told = { record {
+      told = λ start old new ok items settled told on.
+          subst (λ d. Tells KeepsFirstFault start d items) (sym on.0) told;
+      stopped = λ old new ok on. on.1;
+    } };
 }
 
 // Rules tell all faults but those of the subtitle file and of failed devices.

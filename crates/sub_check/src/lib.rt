@@ -16,6 +16,7 @@
 mod checking;
 mod files;
 mod first_fault;
+mod never_asks;
 
 pub use checking::{check, check_all};
 pub use files::check_files;

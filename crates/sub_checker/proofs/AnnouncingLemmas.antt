@@ -1,14 +1,13 @@
 -- What a device hands on that tells which PES packets are passed over: `announces_until`,
 -- `announces_all`, `announces_prefix`, `announces_some`.
-use Rattle.std.proofs.Common.{◌≡◌, ℕ, List, [], ◌∷◌, ◌++◌, Bool, true, false, map, take, drop, refl}
-use Rattle.std.proofs.Common.{sym, ap, ◌∙◌, subst, append_assoc, Result, Ok, Err}
+use Rattle.std.proofs.Common.{◌≡◌, List, [], ◌∷◌, ◌++◌, Bool, false, map, take, drop, refl}
+use Rattle.std.proofs.Common.{sym, ap, ◌∙◌, subst, Result, Ok, Err}
 use Rattle.std.proofs.lemmas.Bool.{true≢false}
 use Rattle.std.proofs.lemmas.List.{map-append, take-append-drop}
 use Rattle.std.specs.Prelude.{is_err}
 use Rattle.sub_io.specs.Telling.{Tells, TellsInTurn, TellsPrefix, TellsSome, TellsUntilStopped}
 use Rattle.sub_io.proofs.TellingLemmas.{Tells-none, Tells-one, Tells-trans, TellsPrefix-first}
 use Rattle.sub_io.proofs.TellingLemmas.{TellsPrefix-second, TellsPrefix-whole}
-use Rattle.sub_rules.specs.PieceEvents as pieces
 use Rattle.sub_rules.specs.PieceEvents.{all_announced, announced, at_pes, passed_after}
 use Rattle.sub_rules.specs.PieceEvents.{passed_after_all}
 use Rattle.sub_rules.specs.declared.event.Event.{Event}

@@ -1,25 +1,24 @@
 -- Packets that are passed break no rule and leave what is kept as it is: `passed_packet`,
 -- `passed_header`.
-use Rattle.std.proofs.Common.{◌≡◌, ◌≢◌, ℕ, ◌&&◌, ◌==◌, Bool, true, false, not, List, [], ◌∷◌, ◌++◌}
-use Rattle.std.proofs.Common.{Option, Some, None, option_map, cond, refl, sym, ap, ◌∙◌, arith}
+use Rattle.std.proofs.Common.{◌≡◌, ◌≢◌, ℕ, ◌&&◌, ◌==◌, Bool, true, false, List}
+use Rattle.std.proofs.Common.{Option, Some, None, cond, refl, sym, ◌∙◌, arith}
 use Rattle.std.proofs.Common.{nat_le}
 use Rattle.std.proofs.Common.{inl, inr}
 use Rattle.std.proofs.lemmas.Bool.{cases_Bool, cond-false, cond-true}
 use Rattle.std.proofs.lemmas.Bool.Decides.{nat_tests}
-use Rattle.std.specs.Option.{option_or}
 use Rattle.ttx_packet.specs.PacketAddress.{HasExactAddress, PacketAddress, address}
 use Rattle.ttx_packet.specs.PageHeader.{HasExactHeader, c11, coded_header, header}
 use Rattle.ttx_packet.specs.declared.header.Header.{Header}
-use Rattle.ttx_page.specs.PacketKind.{ends_page, is_row, is_this_page, kind, kind_at}
-use Rattle.ttx_page.specs.Span.{is_open_after, span}
+use Rattle.ttx_page.specs.PacketKind.{is_this_page, kind}
+use Rattle.ttx_page.specs.Span.{span}
 use Rattle.ttx_page.specs.declared.packet_kind.PacketKind.TheVariants.{EndsPage, Other, Row}
 use Rattle.sub_checker.specs.Listener.{IsPassed, Knows, is_passed_header, later_set, rule_set}
 use Rattle.sub_checker.specs.declared.listener.Listener.{Listener}
 use Rattle.sub_checker.proofs.ListenerLemmas.{knows_still}
 use Rattle.sub_checker.proofs.PacketRuleLemmas.{later_ends, later_other, later_row, rules_are}
 use Rattle.sub_rules.proofs.CodeWordLemmas.{address_decided, header_decided}
-use Rattle.sub_rules.specs.PacketTests.{are_code_words, breaks, first_of_row, is_of_enhancement}
-use Rattle.sub_rules.specs.PacketTests.{is_of_header, is_other_mode}
+use Rattle.sub_rules.specs.PacketTests.{breaks, first_of_row}
+use Rattle.sub_rules.specs.PacketTests.{is_other_mode}
 
 -- No header agrees with every mode.
 no_header_mode : (serial : Option Bool) → is_other_mode serial None ≡ false

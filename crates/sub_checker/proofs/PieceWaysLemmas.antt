@@ -1,7 +1,7 @@
 -- What each way out of the loop over pieces shows of the whole file: `step_sent`, `step_passed`,
 -- `told_stop`, `told_before`, `told_whole`.
 use Rattle.std.proofs.lemmas.Bool.Decides.{nat_tests}
-use Rattle.std.proofs.Common.{◌≡◌, ℕ, zero, suc, ◌+◌, ◌-◌, ◌<◌, ◌≤◌, ◌||◌, Bool, true, false}
+use Rattle.std.proofs.Common.{◌≡◌, ℕ, zero, suc, ◌+◌, ◌<◌, ◌≤◌, ◌||◌, Bool, true, false}
 use Rattle.std.proofs.Common.{not, List, [], ◌∷◌, ◌++◌, length, map, take, Option, Some, None, Ok}
 use Rattle.std.proofs.Common.{refl, sym, ap, subst, ◌∙◌, append_assoc, arith, length-append}
 use Rattle.std.proofs.lemmas.List.{append-nil, map-append, take_at}
@@ -40,16 +40,11 @@ use Rattle.sub_checker.specs.PieceTelling.{finished}
 use Rattle.sub_checker.specs.Steps.{AreCounted, FinishesTelling, ending_fault, fault_events}
 use Rattle.sub_rules.specs.FrameRules.Unread.{BadPacket, NoFrame}
 use Rattle.sub_checker.specs.Telling.{AreTaken, AreWhole, CountsRead}
-use Rattle.std.proofs.lemmas.List.Elements.{All-from_recursion}
-use Rattle.std.proofs.lemmas.List.Folds.{concat-append}
-use Rattle.ttx_pes.specs.PesPacket.{IsPesPacket, IsPesValue, PesValue}
+use Rattle.ttx_pes.specs.PesPacket.{IsPesValue, PesValue}
 use Rattle.ttx_pes.specs.Reader.{TakesPesPacket}
-use Rattle.sub_rules.proofs.PacketLists.{Each-push}
 use Rattle.sub_rules.specs.PacketRules.{packets_of_units}
-use Rattle.sub_rules.specs.PesFrames.{IsSentAs}
-use Rattle.sub_checker.proofs.WaysOutLemmas.{whole_units, zip_push}
-use Rattle.sub_checker.specs.Trusting.{Judges, JudgesWith, after_event}
-use Rattle.sub_rules.specs.Trusted.{run_after}
+use Rattle.sub_checker.proofs.ReadsOnLemmas.{ReadsOn, reads_on_passed, reads_on_sent}
+use Rattle.sub_checker.specs.Trusting.{JudgesWith, after_event}
 use Rattle.sub_checker.specs.declared.announcing.PassedRun.{PassedRun}
 use Rattle.sub_checker.specs.declared.telling.Accepted.{Accepted}
 use Rattle.sub_checker.specs.declared.trusting.Trust.{Trust}
@@ -86,154 +81,14 @@ pub record Tracks
       (not (tells_none (each_told g all done))) trust
   pub run_is : as_run run ≡ passed_after_all no_run (each_told g all done)
 
--- Of the pieces of a file these first ones are read, and the others are left.
-pub record ReadsOn
-    (options : OptionsValue) (bytes : List ℕ) (all : List Piece) (unread : Option Unread)
-    (remaining : Option (List ℕ)) (pes : ℕ) (done : List Piece)
-    : Type 0 where
-  pub ahead : List Piece
-  pub parts : all ≡ done ++ ahead
-  pub count : length done ≡ pes
-  pub rest : List ℕ
-  pub rest_is : remaining ≡ Some rest
-  pub left : ReadsPieces options.origin pes rest ahead unread
-  pub taken :
-      length (frames_of done) ≡ length done
-      → AreTaken options.origin bytes (frames_of done) rest
-  pub whole : AreWhole (frames_of done)
-
--- Before the first of them.
-pub reads_on_none : (options : OptionsValue) (all : List Piece) (unread : Option Unread)
-    (remaining : Option (List ℕ)) (bytes : List ℕ)
-    → remaining ≡ Some bytes
-    → ReadsPieces options.origin 0 bytes all unread
-    → ReadsOn options bytes all unread remaining 0 []
-unfolding frames_of
-reads_on_none options all unread remaining bytes told reads = record {
-  ahead = all;
-  parts = refl;
-  count = refl;
-  rest = bytes;
-  rest_is = told;
-  left = reads;
-  taken = λ e. record { values = []; packets = []; each = tt; sent = tt; joined = refl };
-  whole = tt;
-}
-
--- At most as many frames are sent as there are pieces.
-pub frames_few : (pieces : List Piece) → length (frames_of pieces) ≤ length pieces
-unfolding frames_of
-frames_few [] = omega arith
-frames_few (Sent s ∷ pieces) = let l = frames_few pieces in omega arith
-frames_few (Passed u ∷ pieces) = let l = frames_few pieces in omega arith
-
--- One packet more is taken.
-taken_sent : (origin : ℕ) (bytes rest : List ℕ) (frames : Transmission) (v : PesValue) (frame : ℕ)
-    (old new : Option (List ℕ))
-    → AreTaken origin bytes frames rest
-    → old ≡ Some rest
-    → new ≡ Some (behind_piece rest)
-    → TakesPesPacket old new v
-    → IsFrameOf origin v.pts frame
-    → AreTaken origin bytes
-    (frames ++ record { frame = frame; packets = packets_of_units v.units } ∷ [])
-    (behind_piece rest)
-taken_sent origin bytes rest frames v frame old new taken was is takes of =
-    let parts : rest ≡ takes.bytes ++ behind_piece rest = rw (was, is) at takes.consumed in
-    record {
-      values = taken.values ++ v ∷ [];
-      packets = taken.packets ++ takes.bytes ∷ [];
-      each = zip_push IsPesPacket taken.values taken.packets v takes.bytes taken.each
-          takes.is_packet;
-      sent = zip_push (IsSentAs origin) taken.values frames v _ taken.sent (record {
-        in_day = of.in_day;
-        pts = sym of.is;
-        packets = refl;
-      });
-      joined = grind (arith, concat-append, append_assoc);
-    }
-
--- Its packets have 42 bytes.
-whole_sent : (frames : Transmission) (v : PesValue) (frame : ℕ)
-    → AreWhole frames
-    → IsPesValue v
-    → AreWhole (frames ++ record { frame = frame; packets = packets_of_units v.units } ∷ [])
-whole_sent frames v frame before is =
-    let whole = whole_units v.units is.each in
-    grind (arith, nat_tests, Each-push, All-from_recursion)
-
--- One more of them, which is sent or passed over.
-module _ (options : OptionsValue) (bytes : List ℕ) (all : List Piece) (unread : Option Unread)
-    (before after : Option (List ℕ)) (pes : ℕ) (done : List Piece)
-    (at : ReadsOn options bytes all unread before pes done)
-    (left : after ≡ Some (behind_piece at.rest))
-  where
-    reads_on_more : (p : Piece)
-        → ReadsPiece options.origin pes at.rest at.ahead unread p
-        → (length (frames_of (done ++ p ∷ [])) ≡ length (done ++ p ∷ [])
-        → AreTaken options.origin bytes (frames_of (done ++ p ∷ [])) (behind_piece at.rest))
-        → AreWhole (frames_of (done ++ p ∷ []))
-        → ReadsOn options bytes all unread after (pes + 1) (done ++ p ∷ [])
-    reads_on_more p next taken whole = record {
-      ahead = next.more;
-      parts =
-          at.parts ∙ ap (λ (l : List Piece). done ++ l) next.first
-          ∙ sym (append_assoc done (p ∷ []) next.more);
-      count = length-append done (p ∷ []) ∙ ap (λ (k : ℕ). k + 1) at.count;
-      rest = behind_piece at.rest;
-      rest_is = left;
-      left = next.left;
-      taken = taken;
-      whole = whole;
-    }
-
-    pub reads_on_sent : (v : PesValue) (frame : ℕ)
-        → ReadsPiece options.origin pes at.rest at.ahead unread
-        (Sent (record { frame = frame; packets = packets_of_units v.units }))
-        → IsFrameOf options.origin v.pts frame
-        → TakesPesPacket before after v
-        → IsPesValue v
-        → ReadsOn options bytes all unread after (pes + 1)
-        (done ++ Sent (record { frame = frame; packets = packets_of_units v.units }) ∷ [])
-    unfolding frames_of
-    reads_on_sent v frame next of takes value =
-        let s : SentFrame = record { frame = frame; packets = packets_of_units v.units } in
-        let list : frames_of (done ++ Sent s ∷ []) ≡ frames_of done ++ s ∷ [] =
-        frames_of-append done (Sent s ∷ []) in
-        reads_on_more (Sent s) next
-        (λ e.
-        subst (λ (fs : Transmission). AreTaken options.origin bytes fs (behind_piece at.rest))
-        (sym list)
-        (taken_sent options.origin bytes at.rest (frames_of done) v frame before after
-        (at.taken (omega (
-          arith,
-          e,
-          ap length list,
-          length-append (frames_of done) (s ∷ []),
-          length-append done (Sent s ∷ []),
-        ))) at.rest_is left takes of))
-        (subst AreWhole (sym list) (whole_sent (frames_of done) v frame at.whole value))
-
-    pub reads_on_passed : (u : Unread)
-        → ReadsPiece options.origin pes at.rest at.ahead unread (Passed u)
-        → ReadsOn options bytes all unread after (pes + 1) (done ++ Passed u ∷ [])
-    unfolding frames_of
-    reads_on_passed u next =
-        let list : frames_of (done ++ Passed u ∷ []) ≡ frames_of done =
-        frames_of-append done (Passed u ∷ []) ∙ append-nil (frames_of done) in
-        let few = frames_few done in
-        reads_on_more (Passed u) next
-        (λ e. absurd (omega (arith, e, few, ap length list, length-append done (Passed u ∷ []))))
-        (subst AreWhole (sym list) at.whole)
-
 -- Before the first piece nothing is kept.
 pub tracks_none : (g : Task) (all : List Piece) (c : CheckerValue) (trust : Trust)
     (run : PassedRun)
     → Follows g (frames_of all) 0 c
-    → Judges g (frames_of all) 0 trust
+    → JudgesWith g (frames_of all) 0 None false trust
     → as_run run ≡ no_run
     → Tracks g all [] 0 c trust run
-unfolding told_of_each run_after_each passed_after_all frames_of events_of_first run_after
+unfolding told_of_each run_after_each passed_after_all frames_of events_of_first
 tracks_none g all c trust run follows judges passed = record {
   sent_is = refl;
   follows = follows;
@@ -509,7 +364,7 @@ module _ (g : Task) (all : List Piece) where
       (TellsPrefix-second a b c _ _ first (rw (is, same) at second))
 
 -- What is told of the first pieces comes first.
-front_of : (g : Task) (all done more : List Piece)
+pub front_of : (g : Task) (all done more : List Piece)
     → all ≡ done ++ more
     → (rest : List Event)
     × (all_of_pieces g all ≡ events_of_pieces g (frames_of all) done ++ rest)

@@ -16,21 +16,20 @@ use Rattle.std.proofs.lemmas.List.Folds.{list_any-append}
 use Rattle.stl_rows.specs.Programme.{last_out}
 use Rattle.ttx_page.specs.PacketKind.{kind}
 use Rattle.ttx_page.specs.Span.{holds_header}
-use Rattle.sub_rules.specs.Events.{Standing, closing_events, end_events, events, events_of_first}
+use Rattle.sub_rules.specs.Events.{Standing, closing_events, end_events, events_of_first}
 use Rattle.sub_rules.specs.Events.{frame_events, nothing_stands, standing_at}
 use Rattle.sub_rules.specs.FrameRules.{Task, end_frame, frame_at, packets_of_frame}
 use Rattle.sub_rules.specs.Transmission.{Transmission}
-use Rattle.sub_rules.specs.Trusted.{all_frame_events, doubted, frame_before, is_order, is_quiet}
-use Rattle.sub_rules.specs.Trusted.{last_trusted, own_events, run_after, run_over, stands_none}
+use Rattle.sub_rules.specs.Trusted.{doubted, frame_before, is_order, is_quiet}
+use Rattle.sub_rules.specs.Trusted.{own_events, run_over, stands_none}
 use Rattle.sub_rules.specs.Trusted.{tells_none, trust_end, trusted, with_run}
 use Rattle.sub_rules.specs.declared.event.Event.{Event}
 use Rattle.sub_rules.specs.declared.fault.CheckFault.{CheckFault}
 use Rattle.sub_rules.proofs.TrustedLemmas.{run_over-append, with_run-append, with_run-none}
 use Rattle.sub_checker.specs.Checker.{CheckerValue, as_standing}
 use Rattle.sub_checker.specs.Following.{Follows, arriving_events, taking_events}
-use Rattle.sub_checker.specs.Steps.{FinishesTelling, ending_fault, fault_events, last_fault}
-use Rattle.sub_checker.specs.declared.telling.Accepted.{Accepted}
-use Rattle.sub_checker.specs.Trusting.{EndsQuiet, Judges, JudgesWith, Passes, after_event, at_end}
+use Rattle.sub_checker.specs.Steps.{ending_fault, fault_events, last_fault}
+use Rattle.sub_checker.specs.Trusting.{EndsQuiet, JudgesWith, Passes, after_event, at_end}
 use Rattle.sub_checker.specs.Trusting.{at_packets, told_with}
 use Rattle.sub_rules.specs.FrameRules.{Unread}
 use Rattle.sub_rules.specs.PieceEvents.{last_of_run, run_at, told_of_frame}
@@ -519,58 +518,6 @@ module _ (g : Task) (frames : Transmission) (t : Trust) (c : CheckerValue)
             ≡ cond (t.told || tells) (trusted t.run (trust_end g.unread (end_frame frames))) [] =
             ap (λ x. cond (t.told || tells) (trusted t.run x) []) (sym ending) in
             swap ∙ rw (closing, last, judges.run_is) grind (arith, nat_tests)
-
--- ---- where all that was told is told of the frames
-
-run_more : (g : Task) (frames : Transmission) (k : ℕ)
-    → run_at g frames k (run_after g frames k) ≡ run_after g frames (suc k)
-unfolding run_at run_after
-run_more g frames k = refl
-
-told_more : (g : Task) (frames : Transmission) (k : ℕ)
-    → (not (tells_none (events_of_first g frames k)) || not (tells_none (frame_events g frames k)))
-    ≡ not (tells_none (events_of_first g frames (suc k)))
-unfolding events_of_first
-told_more g frames k =
-    let both = tells_none-append (events_of_first g frames k) (frame_events g frames k) in
-    grind (arith, nat_tests)
-
--- A frame more.
-pub judges_more : (g : Task) (frames : Transmission) (n : ℕ) (t : Trust)
-    → JudgesWith g frames (n + 1) (run_at g frames n (run_after g frames n))
-    (not (tells_none (events_of_first g frames n)) || not (tells_none (frame_events g frames n))) t
-    → Judges g frames (n + 1) t
-judges_more g frames n t is =
-    subst (λ (k : ℕ). Judges g frames k t) next
-    (subst (λ (b : Bool). JudgesWith g frames (suc n) (run_after g frames (suc n)) b t)
-    (told_more g frames n)
-    (subst (λ (r : Option ℕ). JudgesWith g frames (suc n) r
-    (not (tells_none (events_of_first g frames n)) || not (tells_none (frame_events g frames n)))
-    t) (run_more g frames n)
-    (subst (λ (k : ℕ). JudgesWith g frames k (run_at g frames n (run_after g frames n))
-    (not (tells_none (events_of_first g frames n)) || not (tells_none (frame_events g frames n)))
-    t) (sym next) is)))
-  where
-    next : suc n ≡ n + 1
-    next = omega arith
-
--- What is trusted of the last run.
-pub last_same : (g : Task) (frames : Transmission) (n : ℕ) → length frames ≡ n
-    → last_of_run g frames (run_after g frames n)
-    (not (tells_none (events_of_first g frames n)) || not (tells_none (closing_events g frames n)))
-    ≡ last_trusted g frames
-unfolding last_of_run last_trusted events
-last_same g frames n all =
-    let both = tells_none-append (events_of_first g frames n) (closing_events g frames n) in
-    rw (all, both) grind (arith, nat_tests)
-
--- The same list by another name, and then others.
-pub finishes_same : {D : Type 0} (IsTold : D → Event → D → Type 0) (mid new : D)
-    (r : Option Accepted) (xs ys zs : List Event) → xs ≡ ys
-    → FinishesTelling IsTold mid new (xs ++ zs) r
-    → FinishesTelling IsTold mid new (ys ++ zs) r
-finishes_same IsTold mid new r xs ys zs is p =
-    subst (λ (es : List Event). FinishesTelling IsTold mid new (es ++ zs) r) is p
 
 -- After a piece that is passed over there is no run.
 pub judges_passed : (g : Task) (frames : Transmission) (n : ℕ) {run : Option ℕ} {told : Bool}

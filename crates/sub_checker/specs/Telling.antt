@@ -1,21 +1,15 @@
 -- What the checker tells of a PES file, and counts of it.
 use Rattle.std.specs.Prelude.{◌≡◌, ℕ, ◌+◌, ◌<◌, ◌≤◌, List, [], ◌++◌, length}
-use Rattle.std.specs.Prelude.{All, Option, Some, None, Result, Ok, Err}
+use Rattle.std.specs.Prelude.{All, None}
 use Rattle.std.specs.List.{AllByRecursion, AllZip, concat}
-use Rattle.sub_io.specs.Telling.{Tells, TellsPrefix}
 use Rattle.ttx_packet.specs.PageId.{PageIdValue}
 use Rattle.ttx_pes.specs.PesPacket.{IsPesPacket, PesValue}
 use Rattle.ttx_pes.specs.Reading.{most_packets}
-use Rattle.ttx_pes.specs.declared.fault.PesFault.TheVariants.{Read}
 use Rattle.sub_rules.specs.Events.{latest}
-use Rattle.sub_rules.specs.declared.event.Event.{Event}
 use Rattle.sub_rules.specs.FrameRules.{Task, frame_at, packets_before}
 use Rattle.sub_rules.specs.PacketRules.{header_count}
 use Rattle.sub_rules.specs.PesFrames.{IsSentAs}
 use Rattle.sub_rules.specs.Transmission.{SentFrame, Transmission}
-use Rattle.sub_rules.specs.Trusted.{all_events, all_events_of_first}
-use Rattle.sub_rules.specs.declared.fault.CheckFault.{CheckFault}
-use Rattle.sub_rules.specs.declared.fault.CheckFault.TheVariants as fault
 use Rattle.sub_checker.specs.declared.telling.Accepted.{Accepted}
 
 -- What is counted of the PES packets that were read: the frames of the day from the first one's to
@@ -48,16 +42,3 @@ pub record IsRead (g : Task) (origin : ℕ) (bytes : List ℕ) (frames : Transmi
   pub taken : g.unread ≡ None → AreTaken origin bytes frames []
   pub whole : AreWhole frames
   pub counts : CountsRead g.watched.page frames a
-
--- What a device was told of a transmission that is read of these bytes.
-abbrev pub TellsAll : {D : Type 0} → Task → ℕ → List ℕ → Transmission
-    → (D → Event → D → Type 0) → D → D → Result (Option Accepted) CheckFault → Type 0
-TellsAll g origin bytes frames IsTold old new (Ok (Some a)) =
-    Tells IsTold old new (all_events g frames) × IsRead g origin bytes frames a
-TellsAll g origin bytes frames IsTold old new (Ok None) =
-    TellsPrefix IsTold old new (all_events g frames)
-TellsAll g origin bytes frames IsTold old new (Err f) =
-    (n : ℕ)
-    × (n ≤ length frames)
-    × (f ≡ fault.Pes n Read)
-    × Tells IsTold old new (all_events_of_first g frames n)

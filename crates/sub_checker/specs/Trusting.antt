@@ -9,8 +9,7 @@ use Rattle.sub_rules.specs.Events.{events_of_first}
 use Rattle.sub_rules.specs.FrameRules.{Task}
 use Rattle.sub_rules.specs.Transmission.{Transmission}
 use Rattle.sub_rules.specs.Trusted.{begun, doubted, frame_before, is_order, is_quiet, kept}
-use Rattle.sub_rules.specs.Trusted.{run_after}
-use Rattle.sub_rules.specs.Trusted.{tells_none, trusted_before}
+use Rattle.sub_rules.specs.Trusted.{trusted_before}
 use Rattle.sub_rules.specs.declared.event.Event.{Event}
 use Rattle.sub_checker.specs.declared.trusting.Trust.{Trust}
 
@@ -53,11 +52,6 @@ pub record JudgesWith
   pub last_is : t.last ≡ frame_before frames n
   pub rises_is : t.rises ≡ not (list_any is_order (events_of_first g frames n))
   pub told_is : t.told ≡ told
-
--- What is kept after the first n frames of the list, where all that was told is told of them.
-abbrev pub Judges : Task → Transmission → ℕ → Trust → Type 0
-Judges g frames n t =
-    JudgesWith g frames n (run_after g frames n) (not (tells_none (events_of_first g frames n))) t
 
 -- ---- what is told
 

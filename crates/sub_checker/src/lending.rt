@@ -1,5 +1,6 @@
 //! The next piece of a source that may have to wait: what was told is handed on before.
 ghost use Rattle.std.specs.Prelude.{◌≡◌, ◌≢◌, ◌≤◌, IfNone, IfSome, false, is_none, true};
+ghost use Rattle.sub_io.specs.Calls.{PullsSome};
 ghost use Rattle.sub_io.specs.Device.{CanFail, CountsIf, RisesIf, failed};
 ghost use Rattle.sub_io.specs.HandingOn.{IsLent, KeepsTold, lent_as};
 ghost use Rattle.ttx_pes.specs.Reading.{most_packets};
@@ -32,6 +33,7 @@ pub(crate) fn next_live<S: Ahead, A: LiveAudience<Event>>(
         CountsIf S.failure_count source.old (failed is_pes_read read) source.new) }
     ensures reads { IfSome result (λ read. ReadsNext options.now.origin pes
         (S.remaining source.old) (S.remaining source.new) reader.old reader.new read) }
+    ensures pulls { PullsSome S.is_pull source.old source.new }
 {
     let mut lent = HandingOn {
         source,
@@ -70,6 +72,7 @@ fn next_lent<S: Ahead, A: LiveAudience<Event>>(
     ensures reads { ReadsNext options.now.origin pes
         (S.remaining lent.old.source.now) (S.remaining lent.new.source.now)
         reader.old reader.new result }
+    ensures pulls { PullsSome S.is_pull lent.old.source.now lent.new.source.now }
 {
     next_piece(reader, lent, options, pes)
 }

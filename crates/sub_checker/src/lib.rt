@@ -23,5 +23,5 @@ mod telling_pieces;
 mod trusting;
 
 pub use laws::law_of_sent_again;
-pub use telling::{Accepted, tell_all};
+pub use telling::Accepted;
 pub use telling_pieces::tell_pieces;

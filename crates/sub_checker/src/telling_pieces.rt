@@ -1,11 +1,13 @@
 //! What is told of a PES file that is read on behind the pieces that are passed over.
 ghost use Rattle.std.specs.Prelude.{◌≡◌, ℕ, ◌+◌, ◌-◌, ◌*◌, ◌<◌, ◌≤◌, ◌||◌, [], ◌∷◌, Bool, Err};
-ghost use Rattle.std.specs.Prelude.{IfErr, IfOk, List, OnOk, Option, false, is_err, is_none};
-ghost use Rattle.std.specs.Prelude.{length, not, true};
+ghost use Rattle.std.specs.Prelude.{IfErr, IfOk, List, None, OnOk, Option, false, is_err, is_none};
+ghost use Rattle.std.specs.Prelude.{length, not, take, true};
+ghost use Rattle.sub_io.specs.Calls.{PullsSome};
 ghost use Rattle.sub_io.specs.Device.{CanFail, CountsIf, failed};
 ghost use Rattle.sub_io.specs.Reading.{IfTold};
 ghost use Rattle.sub_io.specs.Telling.{TellsSome, TellsUntilStopped};
 ghost use Rattle.ttx_pes.specs.PesPacket.{most_units};
+ghost use Rattle.ttx_pes.specs.Reader.{FailsAtPacket};
 ghost use Rattle.ttx_pes.specs.Reading.{most_packets};
 ghost use Rattle.stl_file.specs.TimeCode.{day};
 ghost use Rattle.stl_rows.specs.Programme.{IsProgramme};
@@ -15,14 +17,14 @@ ghost use Rattle.sub_rules.specs.Fault.{is_pes_read};
 ghost use Rattle.sub_rules.specs.FrameRules.{Task, Unread, packets_of_frame, task_of};
 ghost use Rattle.sub_rules.specs.PacketRules.{packets_of_units};
 ghost use Rattle.sub_rules.specs.PieceEvents.{no_run, run_at, told_of_frame};
-ghost use Rattle.sub_rules.specs.Pieces.{FailsAtPiece, Piece, ReadsPieces};
+ghost use Rattle.sub_rules.specs.Pieces.{FailsAtPiece, Piece, ReadsPieces, frames_of};
 ghost use Rattle.sub_rules.specs.Sendings.{IsSentFrame};
 ghost use Rattle.sub_rules.specs.Transmission.{Transmission};
 ghost use Rattle.sub_rules.specs.Trusted.{tells_none, with_run};
 ghost use Rattle.sub_checker.specs.Announcing.{IsToldOf, as_run};
 ghost use Rattle.sub_checker.specs.Following.{Follows};
 ghost use Rattle.sub_checker.specs.PieceTelling.{TellsPieces};
-ghost use Rattle.sub_checker.specs.Trusting.{Judges, JudgesWith, after_event};
+ghost use Rattle.sub_checker.specs.Trusting.{JudgesWith, after_event};
 
 use crate::announcing::{Announcing, PassedRun};
 use crate::checker::Checker;
@@ -58,7 +60,7 @@ pub(crate) struct Kept {
 /// # Errors
 ///
 /// `Pes` with `Read` where the source failed: then the events are those of the pieces before.
-#[tactic(auto, using(sub_io::proofs::TellingLemmas::some))]
+#[tactic(auto, using(sub_io::proofs::HandingOnLemmas::some_kept, sub_io::proofs::CallLemmas::pulls))]
 pub fn tell_pieces<S: Ahead, A: LiveAudience<Event>>(
     programme: &Programme,
     source: &mut S,
@@ -78,9 +80,17 @@ pub fn tell_pieces<S: Ahead, A: LiveAudience<Event>>(
     ensures goes_on { IfErr result (λ _. A.has_stopped audience.new ≡ false) }
     ensures read { (pes : ℕ) → result ≡ Err (CheckFault.Pes pes PesFault.Read)
         → FailsAtPiece pes (S.remaining source.old) (S.remaining source.new) }
+    // Where none was passed over before, those that were taken are PES packets of the grammar.
+    ensures sent { (pes : ℕ) (pieces : List Piece) (unread : Option Unread)
+        → result ≡ Err (CheckFault.Pes pes PesFault.Read)
+        → IfTold (S.remaining source.old) (λ bytes.
+        ReadsPieces options.now.origin 0 bytes pieces unread
+        → length (frames_of (take pes pieces)) ≡ pes
+        → FailsAtPacket pes (S.remaining source.old) (S.remaining source.new)) }
     ensures only { IfErr result (λ f. is_pes_read f ≡ true) }
     ensures options { IsOptions options.now }
     ensures programme { IsProgramme programme.now.national programme.now.records }
+    ensures pulls { PullsSome S.is_pull source.old source.new }
     ensures count { CountsIf S.failure_count source.old (failed is_pes_read result) source.new }
 {
     let mut reader = ComparingReader::new();
@@ -136,7 +146,8 @@ impl Kept {
     fn new() -> Self
         ensures frames { result.frames ≡ 0 }
         ensures last { result.trust.last ≡ 0 }
-        ensures judges { (g : Task) (list : Transmission) → Judges g list 0 result.trust }
+        ensures judges { (g : Task) (list : Transmission)
+            → JudgesWith g list 0 None false result.trust }
         ensures passed { as_run result.run ≡ no_run }
     {
         Kept {

@@ -35,15 +35,15 @@ pub(crate) struct Trusting<'a, A> {
 }
 
 impl Trust {
-    ghost use Rattle.sub_checker.specs.Trusting.{Judges};
+    ghost use Rattle.sub_checker.specs.Trusting.{JudgesWith};
     ghost use Rattle.sub_rules.specs.FrameRules.{Task};
     ghost use Rattle.sub_rules.specs.Transmission.{Transmission};
 
     /// Before the first PES packet.
-    #[tactic(auto, unfolding(sub_rules::specs::Events::events_of_first, sub_rules::specs::Trusted::frame_before, sub_rules::specs::Trusted::run_after))]
+    #[tactic(auto, unfolding(sub_rules::specs::Events::events_of_first, sub_rules::specs::Trusted::frame_before))]
     pub fn new() -> Self
         ensures last { result.last ≡ 0 }
-        ensures judges { (g : Task) (frames : Transmission) → Judges g frames 0 result }
+        ensures judges { (g : Task) (frames : Transmission) → JudgesWith g frames 0 None false result }
     {
         Trust {
             run: None,

@@ -61,7 +61,7 @@ last_first None f = refl
 last_first (Some from) f = grind (arith, nat_tests)
 
 -- What is trusted changes nothing.
-with_run_first : (last : ℕ) (run : Option ℕ) (es : List Event)
+pub with_run_first : (last : ℕ) (run : Option ℕ) (es : List Event)
     → first_told (with_run last run es) ≡ first_told es
 unfolding with_run
 with_run_first last run [] = refl
@@ -70,7 +70,7 @@ with_run_first last run (e ∷ es) =
     grind (arith, nat_tests, first_of_two, trusted_first)
 
 -- Nor does up to which piece a run goes, where none was passed over before.
-announced_first : (es : List Event) → first_told (all_announced no_run es) ≡ first_told es
+pub announced_first : (es : List Event) → first_told (all_announced no_run es) ≡ first_told es
 unfolding all_announced announced joins passed_after
 announced_first [] = refl
 announced_first (Told f ∷ es) = refl
@@ -112,7 +112,7 @@ first_at pes (Trusted from to ∷ es) = first_at pes es
 first_at pes (PassedUntil f ∷ es) = first_at pes es
 
 -- A frame that is sent, whatever is trusted before it.
-frame_first : (g : Task) (frames : Transmission) (i : ℕ) (run : Option ℕ)
+pub frame_first : (g : Task) (frames : Transmission) (i : ℕ) (run : Option ℕ)
     → first_told (map (at_pes i) (told_of_frame g frames i run))
     ≡ first_told (frame_events g frames i)
 frame_first g frames i run =

@@ -1,9 +1,10 @@
--- What the pulls of the reader leave: by lent_for and count_inside.
+-- What the pulls of the reader leave: by lent_for, count_inside and pulls_inside.
 use Rattle.std.proofs.Common.{◌≡◌, arith}
 use Rattle.sub_io.proofs.HandingOnLemmas.{count_inside, lent_for}
 use Rattle.sub_io.specs.Device.{failed}
 use Rattle.sub_io.specs.HandingOn.{IsLent, lent_as}
 use Rattle.sub_rules.specs.Fault.{is_pes_read}
+use Rattle.sub_checker.proofs.LendingLemmas.{pulls_inside}
 use Rattle.sub_checker.proofs.lending.next_lent.Given.{Over}
 use Rattle.sub_checker.proofs.lending.next_lent.Goals as goal
 
@@ -68,3 +69,11 @@ returns-clause-reads g c =
       place = e.place;
       within = e.within;
     }
+
+pub returns-clause-pulls : goal.returns-clause-pulls
+returns-clause-pulls g c =
+    pulls_inside g.S.Source.failure_count g.S.Ahead.must_ask g.S.Source.is_pull
+    g.A.Live.is_settled g.A.Live.is_handed_on
+    (λ h. lent_as h.source.now h.beside.now h.refused)
+    _ (λ s t room answer call. call.2)
+    c.args.lent.now c.next_piece.new.source c.next_piece.ensures.pulls

@@ -1,5 +1,5 @@
 -- What is trusted of the last run, and then what is told last: by TrustingLemmas.
-use Rattle.std.proofs.Common.{◌∙◌, ap, sym, None}
+use Rattle.std.proofs.Common.{◌∙◌, ap, sym}
 use Rattle.std.proofs.lemmas.Result.{err_from_is_err_and}
 use Rattle.sub_io.proofs.TellingLemmas.{TellsPrefix-first, TellsSome-trans, TellsUntilStopped-after}
 use Rattle.sub_checker.proofs.TellingLemmas.{all_same, prefix_same}

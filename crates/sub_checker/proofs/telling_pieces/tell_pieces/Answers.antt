@@ -1,8 +1,9 @@
 -- Each way out tells what the whole file is: by PieceWaysLemmas.
-use Rattle.std.proofs.Common.{◌≡◌, ◌∙◌, ◌∷◌, [], ap, refl, sym, subst, arith, false, List}
-use Rattle.std.proofs.Common.{Ok, Option, Result, Some}
+use Rattle.std.proofs.Common.{◌≡◌, ◌∙◌, ◌∷◌, [], ap, refl, sym, subst, arith, List}
+use Rattle.std.proofs.Common.{Ok, Option, Result, Some, ℕ, length, take}
 use Rattle.sub_checker.specs.Steps.{ending_fault}
 use Rattle.sub_rules.specs.declared.fault.CheckFault.{CheckFault}
+use Rattle.sub_io.proofs.CallLemmas.{PullsSome-none, PullsSome-trans}
 use Rattle.sub_io.proofs.HandingOnLemmas.{TellsSome-kept}
 use Rattle.sub_io.proofs.TellingLemmas.{TellsSome-none, Tells-none}
 use Rattle.sub_io.specs.Telling.{Tells}
@@ -12,10 +13,10 @@ use Rattle.sub_rules.specs.FrameRules.{task_of}
 use Rattle.sub_rules.specs.Pieces.{Piece, frames_of}
 use Rattle.sub_rules.specs.PieceEvents.{events_of_pieces}
 use Rattle.sub_checker.proofs.PieceWaysLemmas.{front, list_long, next_sent, none_of_pieces}
-use Rattle.sub_checker.proofs.PieceWaysLemmas.{passed_as, passed_told, reads_on_none}
+use Rattle.sub_checker.proofs.PieceWaysLemmas.{passed_as, passed_told}
 use Rattle.sub_checker.proofs.PieceWaysLemmas.{sent_told, step_passed, step_sent, told_before}
 use Rattle.sub_checker.proofs.PieceWaysLemmas.{told_stop, told_whole, tracks_none}
-use Rattle.std.proofs.Common.{◌+◌, ◌-◌, ◌<◌, ◌++◌, true}
+use Rattle.std.proofs.Common.{◌<◌, ◌++◌}
 use Rattle.std.proofs.lemmas.Bool.{true≢false}
 use Rattle.stl_file.specs.TimeCode.{day}
 use Rattle.sub_io.specs.Telling.{TellsPrefix}
@@ -34,7 +35,7 @@ use Rattle.sub_rules.specs.declared.event.Event.{Event}
 use Rattle.sub_rules.specs.declared.piece.NextPiece.{NextPiece}
 use Rattle.sub_checker.specs.Announcing.{as_run}
 use Rattle.sub_checker.specs.declared.trusting.Trust.{Trust}
-use Rattle.sub_checker.proofs.WaysOutLemmas.{again_is}
+use Rattle.sub_checker.proofs.ReadsOnLemmas.{again_is, named_pes, packets_taken, reads_on_none}
 use Rattle.sub_checker.proofs.telling_pieces.tell_pieces.Goals.{
   in-Passed+in-Ok-tell_passed,
   in-Sent+in-Ok-tell_sent,
@@ -48,6 +49,7 @@ pieces-init g c = rw c.new-kept.ensures.frames (record {
   fewer = omega arith;
   reading = ap (λ (r : ComparingValue). r.progress) c.new-reader.ensures;
   taken = takes_no_pieces _;
+  pulls = PullsSome-none c.args.source.now;
   failures = refl;
   goes_on = c.requires.goes_on;
   day = omega (arith, c.new-kept.ensures.last);
@@ -79,6 +81,25 @@ returns-then-is_source_failure-clause-exact g c = λ pieces unread bytes told re
           c.next_live.new.audience (events_of_pieces (task_of c.args.programme.now
           c.args.options.now unread) (frames_of pieces) l)) (sym at.1) so_far,
     )
+
+pub returns-then-is_source_failure-clause-sent : goal.returns-then-is_source_failure-clause-sent
+returns-then-is_source_failure-clause-sent g c = λ pes pieces unread is bytes told reads sent.
+    let i = c.pieces.invariant.told pieces unread bytes told reads in
+    let here = rw c.in-Err.is at c.in-Some.ensures.reads in
+    let failed = sym c.is_source_failure.ensures ∙ c.if-is_source_failure.true in
+    let at = front c.args.programme.now i.1 i.2 in
+    let same = named_pes c.in-Err.fault c.pieces.pes pes (here.place failed) is in
+    let done : take pes pieces ≡ i.0 =
+    ap (λ (n : ℕ). take n pieces) same ∙ at.1 in
+    record {
+      behind = g.S.Source.remaining c.pieces.source;
+      before =
+          packets_taken bytes (frames_of i.0) i.1.rest pes _ _
+          (i.1.taken (ap (λ (l : List Piece). length (frames_of l)) (sym done) ∙ sent ∙ same
+          ∙ sym i.1.count))
+          (ap (λ (l : List Piece). length (frames_of l)) (sym done) ∙ sent) told i.1.rest_is;
+      within = here.within failed;
+    }
 
 pub returns-in-Err-clause-exact : goal.returns-in-Err-clause-exact
 returns-in-Err-clause-exact g c = λ pieces unread bytes told reads.
@@ -172,6 +193,7 @@ pieces-preserved g c =
     let before = inv.failures in
     let fewer = inv.fewer in
     let one = (rw c.in-Some-next.is at here.taken) refl in
+    let pulled = PullsSome-trans _ _ _ inv.pulls c.next_live.ensures.pulls in
     let some =
     TellsSome-kept _ _ _ _ _ inv.some c.requires.settled c.next_live.ensures.told in
     elim c.match-piece.branch [
@@ -181,6 +203,7 @@ pieces-preserved g c =
             fewer = omega arith;
             reading = (rw c.in-Some-next.is at here.progress) refl;
             taken = takes_more_pieces c.pieces.pes _ _ _ inv.taken one;
+            pulls = pulled;
             failures = omega (arith, counted, before);
             goes_on = w.in-Ok-tell_passed.ensures.stopped;
             day =
@@ -212,6 +235,7 @@ pieces-preserved g c =
             fewer = omega arith;
             reading = (rw c.in-Some-next.is at here.progress) refl;
             taken = takes_more_pieces c.pieces.pes _ _ _ inv.taken one;
+            pulls = pulled;
             failures = omega (arith, counted, before);
             goes_on = w.in-Ok-tell_sent.ensures.stopped;
             day = w.in-Ok-tell_sent.ensures.day;

@@ -3,12 +3,14 @@ use Rattle.std.proofs.Common.{◌≡◌, ◌<◌, ◌≤◌, ◌-◌, ◌*◌, �
 use Rattle.ttx_pes.specs.Reading.{most_packets}
 use Rattle.ttx_pes.specs.declared.progress.Progress.TheVariants.{Reading}
 use Rattle.stl_file.specs.TimeCode.{day}
+use Rattle.sub_io.specs.Calls.{PullsSome}
 use Rattle.sub_io.specs.Telling.{Tells, TellsSome}
 use Rattle.sub_rules.specs.FrameRules.{Unread, packets_of_frame, task_of}
 use Rattle.sub_rules.specs.PacketRules.{packets_of_units}
 use Rattle.sub_rules.specs.PieceEvents.{events_of_pieces}
 use Rattle.sub_rules.specs.Pieces.{Piece, ReadsPieces, TakesPieces, frames_of}
-use Rattle.sub_checker.proofs.PieceWaysLemmas.{ReadsOn, Tracks}
+use Rattle.sub_checker.proofs.PieceWaysLemmas.{Tracks}
+use Rattle.sub_checker.proofs.ReadsOnLemmas.{ReadsOn}
 use Rattle.sub_checker.proofs.telling_pieces.tell_pieces.Given as goal
 
 abbrev pub invariant-pieces : goal.invariant-pieces
@@ -17,6 +19,7 @@ invariant-pieces g l = record {
   fewer : l.kept.frames ≤ l.pes;
   reading : l.reader.progress ≡ Reading l.pes;
   taken : TakesPieces l.pes (g.S.Source.remaining l.fn.source) (g.S.Source.remaining l.source);
+  pulls : PullsSome g.S.Source.is_pull l.fn.source l.source;
   failures : g.S.Source.failure_count l.source ≡ g.S.Source.failure_count l.fn.source;
   goes_on : g.A.Audience.has_stopped l.audience ≡ false;
   day : l.kept.trust.last < day;

@@ -1,0 +1,165 @@
+-- What the device of `check` kept decides its answer: `nothing_kept`, `fault_kept`, `read_failed`,
+-- `fails_at_packet`.
+use Rattle.std.proofs.Common.{◌≡◌, ℕ, zero, suc, List, Option, Some, None}
+use Rattle.std.proofs.Common.{Result, Ok, Err, true, false, is_some}
+use Rattle.std.proofs.Common.{refl, sym, ◌∙◌, subst, arith, length, take, replicate}
+use Rattle.std.proofs.lemmas.List.{length-replicate}
+use Rattle.std.proofs.lemmas.Bool.{true≢false}
+use Rattle.std.specs.List.{AllByRecursion}
+use Rattle.sub_io.specs.Device.{failed}
+use Rattle.sub_io.specs.Reading.{IfTold}
+use Rattle.stl_rows.specs.Programme.{IsProgramme, ProgrammeValue}
+use Rattle.ttx_pes.specs.PesPacket.{IsPesPacket, IsPesValue, PesValue, canonical_packet}
+use Rattle.ttx_pes.specs.PesPacket.{empty_value}
+use Rattle.ttx_pes.specs.Reader.{FailsAtPacket}
+use Rattle.ttx_pes.proofs.PesPacketLemmas.{canonical_is_packet}
+use Rattle.sub_plan.specs.Options.{OptionsValue, IsOptions}
+use Rattle.sub_check.specs.CheckedFiles.{IsChecked}
+use Rattle.sub_check.specs.CheckedFiles.{all_events_of, answer_by}
+use Rattle.sub_check.specs.CheckedFiles.{events_of_first_pieces}
+use Rattle.sub_check.specs.FirstTold.{KeepsFirstFault, is_of_rule}
+use Rattle.sub_checker.specs.PieceTelling.{TellsPieces}
+use Rattle.sub_rules.specs.Events.{events_of_first, first_told}
+use Rattle.sub_rules.specs.FrameRules.{Unread, task_of}
+use Rattle.sub_rules.specs.PesReading.{pes_file_of}
+use Rattle.sub_rules.specs.Pieces.{FailsAtPiece, Piece, ReadsPieces, frames_of, piece_file_of}
+use Rattle.sub_checker.specs.declared.telling.Accepted.{Accepted}
+use Rattle.sub_rules.specs.declared.fault.CheckFault.{CheckFault}
+use Rattle.sub_check.proofs.FirstToldLemmas.{first_named, frames_named, kept_is}
+use Rattle.sub_check.proofs.FirstToldLemmas.{none_told, of_rule}
+use Rattle.sub_check.proofs.ReadOnLemmas.{AreSent, are_sent, first_of_front, first_of_pieces}
+use Rattle.sub_check.proofs.ReadOnLemmas.{first_of_taken}
+use Rattle.sub_rules.specs.Fault.{is_pes_read}
+use Rattle.ttx_pes.specs.declared.fault.PesFault.TheVariants as Pes
+use Rattle.sub_rules.specs.declared.fault.CheckFault.TheVariants as fault
+use Rattle.sub_check.proofs.VerdictLemmas.{checked_first, checked_from, refused_first}
+
+-- The bytes are read as pieces, and a device that keeps the first fault was told of them.
+abbrev TellsFirst : ProgrammeValue → OptionsValue → List ℕ → Option CheckFault → Option CheckFault
+    → Result (Option Accepted) CheckFault → Type 0
+TellsFirst programme options bytes empty kept r =
+    (pieces : List Piece) (unread : Option Unread)
+    → ReadsPieces options.origin 0 bytes pieces unread
+    → TellsPieces (task_of programme options unread) options.origin bytes pieces KeepsFirstFault
+    empty kept r
+
+module _ (programme : ProgrammeValue) (options : OptionsValue) (bytes : List ℕ) where
+  -- What is told first of the pieces is of a rule.
+  first_of_rule : (f : CheckFault)
+      → first_told (all_events_of programme options bytes) ≡ Some f
+      → is_of_rule f ≡ true
+  first_of_rule f is =
+      let file = pes_file_of options.origin bytes in
+      (first_named programme options bytes file.frames file.unread refl f
+      (sym (first_of_pieces programme options bytes) ∙ is)).0
+
+  -- The source failed, and the device had kept nothing: all pieces before were sent.
+  sent_before : (empty kept : Option CheckFault) (f : CheckFault) (pes : ℕ)
+      → empty ≡ None
+      → is_some kept ≡ false
+      → TellsFirst programme options bytes empty kept (Err f)
+      → f ≡ fault.Pes pes Pes.Read
+      → AreSent programme options bytes pes
+  sent_before (Some x) kept f pes e quiet told failed = cc
+  sent_before None (Some x) f pes e quiet told failed = cc
+  sent_before None None f pes e quiet told failed =
+      let file = piece_file_of options.origin bytes in
+      let (n, l, is, first) = told file.pieces file.unread refl in
+      let same : fault.Pes n Pes.Read ≡ fault.Pes pes Pes.Read = sym is ∙ failed in
+      let at : n ≡ pes = cc in
+      subst (AreSent programme options bytes) at
+      (are_sent programme options bytes n l
+      (kept_is None (events_of_first_pieces programme options bytes n)
+      (λ g h. first_of_rule g (first_of_front programme options bytes n g h)) first.in_turn))
+
+  module _ (fine : IsOptions options) (p : IsProgramme programme.national programme.records) where
+    -- It kept nothing, and all was told. For `check`.
+    pub nothing_kept : (empty kept : Option CheckFault) (a : Accepted)
+        → empty ≡ None
+        → is_some kept ≡ false
+        → TellsFirst programme options bytes empty kept (Ok (Some a))
+        → IsChecked programme options bytes (Ok a)
+    nothing_kept (Some x) kept a e quiet told = cc
+    nothing_kept None (Some x) a e quiet told = cc
+    nothing_kept None None a e quiet told =
+        let file = piece_file_of options.origin bytes in
+        subst (λ o. IsChecked programme options bytes (answer_by o a))
+        (kept_is None (all_events_of programme options bytes) first_of_rule
+        (told file.pieces file.unread refl).0.in_turn)
+        (checked_first programme options bytes KeepsFirstFault None None (Ok (Some a)) fine p told)
+
+    -- It kept a fault. For `check`.
+    pub fault_kept : (empty kept : Option CheckFault) (f : CheckFault)
+        → empty ≡ None
+        → kept ≡ Some f
+        → TellsFirst programme options bytes empty kept (Ok None)
+        → IsChecked programme options bytes (Err f)
+    fault_kept (Some x) kept f e is told = cc
+    fault_kept None kept f e is told =
+        let file = piece_file_of options.origin bytes in
+        let all = all_events_of programme options bytes in
+        let (n, l, part) = told file.pieces file.unread refl in
+        let first = first_of_taken n all f
+        (kept_is kept (take n all) (λ g h. first_of_rule g (first_of_taken n all g h)) part.in_turn
+        ∙ is) in
+        refused_first programme options fine bytes f p
+        (sym (first_of_pieces programme options bytes) ∙ first)
+        (of_rule f (first_of_rule f first))
+
+    -- The source failed. For `check`.
+    pub read_failed : (empty kept : Option CheckFault) (f : CheckFault)
+        → empty ≡ None
+        → is_some kept ≡ false
+        → TellsFirst programme options bytes empty kept (Err f)
+        → is_pes_read f ≡ true
+        → IsChecked programme options bytes (Err f)
+    read_failed empty kept f e quiet told own =
+        checked_from programme options fine bytes (Err f) p
+        (λ looked frames unread reads. absurd (true≢false (sym own ∙ looked)))
+        (λ pes is.
+        let file = pes_file_of options.origin bytes in
+        let sent = sent_before empty kept f pes e quiet told (let same = is in cc) in (
+          sent.within,
+          none_told programme options bytes file.frames file.unread refl
+              (events_of_first (task_of programme options file.unread) file.frames pes)
+              (frames_named programme options bytes file.frames file.unread refl pes sent.within)
+              sent.none,
+        ))
+
+-- ---- the PES packet at which the source failed
+
+-- Where the source tells nothing, its bytes may be any PES packets.
+any_packets : (n : ℕ)
+    → AllByRecursion (λ b. (v : PesValue) × IsPesPacket v b)
+    (replicate n (canonical_packet empty_value))
+any_packets zero = tt
+any_packets (suc n) =
+    let is : IsPesValue empty_value =
+    record { pts = omega arith; few = omega arith; each = tt; in_order = tt } in
+    ((empty_value, canonical_is_packet empty_value is), any_packets n)
+
+-- It failed within a piece, before which none was passed over: within a PES packet. For `check`.
+pub fails_at_packet : (programme : ProgrammeValue) (options : OptionsValue)
+    (empty kept : Option CheckFault) (f : CheckFault) (pes : ℕ) (old new : Option (List ℕ))
+    → empty ≡ None
+    → is_some kept ≡ false
+    → f ≡ fault.Pes pes Pes.Read
+    → FailsAtPiece pes old new
+    → IfTold old (λ bytes. TellsFirst programme options bytes empty kept (Err f))
+    → IfTold old (λ bytes.
+    length (frames_of (take pes (piece_file_of options.origin bytes).pieces)) ≡ pes
+    → FailsAtPacket pes old new)
+    → FailsAtPacket pes old new
+fails_at_packet programme options empty kept f pes None new e quiet is at told sent = record {
+  behind = at.behind;
+  before = record {
+    packets = replicate pes (canonical_packet empty_value);
+    number = length-replicate pes (canonical_packet empty_value);
+    each = any_packets pes;
+    consumed = tt;
+  };
+  within = at.within;
+}
+fails_at_packet programme options empty kept f pes (Some bytes) new e quiet is at told sent =
+    sent bytes refl
+    (sent_before programme options bytes empty kept f pes e quiet (told bytes refl) is).sent

@@ -1,0 +1,236 @@
+-- What is read of a PES file, piece by piece: `reads_on_none`, `reads_on_sent`, `reads_on_passed`;
+-- and what was taken, where the source fails: `packets_taken`.
+use Rattle.std.proofs.lemmas.Bool.Decides.{nat_tests}
+use Rattle.std.proofs.Common.{◌≡◌, ℕ, ◌+◌, ◌-◌, ◌<◌, ◌≤◌}
+use Rattle.std.proofs.Common.{List, [], ◌∷◌, ◌++◌, length, Option, Some}
+use Rattle.std.proofs.Common.{refl, sym, ap, subst, ◌∙◌, append_assoc, arith, length-append}
+use Rattle.std.proofs.lemmas.List.{append-nil}
+use Rattle.sub_rules.specs.FrameRules.{Unread, packets_of_frame}
+use Rattle.sub_rules.specs.Pieces.{Piece, ReadsPiece, ReadsPieces, frames_of}
+use Rattle.sub_rules.specs.Pieces.Piece.{Passed, Sent}
+use Rattle.sub_plan.specs.Options.{OptionsValue}
+use Rattle.ttx_pes.specs.Pieces.{behind_piece}
+use Rattle.sub_rules.specs.Sendings.{IsFrameOf, IsSentFrame}
+use Rattle.sub_rules.specs.Transmission.{SentFrame, Transmission}
+use Rattle.sub_rules.specs.declared.fault.CheckFault.{CheckFault}
+use Rattle.sub_rules.proofs.PieceEventLemmas.{frames_of-append}
+use Rattle.sub_checker.specs.Telling.{AreTaken, AreWhole}
+use Rattle.std.proofs.lemmas.List.Elements.{All-from_recursion}
+use Rattle.std.proofs.lemmas.Slice.Zip.{AllZip-long}
+use Rattle.std.specs.List.{AllByRecursion, AllZip}
+use Rattle.ttx_pes.specs.declared.fault.PesFault.TheVariants.{Read}
+use Rattle.sub_rules.specs.declared.fault.CheckFault.TheVariants as fault
+use Rattle.std.proofs.lemmas.List.Folds.{concat-append}
+use Rattle.ttx_pes.specs.PesPacket.{IsPesPacket, IsPesValue, PesValue}
+use Rattle.ttx_pes.specs.Reader.{TakesPackets, TakesPesPacket}
+use Rattle.sub_rules.proofs.PacketLists.{Each-push}
+use Rattle.sub_rules.specs.PacketRules.{packets_of_units}
+use Rattle.sub_rules.specs.PesFrames.{IsSentAs}
+use Rattle.sub_checker.specs.declared.telling.Accepted.{Accepted}
+use Rattle.std.proofs.Common.{Result, Err}
+use Rattle.ttx_pes.specs.DataUnit.{IsUnit, UnitValue}
+
+-- ---- frames and their packets
+
+-- The packets of units have 42 bytes.
+pub whole_units :
+    (units : List UnitValue)
+    → AllByRecursion IsUnit units
+    → AllByRecursion (λ packet. length packet ≡ 42) (packets_of_units units)
+whole_units [] h = tt
+whole_units (u ∷ units) h = (h.0.packet.size, whole_units units h.1)
+
+-- Two lists that agree place by place, and one item more of each.
+pub zip_push :
+    {A B : Type 0} (R : A → B → Type 0) (xs : List A) (ys : List B) (x : A) (y : B)
+    → AllZip R xs ys
+    → R x y
+    → AllZip R (xs ++ x ∷ []) (ys ++ y ∷ [])
+zip_push R [] [] x y h r = (r, tt)
+zip_push R [] (b ∷ ys) x y h r = elim h [ ]
+zip_push R (a ∷ xs) [] x y h r = elim h [ ]
+zip_push R (a ∷ xs) (b ∷ ys) x y h r = (h.0, zip_push R xs ys x y h.1 r)
+
+-- What is sent again is what was sent before; the first sending is sent again after itself. For
+-- `judge`.
+pub again_is :
+    (frames : Transmission) (n frame : ℕ) (ps kept : List (List ℕ))
+    → IsSentFrame frames n frame ps
+    → (0 < n → packets_of_frame frames (n - 1) ≡ kept)
+    → kept ≡ ps
+    → packets_of_frame frames (n - 1) ≡ ps
+again_is frames n frame ps kept is before same = grind (arith, nat_tests)
+
+-- ---- pieces that are read
+
+-- Of the pieces of a file these first ones are read, and the others are left.
+pub record ReadsOn
+    (options : OptionsValue) (bytes : List ℕ) (all : List Piece) (unread : Option Unread)
+    (remaining : Option (List ℕ)) (pes : ℕ) (done : List Piece)
+    : Type 0 where
+  pub ahead : List Piece
+  pub parts : all ≡ done ++ ahead
+  pub count : length done ≡ pes
+  pub rest : List ℕ
+  pub rest_is : remaining ≡ Some rest
+  pub left : ReadsPieces options.origin pes rest ahead unread
+  pub taken :
+      length (frames_of done) ≡ length done
+      → AreTaken options.origin bytes (frames_of done) rest
+  pub whole : AreWhole (frames_of done)
+
+-- Before the first of them.
+pub reads_on_none : (options : OptionsValue) (all : List Piece) (unread : Option Unread)
+    (remaining : Option (List ℕ)) (bytes : List ℕ)
+    → remaining ≡ Some bytes
+    → ReadsPieces options.origin 0 bytes all unread
+    → ReadsOn options bytes all unread remaining 0 []
+unfolding frames_of
+reads_on_none options all unread remaining bytes told reads = record {
+  ahead = all;
+  parts = refl;
+  count = refl;
+  rest = bytes;
+  rest_is = told;
+  left = reads;
+  taken = λ e. record { values = []; packets = []; each = tt; sent = tt; joined = refl };
+  whole = tt;
+}
+
+-- At most as many frames are sent as there are pieces.
+pub frames_few : (pieces : List Piece) → length (frames_of pieces) ≤ length pieces
+unfolding frames_of
+frames_few [] = omega arith
+frames_few (Sent s ∷ pieces) = let l = frames_few pieces in omega arith
+frames_few (Passed u ∷ pieces) = let l = frames_few pieces in omega arith
+
+-- One packet more is taken.
+taken_sent : (origin : ℕ) (bytes rest : List ℕ) (frames : Transmission) (v : PesValue) (frame : ℕ)
+    (old new : Option (List ℕ))
+    → AreTaken origin bytes frames rest
+    → old ≡ Some rest
+    → new ≡ Some (behind_piece rest)
+    → TakesPesPacket old new v
+    → IsFrameOf origin v.pts frame
+    → AreTaken origin bytes
+    (frames ++ record { frame = frame; packets = packets_of_units v.units } ∷ [])
+    (behind_piece rest)
+taken_sent origin bytes rest frames v frame old new taken was is takes of =
+    let parts : rest ≡ takes.bytes ++ behind_piece rest = rw (was, is) at takes.consumed in
+    record {
+      values = taken.values ++ v ∷ [];
+      packets = taken.packets ++ takes.bytes ∷ [];
+      each = zip_push IsPesPacket taken.values taken.packets v takes.bytes taken.each
+          takes.is_packet;
+      sent = zip_push (IsSentAs origin) taken.values frames v _ taken.sent (record {
+        in_day = of.in_day;
+        pts = sym of.is;
+        packets = refl;
+      });
+      joined = grind (arith, concat-append, append_assoc);
+    }
+
+-- The packets that were taken as frames, as PES packets of the grammar.
+each_packet : (values : List PesValue) (packets : List (List ℕ))
+    → AllZip IsPesPacket values packets
+    → AllByRecursion (λ b. (v : PesValue) × IsPesPacket v b) packets
+each_packet [] [] each = tt
+each_packet (v ∷ values) (b ∷ packets) each = ((v, each.0), each_packet values packets each.1)
+each_packet [] (b ∷ packets) each = elim each [ ]
+each_packet (v ∷ values) [] each = elim each [ ]
+
+pub packets_taken : {origin : ℕ} (bytes : List ℕ) (frames : Transmission) (rest : List ℕ) (n : ℕ)
+    (old new : Option (List ℕ))
+    → AreTaken origin bytes frames rest
+    → length frames ≡ n
+    → old ≡ Some bytes
+    → new ≡ Some rest
+    → TakesPackets n old new
+packets_taken {origin} bytes frames rest n old new taken number was is = record {
+  packets = taken.packets;
+  number =
+      AllZip-long IsPesPacket taken.values taken.packets taken.each
+      ∙ sym (AllZip-long (IsSentAs origin) taken.values frames taken.sent) ∙ number;
+  each = each_packet taken.values taken.packets taken.each;
+  consumed = rw (was, is) taken.joined;
+}
+
+-- Two faults that name the PES packet at which the source failed name one.
+pub named_pes : (f : CheckFault) (n pes : ℕ)
+    → f ≡ fault.Pes n Read
+    → (let r : Result (Option Accepted) CheckFault = Err f in r) ≡ Err (fault.Pes pes Read)
+    → pes ≡ n
+named_pes f n pes here is = let same = sym here in cc
+
+-- Its packets have 42 bytes.
+whole_sent : (frames : Transmission) (v : PesValue) (frame : ℕ)
+    → AreWhole frames
+    → IsPesValue v
+    → AreWhole (frames ++ record { frame = frame; packets = packets_of_units v.units } ∷ [])
+whole_sent frames v frame before is =
+    let whole = whole_units v.units is.each in
+    grind (arith, nat_tests, Each-push, All-from_recursion)
+
+-- One more of them, which is sent or passed over.
+module _ (options : OptionsValue) (bytes : List ℕ) (all : List Piece) (unread : Option Unread)
+    (before after : Option (List ℕ)) (pes : ℕ) (done : List Piece)
+    (at : ReadsOn options bytes all unread before pes done)
+    (left : after ≡ Some (behind_piece at.rest))
+  where
+    reads_on_more : (p : Piece)
+        → ReadsPiece options.origin pes at.rest at.ahead unread p
+        → (length (frames_of (done ++ p ∷ [])) ≡ length (done ++ p ∷ [])
+        → AreTaken options.origin bytes (frames_of (done ++ p ∷ [])) (behind_piece at.rest))
+        → AreWhole (frames_of (done ++ p ∷ []))
+        → ReadsOn options bytes all unread after (pes + 1) (done ++ p ∷ [])
+    reads_on_more p next taken whole = record {
+      ahead = next.more;
+      parts =
+          at.parts ∙ ap (λ (l : List Piece). done ++ l) next.first
+          ∙ sym (append_assoc done (p ∷ []) next.more);
+      count = length-append done (p ∷ []) ∙ ap (λ (k : ℕ). k + 1) at.count;
+      rest = behind_piece at.rest;
+      rest_is = left;
+      left = next.left;
+      taken = taken;
+      whole = whole;
+    }
+
+    pub reads_on_sent : (v : PesValue) (frame : ℕ)
+        → ReadsPiece options.origin pes at.rest at.ahead unread
+        (Sent (record { frame = frame; packets = packets_of_units v.units }))
+        → IsFrameOf options.origin v.pts frame
+        → TakesPesPacket before after v
+        → IsPesValue v
+        → ReadsOn options bytes all unread after (pes + 1)
+        (done ++ Sent (record { frame = frame; packets = packets_of_units v.units }) ∷ [])
+    unfolding frames_of
+    reads_on_sent v frame next of takes value =
+        let s : SentFrame = record { frame = frame; packets = packets_of_units v.units } in
+        let list : frames_of (done ++ Sent s ∷ []) ≡ frames_of done ++ s ∷ [] =
+        frames_of-append done (Sent s ∷ []) in
+        reads_on_more (Sent s) next
+        (λ e.
+        subst (λ (fs : Transmission). AreTaken options.origin bytes fs (behind_piece at.rest))
+        (sym list)
+        (taken_sent options.origin bytes at.rest (frames_of done) v frame before after
+        (at.taken (omega (
+          arith,
+          e,
+          ap length list,
+          length-append (frames_of done) (s ∷ []),
+          length-append done (Sent s ∷ []),
+        ))) at.rest_is left takes of))
+        (subst AreWhole (sym list) (whole_sent (frames_of done) v frame at.whole value))
+
+    pub reads_on_passed : (u : Unread)
+        → ReadsPiece options.origin pes at.rest at.ahead unread (Passed u)
+        → ReadsOn options bytes all unread after (pes + 1) (done ++ Passed u ∷ [])
+    unfolding frames_of
+    reads_on_passed u next =
+        let list : frames_of (done ++ Passed u ∷ []) ≡ frames_of done =
+        frames_of-append done (Passed u ∷ []) ∙ append-nil (frames_of done) in
+        let few = frames_few done in
+        reads_on_more (Passed u) next
+        (λ e. absurd (omega (arith, e, few, ap length list, length-append done (Passed u ∷ []))))
+        (subst AreWhole (sym list) at.whole)
