@@ -288,16 +288,8 @@ counted_by : (b : Bool) (old new : ℕ) (status : Status)
     → RisesIf old b new
     → (b ≡ true → status ≢ Fault → ⊥)
     → Counts old status new
-counted_by true old new status rises is = record {
-  kept = λ other. absurd (is refl other);
-  risen = omega (arith, rises);
-  once = omega (arith, rises);
-}
-counted_by false old new status rises is = record {
-  kept = λ other. omega (arith, rises);
-  risen = omega (arith, rises);
-  once = omega (arith, rises);
-}
+counted_by true old new status rises is = grind (arith, is)
+counted_by false old new status rises is = grind (arith, nat_tests)
 
 -- An answer that tells that a source failed has the status `Fault`.
 fault-status : (is_one : CheckFault → Bool)

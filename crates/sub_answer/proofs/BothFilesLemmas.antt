@@ -1,9 +1,10 @@
 -- What the status of a check tells of both files, by the listing that goes with it. Main lemmas:
 -- status-told, good-accepted, accepted-ok.
-use Rattle.std.proofs.Common.{◌≡◌, ◌≢◌, ◌↔◌, ◌∙◌, ap, refl, sym, subst, ℕ, List, Bool, true}
+use Rattle.std.proofs.Common.{◌≡◌, ◌≢◌, ◌↔◌, ◌∙◌, ap, arith, refl, sym, subst, ℕ, List, Bool, true}
 use Rattle.std.proofs.Common.{false, Result, Ok, Err}
 use Rattle.std.specs.Prelude.{⊤, IsOk}
 use Rattle.std.proofs.lemmas.Bool.{true≢false}
+use Rattle.std.proofs.lemmas.Bool.Decides.{nat_tests}
 use Rattle.std.specs.Io.KnownBytes.{Appends}
 use Rattle.sub_io.specs.Device.{failed}
 use Rattle.sub_io.specs.Reading.{IfTold}
@@ -51,18 +52,12 @@ told-runs true other = absurd (other refl)
 told-runs false other = refl
 
 -- That the source of the subtitle file failed is a failure.
-kind-fails : (kind : LoadFaultKind) → is_read_kind kind ≡ true → is_failure_kind kind ≡ true
-kind-fails (load.File stl.Read) is = refl
-kind-fails kind is = cc
-
 pub stl-fails : (f : CheckFault) → is_stl_read f ≡ true → is_failure f ≡ true
-stl-fails (fault.Subtitles f) is = kind-fails f.kind is
-stl-fails f is = absurd (true≢false (sym is))
+stl-fails f is = grind (arith, nat_tests)
 
 -- So is that of the PES file.
 pub pes-fails : (f : CheckFault) → is_pes_read f ≡ true → is_failure f ≡ true
-pes-fails (fault.Pes pes pes_fault.Read) is = refl
-pes-fails f is = cc
+pes-fails f is = grind (arith, nat_tests)
 
 -- A failure of neither source is want of memory.
 memory-kind : (kind : LoadFaultKind)

@@ -3,7 +3,6 @@ use Rattle.std.specs.Prelude.{◌≡◌, ◌≢◌, ⊤, ℕ, ◌<◌, ◌≤◌
 use Rattle.std.specs.Prelude.{Option, Some, None, Result, Ok, Err, IfErr, IsOk}
 use Rattle.std.specs.List.{filter}
 use Rattle.std.specs.Io.KnownBytes.{Consumes}
-use Rattle.sub_io.specs.Device.{failed}
 use Rattle.sub_io.specs.Reading.{IfTold}
 use Rattle.ttx_pes.specs.declared.fault.PesFault.TheVariants.{Read}
 use Rattle.stl_file.specs.Reader.{block_of_byte, outcome_of}

@@ -1,5 +1,5 @@
 -- What `check --all` prints: a line for each event, and a last one.
-use Rattle.std.specs.Prelude.{ℕ, ◌+◌, ◌==◌, min, List, ◌++◌, codes, decimal, Option, Some, None}
+use Rattle.std.specs.Prelude.{ℕ, ◌==◌, min, List, ◌++◌, codes, decimal, Option, Some, None}
 use Rattle.std.specs.Prelude.{Result, Ok, Err, if◌then◌else◌}
 use Rattle.sub_checker.specs.declared.telling.Accepted.{Accepted}
 use Rattle.sub_rules.specs.declared.event.Event.{Event}

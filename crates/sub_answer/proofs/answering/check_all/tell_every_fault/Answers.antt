@@ -37,12 +37,8 @@ returns-in-Err-clause-told g c =
     let e = c.in-Err.ensures in
     after_error (IsToldFault g.K.Sink.contents g.K.Sink.failure_count)
     (value_of g.K.Sink.contents g.K.Sink.failure_count) (λ s t x h. h.1)
-    c.args.national c.args.options.now
-    (source_call g.S.Source.remaining g.S.Source.failure_count c.args.stl.now c.load_all.new.source)
-    (source_call g.T.Source.remaining g.T.Source.failure_count c.args.pes.now c.args.pes.now)
-    (c.args.pes.now ≡ c.args.pes.now)
-    c.args.printer.now c.load_all.new.audience c.requires.goes_on (omega (arith, c.requires.none))
-    refl (omega arith)
+    _ _ _ _ _ c.args.printer.now c.load_all.new.audience c.requires.goes_on
+    (omega (arith, c.requires.none)) refl (omega arith)
     c.in-Err.fault.block c.in-Err.fault.kind (cannot_fail _ _ (λ h. let r = e.stopped h in cc))
     e.kinds e.some_before e.none_before e.count e.memory e.read
 
@@ -58,12 +54,9 @@ returns-in-Ok-None-clause-told g c =
     let e = c.in-Ok-None.ensures in
     after_faults (IsToldFault g.K.Sink.contents g.K.Sink.failure_count)
     (value_of g.K.Sink.contents g.K.Sink.failure_count) (λ s t x h. h.1)
-    c.args.national c.args.options.now
-    (source_call g.S.Source.remaining g.S.Source.failure_count c.args.stl.now c.load_all.new.source)
-    (source_call g.T.Source.remaining g.T.Source.failure_count c.args.pes.now c.args.pes.now)
-    (c.args.pes.now ≡ c.args.pes.now)
-    c.args.printer.now c.load_all.new.audience c.requires.goes_on (omega (arith, c.requires.none))
-    refl (omega arith) _ (λ holds same. still_goes _ _ _ c.requires.out holds same)
+    _ _ _ _ _ c.args.printer.now c.load_all.new.audience c.requires.goes_on
+    (omega (arith, c.requires.none)) refl (omega arith) _
+    (λ holds same. still_goes _ _ _ c.requires.out holds same)
     (e.some (let is = c.in-Ok-None.field-0-is in cc))
     (λ file told. e.told file told (let is = c.in-Ok-None.field-0-is in cc)) e.count
 
@@ -90,11 +83,7 @@ returns-in-Ok-Some-clause-told g c =
     c.check_all.result) kept
     (after_pes (IsToldEvent g.K.Sink.contents g.K.Sink.failure_count)
     (value_of g.K.Sink.contents g.K.Sink.failure_count) (λ s t x h. h.1)
-    c.args.national c.args.options.now
-    (source_call g.S.Source.remaining g.S.Source.failure_count c.args.stl.now c.load_all.new.source)
-    (source_call g.T.Source.remaining g.T.Source.failure_count c.args.pes.now
-    c.check_all.new.source) _
-    _ c.load_all.new.audience c.check_all.new.audience
+    _ _ _ _ _ _ c.load_all.new.audience c.check_all.new.audience
     (ap (λ (p : Printer g.row.K.Denot). p.failed) kept ∙ c.requires.goes_on)
     (let n = ap (λ (p : Printer g.row.K.Denot). p.refused) kept ∙ c.requires.none in
     omega (arith, n))
