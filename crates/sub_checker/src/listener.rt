@@ -330,6 +330,7 @@ impl Listener {
     }
 
     // The rules that a packet of this kind, with this page header, breaks which comes now.
+    #[inline(always)]
     fn broken_rules(
         &self,
         packet: &Packet,
@@ -350,6 +351,7 @@ impl Listener {
     }
 
     // A set, with the rules that a packet breaks by what it is.
+    #[inline(always)]
     fn with_later(&self, rules: RuleSet, packet: &Packet, found: PacketKind) -> RuleSet
         requires kind { found ≡ kind self.now.watched.page packet.now }
         requires row { (row : ℕ) → found ≡ PacketKind.Row row → (1 ≤ row) × (row ≤ 24) }
@@ -396,6 +398,7 @@ impl Listener {
 
     // Hears a packet of this kind, and says whether it is a header of the page. Of a row that was
     // sent, the first packet stays.
+    #[inline(always)]
     fn hear(&mut self, packet: &Packet, found: PacketKind, page_header: Option<Header>) -> bool
         requires kind { found ≡ kind self.old.watched.page packet.now }
         requires page_header { page_header ≡ header packet.now }

@@ -34,6 +34,7 @@ pub struct Sending {
 /// # Errors
 ///
 /// `Pes` with the fault of the packet, `OffFrame` where its PTS is that of no frame of the day.
+#[inline(always)]
 pub fn next_sending<S: Source>(
     reader: &mut ComparingReader,
     source: &mut S,

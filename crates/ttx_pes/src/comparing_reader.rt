@@ -106,6 +106,7 @@ impl ComparingReader {
     /// of a data field that is sent again were read before. After `Flags` to `LineOrder` exactly
     /// the packet's bytes were taken, and `pass_over` lets reading go on.
     #[tactic(auto, using(sub_io::proofs::CallLemmas::pulls))]
+    #[inline(always)]
     pub fn next<S: Source>(&mut self, source: &mut S) -> Result<Compared, PesFault>
         requires { CanFail (S.failure_count source.old) }
         ensures tells { TellsPacket self.old.progress (S.remaining source.old)

@@ -48,6 +48,7 @@ impl Model for KeptFrame {
 }
 
 // Takes the next packet into a room, and compares it with the one that is held in another.
+#[inline(never)]
 fn read_compared<S: Source>(
     given: u32,
     source: &mut S,

@@ -67,6 +67,7 @@ fn fill_on<S: Source>(
 // Takes the next packet's bytes into the room and answers how many they are, `None` at the end of
 // the source. No pull comes before the faults that the bytes held already show.
 #[tactic(auto, using(sub_io::proofs::CallLemmas::pulls))]
+#[inline(always)]
 pub(crate) fn take_packet<S: Source>(
     given: u32,
     source: &mut S,
