@@ -1,19 +1,19 @@
 -- A run of quiet frames, put into what is told part by part: `with_run-append`, `run_over-append`;
--- where there is none, nothing is put in: `with_run-none`. Without what is trusted all events are
--- those that tell what is broken: `untrusted-all`, `untrusted-first`.
+-- where there is none, nothing is put in: `with_run-none`. What is told of a frame names its PES
+-- packet, and tells nothing of what is trusted: `own_frame`.
 use Rattle.std.proofs.lemmas.Bool.Decides.{nat_tests}
-use Rattle.std.proofs.Common.{◌≡◌, ℕ, zero, suc, List, [], ◌∷◌, ◌++◌, length, map, Option, Some}
+use Rattle.std.proofs.Common.{◌≡◌, ℕ, zero, suc, List, [], ◌∷◌, ◌++◌, map, Option, Some}
 use Rattle.std.proofs.Common.{None, refl, sym, ap, ap₂, ◌∙◌, append_assoc, arith}
-use Rattle.std.proofs.lemmas.List.{append-nil, map-append}
-use Rattle.sub_rules.specs.Events.{Standing, closing_events, end_events, endings, events}
-use Rattle.sub_rules.specs.Events.{events_of_first, first_header_events, first_told, frame_events}
+use Rattle.std.proofs.lemmas.List.{map-append}
+use Rattle.sub_rules.specs.Events.{Standing, closing_events, end_events, endings}
+use Rattle.sub_rules.specs.Events.{first_header_events, frame_events}
 use Rattle.sub_rules.specs.Events.{gap_events, nothing_stands, order_events, packet_events}
 use Rattle.sub_rules.specs.Events.{packet_fault, rest_events, rules_told}
 use Rattle.sub_rules.specs.FrameRules.{Task, Unread}
 use Rattle.sub_rules.specs.PieceEvents.{at_pes}
 use Rattle.sub_rules.specs.Transmission.{Transmission}
-use Rattle.sub_rules.specs.Trusted.{all_events, all_events_of_first, doubted}
-use Rattle.sub_rules.specs.Trusted.{kept, last_trusted, run_over}
+use Rattle.sub_rules.specs.Trusted.{doubted}
+use Rattle.sub_rules.specs.Trusted.{kept, run_over}
 use Rattle.sub_rules.specs.Trusted.{trusted_before, with_run}
 use Rattle.sub_rules.specs.declared.event.Event.{Event}
 use Rattle.sub_rules.specs.declared.event.Event.TheVariants.{Ended, PassedUntil, Told, Trusted}
@@ -28,12 +28,6 @@ kept-none (Some f) = refl
 trusted-none : (d : Option ℕ) → trusted_before None d ≡ []
 trusted-none None = refl
 trusted-none (Some f) = refl
-
-pub run_over-none : (last : ℕ) (es : List Event) → run_over last None es ≡ None
-unfolding run_over
-run_over-none last [] = refl
-run_over-none last (e ∷ es) =
-    ap (λ run. run_over last run es) (kept-none (doubted last e)) ∙ run_over-none last es
 
 pub with_run-none : (last : ℕ) (es : List Event) → with_run last None es ≡ es
 unfolding with_run
@@ -76,36 +70,11 @@ untrusted-append (Told f ∷ xs) ys = ap (λ l. Told f ∷ l) (untrusted-append 
 untrusted-append (PassedUntil f ∷ xs) ys = ap (λ l. PassedUntil f ∷ l) (untrusted-append xs ys)
 untrusted-append (Ended rule f ∷ xs) ys = ap (λ l. Ended rule f ∷ l) (untrusted-append xs ys)
 
--- The first fault is the same.
-pub first_told-untrusted : (es : List Event) → first_told (untrusted es) ≡ first_told es
-first_told-untrusted [] = refl
-first_told-untrusted (Trusted from to ∷ es) = first_told-untrusted es
-first_told-untrusted (Told f ∷ es) = refl
-first_told-untrusted (PassedUntil f ∷ es) = first_told-untrusted es
-first_told-untrusted (Ended rule f ∷ es) = first_told-untrusted es
-
 -- There are none of those among these.
 abbrev pub IsPlain : List Event → Type 0
 IsPlain es = untrusted es ≡ es
 
--- What is put in is none of the others.
-untrusted-put : (run d : Option ℕ) → untrusted (trusted_before run d) ≡ []
-untrusted-put run d = grind (arith, nat_tests)
-
-untrusted-run : (last : ℕ) (run : Option ℕ) (es : List Event)
-    → untrusted (with_run last run es) ≡ untrusted es
-unfolding with_run
-untrusted-run last run [] = refl
-untrusted-run last run (e ∷ es) =
-    let rest = untrusted-run last (kept run (doubted last e)) es in
-    grind (arith, untrusted-append, untrusted-put)
-
 -- ---- what is told of a transmission
-
--- Of two lists that are nothing together neither is anything.
-both_none : {A : Type 0} (xs ys : List A) → xs ++ ys ≡ [] → (xs ≡ []) × (ys ≡ [])
-both_none [] ys none = (refl, none)
-both_none (x ∷ xs) ys none = cc
 
 -- Events that name PES packet `pes`, if one: of a list whose frames are counted as PES packets.
 abbrev pub Names : ℕ → List Event → Type 0
@@ -166,14 +135,6 @@ module _ (g : Task) (frames : Transmission) where
       (own_two i _ _ (own_two i _ _ (own_order i) (own_gap i i _)) (own_packets i _ _ _ _ _))
       (own_header i i)) (own_end i _ _ _ _)
 
-  plain_first : (n : ℕ) → IsPlain (events_of_first g frames n)
-  unfolding events_of_first
-  plain_first zero = refl
-  plain_first (suc n) =
-      let rest = plain_first n in
-      let here = (own_frame n).plain in
-      grind (arith, untrusted-append)
-
   pub plain_closing : (n : ℕ) → IsPlain (closing_events g frames n)
   unfolding closing_events
   plain_closing zero = refl
@@ -183,48 +144,3 @@ module _ (g : Task) (frames : Transmission) where
     where
       rest : (u : Option Unread) → IsPlain (rest_events g frames u)
       rest u = grind (arith, nat_tests)
-
-  -- The first frames.
-  pub untrusted-first : (n : ℕ)
-      → untrusted (all_events_of_first g frames n) ≡ events_of_first g frames n
-  unfolding all_events_of_first events_of_first
-  untrusted-first zero = refl
-  untrusted-first (suc n) =
-      grind (arith, nat_tests, untrusted-append, untrusted-run, own_frame, untrusted-first n)
-
-  -- All.
-  pub untrusted-all : untrusted (all_events g frames) ≡ events g frames
-  unfolding all_events events last_trusted
-  untrusted-all =
-      let last : untrusted (last_trusted g frames) ≡ [] = untrusted_last in
-      let n : ℕ = length frames in
-      untrusted-append (all_events_of_first g frames n ++ last_trusted g frames)
-      (closing_events g frames n)
-      ∙ ap (λ l. l ++ untrusted (closing_events g frames n))
-      (untrusted-append (all_events_of_first g frames n) (last_trusted g frames)
-      ∙ ap (λ l. untrusted (all_events_of_first g frames n) ++ l) last ∙ append-nil _
-      ∙ untrusted-first n)
-      ∙ ap (λ l. events_of_first g frames n ++ l) (plain_closing n)
-    where
-      untrusted_last : untrusted (last_trusted g frames) ≡ []
-      untrusted_last = grind (arith, nat_tests)
-
-  -- The first fault is the same.
-  pub first_told-all : first_told (all_events g frames) ≡ first_told (events g frames)
-  first_told-all =
-      sym (first_told-untrusted (all_events g frames)) ∙ ap first_told untrusted-all
-
-  -- Where nothing is broken nothing is trusted either.
-  none_of_first : (n : ℕ) → events_of_first g frames n ≡ [] → all_events_of_first g frames n ≡ []
-  unfolding all_events_of_first events_of_first with_run
-  none_of_first zero none = refl
-  none_of_first (suc n) none =
-      let parts = both_none (events_of_first g frames n) (frame_events g frames n) none in
-      rw (none_of_first n parts.0, parts.1) refl
-
-  pub all_none : events g frames ≡ [] → all_events g frames ≡ []
-  unfolding all_events events last_trusted
-  all_none none =
-      let n : ℕ = length frames in
-      let parts = both_none (events_of_first g frames n) (closing_events g frames n) none in
-      rw (none_of_first n parts.0, parts.1, parts.0) refl

@@ -9,12 +9,10 @@ use Rattle.std.specs.Prelude.{ℕ, zero, suc, ◌-◌, ◌&&◌, Bool, true, fal
 use Rattle.std.specs.Prelude.{Option, Some, None, is_none, is_some, length, nat_lt}
 use Rattle.std.specs.Prelude.{if◌then◌else◌}
 use Rattle.std.specs.List.{list_any}
-use Rattle.ttx_page.specs.PacketKind.{kind}
-use Rattle.ttx_page.specs.Span.{holds_header}
-use Rattle.sub_rules.specs.Events.{Standing, closing_events, events, events_at_end}
-use Rattle.sub_rules.specs.Events.{events_of_first, first_header_events, frame_events}
+use Rattle.sub_rules.specs.Events.{Standing, events_at_end}
+use Rattle.sub_rules.specs.Events.{events_of_first, first_header_events}
 use Rattle.sub_rules.specs.Events.{packet_events, standing_at}
-use Rattle.sub_rules.specs.FrameRules.{Task, Unread, end_frame, frame_at, packets_before}
+use Rattle.sub_rules.specs.FrameRules.{Task, Unread, frame_at, packets_before}
 use Rattle.sub_rules.specs.FrameRules.{packets_of_frame}
 use Rattle.sub_rules.specs.Transmission.{Transmission}
 use Rattle.sub_rules.specs.declared.event.Event.{Event}
@@ -115,30 +113,6 @@ abbrev pub begun : Option ℕ → Bool → ℕ → Option ℕ
 begun (Some from) has_header f = Some from
 begun None has_header f = if has_header then Some f else None
 
--- The run of quiet frames at the end of the last of the first n frames of the list: the frame of
--- its first header of the page. There is none where that frame is not quiet, or no frame of the run
--- has a header.
-unfoldable pub run_after : Task → Transmission → ℕ → Option ℕ
-run_after g frames zero = None
-run_after g frames (suc i) =
-    if is_quiet g frames i
-    then begun (run_over (frame_before frames i) (run_after g frames i) (frame_events g frames i))
-    (holds_header (kind g.watched.page) (packets_of_frame frames i)) (frame_at frames i)
-    else None
-
--- ---- the whole
-
--- What is told of frame i of the list, and what is trusted before it.
-abbrev pub all_frame_events : Task → Transmission → ℕ → List Event
-all_frame_events g frames i =
-    with_run (frame_before frames i) (run_after g frames i) (frame_events g frames i)
-
--- What is told of the first n frames of the list, and what is trusted before each.
-unfoldable pub all_events_of_first : Task → Transmission → ℕ → List Event
-all_events_of_first g frames zero = []
-all_events_of_first g frames (suc n) =
-    all_events_of_first g frames n ++ all_frame_events g frames n
-
 -- The first frame that is not trusted at the end of the list: the last frame, where bytes are left
 -- that may have been sent in it.
 abbrev pub trust_end : Option Unread → ℕ → ℕ
@@ -149,17 +123,3 @@ trust_end (Some unread) last = last
 abbrev pub tells_none : List Event → Bool
 tells_none [] = true
 tells_none (e ∷ es) = false
-
--- What is trusted of the last run: it is told only where anything is broken.
-unfoldable pub last_trusted : Task → Transmission → List Event
-last_trusted g frames =
-    if tells_none (events g frames)
-    then []
-    else trusted (run_after g frames (length frames)) (trust_end g.unread (end_frame frames))
-
--- All that is told of a transmission, with the frames that may be trusted.
-unfoldable pub all_events : Task → Transmission → List Event
-all_events g frames =
-    all_events_of_first g frames (length frames)
-    ++ last_trusted g frames
-    ++ closing_events g frames (length frames)
