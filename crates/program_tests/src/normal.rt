@@ -1,5 +1,6 @@
 //! `normal`: what is printed of subtitle files, whole and refused.
-use crate::answers::{answer_words, assert_prints, assert_prints_of};
+use crate::answers::{assert_prints, assert_prints_of};
+use answer_fixtures::answer_words;
 use fixtures::{Drip, Endless, HEAD, block, file_of_two, gsi};
 use std::alloc::Global;
 use std::process::Abort;

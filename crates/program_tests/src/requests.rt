@@ -1,7 +1,7 @@
 //! The requests that words are read as.
-use crate::answers::SCHEDULE;
 use crate::asserting::assert_same;
 use crate::normal::NORMAL;
+use answer_fixtures::SCHEDULE;
 use fixtures::options;
 use std::alloc::Global;
 use std::process::Abort;

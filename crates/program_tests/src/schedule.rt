@@ -1,8 +1,9 @@
 //! `schedule`: what is written and printed of subtitle files, and that `check` accepts it.
 ghost use Rattle.sub_io.specs.Device.{CanFail};
 
-use crate::answers::{ACCEPTED, CHECK, SCHEDULE, answer_words, assert_tells};
+use crate::answers::assert_tells;
 use crate::asserting::assert_same_in;
+use answer_fixtures::{ACCEPTED, CHECK, SCHEDULE, answer_words};
 use fixtures::{
     HEAD, HI, TEN, TWO_ROWS, block, file_of, file_of_hi, file_of_two, gsi, head, schedule_of_hi,
 };

@@ -1,8 +1,9 @@
 //! `normal` and `schedule`: what is written where a device fails, and all of it where none does.
 ghost use Rattle.sub_io.specs.Device.{CanFail};
 
-use crate::answers::{SCHEDULE, answer_words, assert_fills};
+use crate::answers::assert_fills;
 use crate::normal::{NORMAL, commented, normal_form};
+use answer_fixtures::{SCHEDULE, answer_words};
 use fixtures::{Watched, file_of_hi, schedule_of_hi};
 use std::alloc::Global;
 use std::process::Abort;

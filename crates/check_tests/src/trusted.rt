@@ -1,6 +1,7 @@
 //! `check --all`: frames that may be trusted beside what is broken, told where it is known.
-use crate::answers::{CHECK_ALL, assert_fills, assert_prints};
+use crate::answers::{assert_fills, assert_prints};
 use crate::every_place::assert_told;
+use answer_fixtures::CHECK_ALL;
 use fixtures::{
     CLOSING, HEADER, ROW, TEN, every_second, file_of_hi, packet_of, push_pes, schedule_of_hi,
 };

@@ -1,6 +1,7 @@
 //! `check`: verdicts on transmissions of `Hi` with one thing changed.
-use crate::answers::{ACCEPTED, CHECK, assert_fills, assert_prints, assert_tells};
+use crate::answers::{assert_fills, assert_prints, assert_tells};
 use crate::asserting::assert_same_in;
+use answer_fixtures::{ACCEPTED, CHECK};
 use fixtures::{
     CLOSING, HEADER, OTHER_HEADER, ROW, TEN, file_of_hi, gsi, in_serial_mode, packet_of, push_pes,
     push_two, schedule_of_hi,

@@ -3,8 +3,8 @@
 ghost use Rattle.std.specs.Prelude.{None, true};
 ghost use Rattle.sub_io.specs.Device.{holds_nothing};
 
-use crate::answers::answer_words;
 use crate::asserting::assert_same_in;
+use answer_fixtures::answer_words;
 use fixtures::{Counting, Drip, Watched, file_of_hi, schedule_of_hi};
 use std::alloc::Global;
 use std::cell::Cell;

@@ -1,8 +1,9 @@
 //! `check --all` where a device fails, or gives no end: what was found before is told, and last of
 //! all the fault, where the output takes it.
-use crate::answers::{ACCEPTED, CHECK_ALL, answer_words, assert_fills, assert_prints, first_lines};
+use crate::answers::{assert_fills, assert_prints};
 use crate::asserting::{assert_same, assert_same_in};
 use crate::every_fault::OF_FIVE;
+use answer_fixtures::{ACCEPTED, CHECK_ALL, answer_words, first_lines};
 use fixtures::{Counting, Drip, Endless, FIRST, file_of_five, file_of_hi, schedule_of_hi};
 use std::alloc::Global;
 use std::process::Abort;

@@ -2,7 +2,8 @@
 //! be trusted beside it.
 ghost use Rattle.std.specs.Prelude.{◌≡◌, length};
 
-use crate::answers::{ACCEPTED, CHECK, assert_all, assert_all_parts, assert_tells};
+use crate::answers::{assert_all, assert_all_parts, assert_tells};
+use answer_fixtures::{ACCEPTED, CHECK};
 use fixtures::{
     CLOSING, HEADER, ROW, TEN, file_of_hi, packet_of, push_pes, push_pes_at, row_of,
     schedule_of_hi, schedule_twice,

@@ -2,8 +2,9 @@
 ghost use Rattle.std.specs.Prelude.{◌≡◌, length};
 ghost use Rattle.sub_io.specs.Device.{CanFail};
 
-use crate::answers::{CHECK, CHECK_ALL, assert_all_parts, assert_prints};
+use crate::answers::{assert_all_parts, assert_prints};
 use crate::asserting::assert_same;
+use answer_fixtures::{CHECK, CHECK_ALL};
 use fixtures::{Counting, Endless, HI, TEN, block, file_of_five, gsi, head, put, schedule_of_hi};
 use std::alloc::Global;
 use std::process::Abort;

@@ -1,6 +1,7 @@
 //! `check --all` of subtitle files that are read on after subtitles that are refused.
 
-use crate::answers::{CHECK, assert_all};
+use crate::answers::assert_all;
+use answer_fixtures::CHECK;
 use fixtures::{HI, TEN, block, gsi, head, schedule_of_hi};
 use std::alloc::Global;
 use std::test::Fail;

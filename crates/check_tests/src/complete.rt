@@ -1,5 +1,6 @@
 //! Complete pages, asked for by `--complete`, and pages that are spread over frames.
-use crate::answers::{ACCEPTED, CHECK, assert_tells};
+use crate::answers::assert_tells;
+use answer_fixtures::{ACCEPTED, CHECK};
 use fixtures::{
     CLOSING, FIRST, HEADER, OTHER_HEADER, ROW, TEN, TWO_ROWS, block, file_of, file_of_hi, head,
     in_serial_mode, push_pes, push_two, row_of, schedule_of_hi,

@@ -1,7 +1,8 @@
 //! Sources that fail at one call, give a byte at a time, or never end: the line names the block or
 //! the PES packet of the byte that was asked for, or tells a fault that was found before.
-use crate::answers::{ACCEPTED, CHECK, SCHEDULE, answer_words, assert_prints};
+use crate::answers::assert_prints;
 use crate::asserting::{assert_same, assert_same_in};
+use answer_fixtures::{ACCEPTED, CHECK, SCHEDULE, answer_words};
 use fixtures::{
     Counting, Drip, Endless, FIRST, SECOND, file_of_hi, file_of_three, gsi, schedule_of_hi,
 };

@@ -1,0 +1,62 @@
+//! Words, and what the program answers to them.
+ghost use Rattle.sub_io.specs.Device.{CanFail};
+
+use std::alloc::Global;
+use sub_answer::{Status, answer, say};
+use sub_io::{Ahead, Flush, MemSink, MemSource};
+use sub_request::Request;
+use sub_words::ParseWords;
+
+/// The words of a check by the defaults of its options.
+pub const CHECK: [&str; 4] = ["subttx", "check", "a", "b"];
+
+/// The same with all that is told.
+pub const CHECK_ALL: [&str; 5] = ["subttx", "check", "--all", "a", "b"];
+
+/// The line of a check of `Hi` and its schedule, of two sendings.
+pub const ACCEPTED: &str = "accepted 51 frames 2 transmissions\n";
+
+/// The words of a schedule by the defaults of its options.
+pub const SCHEDULE: [&str; 4] = ["subttx", "schedule", "a", "b"];
+
+/// Answers words over two sources, a file that is written, and an output.
+pub fn answer_words<'a, S: Ahead, T: Ahead, F: Flush, K: Flush>(
+    alloc: Global,
+    words: &'a [&'a str],
+    first: &mut S,
+    second: &mut T,
+    file: &mut F,
+    out: &mut K,
+) -> Status
+    requires first { CanFail (S.failure_count first.old) }
+    requires second { CanFail (T.failure_count second.old) }
+    requires file { CanFail (F.failure_count file.old) }
+    requires out { CanFail (K.failure_count out.old) }
+{
+    match Request::parse(alloc, words) {
+        Ok(request) => answer(alloc, &request, first, second, file, out),
+        Err(fault) => say(&fault, out),
+    }
+}
+
+/// Answers the words of a check with `--all` after them, over two files in memory; `None` where
+/// there are too many words.
+pub(crate) fn answer_all<'a>(
+    alloc: Global,
+    words: &[&'a str],
+    first: &[u8],
+    second: &[u8],
+    room: &mut [u8],
+) -> Option<Status> {
+    let mut all_words = ["--all"; 20];
+    let len = words.len();
+    if len >= 20 {
+        return None;
+    }
+    all_words[..len].copy_from_slice(words);
+    let (mut first, mut second) = (MemSource::new(first), MemSource::new(second));
+    let (mut file, mut out) = (MemSink::new(&mut []), MemSink::new(room));
+    let words = &all_words[..len + 1];
+    let status = answer_words(alloc, words, &mut first, &mut second, &mut file, &mut out);
+    Some(status)
+}

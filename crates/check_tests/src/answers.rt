@@ -1,0 +1,76 @@
+//! Asserting what is answered to words, over devices in memory.
+ghost use Rattle.sub_io.specs.Device.{CanFail};
+
+use answer_fixtures::{fills, prints, tells, tells_all};
+use std::alloc::Global;
+use std::process::Abort;
+use sub_io::Ahead;
+
+fn assert_right(rt: &impl Abort, is_right: bool, words: &[&str]) {
+    assert!(rt; is_right, "{words:?}");
+}
+
+/// Asserts what is printed for words over two sources, in two parts, and the status that the last
+/// line tells.
+pub fn assert_prints<'a, S: Ahead, T: Ahead>(
+    rt: &(impl Abort + Alloc<A = Global>),
+    words: &'a [&'a str],
+    first: &mut S,
+    second: &mut T,
+    front: &[u8],
+    end: &[u8],
+)
+    requires first { CanFail (S.failure_count first.old) }
+    requires second { CanFail (T.failure_count second.old) }
+{
+    let is_right = prints(rt.alloc(), words, first, second, front, end);
+    assert_right(rt, is_right, words);
+}
+
+/// Asserts what is printed of two files in memory for the words of a check with `--all`, and the
+/// status; and that without it the first line that tells no trusted frames is printed.
+pub fn assert_all<'a>(
+    rt: &(impl Abort + Alloc<A = Global>),
+    words: &'a [&'a str],
+    first: &[u8],
+    second: &[u8],
+    lines: &str,
+) {
+    assert_all_parts(rt, words, first, second, lines, "");
+}
+
+/// Asserts what is printed for the words of a check with `--all`, in two parts.
+pub fn assert_all_parts<'a>(
+    rt: &(impl Abort + Alloc<A = Global>),
+    words: &'a [&'a str],
+    first: &[u8],
+    second: &[u8],
+    front: &str,
+    end: &str,
+) {
+    let is_right = tells_all(rt.alloc(), words, first, second, front, end);
+    assert_right(rt, is_right, words);
+}
+
+/// Asserts what is printed for words over two files in memory, and the status that it tells. Of a
+/// check also that with `--all` it is the first line that tells no trusted frames.
+pub fn assert_tells<'a>(
+    rt: &(impl Abort + Alloc<A = Global>),
+    words: &'a [&'a str],
+    first: &[u8],
+    second: &[u8],
+    want: &str,
+) {
+    assert_right(rt, tells(rt.alloc(), words, first, second, want), words);
+}
+
+/// Asserts what each output gets that has less room than a text: the first of it.
+pub fn assert_fills<'a>(
+    rt: &(impl Abort + Alloc<A = Global>),
+    words: &'a [&'a str],
+    read: (&[u8], &[u8]),
+    written: &[u8],
+    text: &[u8],
+) {
+    assert_right(rt, fills(rt.alloc(), words, read, written, text), words);
+}

@@ -1,0 +1,30 @@
+//! Tests of what a check answers, over devices in memory. Nothing here is part of the product.
+//!
+//! They stand apart from the tests of other answers, since the tests of a crate are proved by one
+//! job.
+#![tactic(auto)]
+
+#[cfg(test)]
+mod answers;
+#[cfg(test)]
+mod asserting;
+#[cfg(test)]
+mod check;
+#[cfg(test)]
+mod complete;
+#[cfg(test)]
+mod every_fault;
+#[cfg(test)]
+mod every_place;
+#[cfg(test)]
+mod failing;
+#[cfg(test)]
+mod live;
+#[cfg(test)]
+mod passed_over;
+#[cfg(test)]
+mod reading_on;
+#[cfg(test)]
+mod stopped;
+#[cfg(test)]
+mod trusted;
