@@ -22,7 +22,11 @@ BAD = ('<svg aria-hidden="true" viewBox="0 0 62 62"><path '
        'd="M20 4H42L58 20V42L42 58H20L4 42V20z" fill="none" '
        'stroke="currentColor" stroke-width="5"/><path d="M21 21L41 41M41 21L21 41" '
        'stroke="currentColor" stroke-width="6"/></svg>')
+UNSEEN = ('<svg aria-hidden="true" viewBox="0 0 62 62"><path d="M31 6L58 55H4z" fill="none" '
+          'stroke="currentColor" stroke-width="5"/><path d="M31 23V40M31 44V50" '
+          'stroke="currentColor" stroke-width="6"/></svg>')
 MOST_PAGES, MOST_LINKS = 200, 100  # of the table of headers, and to subtitles
+MOST_LOST = 5  # places that are told in the box; more are unfolded
 
 SAYS = ("The verdict and the faults are lines that <code>subttx check --all</code> printed, and "
         "nothing else on this page accepts or refuses. The pictures are drawn by a script that is "
@@ -122,12 +126,21 @@ def verdict_box(report: Report) -> str:
         parts.append(meaning_of_verdict(report))
     else:
         parts.append(f"<p>{ACCEPTED}</p>")
-    if report.asked.lost:
-        lost = "".join(f"<li>{shown(words)}</li>" for words in report.asked.lost)
-        parts.append(f'<p class="count bad">{LOST}</p><ul class="lost">{lost}</ul>')
     kind, shape = ("refused", BAD) if verdict.status else ("accepted", GOOD)
+    if report.asked.lost:
+        parts.append(lost_places(report.asked.lost))
+        kind, shape = (kind, shape) if verdict.status else ("unseen", UNSEEN)
     return (f'<div class="verdict {kind}">{shape}<div><p class="line" id="verdict">'
             f'{shown(verdict.line)}</p>{"".join(parts)}</div></div>')
+
+
+def lost_places(places: list[str]) -> str:
+    """That TS packets are lost, and where."""
+    told = "".join(f"<li>{shown(words)}</li>" for words in places)
+    listed = f'<ul class="lost">{told}</ul>'
+    if len(places) > MOST_LOST:
+        listed = f"<details><summary>where</summary>{listed}</details>"
+    return f'<p class="count bad">{LOST}</p>{listed}'
 
 
 def navigation(report: Report) -> str:

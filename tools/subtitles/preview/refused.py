@@ -1,4 +1,4 @@
-"""Reports of refused subtitle files, of what may be trusted, and what stands at the foot."""
+"""Reports of refused subtitle files, of what may be trusted, of what is lost, and the foot."""
 from __future__ import annotations
 
 import hashlib
@@ -10,6 +10,7 @@ from xml.etree.ElementTree import Element
 from ..times import frame_of
 from . import cases
 from .comparing import HTML, Trial, subtitles_of, test_faults
+from .page import MOST_LOST
 from .timeline import WIDTH
 
 SEVERAL = "story.stl 1028=01 1165=00 1289=@1285+4"  # CS, VP and a TCO that is the TCI
@@ -136,7 +137,8 @@ PASSED = {
                 "(20:15:04:00). The last frame before them: 20:15:01:00; the next one: 20:15:05:00."
                 " What they put on air is not known, so no frame is trusted from the one up to the "
                 "other. Pictures at the last frame before that PES packet, 20:15:01:00.",
-                "up to PES packet 3 between 20:15:01:00 and 20:15:05:00", "PES packet 7 can't be read. PTS: 6561630000 (20:15:07:00).",
+                "up to PES packet 3 between 20:15:01:00 and 20:15:05:00",
+                "PES packet 7 can't be read. PTS: 6561630000 (20:15:07:00).",
                 "7 PES packets read. A receiver is followed without 3 others that can't be read, "
                 "or whose PTS is no frame's"], 3),
     "passed-first": (["PES packet 0 can't be read. PTS: 6561000000 (20:15:00:00). The first frame "
@@ -169,6 +171,27 @@ def test_passed_over(trial: Trial) -> None:
     links = [item.get("href") for item in root.iter(HTML + "a")
              if any(True for _ in item.iter(HTML + "rect"))]
     trial.test("passed: marks lead to the list", {"#e1", "#e6"} <= set(links), links)
+
+
+def test_lost(trial: Trial) -> None:
+    """What is lost of a recording stands beside the verdict, which looks like none of the two then
+    where what was seen is accepted. Many places are unfolded."""
+    stl = written(trial, "lost.stl", "story.stl")
+    whole, wrong = (written(trial, name, words) for name, words in (
+        ("lost.pes", "story.pes"), ("hit.pes", "story.pes 863=1C")))
+    for name, pes, count, kind in (("some", whole, 2, "unseen"), ("many", whole, 6, "unseen"),
+                                   ("none", whole, 0, "accepted"), ("refused", wrong, 2, "refused")):
+        places = [f"place {number} <&>" for number in range(count)]
+        lost = [word for place in places for word in ("--lost", place)]
+        done = trial.preview(stl, pes, *lost, "-p", trial.program)
+        root = ElementTree.fromstring(done.stdout)
+        box = next(item for item in root.iter(HTML + "div")
+                   if "verdict" in item.get("class", "").split())
+        trial.test(f"lost, {name}: its look", box.get("class") == f"verdict {kind}", box.attrib)
+        told = ["".join(item.itertext()) for item in box.iter(HTML + "li")]
+        trial.test(f"lost, {name}: its places", told == places, told)
+        folded = [item for item in box.iter(HTML + "details")]
+        trial.test(f"lost, {name}: many are unfolded", bool(folded) == (count > MOST_LOST), count)
 
 
 def test_links_at_the_top(trial: Trial) -> None:
@@ -209,5 +232,5 @@ def test_foot(trial: Trial) -> None:
         trial.test(f"foot: sum of {os.path.basename(path)}", digest in text and path in text)
 
 
-TESTS = [test_refused_subtitles, test_no_transmission, test_trusted, test_passed_over,
+TESTS = [test_refused_subtitles, test_no_transmission, test_trusted, test_passed_over, test_lost,
          test_links_at_the_top, test_foot]
