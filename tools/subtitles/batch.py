@@ -99,7 +99,10 @@ class Batch:
 
 def of_packets(packets: Sequence[bytes]) -> Batch:
     """A batch of PES packets."""
-    return Batch(b"".join(packets), [0, *itertools.accumulate(map(len, packets))])
+    data, lengths = b"".join(packets), set(map(len, packets))
+    if len(lengths) == 1:
+        return Batch(data, range(0, len(data) + 1, lengths.pop()))
+    return Batch(data, [0, *itertools.accumulate(map(len, packets))])
 
 
 def marked(marks: bytes) -> list[int]:
