@@ -24,4 +24,4 @@ pub use Rattle.sub_laws.specs.Laws
 pub use Rattle.sub_laws.specs.Planned
 pub use Rattle.sub_laws.specs.BrokenPlaces
 pub use Rattle.sub_checker.specs.Telling
-pub use Rattle.sub_checker.specs.SentAgain
+pub use Rattle.sub_packets.specs.SentAgain

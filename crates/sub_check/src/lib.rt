@@ -2,9 +2,9 @@
 //! programme is robust.
 //!
 //! Joins `sub_checker`, which tells all that is broken, and `sub_laws`, whose laws say what that
-//! means, and gives their names and those of `sub_rules`. `check` accepts exactly the good
-//! transmissions (`Good` of `sub_rules`), and answers for any other with the first fault that is
-//! told of it (`Events`):
+//! means, and gives their names, those of `sub_rules`, and the law of `sub_packets`. `check`
+//! accepts exactly the good transmissions (`Good` of `sub_rules`), and answers for any other with
+//! the first fault that is told of it (`Events`):
 //!
 //! ```text
 //! check(&programme, &mut source, &options)?; // Accepted { frames: 51, transmissions: 2 }
@@ -20,7 +20,7 @@ mod never_asks;
 
 pub use checking::{check, check_all};
 pub use files::check_files;
-pub use sub_checker::{Accepted, law_of_sent_again};
+pub use sub_checker::Accepted;
 pub use sub_laws::{
     law_of_all_kept, law_of_all_trusted, law_of_broken_places, law_of_clean_spans,
     law_of_clean_stretch, law_of_complete_plan, law_of_first_told, law_of_good,
@@ -28,4 +28,5 @@ pub use sub_laws::{
     law_of_spans_by_packet, law_of_stretch, law_of_sufficient_parts, law_of_trusted,
     law_of_untold_stretch, law_of_whole_recovery, law_of_whole_stretch, law_of_window,
 };
+pub use sub_packets::law_of_sent_again;
 pub use sub_rules::{CheckFault, EndRule, Event, FaultPlace, PacketRule, Watched};

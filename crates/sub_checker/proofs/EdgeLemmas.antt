@@ -9,7 +9,7 @@ use Rattle.stl_rows.specs.Programme.{ProgrammeValue}
 use Rattle.stl_rows.proofs.DuePageLemmas.{edges_alone}
 use Rattle.sub_plan.specs.Schedule.{due_in}
 use Rattle.sub_checker.specs.Checker.{CheckerValue, IsAtFrame, at_frame, is_before}
-use Rattle.sub_checker.specs.declared.listener.Listener.{Listener}
+use Rattle.sub_packets.specs.declared.listener.Listener.{Listener}
 
 -- Up to the next edge the due page stays.
 due_until :

@@ -22,7 +22,7 @@ use Rattle.sub_checker.specs.Following.{Arrives, Follows, HasBegun, Remembers, W
 use Rattle.sub_checker.specs.Following.{arriving_events, ending_events, taking_events}
 use Rattle.sub_rules.specs.FrameRules.{Task, Unread, frame_at, packets_before, packets_of_frame}
 use Rattle.sub_rules.specs.FrameRules.{end_frame, task_with}
-use Rattle.sub_checker.specs.Listener.{Knows, KnowsLast}
+use Rattle.sub_packets.specs.Listener.{Knows, KnowsLast}
 use Rattle.sub_rules.specs.PacketRules.{header_count}
 use Rattle.sub_rules.specs.Transmission.{SentFrame, Transmission}
 use Rattle.sub_rules.specs.declared.end_rule.EndRule.TheVariants as end
@@ -30,7 +30,7 @@ use Rattle.sub_rules.specs.declared.event.Event.{Event}
 use Rattle.sub_rules.specs.declared.event.Event.TheVariants.{Told}
 use Rattle.sub_rules.specs.declared.fault.CheckFault.{CheckFault}
 use Rattle.sub_rules.specs.declared.fault.CheckFault.TheVariants as fault
-use Rattle.sub_checker.specs.declared.listener.Listener.{Listener}
+use Rattle.sub_packets.specs.declared.listener.Listener.{Listener}
 use Rattle.sub_rules.proofs.EndLemmas.{standing_before_is}
 use Rattle.sub_rules.proofs.GrowingLists.{grows_to}
 use Rattle.sub_rules.proofs.PacketLists.{header_count-append, holds-count}

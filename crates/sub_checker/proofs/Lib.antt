@@ -2,15 +2,7 @@ pub mod AnnouncingLemmas
 pub mod EdgeLemmas
 pub mod FollowingLemmas
 pub mod LendingLemmas
-pub mod ListenerLemmas
-pub mod PacketEventLemmas
-pub mod PacketRuleLemmas
 pub mod PieceWaysLemmas
 pub mod ReadsOnLemmas
-pub mod RuleSetLemmas
-pub mod SentAgainLemmas
 pub mod TellingLemmas
-pub mod WrongCellLemmas
 pub mod TrustingLemmas
-pub mod PassedLemmas
-pub mod PassedRunLemmas

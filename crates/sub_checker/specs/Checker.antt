@@ -8,7 +8,7 @@ use Rattle.stl_rows.specs.Programme.{ProgrammeValue}
 use Rattle.ttx_page.specs.PacketKind.{kind}
 use Rattle.ttx_page.specs.Span.{is_open_after}
 use Rattle.sub_rules.specs.Events.{Standing, wrong_after}
-use Rattle.sub_checker.specs.declared.listener.Listener.{Listener}
+use Rattle.sub_packets.specs.declared.listener.Listener.{Listener}
 use Rattle.sub_checker.specs.declared.standing.StandingRules.{StandingRules}
 use Rattle.sub_plan.specs.Schedule.{due_in}
 

@@ -7,7 +7,7 @@ use Rattle.sub_rules.specs.Events.{end_before, events_at_end, first_header_event
 use Rattle.sub_rules.specs.Events.{gap_length, is_gap, latest, nothing_stands, order_events}
 use Rattle.sub_rules.specs.Events.{packet_events, standing_at, standing_before}
 use Rattle.sub_rules.specs.declared.event.Event.{Event}
-use Rattle.sub_checker.specs.Listener.{KnowsLast}
+use Rattle.sub_packets.specs.Listener.{KnowsLast}
 use Rattle.sub_rules.specs.FrameRules.{Task, frame_at, packets_of_frame, packets_before, task_with}
 use Rattle.sub_rules.specs.PacketRules.{header_count}
 

@@ -1,11 +1,8 @@
 pub mod Announcing
 pub mod Checker
-pub mod Comparison
 pub mod Following
 pub mod Lending
-pub mod Listener
 pub mod PieceTelling
-pub mod SentAgain
 pub mod Steps
 pub mod Telling
 pub mod Trusting

@@ -19,13 +19,13 @@ ghost use Rattle.ttx_pes.specs.PesPacket.{most_units};
 ghost use Rattle.sub_rules.specs.PacketRules.{packets_of_units};
 ghost use Rattle.sub_rules.specs.Transmission.{Transmission};
 
-use crate::listener::Listener;
-use crate::standing::{StandingRules, tell_if};
+use crate::standing::StandingRules;
 use crate::telling::Accepted;
 use crate::trusting::Trusting;
 use std::marker::Model;
 use stl_rows::Programme;
 use sub_io::{Audience, Stopped};
+use sub_packets::{Listener, tell_if};
 use sub_plan::Options;
 use sub_rules::{CheckFault, Event, Sending, Watched};
 use ttx_pes::SentUnits;
@@ -82,7 +82,7 @@ impl<'a> Checker<'a> {
     ghost use Rattle.sub_checker.specs.Following.{Arrives, Follows, Waits, arriving_events};
     ghost use Rattle.sub_checker.specs.Following.{ending_events, taking_events, Remembers};
     ghost use Rattle.sub_rules.specs.Sendings.{IsSentFrame};
-    ghost use Rattle.sub_checker.specs.Listener.{Knows, KnowsLast};
+    ghost use Rattle.sub_packets.specs.Listener.{Knows, KnowsLast};
     ghost use Rattle.sub_checker.specs.Steps.{AreCounted};
     ghost use Rattle.sub_checker.specs.Trusting.{JudgesWith};
     ghost use Rattle.sub_rules.specs.Events.{frame_events};

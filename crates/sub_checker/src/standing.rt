@@ -5,6 +5,7 @@ ghost use Rattle.sub_io.specs.Telling.{TellsUntilStopped};
 ghost use Rattle.sub_rules.specs.Events.{content_events, end_events, nothing_stands, rule_events};
 
 use sub_io::{Audience, Stopped};
+use sub_packets::tell_if;
 use sub_rules::{CheckFault, EndRule, Event};
 
 /// What of the three rules of a frame's end stands broken.
@@ -139,24 +140,5 @@ fn tell_rule<A: Audience<Event>>(
     } else {
         let frame = before;
         tell_if(old, Event::Ended { rule, frame }, audience)
-    }
-}
-
-/// Tells an event where it is one.
-#[tactic(auto, using(sub_io::proofs::TellingLemmas::tellings))]
-pub(crate) fn tell_if<A: Audience<Event>>(
-    is_told: bool,
-    event: Event,
-    audience: &mut A,
-) -> Result<(), Stopped>
-    requires goes_on { A.has_stopped audience.old ≡ false }
-    ensures stopped { A.has_stopped audience.new ≡ is_err result }
-    ensures told { TellsUntilStopped A.is_told audience.old audience.new
-        (if is_told then event ∷ [] else []) result }
-{
-    if is_told {
-        audience.tell(event)
-    } else {
-        Ok(())
     }
 }

@@ -6,7 +6,7 @@ use Rattle.sub_checker.specs.Checker.{CheckerValue, after_end, as_standing, stan
 use Rattle.sub_rules.specs.Events.{end_events}
 use Rattle.sub_checker.specs.Following.{Arrives, Follows}
 use Rattle.sub_rules.specs.FrameRules.{packets_before, packets_of_frame}
-use Rattle.sub_checker.specs.Listener.{Knows}
+use Rattle.sub_packets.specs.Listener.{Knows}
 use Rattle.sub_rules.specs.PacketRules.{packets_of_units}
 use Rattle.sub_rules.specs.declared.event.Event.TheVariants.{Told}
 use Rattle.sub_rules.specs.declared.fault.CheckFault.TheVariants as fault

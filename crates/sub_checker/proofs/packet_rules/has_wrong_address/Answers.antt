@@ -1,6 +1,0 @@
--- The test and the fact: PacketRuleLemmas.
-use Rattle.sub_checker.proofs.PacketRuleLemmas.{wrong_address}
-use Rattle.sub_checker.proofs.packet_rules.has_wrong_address.Goals as goal
-
-pub returns : goal.returns
-returns c = wrong_address c.args.packet.now _ c.is_clean_address.ensures

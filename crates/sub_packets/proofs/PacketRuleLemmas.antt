@@ -1,0 +1,123 @@
+-- The tests of a packet's rules: what each adds to the set of the rules that are broken.
+use Rattle.std.proofs.lemmas.Bool.Decides.{nat_tests}
+use Rattle.std.proofs.lemmas.Bool.Decides.{same_from_decides}
+use Rattle.std.proofs.Common.{◌≡◌, ℕ, Bool, true, false, not, ◌&&◌, ◌==◌, cond}
+use Rattle.std.proofs.Common.{List, Option, None, Some, is_some, option_map, bit_or}
+use Rattle.std.proofs.Common.{refl, sym, ap, ◌∙◌, arith}
+use Rattle.std.specs.Bool.{Decides}
+use Rattle.ttx_packet.specs.PacketAddress.{HasExactAddress, address}
+use Rattle.ttx_packet.specs.PageHeader.{HasExactHeader, c11, header}
+use Rattle.ttx_packet.specs.RowPacket.{first_even_byte}
+use Rattle.ttx_packet.specs.declared.header.Header.{Header}
+use Rattle.ttx_page.specs.Differing.{row_differing}
+use Rattle.ttx_page.specs.PacketKind.{kind}
+use Rattle.ttx_page.specs.Span.{is_open_after, span}
+use Rattle.ttx_page.specs.declared.packet_kind.PacketKind.TheVariants.{EndsPage, Other, Row}
+use Rattle.ttx_page.specs.declared.packet_kind.PacketKind.TheVariants.{ThisPage}
+use Rattle.sub_packets.specs.Listener.{held, later_set, rule_set}
+use Rattle.sub_rules.specs.PacketRules.{codes_of, first_header}
+use Rattle.sub_rules.proofs.CodeWordLemmas.{address_decided, header_decided}
+use Rattle.sub_rules.specs.PacketTests.{are_code_words, breaks, first_of_row, is_of_enhancement}
+use Rattle.sub_rules.specs.PacketTests.{is_of_header, is_other_mode, is_other_text}
+use Rattle.sub_rules.specs.PacketTests.{is_subtitle_header}
+use Rattle.sub_rules.specs.declared.packet_rule.Watched.{Watched}
+
+-- ---- code words
+
+-- A test of the same fact, turned round.
+turned : {P : Type 0} (r s : Bool) → Decides r P → Decides s P → not r ≡ not s
+turned r s d e = ap not (same_from_decides r s d e)
+
+-- For `has_wrong_address`.
+pub wrong_address : (p : List ℕ) (r : Bool) → Decides r (HasExactAddress p)
+    → not r ≡ not (are_code_words 0 2 p)
+wrong_address p r d = turned r (are_code_words 0 2 p) d (address_decided p)
+
+-- For `has_wrong_word`.
+pub wrong_header : (p : List ℕ) (r : Bool) → Decides r (HasExactHeader p)
+    → not r ≡ not (are_code_words 2 8 p)
+wrong_header p r d = turned r (are_code_words 2 8 p) d (header_decided p)
+
+-- A packet with a page header is X/0. For `has_wrong_codes`.
+pub header_is_zero :
+    (p : List ℕ) (h : Header) → header p ≡ Some h → is_of_header (address p) ≡ true
+unfolding header
+header_is_zero p h e = grind (arith, nat_tests)
+
+-- ---- a packet by what it is
+
+-- A packet 25 to 28 is neither a header nor a row.
+enhancement_is_other :
+    (w : Watched) (p : List ℕ)
+    → is_of_enhancement w.page (address p) ≡ true
+    → kind w.page p ≡ Other
+unfolding kind
+enhancement_is_other w p e = grind (arith, nat_tests)
+
+-- So any other packet is none.
+pub no_enhancement :
+    (w : Watched) (p : List ℕ)
+    → (kind w.page p ≡ Other → ⊥)
+    → is_of_enhancement w.page (address p) ≡ false
+no_enhancement w p other = grind (arith, nat_tests, enhancement_is_other)
+
+-- Other codes than those that are held of a row.
+other_text :
+    (o : Option (List ℕ)) (codes : List ℕ)
+    → is_other_text o codes ≡ (is_some o && not (row_differing (held o) codes == 0))
+other_text None codes = refl
+other_text (Some q) codes = refl
+
+module _ (w : Watched) (heard : List (List ℕ)) (p : List ℕ) (set : ℕ) where
+  -- A header of the page breaks no later rule but that of its control bits.
+  pub later_this : (h : Header) → kind w.page p ≡ ThisPage h
+      → later_set (λ r. breaks r w heard p) set
+      ≡ cond (not (is_subtitle_header w.national h)) (bit_or set 8) set
+  unfolding breaks
+  later_this h k =
+      let none = no_enhancement w p (λ e. let both = sym k ∙ e in cc) in
+      rw (k, none) (grind (arith, nat_tests))
+
+  -- A header that ends the page breaks none.
+  pub later_ends : kind w.page p ≡ EndsPage → later_set (λ r. breaks r w heard p) set ≡ set
+  unfolding breaks
+  later_ends k =
+      let none = no_enhancement w p (λ e. let both = sym k ∙ e in cc) in
+      rw (k, none) (grind (arith, nat_tests))
+
+  -- Any other packet that is no row may be one that enhances the page.
+  pub later_other : kind w.page p ≡ Other
+      → later_set (λ r. breaks r w heard p) set
+      ≡ cond (is_open_after (kind w.page) heard && is_of_enhancement w.page (address p))
+      (bit_or set 0x40) set
+  unfolding breaks
+  later_other k = rw k (grind (arith, nat_tests))
+
+  -- A row may have an even byte, and other codes than those that are held of it.
+  pub later_row : (y : ℕ) (o : Option (List ℕ)) → kind w.page p ≡ Row y
+      → o ≡ first_of_row w.page (span (kind w.page) heard) y
+      → later_set (λ r. breaks r w heard p) set
+      ≡ (let even : ℕ =
+      cond (is_open_after (kind w.page) heard && is_some (first_even_byte p)) (bit_or set 0x10)
+      set in
+      cond
+      (is_open_after (kind w.page) heard && is_some o
+      && not (row_differing (held o) (codes_of p) == 0))
+      (bit_or even 0x20) even)
+  unfolding breaks
+  later_row y o k e = grind (arith, nat_tests, no_enhancement, other_text)
+
+-- The rules of every packet, and then the later ones. For `broken_rules`.
+pub rules_are :
+    (w : Watched) (heard : List (List ℕ)) (p : List ℕ) (serial : Option Bool)
+    → serial ≡ option_map (λ (h : Header). c11 h) (first_header heard)
+    → rule_set (λ r. breaks r w heard p)
+    ≡ (let address_set : ℕ = cond (not (are_code_words 0 2 p)) (bit_or 0 1) 0 in
+    let header_set : ℕ =
+    cond (is_of_header (address p) && not (are_code_words 2 8 p)) (bit_or address_set 2)
+    address_set in
+    later_set (λ r. breaks r w heard p)
+    (cond (is_other_mode serial (option_map (λ (h : Header). c11 h) (header p)))
+    (bit_or header_set 4) header_set))
+unfolding breaks rule_set
+rules_are w heard p serial e = rw e refl

@@ -1,0 +1,108 @@
+-- Packets of a frame that are passed, one after another, leave all as it is: `passed_run`,
+-- `no_headers_passed`.
+use Rattle.std.proofs.lemmas.Bool.Decides.{nat_tests}
+use Rattle.std.proofs.lemmas.Bool.{cases_lt}
+use Rattle.std.proofs.lemmas.List.{take_more}
+use Rattle.std.proofs.Common.{◌≡◌, ℕ, zero, suc, ◌+◌, ◌-◌, ◌<◌, ◌≤◌, List, [], ◌∷◌, ◌++◌}
+use Rattle.std.proofs.Common.{ap, false, length, subst, sym}
+use Rattle.std.proofs.Common.{get_or, take, refl, ◌∙◌, arith, append_assoc, inl, inr}
+use Rattle.ttx_page.specs.PacketKind.{is_this_page, kind}
+use Rattle.sub_packets.specs.Listener.{BreakNone, IsAlwaysPassed, Knows, rule_set}
+use Rattle.sub_rules.specs.PacketTests.{breaks}
+use Rattle.sub_packets.specs.declared.listener.Listener.{Listener}
+use Rattle.sub_packets.proofs.PacketEventLemmas.{clean_one, packet_events-passed}
+use Rattle.sub_rules.specs.Events.{packet_events}
+use Rattle.sub_rules.specs.PacketRules.{header_count}
+use Rattle.sub_rules.specs.declared.packet_rule.Watched.{Watched}
+use Rattle.sub_rules.proofs.PacketLists.{header_count-push}
+
+-- What is known after the first n packets of a frame, sent after these, where nothing was told of
+-- the packets from a number on.
+pub record IsPassedTo
+    (w : Watched) (frame : ℕ) (heard ps : List (List ℕ)) (s : Listener) (from n : ℕ) : Type 0
+  where
+    pub knows : Knows (heard ++ take n ps) s
+    pub told : packet_events w frame heard ps n ≡ packet_events w frame heard ps from
+    pub clean : BreakNone w heard ps from → BreakNone w heard ps n
+
+-- A packet and those after it. For `hear_all`.
+pub passes_from : (a b : ℕ) (ps : List (List ℕ)) (s : Listener)
+    → IsAlwaysPassed (get_or ps a []) s
+    → ((k : ℕ) → a + 1 ≤ k → k < b → IsAlwaysPassed (get_or ps k []) s)
+    → (k : ℕ) → a ≤ k → k < b → IsAlwaysPassed (get_or ps k []) s
+passes_from a b ps s first later k low high =
+    elim (cases_lt a k) [
+      | inl after ↦ later k (omega arith) high
+      | inr here ↦ let same : k ≡ a = omega arith in rw same first
+    ]
+
+module _ (w : Watched) (ps : List (List ℕ)) (s : Listener) (same : s.watched ≡ w) (a : ℕ) where
+  -- No header is among them.
+  no_headers : (n : ℕ) → n + a ≤ length ps
+      → ((k : ℕ) → a ≤ k → k < n + a → IsAlwaysPassed (get_or ps k []) s)
+      → header_count w.page (take (n + a) ps) ≡ header_count w.page (take a ps)
+  no_headers zero l passes =
+      let none : 0 + a ≡ a = omega arith in ap (λ k. header_count w.page (take k ps)) none
+  no_headers (suc n) l passes =
+      let p = get_or ps (n + a) [] in
+      let before = no_headers n (omega arith) (λ k low high. passes k low (omega arith)) in
+      let none : is_this_page (kind w.page p) ≡ false =
+      rw (← same) ((passes (n + a) (omega arith) (omega arith)).no_header) in
+      let next : n + a + 1 ≡ suc n + a = omega arith in
+      let step : header_count w.page (take (n + a + 1) ps) ≡ header_count w.page (take a ps) =
+      rw (
+        take_more ps (n + a) [] (omega arith),
+        header_count-push w.page (take (n + a) ps) p,
+        none,
+      )
+      (grind (arith, nat_tests)) in
+      ap (λ k. header_count w.page (take k ps)) (sym next) ∙ step
+
+  module _ (frame : ℕ) (heard : List (List ℕ)) where
+    -- One packet more.
+    passed_one : (k : ℕ) → k < length ps → IsAlwaysPassed (get_or ps k []) s
+        → IsPassedTo w frame heard ps s a k
+        → IsPassedTo w frame heard ps s a (k + 1)
+    passed_one k l passes before =
+        let p = get_or ps k [] in
+        let one = passes.passed (heard ++ take k ps) before.knows in
+        let breaks_none : rule_set (λ r. breaks r w (heard ++ take k ps) p) ≡ 0 =
+        rw (← same) one.breaks_none in
+        record {
+          knows =
+              rw (take_more ps k [] l, ← append_assoc heard (take k ps) (p ∷ [])) one.knows;
+          told = packet_events-passed w frame heard ps k breaks_none ∙ before.told;
+          clean = λ clean. clean_one w frame heard ps k p refl (before.clean clean) breaks_none;
+        }
+
+    passed_from : (n : ℕ) → n + a ≤ length ps
+        → ((k : ℕ) → a ≤ k → k < n + a → IsAlwaysPassed (get_or ps k []) s)
+        → Knows (heard ++ take a ps) s
+        → IsPassedTo w frame heard ps s a (n + a)
+    passed_from zero l passes known =
+        let none : a ≡ 0 + a = omega arith in
+        subst (IsPassedTo w frame heard ps s a) none
+        (record { knows = known; told = refl; clean = λ clean. clean })
+    passed_from (suc n) l passes known =
+        let before =
+        passed_from n (omega arith) (λ k low high. passes k low (omega arith)) known in
+        let next : n + a + 1 ≡ suc n + a = omega arith in
+        subst (IsPassedTo w frame heard ps s a) next
+        (passed_one (n + a) (omega arith) (passes (n + a) (omega arith) (omega arith)) before)
+
+  module _ (b : ℕ) (low : a ≤ b) (high : b ≤ length ps)
+      (passes : (k : ℕ) → a ≤ k → k < b → IsAlwaysPassed (get_or ps k []) s) where
+    -- For `hear_all`.
+    pub no_headers_passed : header_count w.page (take b ps) ≡ header_count w.page (take a ps)
+    no_headers_passed =
+        let to : b - a + a ≡ b = omega arith in
+        subst (λ k. header_count w.page (take k ps) ≡ header_count w.page (take a ps)) to
+        (no_headers (b - a) (omega arith) (λ k l h. passes k l (omega arith)))
+
+    -- For `hear_all`.
+    pub passed_run : (frame : ℕ) (heard : List (List ℕ)) → Knows (heard ++ take a ps) s
+        → IsPassedTo w frame heard ps s a b
+    passed_run frame heard known =
+        let to : b - a + a ≡ b = omega arith in
+        subst (IsPassedTo w frame heard ps s a) to
+        (passed_from frame heard (b - a) (omega arith) (λ k l h. passes k l (omega arith)) known)

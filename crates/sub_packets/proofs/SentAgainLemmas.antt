@@ -1,0 +1,198 @@
+-- Packets that are sent again break the same rules again, and what is kept stays:
+-- `law_of_sent_again`, `heard_again`, `kept_last`.
+use Rattle.std.proofs.lemmas.Bool.Decides.{nat_tests}
+use Rattle.std.proofs.Common.{◌≡◌, ℕ, zero, suc, ◌<◌, Bool, true, ◌&&◌, cond, List, [], ◌∷◌}
+use Rattle.std.proofs.Common.{◌++◌, Option, Some, None, option_map, length, get_or}
+use Rattle.std.proofs.Common.{refl, sym, ap, ◌∙◌, subst, arith, append-nil}
+use Rattle.std.specs.List.{filter}
+use Rattle.std.specs.Option.{option_or}
+use Rattle.std.proofs.lemmas.Bool.{or_left}
+use Rattle.ttx_packet.specs.PageHeader.{c11, header}
+use Rattle.ttx_packet.specs.declared.header.Header.{Header}
+use Rattle.ttx_page.specs.declared.packet_kind.PacketKind.TheVariants.{ThisPage}
+use Rattle.ttx_page.specs.PacketKind.{kind, is_this_page}
+use Rattle.ttx_page.specs.Span.{before_end}
+use Rattle.ttx_page.proofs.SpanLists.{after-append, holds-append_right}
+use Rattle.sub_packets.specs.Listener.{BreakNone, Knows, KnowsLast, WereJudged}
+use Rattle.sub_rules.specs.PacketRules.{first_header, header_count}
+use Rattle.sub_rules.specs.PacketTests.{broken_rules, breaks, is_other_mode, packet_rules}
+use Rattle.sub_packets.specs.SentAgain.{BeginsWithHeader, BreakAlike, LawOfSentAgain, LookAlike}
+use Rattle.sub_packets.specs.declared.listener.Listener.{Listener}
+use Rattle.sub_rules.specs.declared.packet_rule.PacketRule.{PacketRule}
+use Rattle.sub_rules.specs.declared.packet_rule.PacketRule.TheVariants as rule
+use Rattle.sub_rules.specs.declared.packet_rule.Watched.{Watched}
+use Rattle.sub_packets.proofs.PacketRuleLemmas.{no_enhancement}
+use Rattle.sub_rules.proofs.PacketLists.{first_header-append}
+
+-- ---- a header of the page
+
+-- A header of the page is a page header.
+header_of :
+    (w : Watched) (p : List ℕ)
+    → is_this_page (kind w.page p) ≡ true
+    → (h : Header) × (header p ≡ Some h) × (kind w.page p ≡ ThisPage h)
+unfolding kind
+header_of w p e = grind (arith, nat_tests)
+
+-- ---- what a rule looks back to
+
+-- Where each rule is broken alike, the broken rules are the same.
+rules_alike :
+    (w : Watched) (b c : List (List ℕ)) (p : List ℕ)
+    → ((r : PacketRule) → breaks r w b p ≡ breaks r w c p)
+    → broken_rules w b p ≡ broken_rules w c p
+unfolding broken_rules
+rules_alike w b c p same = ap (λ test. filter test packet_rules) (λ k r. same r k)
+
+-- A packet breaks the same rules after two lists that look alike.
+breaks_alike :
+    (w : Watched) (b c : List (List ℕ)) (p : List ℕ)
+    → LookAlike w.page b c
+    → (r : PacketRule)
+    → breaks r w b p ≡ breaks r w c p
+unfolding breaks
+breaks_alike w b c p same x = grind (arith, nat_tests)
+
+-- What is kept after one list is what is kept after another that looks alike.
+knows_alike :
+    (b c : List (List ℕ)) (s : Listener) → LookAlike s.watched.page b c → Knows b s → Knows c s
+knows_alike b c s same k = grind (arith, nat_tests)
+
+-- With the same header again, the first stays.
+same_first : (o : Option Header) (h : Header)
+    → option_or o (Some h) ≡ option_or (option_or o (Some h)) (Some h)
+same_first o h = grind arith
+
+-- It is of another mode than the first one where it was before.
+same_mode : (o : Option Header) (h : Header)
+    → is_other_mode (option_map (λ (x : Header). c11 x) (option_or o (Some h))) (Some (c11 h))
+    ≡ is_other_mode (option_map (λ (x : Header). c11 x) o) (Some (c11 h))
+same_mode None h = grind (arith, nat_tests)
+same_mode (Some x) h = refl
+
+module _
+    (w : Watched) (heard : List (List ℕ)) (first : List ℕ)
+    (is : is_this_page (kind w.page first) ≡ true)
+  where
+    -- The first page header after a header of the page and others.
+    first_after :
+        (xs others : List (List ℕ)) (h : Header)
+        → header first ≡ Some h
+        → first_header (xs ++ first ∷ others) ≡ option_or (first_header xs) (Some h)
+    first_after xs others h e = grind (arith, first_header-append)
+
+    -- After a header of the page what came before it does not matter, but for the first header,
+    -- which is then there.
+    alike :
+        (others more : List (List ℕ))
+        → LookAlike w.page (heard ++ first ∷ more) ((heard ++ first ∷ others) ++ first ∷ more)
+    alike others more =
+        let h = header_of w first is in
+        let held = or_left _ _ is in
+        let after =
+        after-append (kind w.page) heard (first ∷ more) held
+        ∙ sym (after-append (kind w.page) (heard ++ first ∷ others) (first ∷ more) held) in
+        record {
+          header_is =
+              first_after heard more h.0 h.1
+              ∙ same_first (first_header heard) h.0
+              ∙ sym
+              (first_after (heard ++ first ∷ others) more h.0 h.1
+              ∙ ap (λ o. option_or o (Some h.0)) (first_after heard others h.0 h.1));
+          open_is = grind (arith, nat_tests, holds-append_right);
+          span_is = ap (before_end (kind w.page)) after;
+        }
+
+    -- The header itself breaks the same rules again.
+    first_again :
+        (others : List (List ℕ)) (r : PacketRule)
+        → breaks r w (heard ++ first ∷ others) first ≡ breaks r w heard first
+    unfolding breaks
+    first_again others rule.Address = refl
+    first_again others rule.HeaderCode = refl
+    first_again others rule.Mode =
+        let h = header_of w first is in
+        rw (first_after heard others h.0 h.1, h.1) (same_mode (first_header heard) h.0)
+    first_again others rule.Control = refl
+    first_again others rule.Parity =
+        let h = header_of w first is in rw h.2 (grind (arith, nat_tests))
+    first_again others rule.RowChanged =
+        let h = header_of w first is in rw h.2 (grind (arith, nat_tests))
+    first_again others rule.Enhancement = grind (arith, nat_tests, header_of, no_enhancement)
+
+    -- And so does each of the packets.
+    breaks_again : (others : List (List ℕ))
+        → BreakAlike w heard (heard ++ first ∷ others) (first ∷ others)
+    breaks_again others zero l =
+        rules_alike w (heard ++ []) ((heard ++ first ∷ others) ++ []) first
+        (λ r.
+        rw (append-nil heard, append-nil (heard ++ first ∷ others)) (sym (first_again others r)))
+    breaks_again others (suc k) l = grind (arith, nat_tests, rules_alike, breaks_alike, alike)
+
+-- Packets that begin with a header of the page break the same rules again.
+pub law_of_sent_again : LawOfSentAgain
+law_of_sent_again w heard packets begins =
+    let first = begins.first in
+    let others = begins.others in
+    subst
+    (λ ps. BreakAlike w heard (heard ++ ps) ps
+    × LookAlike w.page (heard ++ ps) ((heard ++ ps) ++ ps)) (sym begins.packets_are) (
+      breaks_again w heard first begins.is_header others,
+      alike w heard first begins.is_header others others,
+    )
+
+-- ---- what is kept of the packets heard last
+
+-- The packets heard last, sent again. For `hear_sending`.
+pub heard_again :
+    (heard last ps : List (List ℕ)) (headers : ℕ) (s : Listener)
+    → KnowsLast heard last s
+    → s.last ≡ Some headers
+    → last ≡ ps
+    → BreakNone s.watched heard ps (length ps)
+    × KnowsLast (heard ++ ps) ps s
+    × (headers ≡ header_count s.watched.page ps)
+heard_again heard last ps headers s known is same =
+    let j = known.last_is headers is in
+    let law = law_of_sent_again s.watched j.before last j.begins in
+    let clean : BreakNone s.watched heard last (length last) =
+    subst (λ xs. BreakNone s.watched xs last (length last)) (sym j.heard_is)
+    (λ k l. sym (law.0 k l) ∙ j.clean k l) in
+    let alike : LookAlike s.watched.page heard (heard ++ last) =
+    subst (λ xs. LookAlike s.watched.page xs (xs ++ last)) (sym j.heard_is) law.1 in
+    grind (arith, nat_tests, knows_alike, alike)
+
+-- What is kept of the packets heard last, where they were heard just now. For `hear_all`.
+pub kept_last :
+    (w : Watched) (heard ps : List (List ℕ)) (headers : ℕ) (begins clean : Bool) (s : Listener)
+    → s.watched ≡ w
+    → Knows (heard ++ ps) s
+    → headers ≡ header_count w.page ps
+    → (begins ≡ true → (0 < length ps) × (is_this_page (kind w.page (get_or ps 0 [])) ≡ true))
+    → (clean ≡ true → BreakNone w heard ps (length ps))
+    → KnowsLast (heard ++ ps) ps (record s { last = cond (begins && clean) (Some headers) None })
+kept_last w heard ps headers begins clean s same known count is none = record {
+  knows = record {
+    serial_is = known.serial_is;
+    open_is = known.open_is;
+    sent_is = known.sent_is;
+    page_is = known.page_is;
+  };
+  last_is = λ m e.
+      subst (λ v. WereJudged v (heard ++ ps) ps m) (sym same) (go begins clean is none m e);
+}
+  where
+    first : (xs : List (List ℕ)) → 0 < length xs
+        → is_this_page (kind w.page (get_or xs 0 [])) ≡ true
+        → BeginsWithHeader w.page xs
+    first [] some e = absurd (omega arith)
+    first (x ∷ xs) some e = grind arith
+
+    go :
+        (b q : Bool)
+        → (b ≡ true → (0 < length ps) × (is_this_page (kind w.page (get_or ps 0 [])) ≡ true))
+        → (q ≡ true → BreakNone w heard ps (length ps))
+        → (m : ℕ)
+        → cond (b && q) (Some headers) None ≡ Some m
+        → WereJudged w (heard ++ ps) ps m
+    go b q is none m e = grind (arith, nat_tests, first)

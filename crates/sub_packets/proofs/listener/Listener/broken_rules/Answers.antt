@@ -1,0 +1,11 @@
+-- The rules of every packet, and then those of what the packet is: PacketRuleLemmas.
+use Rattle.std.proofs.Common.{arith}
+use Rattle.sub_packets.proofs.PacketRuleLemmas.{rules_are}
+use Rattle.sub_packets.proofs.listener.Listener.broken_rules.Goals as goal
+
+pub returns : goal.returns
+returns c heard known =
+    let is = rules_are c.args.self.now.watched heard c.args.packet.now c.args.self.now.serial
+    known.serial_is in
+    let later = c.with_later.ensures heard known in
+    rw is (grind arith)

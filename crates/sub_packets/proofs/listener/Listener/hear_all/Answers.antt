@@ -1,0 +1,174 @@
+-- One packet on: PacketEventLemmas.
+use Rattle.std.proofs.lemmas.Bool.Decides.{nat_tests}
+use Rattle.std.proofs.Common.{◌≡◌, ℕ, ◌+◌, ◌<◌, ◌≤◌, ◌++◌, ◌&&◌, List, [], ◌∷◌, length, take}
+use Rattle.std.proofs.Common.{get_or, cond, true, refl, sym, ap, ap₂, ◌∙◌, subst, rules}
+use Rattle.std.proofs.Common.{append_assoc, append-nil, arith}
+use Rattle.std.proofs.Common.{map}
+use Rattle.std.specs.List.{filter}
+use Rattle.std.proofs.lemmas.List.{length-map, take_all, take_more}
+use Rattle.ttx_pes.specs.DataUnit.{UnitValue}
+use Rattle.ttx_page.specs.PacketKind.{is_this_page, kind}
+use Rattle.sub_io.specs.Telling.{Tells, TellsPrefix}
+use Rattle.sub_io.proofs.TellingLemmas.{TellsSome-none, TellsSome-trans, Tells-none}
+use Rattle.sub_rules.specs.Events.{packet_events}
+use Rattle.sub_packets.specs.Listener.{BreakNone, Knows, KnowsLast, rule_set}
+use Rattle.sub_rules.specs.PacketRules.{header_count, packets_of_units}
+use Rattle.sub_rules.specs.Events.{packet_fault}
+use Rattle.sub_rules.specs.PacketTests.{breaks, packet_rules}
+use Rattle.sub_rules.specs.declared.event.Event.TheVariants.{Told}
+use Rattle.sub_packets.proofs.PacketEventLemmas.{clean_one, told_one, told_part}
+use Rattle.sub_packets.proofs.PassedRunLemmas.{no_headers_passed, passed_run, passes_from}
+use Rattle.sub_rules.proofs.PacketLists.{header_count-push}
+use Rattle.sub_packets.proofs.RuleSetLemmas.{stopped}
+use Rattle.sub_packets.proofs.SentAgainLemmas.{kept_last}
+use Rattle.sub_packets.proofs.listener.Listener.hear_all.Goals as goal
+
+pub loop-k-init : goal.loop-k-init
+unfolding packet_events
+loop-k-init g c = record {
+  same = refl;
+  due = refl;
+  goes_on = c.requires.goes_on;
+  some = TellsSome-none c.args.audience.now;
+  within = omega arith;
+  few = omega arith;
+  header = refl;
+  begins = λ e. cc;
+  known = λ heard known. (
+    subst (λ xs. Knows xs c.args.self.now) (sym (append-nil heard)) known,
+    Tells-none c.args.audience.now,
+    λ e k l. absurd (omega arith),
+  );
+}
+
+pub loop-k-preserved-then-is_passed : goal.loop-k-preserved-then-is_passed
+loop-k-preserved-then-is_passed g c =
+    let w = c.args.self.now.watched in
+    let k : ℕ = c.loop-k.k in
+    let i = c.loop-k.invariant in
+    let units = c.args.units.now in
+    let ps = packets_of_units units in
+    let next = c.next_heard-k.ensures in
+    let long : length ps ≡ length units = length-map units (λ (u : UnitValue). u.packet) in
+    let low : k ≤ c.next_heard-k.result = omega (arith, next.from) in
+    let high : c.next_heard-k.result ≤ length ps = omega (arith, next.within, long) in
+    let passes = passes_from k c.next_heard-k.result ps c.loop-k.self
+    (rw (← c.packet-sent.ensures) (record {
+      no_header = c.is_passed.ensures.no_header c.if-is_passed.true;
+      passed = λ heard known. c.is_passed.ensures.passed heard known c.if-is_passed.true;
+    })) next.passed in
+    let none =
+    no_headers_passed w ps c.loop-k.self i.same k c.next_heard-k.result low high passes in
+    record {
+      same = i.same;
+      due = i.due;
+      goes_on = i.goes_on;
+      some = i.some;
+      within = next.within;
+      few = omega (arith, i.few, low);
+      header = i.header ∙ sym none;
+      begins = λ e. let b = i.begins e in (omega (arith, b.0, low), b.1);
+      known = λ heard known.
+          let before = i.known heard known in
+          let run = passed_run w ps c.loop-k.self i.same k c.next_heard-k.result low high passes
+          c.args.frame heard before.0 in (
+            run.knows,
+            rw run.told before.1,
+            λ e. run.clean (before.2 e),
+          );
+    }
+
+pub loop-k-preserved : goal.loop-k-preserved
+loop-k-preserved g c =
+    let w = c.args.self.now.watched in
+    let k : ℕ = c.loop-k.k in
+    let p : List ℕ = c.packet.result in
+    let i = c.loop-k.invariant in
+    let units = c.args.units.now in
+    let ps = packets_of_units units in
+    let at : get_or ps k [] ≡ p = sym (c.packet.ensures ∙ c.packet-sent.ensures) in
+    let l : k < length units = search rules in
+    let long : length ps ≡ length units = length-map units (λ (u : UnitValue). u.packet) in
+    let more : take (k + 1) ps ≡ take k ps ++ p ∷ [] =
+    take_more ps k [] (omega (arith, l, long)) ∙ ap (λ x. take k ps ++ x ∷ []) at in
+    let one = c.counted-headers.ensures in
+    let heard_one = c.in_ok-heard.ensures in
+    record {
+      begins = grind arith;
+      same = heard_one.watched ∙ i.same;
+      due = heard_one.due ∙ i.due;
+      goes_on = grind arith;
+      some = TellsSome-trans _ _ _ i.some heard_one.some;
+      within = omega (arith, l);
+      few = search rules;
+      header =
+          one
+          ∙ ap₂ (λ n t. n + cond t 1 0) i.header
+          (heard_one.header ∙ ap (λ v. is_this_page (kind v.page p)) i.same)
+          ∙ sym (ap (header_count w.page) more ∙ header_count-push w.page (take k ps) p);
+      known = λ heard known.
+          let before = i.known heard known in
+          let told =
+          subst (λ v. Tells g.A.Audience.is_told c.loop-k.audience c.judge.new.audience
+          (map (λ r. Told (packet_fault r c.args.frame k))
+          (filter (λ r. breaks r v (heard ++ take k ps) p) packet_rules)))
+          i.same (heard_one.told (heard ++ take k ps) before.0) in
+          let new = heard_one.knows (heard ++ take k ps) before.0 in (
+            subst (λ xs. Knows xs c.judge.new.self)
+                (append_assoc heard (take k ps) (p ∷ []) ∙ ap (λ xs. heard ++ xs) (sym more)) new,
+            told_one w c.args.frame heard ps k p _ _ _ at before.1 told,
+            λ e.
+                let parts : (c.loop-k.is_clean && c.in_ok-heard.heard.is_clean) ≡ true =
+                sym c.stays_clean-is_clean.ensures ∙ e in
+                let clean =
+                subst (λ v. rule_set (λ r. breaks r v (heard ++ take k ps) p) ≡ 0) i.same
+                (heard_one.clean (heard ++ take k ps) before.0 (grind (arith, nat_tests))) in
+                clean_one w c.args.frame heard ps k p at (before.2 (grind (arith, nat_tests))) clean,
+          );
+    }
+
+pub returns-in_err-heard-clause-knows : goal.returns-in_err-heard-clause-knows
+returns-in_err-heard-clause-knows g c heard known =
+    let w = c.args.self.now.watched in
+    let k : ℕ = c.loop-k.k in
+    let p : List ℕ = c.packet.result in
+    let i = c.loop-k.invariant in
+    let units = c.args.units.now in
+    let ps = packets_of_units units in
+    let l : k < length units = search rules in
+    let long : length ps ≡ length units = length-map units (λ (u : UnitValue). u.packet) in
+    let at : get_or ps k [] ≡ p = sym (c.packet.ensures ∙ c.packet-sent.ensures) in
+    let before = i.known heard known in
+    let told =
+    subst (λ v. TellsPrefix g.A.Audience.is_told c.loop-k.audience c.judge.new.audience
+    (map (λ r. Told (packet_fault r c.args.frame k))
+    (filter (λ r. breaks r v (heard ++ take k ps) p) packet_rules)))
+    i.same (c.in_err-heard.ensures.told (heard ++ take k ps) before.0) in
+    stopped c.from_residual.result _ _ c.from_residual.ensures.0
+    (told_part w c.args.frame heard ps k p _ _ _ at before.1 (length ps) (omega (arith, l, long))
+    told)
+
+pub returns-clause-knows : goal.returns-clause-knows
+returns-clause-knows g c heard known =
+    let w = c.args.self.now.watched in
+    let i = c.loop-k.invariant in
+    let units = c.args.units.now in
+    let ps = packets_of_units units in
+    let long : length ps ≡ length units = length-map units (λ (u : UnitValue). u.packet) in
+    let k : c.loop-k.k ≡ length ps = search (rules, long) in
+    let all : take c.loop-k.k ps ≡ ps = take_all c.loop-k.k ps (omega (arith, k)) in
+    let r = i.known heard known in
+    let knows : Knows (heard ++ ps) c.loop-k.self =
+    subst (λ xs. Knows (heard ++ xs) c.loop-k.self) all r.0 in
+    let count : c.loop-k.headers ≡ header_count w.page ps =
+    i.header ∙ ap (header_count w.page) all in (
+      subst (λ m. KnowsLast (heard ++ ps) ps (record c.loop-k.self { last = m }))
+          (sym c.last_headers-self.ensures)
+          (kept_last w heard ps c.loop-k.headers c.loop-k.begins c.loop-k.is_clean c.loop-k.self
+          i.same knows count (λ e. let b = i.begins e in (omega (arith, b.0, k), b.1))
+          (λ e. subst (BreakNone w heard ps) k (r.2 e))),
+      count,
+      subst
+          (λ n. Tells g.A.Audience.is_told c.args.audience.now c.loop-k.audience
+          (packet_events w c.args.frame heard ps n)) k r.1,
+    )

@@ -1,0 +1,37 @@
+-- The rules that the packets so far break are told, and what is kept is what they say.
+use Rattle.std.proofs.Common.{◌≡◌, ◌≤◌, ◌<◌, ℕ, List, [], ◌++◌, take, get_or, length}
+use Rattle.std.proofs.Common.{◌-◌, true, false}
+use Rattle.ttx_page.specs.PacketKind.{is_this_page, kind}
+use Rattle.sub_io.specs.Telling.{Tells, TellsSome}
+use Rattle.sub_rules.specs.Events.{packet_events}
+use Rattle.sub_packets.specs.Listener.{BreakNone, Knows}
+use Rattle.sub_rules.specs.PacketRules.{header_count, packets_of_units}
+use Rattle.sub_packets.proofs.listener.Listener.hear_all.Given as goal
+
+abbrev pub decreases-loop-k : goal.decreases-loop-k
+decreases-loop-k g l = length l.units - l.k
+
+abbrev pub invariant-loop-k : goal.invariant-loop-k
+invariant-loop-k g l = record {
+  same : l.self.watched ≡ l.initial.self.watched;
+  due : l.self.comparison.due ≡ l.initial.self.comparison.due;
+  goes_on : g.A.Audience.has_stopped l.audience ≡ false;
+  some : TellsSome g.A.Audience.is_told l.initial.audience l.audience;
+  within : l.k ≤ length l.units;
+  few : l.headers ≤ l.k;
+  header :
+      l.headers ≡ header_count l.initial.self.watched.page (take l.k (packets_of_units l.units));
+  begins :
+      l.begins ≡ true
+      → (0 < l.k)
+      × (is_this_page (kind l.initial.self.watched.page (get_or (packets_of_units l.units) 0 []))
+      ≡ true);
+  known :
+      (heard : List (List ℕ))
+      → Knows heard l.initial.self
+      → Knows (heard ++ take l.k (packets_of_units l.units)) l.self
+      × Tells g.A.Audience.is_told l.initial.audience l.audience
+      (packet_events l.initial.self.watched l.frame heard (packets_of_units l.units) l.k)
+      × (l.is_clean ≡ true
+      → BreakNone l.initial.self.watched heard (packets_of_units l.units) l.k);
+}

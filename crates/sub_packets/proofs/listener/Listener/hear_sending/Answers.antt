@@ -1,0 +1,23 @@
+-- Packets that broke no rule break none again: SentAgainLemmas.
+use Rattle.std.proofs.Common.{length}
+use Rattle.sub_io.proofs.TellingLemmas.{Tells-none}
+use Rattle.sub_rules.specs.PacketRules.{packets_of_units}
+use Rattle.sub_packets.proofs.PacketEventLemmas.{packet_events-none}
+use Rattle.sub_packets.proofs.SentAgainLemmas.{heard_again}
+use Rattle.sub_packets.proofs.listener.Listener.hear_sending.Goals as goal
+
+pub returns-in-Some-clause-knows : goal.returns-in-Some-clause-knows
+returns-in-Some-clause-knows g c heard last known same =
+    let ps = packets_of_units c.args.units.now in
+    let w = c.args.self.now.watched in
+    let again =
+    heard_again heard last ps c.in-Some.headers c.args.self.now known c.in-Some.is
+    (same c.if-again.true) in (
+      again.1,
+      again.2,
+      rw (packet_events-none w c.args.frame heard ps (length ps) again.0)
+          (Tells-none c.args.audience.now),
+    )
+
+pub returns-clause-knows : goal.returns-clause-knows
+returns-clause-knows g c heard last known same = c.hear_all.ensures.knows heard known.knows

@@ -1,0 +1,18 @@
+-- A packet more that is passed.
+use Rattle.std.proofs.Common.{◌≡◌, inl, inr, arith}
+use Rattle.std.proofs.lemmas.Bool.{cases_lt}
+use Rattle.sub_packets.proofs.listener.Listener.next_heard.Goals as goal
+
+pub loop-k-preserved : goal.loop-k-preserved
+loop-k-preserved c j low high =
+    let passed = c.is_passed.ensures in
+    let is = c.if-not-is_passed.false in
+    elim (cases_lt j c.loop-k.k) [
+      | inl before ↦ c.loop-k.invariant j low before
+      | inr last ↦
+          let same : j ≡ c.loop-k.k = omega arith in
+          rw (same, ← c.packet.ensures) (record {
+            no_header = passed.no_header is;
+            passed = λ heard known. passed.passed heard known is;
+          })
+    ]

@@ -1,0 +1,3 @@
+pub mod Comparison
+pub mod Listener
+pub mod SentAgain

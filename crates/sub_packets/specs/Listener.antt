@@ -1,0 +1,114 @@
+-- What a listener keeps of the packets that it heard, tied to the packets, whatever rules they
+-- break. Of the crates above, private functions alone cite this.
+use Rattle.std.specs.Prelude.{◌≡◌, ℕ, ◌-◌, ◌<◌, ◌≤◌, Bool, false, List, [], ◌∷◌, ◌++◌, Option}
+use Rattle.std.specs.Prelude.{None, Some, bit_or, if◌then◌else◌, is_some, length, option_map, not}
+use Rattle.std.specs.Prelude.{◌&&◌, ◌==◌}
+use Rattle.std.specs.Prelude.{slice_index_or, take}
+use Rattle.ttx_packet.specs.PageHeader.{c11}
+use Rattle.ttx_packet.specs.declared.header.Header.{Header}
+use Rattle.ttx_page.specs.Page.{blank_row, row_at}
+use Rattle.ttx_page.specs.PacketKind.{is_this_page, kind}
+use Rattle.ttx_page.specs.Span.{is_open_after, span}
+use Rattle.sub_rules.specs.PacketRules.{codes_of, first_header, header_count}
+use Rattle.sub_rules.specs.PacketTests.{breaks, broken_rules, first_of_row, is_same_bit}
+use Rattle.sub_packets.specs.SentAgain.{BeginsWithHeader}
+use Rattle.sub_packets.specs.declared.listener.Listener.{Listener}
+use Rattle.sub_rules.specs.declared.packet_rule.PacketRule.{PacketRule}
+use Rattle.sub_rules.specs.declared.packet_rule.PacketRule.TheVariants as rule
+use Rattle.sub_rules.specs.declared.packet_rule.Watched.{Watched}
+
+-- ---- a set of rules
+
+-- The bit of a rule in a set.
+abbrev pub bit_of : PacketRule → ℕ
+bit_of rule.Address = 1
+bit_of rule.HeaderCode = 2
+bit_of rule.Mode = 4
+bit_of rule.Control = 8
+bit_of rule.Parity = 0x10
+bit_of rule.RowChanged = 0x20
+bit_of rule.Enhancement = 0x40
+
+-- A set, with a rule more where it passes a test.
+abbrev pub with_rule : (PacketRule → Bool) → ℕ → PacketRule → ℕ
+with_rule test set r = if test r then bit_or set (bit_of r) else set
+
+-- The rules of every packet that pass a test.
+abbrev pub first_set : (PacketRule → Bool) → ℕ
+first_set test =
+    with_rule test (with_rule test (with_rule test 0 rule.Address) rule.HeaderCode) rule.Mode
+
+-- A set, with the rules of a packet by what it is that pass a test.
+abbrev pub later_set : (PacketRule → Bool) → ℕ → ℕ
+later_set test set =
+    with_rule test
+    (with_rule test (with_rule test (with_rule test set rule.Control) rule.Parity) rule.RowChanged)
+    rule.Enhancement
+
+-- The set of all rules that pass a test.
+unfoldable pub rule_set : (PacketRule → Bool) → ℕ
+rule_set test = later_set test (first_set test)
+
+-- ---- what is kept
+
+-- What is held of a row: the codes of its first packet; spaces, where there is none.
+abbrev pub held : Option (List ℕ) → List ℕ
+held None = blank_row
+held (Some p) = codes_of p
+
+-- What is kept is what the packets say, looking back over all of them.
+pub record Knows (heard : List (List ℕ)) (s : Listener) : Type 0 where
+  pub serial_is : s.serial ≡ option_map (λ (h : Header). c11 h) (first_header heard)
+  pub open_is : s.is_open ≡ is_open_after (kind s.watched.page) heard
+  -- The rows that the span holds, and of each the codes of its first packet.
+  pub sent_is : (row : ℕ) → 1 ≤ row → row ≤ 24
+      → slice_index_or s.sent (row - 1) false
+      ≡ is_some (first_of_row s.watched.page (span (kind s.watched.page) heard) row)
+  pub page_is : (row : ℕ) → 1 ≤ row → row ≤ 24
+      → row_at s.comparison.page row
+      ≡ held (first_of_row s.watched.page (span (kind s.watched.page) heard) row)
+
+-- The first n packets of a frame, sent after these, break no rule.
+abbrev pub BreakNone : Watched → List (List ℕ) → List (List ℕ) → ℕ → Type 0
+BreakNone w before packets n =
+    (k : ℕ) → k < n → broken_rules w (before ++ take k packets) (slice_index_or packets k []) ≡ []
+
+-- The packets heard last begin with a header of the page, hold `headers` of them, and break no
+-- rule.
+pub record WereJudged (w : Watched) (heard last : List (List ℕ)) (headers : ℕ) : Type 0 where
+  pub before : List (List ℕ)
+  pub heard_is : heard ≡ before ++ last
+  pub begins : BeginsWithHeader w.page last
+  pub clean : BreakNone w before last (length last)
+  pub count : header_count w.page last ≡ headers
+
+-- What is kept of all packets heard, and of those heard last.
+pub record KnowsLast (heard last : List (List ℕ)) (s : Listener) : Type 0 where
+  pub knows : Knows heard s
+  pub last_is : (headers : ℕ) → s.last ≡ Some headers → WereJudged s.watched heard last headers
+
+-- ---- packets that are passed
+
+-- A header with this C11 is of the mode of the first header, where there was one.
+abbrev pub is_of_mode : Option Bool → Bool → Bool
+is_of_mode None serial = false
+is_of_mode (Some first) serial = is_same_bit first serial
+
+-- A header of a magazine, in code words, is of the mode, is no header of the page, and does not end
+-- the page while it is open.
+abbrev pub is_passed_header : ℕ → Header → Listener → Bool
+is_passed_header magazine h s =
+    is_of_mode s.serial (c11 h)
+    && (if s.is_open then not (magazine == s.watched.page.magazine) && not (c11 h)
+    else not (magazine == s.watched.page.magazine && h.page == s.watched.page.page))
+
+-- A packet that comes now breaks no rule, and leaves what is kept as it is.
+pub record IsPassed (heard : List (List ℕ)) (p : List ℕ) (s : Listener) : Type 0 where
+  pub breaks_none : rule_set (λ r. breaks r s.watched heard p) ≡ 0
+  pub knows : Knows (heard ++ p ∷ []) s
+
+-- Whenever the packet comes it is no header of the page, breaks no rule, and leaves what is kept as
+-- it is.
+pub record IsAlwaysPassed (p : List ℕ) (s : Listener) : Type 0 where
+  pub no_header : is_this_page (kind s.watched.page p) ≡ false
+  pub passed : (heard : List (List ℕ)) → Knows heard s → IsPassed heard p s

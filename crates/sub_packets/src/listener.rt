@@ -1,0 +1,508 @@
+//! What is kept of the packets that were heard, and the rules that the next packet breaks.
+ghost use Rattle.std.specs.Prelude.{◌≡◌, ◌≢◌, ℕ, ◌+◌, ◌-◌, ◌<◌, ◌≤◌, ◌++◌, List, [], ◌∷◌};
+ghost use Rattle.std.specs.Prelude.{MatchResult};
+ghost use Rattle.std.specs.Prelude.{length, IfOk, IsTrue, OnOk, true, false, is_err, map};
+ghost use Rattle.std.specs.Prelude.{replicate};
+ghost use Rattle.std.specs.Prelude.{if◌then◌else◌, ◌&&◌, ◌==◌, not, Some, None, is_some};
+ghost use Rattle.std.specs.Prelude.{slice_index_or, slice_set};
+ghost use Rattle.std.specs.List.{filter};
+ghost use Rattle.sub_io.specs.Telling.{Tells, TellsPrefix, TellsSome, TellsUntilStopped};
+ghost use Rattle.ttx_packet.specs.PacketAddress.{address};
+ghost use Rattle.ttx_packet.specs.PageHeader.{HasExactHeader, coded_header, header};
+ghost use Rattle.ttx_packet.specs.RowPacket.{first_even_byte};
+ghost use Rattle.ttx_page.specs.Differing.{row_differing};
+ghost use Rattle.ttx_page.specs.Page.{AreCodes, IsPage, IsRow, blank, row_at};
+ghost use Rattle.ttx_page.specs.PacketKind.{is_this_page, kind};
+ghost use Rattle.ttx_page.specs.Span.{is_open_after};
+ghost use Rattle.ttx_pes.specs.PesPacket.{most_units};
+ghost use Rattle.sub_rules.specs.Events.{packet_events, wrong_after};
+ghost use Rattle.sub_rules.specs.PacketRules.{codes_of, header_count, packets_of_units};
+ghost use Rattle.sub_rules.specs.Events.{packet_fault};
+ghost use Rattle.sub_rules.specs.PacketTests.{breaks, is_of_enhancement, packet_rules};
+
+use crate::comparison::Comparison;
+use crate::packet_rules::{
+    first_serial, has_even_byte, has_wrong_address, has_wrong_codes, is_enhancement, is_of_mode,
+    is_other_mode, is_serial, is_subtitle_header, text_codes,
+};
+use crate::rule_set::{RuleSet, tell_rules};
+use sub_io::{Audience, Stopped};
+use sub_rules::{Event, Watched};
+use ttx_packet::{Header, Packet, SentPacket};
+use ttx_page::{PacketKind, Page};
+use ttx_pes::SentUnits;
+
+/// What is kept of the packets that were heard.
+///
+/// Which rules a packet breaks depends on the packets before it: on the first page header, on
+/// whether the page is open, and on the rows sent since its last header. So much is kept of them,
+/// and the page that they show beside the page that is due.
+#[derive(Drop)]
+pub struct Listener {
+    /// The page, its national option, and whether complete pages are asked for.
+    pub watched: Watched,
+    // C11 of the first header.
+    serial: Option<bool>,
+    // The page is open for rows.
+    is_open: bool,
+    // The rows that were sent since the last header of the page.
+    sent: [bool; 24],
+    /// The page that the packets show, beside the page that is due.
+    pub comparison: Comparison,
+    // How many headers of the page the packets heard last hold, where the first of these is one.
+    last: Option<u8>,
+}
+
+// What a packet was that was heard.
+#[derive(Clone, Copy)]
+struct Heard {
+    // A header of the page.
+    is_header: bool,
+    // It breaks no rule.
+    is_clean: bool,
+}
+
+impl Listener {
+    ghost use Rattle.sub_packets.specs.Listener.{IsPassed, Knows, KnowsLast, IsAlwaysPassed};
+    ghost use Rattle.sub_packets.specs.Listener.{is_passed_header, later_set, rule_set};
+
+    /// Nothing was heard, and this page is due.
+    pub fn new(watched: Watched, due: Page) -> Self
+        ensures watched { result.watched ≡ watched }
+        ensures due { result.comparison.due ≡ due }
+        ensures knows { (last : List (List ℕ)) → KnowsLast [] last result }
+    {
+        Listener {
+            watched,
+            serial: None,
+            is_open: false,
+            sent: [false; 24],
+            comparison: Comparison::new(due),
+            last: None,
+        }
+    }
+
+    /// Another page is due.
+    pub fn draw(&mut self, due: Page)
+        ensures { self.new ≡ record self.old {
+          comparison = record self.old.comparison { due = due };
+        } }
+    {
+        self.comparison.draw(due);
+    }
+
+    /// Whether complete pages are asked for, and the page is open.
+    pub fn is_incomplete(&self) -> bool
+        ensures { (heard : List (List ℕ)) → Knows heard self.now → result
+            ≡ (self.now.watched.complete && is_open_after (kind self.now.watched.page) heard) }
+    {
+        self.watched.complete && self.is_open
+    }
+
+    /// Whether it is known without looking that no cell shows another code than is due.
+    #[inline(always)]
+    pub fn is_known_right(&self) -> bool
+        ensures { (heard : List (List ℕ)) → Knows heard self.now → IsTrue result
+            → wrong_after self.now.watched.page heard self.now.comparison.due ≡ None }
+    {
+        self.comparison.is_known_right()
+    }
+
+    /// The first cell that shows another code than is due.
+    pub fn first_wrong(&self) -> Option<(u8, u8)>
+        ensures { (heard : List (List ℕ)) → Knows heard self.now → result
+            ≡ wrong_after self.now.watched.page heard self.now.comparison.due }
+    {
+        self.comparison.first_wrong()
+    }
+
+    /// Hears the packets of a frame, tells which rules they break, and says how many headers of the
+    /// page are among them. `again` says that they are those heard last.
+    ///
+    /// Packets that begin with a header of the page and broke no rule break none again, and leave
+    /// what is kept as it is: no packet is looked at.
+    ///
+    /// # Errors
+    ///
+    /// `Stopped` where the audience said stop. What is kept is then of no use.
+    #[tactic(auto, using(sub_io::proofs::TellingLemmas::some))]
+    pub fn hear_sending<A: Audience<Event>>(
+        &mut self,
+        units: &SentUnits<'_>,
+        again: bool,
+        frame: u32,
+        audience: &mut A,
+    ) -> Result<u8, Stopped>
+        requires few { length units.now ≤ most_units }
+        requires goes_on { A.has_stopped audience.old ≡ false }
+        ensures watched { self.new.watched ≡ self.old.watched }
+        ensures due { self.new.comparison.due ≡ self.old.comparison.due }
+        ensures stopped { A.has_stopped audience.new ≡ is_err result }
+        ensures some { TellsSome A.is_told audience.old audience.new }
+        ensures knows { (heard last : List (List ℕ)) → KnowsLast heard last self.old
+            → (again ≡ true → last ≡ packets_of_units units.now) → MatchResult result
+            (λ headers. KnowsLast (heard ++ packets_of_units units.now)
+            (packets_of_units units.now) self.new
+            × (headers ≡ header_count self.old.watched.page (packets_of_units units.now))
+            × Tells A.is_told audience.old audience.new
+            (packet_events self.old.watched frame heard (packets_of_units units.now)
+            (length (packets_of_units units.now))))
+            (λ _. TellsPrefix A.is_told audience.old audience.new
+            (packet_events self.old.watched frame heard (packets_of_units units.now)
+            (length (packets_of_units units.now)))) }
+    {
+        if again {
+            if let Some(headers) = self.last {
+                return Ok(headers);
+            }
+        }
+        self.hear_all(units, frame, audience)
+    }
+
+    // Hears the packets of a frame, and tells which rules they break.
+    #[tactic(auto, using(sub_io::proofs::TellingLemmas::some))]
+    fn hear_all<A: Audience<Event>>(
+        &mut self,
+        units: &SentUnits<'_>,
+        frame: u32,
+        audience: &mut A,
+    ) -> Result<u8, Stopped>
+        requires few { length units.now ≤ most_units }
+        requires goes_on { A.has_stopped audience.old ≡ false }
+        ensures watched { self.new.watched ≡ self.old.watched }
+        ensures due { self.new.comparison.due ≡ self.old.comparison.due }
+        ensures stopped { A.has_stopped audience.new ≡ is_err result }
+        ensures some { TellsSome A.is_told audience.old audience.new }
+        ensures knows { (heard : List (List ℕ)) → Knows heard self.old → MatchResult result
+            (λ headers. KnowsLast (heard ++ packets_of_units units.now)
+            (packets_of_units units.now) self.new
+            × (headers ≡ header_count self.old.watched.page (packets_of_units units.now))
+            × Tells A.is_told audience.old audience.new
+            (packet_events self.old.watched frame heard (packets_of_units units.now)
+            (length (packets_of_units units.now))))
+            (λ _. TellsPrefix A.is_told audience.old audience.new
+            (packet_events self.old.watched frame heard (packets_of_units units.now)
+            (length (packets_of_units units.now)))) }
+    {
+        let mut headers = 0;
+        let mut begins = false;
+        let mut is_clean = true;
+        let mut k = 0;
+        while k < units.len() {
+            let sent = units.packet(k);
+            if self.is_passed(self.is_open, &sent) {
+                k = self.next_heard(units, k + 1);
+            } else {
+                let heard = self.judge(&sent.packet(), frame, k as u32, audience)?;
+                begins = begins_with(begins, k, heard.is_header);
+                headers = counted(headers, heard.is_header);
+                is_clean = stays_clean(is_clean, heard.is_clean);
+                k += 1;
+            }
+        }
+        self.last = last_headers(begins, is_clean, headers);
+        Ok(headers)
+    }
+
+    // The number of the first packet that is not passed, from a number on; how many packets there
+    // are, where each is passed.
+    //
+    // Most packets of a service are passed. So that is a function of its own, whose loop keeps what
+    // it asks in registers, and is compiled for a page that is open and for one that is not.
+    #[inline(never)]
+    fn next_heard(&self, units: &SentUnits<'_>, from: usize) -> usize
+        requires { from ≤ length units.now }
+        ensures from { from ≤ result }
+        ensures within { result ≤ length units.now }
+        ensures passed { (k : ℕ) → from ≤ k → k < result
+            → IsAlwaysPassed (slice_index_or (packets_of_units units.now) k []) self.now }
+    {
+        let is_open = self.is_open;
+        for k in from..units.len() {
+            if !self.is_passed(is_open, &units.packet(k)) {
+                return k;
+            }
+        }
+        units.len()
+    }
+
+    // Whether a packet breaks no rule and changes nothing of what is kept, as its first two bytes
+    // tell, or of a page header the first ten.
+    #[inline(always)]
+    fn is_passed(&self, is_open: bool, packet: &SentPacket<'_>) -> bool
+        requires { is_open ≡ self.now.is_open }
+        ensures no_header { IsTrue result
+            → is_this_page (kind self.now.watched.page packet.now) ≡ false }
+        ensures passed { (heard : List (List ℕ)) → Knows heard self.now → IsTrue result
+            → IsPassed heard packet.now self.now }
+    {
+        let Some((magazine, packet_number)) = packet.exact_address() else {
+            return false;
+        };
+        if packet_number != 0 {
+            return self.is_closed_to(is_open, magazine);
+        }
+        if self.is_for_page(is_open, magazine, packet) {
+            return false;
+        }
+        self.passes_header(magazine, packet)
+    }
+
+    // Whether a page header is of the page or ends it, by its magazine and its page number alone.
+    #[inline(always)]
+    fn is_for_page(&self, is_open: bool, magazine: u8, packet: &SentPacket<'_>) -> bool
+        ensures { magazine ≢ self.now.watched.page.magazine → result ≡ false }
+    {
+        magazine == self.watched.page.magazine()
+            && (is_open || packet.exact_page() == Some(self.watched.page.page()))
+    }
+
+    // Whether the page is not open, or a packet is of another magazine.
+    #[inline(always)]
+    fn is_closed_to(&self, is_open: bool, magazine: u8) -> bool
+        ensures { result ≡ not (is_open && magazine == self.now.watched.page.magazine) }
+    {
+        !(is_open && magazine == self.watched.page.magazine())
+    }
+
+    // Whether a page header of a magazine breaks no rule and changes nothing of what is kept.
+    //
+    // Apart from `is_passed`, which would else keep less in registers for packets of other kinds.
+    #[inline(never)]
+    fn passes_header(&self, magazine: u8, packet: &SentPacket<'_>) -> bool
+        ensures { IsTrue result → HasExactHeader packet.now × ((h : Header)
+            × (coded_header packet.now ≡ Some h)
+            × (is_passed_header magazine h self.now ≡ true)) }
+    {
+        match packet.exact_header() {
+            Some(header) => self.is_passed_header(magazine, &header),
+            None => false,
+        }
+    }
+
+    // The same, of what the header says, in code words.
+    #[inline(always)]
+    fn is_passed_header(&self, magazine: u8, header: &Header) -> bool
+        ensures { result ≡ is_passed_header magazine header.now self.now }
+    {
+        let is_serial = is_serial(header);
+        if !is_of_mode(self.serial, is_serial) {
+            return false;
+        }
+        let is_magazine = magazine == self.watched.page.magazine();
+        if self.is_open {
+            !is_magazine && !is_serial
+        } else {
+            !(is_magazine && header.page == self.watched.page.page())
+        }
+    }
+
+    // Hears a packet that is not passed.
+    #[inline(never)]
+    #[tactic(auto, using(sub_io::proofs::TellingLemmas::some))]
+    fn judge<A: Audience<Event>>(
+        &mut self,
+        packet: &Packet,
+        frame: u32,
+        number: u32,
+        audience: &mut A,
+    ) -> Result<Heard, Stopped>
+        requires goes_on { A.has_stopped audience.old ≡ false }
+        ensures watched { self.new.watched ≡ self.old.watched }
+        ensures due { self.new.comparison.due ≡ self.old.comparison.due }
+        ensures stopped { A.has_stopped audience.new ≡ is_err result }
+        ensures some { TellsSome A.is_told audience.old audience.new }
+        ensures header { IfOk result (λ was. was.is_header
+            ≡ is_this_page (kind self.old.watched.page packet.now)) }
+        ensures clean { (heard : List (List ℕ)) → Knows heard self.old → IfOk result (λ was.
+            was.is_clean ≡ true
+            → rule_set (λ r. breaks r self.old.watched heard packet.now) ≡ 0) }
+        ensures told { (heard : List (List ℕ)) → Knows heard self.old
+            → TellsUntilStopped A.is_told audience.old audience.new
+            (map (λ r. Event.Told (packet_fault r frame number))
+            (filter (λ r. breaks r self.old.watched heard packet.now) packet_rules)) result }
+        ensures knows { (heard : List (List ℕ)) → Knows heard self.old
+            → OnOk result (Knows (heard ++ packet.now ∷ []) self.new) }
+    {
+        let (found, page_header) = PacketKind::with_header(self.watched.page, packet);
+        let rules = self.broken_rules(packet, found, page_header);
+        tell_rules(rules, frame, number, audience)?;
+        let is_header = self.hear(packet, found, page_header);
+        let is_clean = rules.has_none();
+        Ok(Heard {
+            is_header,
+            is_clean,
+        })
+    }
+
+    // The rules that a packet of this kind, with this page header, breaks which comes now.
+    #[inline(always)]
+    fn broken_rules(
+        &self,
+        packet: &Packet,
+        found: PacketKind,
+        page_header: Option<Header>,
+    ) -> RuleSet
+        requires kind { found ≡ kind self.now.watched.page packet.now }
+        requires page_header { page_header ≡ header packet.now }
+        requires row { (row : ℕ) → found ≡ PacketKind.Row row → (1 ≤ row) × (row ≤ 24) }
+        ensures { (heard : List (List ℕ)) → Knows heard self.now
+            → result.0 ≡ rule_set (λ r. breaks r self.now.watched heard packet.now) }
+    {
+        let rules = RuleSet::none()
+            .with(RuleSet::ADDRESS, has_wrong_address(packet))
+            .with(RuleSet::HEADER_CODE, has_wrong_codes(packet, page_header))
+            .with(RuleSet::MODE, is_other_mode(self.serial, page_header));
+        self.with_later(rules, packet, found)
+    }
+
+    // A set, with the rules that a packet breaks by what it is.
+    #[inline(always)]
+    fn with_later(&self, rules: RuleSet, packet: &Packet, found: PacketKind) -> RuleSet
+        requires kind { found ≡ kind self.now.watched.page packet.now }
+        requires row { (row : ℕ) → found ≡ PacketKind.Row row → (1 ≤ row) × (row ≤ 24) }
+        ensures { (heard : List (List ℕ)) → Knows heard self.now
+            → result.0 ≡ later_set (λ r. breaks r self.now.watched heard packet.now) rules.0 }
+    {
+        match found {
+            PacketKind::ThisPage(header) => rules.with(
+                RuleSet::CONTROL,
+                !is_subtitle_header(self.watched.national, &header),
+            ),
+            PacketKind::EndsPage => rules,
+            PacketKind::Row(row) => rules
+                .with(RuleSet::PARITY, self.has_even_row(packet))
+                .with(RuleSet::ROW_CHANGED, self.has_changed(row, packet)),
+            PacketKind::Other => rules.with(RuleSet::ENHANCEMENT, self.is_enhanced(packet)),
+        }
+    }
+
+    // Whether the page is open, and a row's packet has an even byte.
+    fn has_even_row(&self, packet: &Packet) -> bool
+        ensures { result ≡ (self.now.is_open && is_some (first_even_byte packet.now)) }
+    {
+        self.is_open && has_even_byte(packet)
+    }
+
+    // Whether the page is open, and a row that was sent has other codes than a packet.
+    fn has_changed(&self, row: u8, packet: &Packet) -> bool
+        requires { IsRow row }
+        ensures { result ≡ (self.now.is_open && slice_index_or self.now.sent (row - 1) false
+            && not (row_differing (row_at self.now.comparison.page row) (codes_of packet.now)
+            == 0)) }
+    {
+        self.is_open && self.sent[row as usize - 1] && self.comparison.differs_from(row, packet)
+    }
+
+    // Whether the page is open, and a packet is X/25 to X/28 of its magazine.
+    fn is_enhanced(&self, packet: &Packet) -> bool
+        ensures { result
+            ≡ (self.now.is_open && is_of_enhancement self.now.watched.page (address packet.now)) }
+    {
+        self.is_open && is_enhancement(self.watched.page, packet)
+    }
+
+    // Hears a packet of this kind, and says whether it is a header of the page. Of a row that was
+    // sent, the first packet stays.
+    #[inline(always)]
+    fn hear(&mut self, packet: &Packet, found: PacketKind, page_header: Option<Header>) -> bool
+        requires kind { found ≡ kind self.old.watched.page packet.now }
+        requires page_header { page_header ≡ header packet.now }
+        requires row { (row : ℕ) → found ≡ PacketKind.Row row → (1 ≤ row) × (row ≤ 24) }
+        ensures header { result ≡ is_this_page (kind self.old.watched.page packet.now) }
+        ensures watched { self.new.watched ≡ self.old.watched }
+        ensures due { self.new.comparison.due ≡ self.old.comparison.due }
+        ensures knows { (heard : List (List ℕ)) → Knows heard self.old
+            → Knows (heard ++ packet.now ∷ []) self.new }
+    {
+        self.serial = first_serial(self.serial, page_header);
+        match found {
+            PacketKind::ThisPage(_) => {
+                self.start();
+                true
+            }
+            PacketKind::EndsPage => {
+                self.is_open = false;
+                false
+            }
+            PacketKind::Row(row) => {
+                if self.is_new(row) {
+                    self.store(row, &text_codes(packet));
+                }
+                false
+            }
+            PacketKind::Other => false,
+        }
+    }
+
+    // Whether the page is open, and a row was not sent.
+    fn is_new(&self, row: u8) -> bool
+        requires { IsRow row }
+        ensures { result
+            ≡ (self.now.is_open && not (slice_index_or self.now.sent (row - 1) false)) }
+    {
+        self.is_open && !self.sent[row as usize - 1]
+    }
+
+    // A header of the page: it is blank, and no row was sent.
+    fn start(&mut self)
+        ensures { self.new ≡ record self.old {
+          is_open = true;
+          sent = replicate 24 false;
+          comparison = record self.old.comparison { page = blank };
+        } }
+    {
+        self.is_open = true;
+        self.sent = [false; 24];
+        self.comparison.clear();
+    }
+
+    // A row is sent.
+    fn store(&mut self, row: u8, codes: &[u8; 40])
+        requires row { (1 ≤ row) × (row ≤ 24) }
+        requires codes { AreCodes codes.now }
+        ensures kept { self.new ≡ record self.old {
+          sent = slice_set self.old.sent (row - 1) true;
+          comparison = record self.old.comparison {
+            page = slice_set self.old.comparison.page (row - 1) codes.now;
+          };
+        } }
+        ensures page { IsPage self.old.comparison.page }
+    {
+        self.sent[row as usize - 1] = true;
+        self.comparison.set_row(row, codes);
+    }
+}
+
+// One header more, or none.
+fn counted(headers: u8, is_header: bool) -> u8
+    requires { headers < most_units }
+    ensures { result ≡ headers + (if is_header then 1 else 0) }
+{
+    if is_header { headers + 1 } else { headers }
+}
+
+// Whether the first packet is a header, at packet `k` on.
+fn begins_with(begins: bool, k: usize, is_header: bool) -> bool
+    ensures { result ≡ (if k == 0 then is_header else begins) }
+{
+    if k == 0 { is_header } else { begins }
+}
+
+// Whether no rule was broken, at a packet that breaks none or some.
+fn stays_clean(is_clean: bool, breaks_none: bool) -> bool
+    ensures { result ≡ (is_clean && breaks_none) }
+{
+    is_clean && breaks_none
+}
+
+// How many headers there are, where the first packet is one and none breaks a rule.
+fn last_headers(begins: bool, is_clean: bool, headers: u8) -> Option<u8>
+    ensures { result ≡ (if begins && is_clean then Some headers else None) }
+{
+    if begins && is_clean {
+        Some(headers)
+    } else {
+        None
+    }
+}

@@ -1,0 +1,167 @@
+//! The rules of a single packet: tests that the listener joins with what it keeps.
+ghost use Rattle.std.specs.Prelude.{◌≡◌, ◌&&◌, Bool, not, Option, is_some, option_map};
+ghost use Rattle.std.specs.Option.{option_or};
+ghost use Rattle.ttx_packet.specs.PacketAddress.{IsPacket, address};
+ghost use Rattle.ttx_packet.specs.PageHeader.{c11, header, is_set};
+ghost use Rattle.ttx_packet.specs.RowPacket.{first_even_byte};
+ghost use Rattle.ttx_packet.specs.declared.header.Header.{Header};
+ghost use Rattle.ttx_page.specs.Page.{AreCodes};
+ghost use Rattle.sub_packets.specs.Listener.{is_of_mode};
+ghost use Rattle.sub_plan.specs.Sending.{has_c14};
+ghost use Rattle.sub_rules.specs.PacketRules.{codes_of};
+ghost use Rattle.sub_rules.specs.PacketTests.{are_code_words, is_of_enhancement, is_of_header};
+ghost use Rattle.sub_rules.specs.PacketTests.{is_other_mode, is_same_bit, is_subtitle_header};
+
+use bitflags::Flags;
+use stl_rows::National;
+use ttx_packet::{Control, Header, Packet, PageId};
+
+// Whether a packet is X/0.
+fn is_header_packet(packet: &Packet) -> bool
+    ensures { result ≡ is_of_header (address packet.now) }
+{
+    match packet.address() {
+        None => false,
+        Some((_, packet_number)) => packet_number == 0,
+    }
+}
+
+/// Whether a packet is X/0 and one of its eight coded bytes is no code word. `page_header` is what
+/// they say.
+#[tactic(auto, using(crate::proofs::PacketRuleLemmas::header_is_zero))]
+pub(crate) fn has_wrong_codes(packet: &Packet, page_header: Option<Header>) -> bool
+    requires { page_header ≡ header packet.now }
+    ensures { result ≡ (is_of_header (address packet.now) && not (are_code_words 2 8 packet.now)) }
+{
+    match page_header {
+        Some(_) => has_wrong_word(packet),
+        None => is_header_packet(packet) && has_wrong_word(packet),
+    }
+}
+
+/// Whether one of the two address bytes is no code word.
+pub(crate) fn has_wrong_address(packet: &Packet) -> bool
+    ensures { result ≡ not (are_code_words 0 2 packet.now) }
+{
+    !packet.is_clean_address()
+}
+
+// Whether one of the eight coded bytes is no code word.
+fn has_wrong_word(packet: &Packet) -> bool
+    ensures { result ≡ not (are_code_words 2 8 packet.now) }
+{
+    !packet.is_clean_header()
+}
+
+/// C11, magazine serial.
+pub(crate) fn is_serial(header: &Header) -> bool
+    ensures { result ≡ c11 header.now }
+{
+    header.control.contains(Control::C11)
+}
+
+/// Whether a header, where there is one, has another C11 than the first one.
+pub(crate) fn is_other_mode(serial: Option<bool>, page_header: Option<Header>) -> bool
+    ensures { result ≡ is_other_mode serial (option_map (λ (h : Header). c11 h) page_header) }
+{
+    match (page_header, serial) {
+        (Some(header), Some(first)) => is_serial(&header) != first,
+        _ => false,
+    }
+}
+
+/// C11 of the first header, one packet with this header or none on.
+pub(crate) fn first_serial(serial: Option<bool>, page_header: Option<Header>) -> Option<bool>
+    ensures { result ≡ option_or serial (option_map (λ (h : Header). c11 h) page_header) }
+{
+    match serial {
+        Some(first) => Some(first),
+        None => match page_header {
+            Some(header) => Some(is_serial(&header)),
+            None => None,
+        },
+    }
+}
+
+/// Whether a control bit is set.
+fn is_bit(control: Control, flag: Control) -> bool
+    ensures { result ≡ is_set control flag.0 }
+{
+    control.contains(flag)
+}
+
+/// C14 of a national option.
+fn third_bit(national: National) -> bool
+    ensures { result ≡ has_c14 national }
+{
+    match national {
+        National::English => false,
+        National::German => true,
+    }
+}
+
+/// Whether two bits are the same.
+pub(crate) fn is_same_bit(one: bool, other: bool) -> bool
+    ensures { result ≡ is_same_bit one other }
+{
+    one == other
+}
+
+/// Whether a header with this C11 is of the mode of the first header.
+pub(crate) fn is_of_mode(serial: Option<bool>, is_serial: bool) -> bool
+    ensures { result ≡ is_of_mode serial is_serial }
+{
+    match serial {
+        Some(first) => is_same_bit(first, is_serial),
+        None => false,
+    }
+}
+
+/// Whether a header is a subtitle's: C4, C6 and C7 are set, C5 and C10 are clear, and C12, C13 and
+/// C14 are those of the national option.
+pub(crate) fn is_subtitle_header(national: National, header: &Header) -> bool
+    ensures { result ≡ is_subtitle_header national header.now }
+{
+    let control = header.control;
+    is_bit(control, Control::C4)
+        && !is_bit(control, Control::C5)
+        && is_bit(control, Control::C6)
+        && is_bit(control, Control::C7)
+        && !is_bit(control, Control::C10)
+        && !is_bit(control, Control::C12)
+        && !is_bit(control, Control::C13)
+        && is_same_bit(is_bit(control, Control::C14), third_bit(national))
+}
+
+/// Whether a packet is X/25 to X/28 of the page's magazine.
+pub(crate) fn is_enhancement(page: PageId, packet: &Packet) -> bool
+    ensures { result ≡ is_of_enhancement page (address packet.now) }
+{
+    match packet.address() {
+        None => false,
+        Some((magazine, packet_number)) => {
+            magazine == page.magazine() && packet_number >= 25 && packet_number <= 28
+        }
+    }
+}
+
+/// Whether one of the 40 bytes of a packet's text is even.
+pub(crate) fn has_even_byte(packet: &Packet) -> bool
+    ensures { result ≡ is_some (first_even_byte packet.now) }
+{
+    packet.first_even().is_some()
+}
+
+/// The 40 codes of a packet's text: each byte without its parity bit.
+pub(crate) fn text_codes(packet: &Packet) -> [u8; 40]
+    ensures value { result ≡ codes_of packet.now }
+    ensures codes { AreCodes result }
+    ensures whole { IsPacket packet.now }
+{
+    let bytes = packet.bytes();
+    let mut codes = [0; 40];
+    for column in 0..40usize {
+        codes[column] = bytes[column + 2] % 128;
+    }
+    codes
+}
