@@ -14,10 +14,10 @@ use Rattle.sub_listing.specs.Faults.{usage_told}
 use Rattle.sub_listing.specs.Listing.{PrintsOrFails, told_listing}
 use Rattle.sub_listing.specs.declared.status.Status.{Status}
 use Rattle.sub_listing.specs.declared.status.Status.TheVariants.{Fault}
-use Rattle.subttx.specs.Opening.{AreOf}
-use Rattle.subttx.specs.declared.opening.Opened.{Opened}
-use Rattle.subttx.specs.declared.opening.Opened.TheVariants.{Nothing, ReadBoth, ReadPes, ReadStl}
-use Rattle.subttx.specs.declared.opening.Opened.TheVariants.{Write}
+use Rattle.sub_files.specs.Opening.{AreOf}
+use Rattle.sub_files.specs.declared.opening.Opened.{Opened}
+use Rattle.sub_files.specs.declared.opening.Opened.TheVariants.{Nothing, ReadBoth, ReadPes, ReadStl}
+use Rattle.sub_files.specs.declared.opening.Opened.TheVariants.{Write}
 
 -- A sink behind a buffer, by what it has taken, what it holds back of that, and how often it has
 -- failed.

@@ -1,5 +1,2 @@
-pub mod Apart
 pub mod Ending
-pub mod OpenedFiles
-pub mod Opening
 pub mod Words

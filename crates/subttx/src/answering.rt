@@ -4,11 +4,10 @@ ghost use Rattle.sub_io.specs.Buffered.{failures_and_refused};
 ghost use Rattle.subttx.specs.Ending.{EndsOver, given_by, lines_of};
 
 use crate::ending::{answer_from, answer_pair, answer_with_file};
-use crate::files::{CreatedFile, PesFile, StlFile};
-use crate::opening::Opened;
 use std::alloc::Global;
 use std::io::{Read, Write};
 use sub_answer::Status;
+use sub_files::{CreatedFile, Opened, PesFile, StlFile};
 use sub_io::{BufferedSink, BufferedSource, FromRead, IntoFile, MemSource, Sink};
 use sub_request::Request;
 

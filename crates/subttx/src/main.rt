@@ -6,29 +6,26 @@
 #![tactic(auto)]
 
 mod answering;
-mod apart;
 mod ending;
-mod files;
 mod handing_on;
-mod opening;
 mod words;
 
 ghost use Rattle.std.specs.Prelude.{◌≡◌, ◌≤◌, IfErr, IfOk, length};
 ghost use Rattle.sub_io.specs.Buffered.{failures_and_refused};
 ghost use Rattle.sub_request.specs.Files.{files_of};
 ghost use Rattle.subttx.specs.Ending.{Answered, Ends, EndsRun, IsCause, lines_of};
-ghost use Rattle.subttx.specs.Opening.{IsUnopened};
+ghost use Rattle.sub_files.specs.Opening.{IsUnopened};
 ghost use Rattle.subttx.specs.Words.{words_given};
 
 use crate::answering::answer_opened;
 use crate::ending::say_and_hand_on;
-use crate::opening::{BUFFER, open, room, size_of_rooms};
 use crate::words::{texts_of, words_of};
 use std::env::Args;
 use std::process::ExitCode;
 use std::rt::{Env, Files};
 use std::{env, io};
 use sub_answer::{Status, say};
+use sub_files::{BUFFER, open, room, size_of_rooms};
 use sub_io::{BufferedSink, IntoWrite, Sink};
 use sub_request::{Request, UsageFault};
 use sub_words::ParseWords;

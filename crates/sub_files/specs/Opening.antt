@@ -5,11 +5,11 @@ use Rattle.sub_request.specs.declared.files.FileNames.{FileNames}
 use Rattle.sub_request.specs.declared.files.FileNames.TheVariants as names
 use Rattle.sub_request.specs.declared.request.UsageFault.{UsageFault}
 use Rattle.sub_request.specs.declared.request.UsageFault.TheVariants as usage
-use Rattle.subttx.specs.Apart.{is_apart}
-use Rattle.subttx.specs.OpenedFiles.{CreatedFileValue}
-use Rattle.subttx.specs.declared.opening.Opened.{Opened}
-use Rattle.subttx.specs.declared.opening.Opened.TheVariants.{Nothing, ReadBoth, ReadPes, ReadStl}
-use Rattle.subttx.specs.declared.opening.Opened.TheVariants.{Write}
+use Rattle.sub_files.specs.Apart.{is_apart}
+use Rattle.sub_files.specs.OpenedFiles.{CreatedFileValue}
+use Rattle.sub_files.specs.declared.opening.Opened.{Opened}
+use Rattle.sub_files.specs.declared.opening.Opened.TheVariants.{Nothing, ReadBoth, ReadPes, ReadStl}
+use Rattle.sub_files.specs.declared.opening.Opened.TheVariants.{Write}
 
 -- A file was created by this name; and by what was found at both names creating it could not empty
 -- the file that is read.

@@ -4,7 +4,7 @@
 //! has a device or the lines in it.
 ghost use Rattle.std.specs.Prelude.{◌≡◌, ◌≤◌, IfNone, IfSome, true, vec_len};
 ghost use Rattle.sub_request.specs.Files.{reads_one};
-ghost use Rattle.subttx.specs.Opening.{AreOf};
+ghost use Rattle.sub_files.specs.Opening.{AreOf};
 
 use crate::apart::look_up;
 use crate::files::{CreatedFile, PesFile, StlFile, create_apart, open_pes, open_stl};

@@ -1,7 +1,7 @@
 -- Files that were opened, with the names that they were opened by.
 use Rattle.std.specs.Prelude.{◌≡◌, ℕ, true, List}
-use Rattle.subttx.specs.Apart.{is_apart}
-use Rattle.subttx.specs.declared.apart.Found.{Found}
+use Rattle.sub_files.specs.Apart.{is_apart}
+use Rattle.sub_files.specs.declared.apart.Found.{Found}
 
 -- What was found at a name.
 pub record FoundAt : Type 0 where

@@ -4,7 +4,7 @@
 //! made here alone, by the names that a request has for each: so none of them can be taken for
 //! another. What the system opens by a name no clause can say.
 ghost use Rattle.std.specs.Prelude.{◌≡◌, IfSome};
-ghost use Rattle.subttx.specs.OpenedFiles.{IsCreatedOver};
+ghost use Rattle.sub_files.specs.OpenedFiles.{IsCreatedOver};
 
 use crate::apart::{LookedUp, is_apart};
 use std::fs;
@@ -20,7 +20,7 @@ pub struct StlFile<'a, F> {
 }
 
 impl<'a, F> Model for StlFile<'a, F> {
-    ghost use Rattle.subttx.specs.OpenedFiles.{NamedFile};
+    ghost use Rattle.sub_files.specs.OpenedFiles.{NamedFile};
 
     ghost Value = { NamedFile F };
 
@@ -52,7 +52,7 @@ pub struct PesFile<'a, F> {
 }
 
 impl<'a, F> Model for PesFile<'a, F> {
-    ghost use Rattle.subttx.specs.OpenedFiles.{NamedFile};
+    ghost use Rattle.sub_files.specs.OpenedFiles.{NamedFile};
 
     ghost Value = { NamedFile F };
 
@@ -79,7 +79,7 @@ pub struct CreatedFile<'a, F> {
 }
 
 impl<'a, F> Model for CreatedFile<'a, F> {
-    ghost use Rattle.subttx.specs.OpenedFiles.{CreatedFileValue};
+    ghost use Rattle.sub_files.specs.OpenedFiles.{CreatedFileValue};
 
     ghost Value = { CreatedFileValue F };
 

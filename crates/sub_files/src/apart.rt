@@ -1,7 +1,7 @@
 //! Whether the file that is written is another one than the file that is read.
 ghost use Rattle.std.specs.Prelude.{◌≡◌, ◌≢◌, IfErr, IfOk, true};
 ghost use Rattle.std.specs.IoError.{error_kind};
-ghost use Rattle.subttx.specs.Apart.{is_apart, is_there};
+ghost use Rattle.sub_files.specs.Apart.{is_apart, is_there};
 
 use std::fs::Metadata;
 use std::io::ErrorKind;
@@ -30,7 +30,7 @@ pub struct LookedUp<'a> {
 }
 
 impl<'a> Model for LookedUp<'a> {
-    ghost use Rattle.subttx.specs.OpenedFiles.{FoundAt};
+    ghost use Rattle.sub_files.specs.OpenedFiles.{FoundAt};
 
     ghost Value = { FoundAt };
 

@@ -1,7 +1,7 @@
 -- Whether the file that is written is another one than the file that is read (own).
 use Rattle.std.specs.Prelude.{Bool, true, false, not, ◌&&◌, ◌==◌}
-use Rattle.subttx.specs.declared.apart.Found.{Found}
-use Rattle.subttx.specs.declared.apart.Found.TheVariants.{At, Nothing}
+use Rattle.sub_files.specs.declared.apart.Found.{Found}
+use Rattle.sub_files.specs.declared.apart.Found.TheVariants.{At, Nothing}
 
 -- A file was found.
 abbrev pub is_there : Found → Bool

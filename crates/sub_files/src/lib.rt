@@ -1,0 +1,16 @@
+//! The files of a request, opened.
+//!
+//! Stands on `sub_request` for the names of the files, and on nothing else, so that it is proved
+//! beside what answers a request. `subttx` reads and writes what is opened here.
+//!
+//! ```text
+//! let files = open(rt, &request.files()); // Opened::ReadStl: film.stl
+//! ```
+#![tactic(auto)]
+
+mod apart;
+mod files;
+mod opening;
+
+pub use files::{CreatedFile, PesFile, StlFile};
+pub use opening::{BUFFER, Opened, open, room, size_of_rooms};
