@@ -8,7 +8,7 @@ import select
 import stat
 import sys
 import tempfile
-from typing import BinaryIO, Iterable, Iterator, Protocol
+from typing import IO, Any, BinaryIO, Iterable, Iterator, Protocol
 
 from .words import Stop
 
@@ -83,9 +83,19 @@ def refuse_name(name: str) -> None:
 
 
 def whole_bytes(name: str) -> bytes:
-    """All bytes of a file."""
-    with Input(name) as file:
-        return b"".join(iter(file.read, b""))
+    """All bytes of a file or a pipe."""
+    with Input(name) as source:
+        refuse_device(source.file, name)
+        return b"".join(iter(source.read, b""))
+
+
+def refuse_device(file: IO[Any], name: str) -> None:
+    """Refuses a device where all of a file is read, since it may never end; but not a terminal and
+    /dev/null, which do."""
+    about = os.fstat(file.fileno())
+    is_device = stat.S_ISCHR(about.st_mode) or stat.S_ISBLK(about.st_mode)
+    if is_device and not file.isatty() and about.st_rdev != os.stat(os.devnull).st_rdev:
+        raise Stop(f"{name} is a device: give a file or a pipe")
 
 
 @contextlib.contextmanager

@@ -42,13 +42,14 @@ class Edge(NamedTuple):
 
 
 class Fit(NamedTuple):
-    """An origin: how many edges agree with it, how many of these with the same letters and with the
-    very PTS, how many there are while the page was sent, and the first of these that does not
-    agree. `start` is the frame at the first PTS of the election."""
+    """An origin: how many edges agree with it, how many of these with the same letters, with those
+    of a text and with the very PTS, how many there are while the page was sent, and the first of
+    these that does not agree. `start` is the frame at the first PTS of the election."""
 
     origin: int
     agree: int
     letters: int
+    texts: int
     exact: int
     among: int
     first_other: int | None
@@ -136,19 +137,20 @@ class Election:
         """How the edges agree with an origin."""
         low = bisect.bisect_left(self.frames, start)
         high = bisect.bisect_right(self.frames, start + self.length)
-        letters, other = 0, None
+        letters, texts, other = 0, 0, None
         ticks: list[int] = []
         for edge in self.edges[low:high]:
             change = self.changes.get(edge.frame - start)
             if change:
                 ticks.append(change[1])
                 letters += change[0] == edge.letters
+                texts += change[0] == edge.letters != b""
             elif other is None:
                 other = edge.frame
         # Where PTS are not whole frames apart, the origin is in the middle of what they say.
         rest = sorted(ticks)[len(ticks) // 2] if ticks else 0
         origin = (self.first + rest - TICKS * start) % CLOCK
-        return Fit(origin, len(ticks), letters, ticks.count(rest), high - low, other, start)
+        return Fit(origin, len(ticks), letters, texts, ticks.count(rest), high - low, other, start)
 
     def apart(self, fit: Fit) -> tuple[bool, int] | None:
         """Whether beginnings and ends agree, but a constant number of frames apart.
@@ -211,6 +213,12 @@ def sparse(places: Iterable[int], digits: int) -> str:
 def points(fit: Fit) -> int:
     """What origins are compared by: an edge with the same letters counts twice."""
     return fit.agree + fit.letters
+
+
+def points_of_few(fit: Fit) -> int:
+    """The same of a few edges, where one that erases the page counts once: whatever was sent before
+    it, the page is blank then."""
+    return fit.agree + fit.texts
 
 
 def best_first(fits: Iterable[Fit]) -> list[Fit]:

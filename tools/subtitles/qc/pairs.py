@@ -7,6 +7,7 @@ import os
 import shlex
 from typing import Iterable, NamedTuple
 
+from ..files import refuse_device
 from ..words import Stop
 from .asked import Asked, asked_of_line, asked_with
 
@@ -79,6 +80,7 @@ def of_list(path: str, defaults: argparse.Namespace) -> list[Item]:
     """The lines of a list: a subtitle file, a recording, and options of their own."""
     items = []
     with open(path, encoding="utf-8", errors="surrogateescape") as file:
+        refuse_device(file, path)
         for at, line in enumerate(file, 1):
             try:
                 words = shlex.split(line, comments=True)

@@ -1,6 +1,7 @@
 """Which faults count for the exit status."""
 from __future__ import annotations
 
+from ..files import refuse_device
 from ..words import Stop
 
 ERROR, WARNING = "error", "warning"
@@ -15,6 +16,7 @@ class Severity:
         self.others = ERROR
         if path is not None:
             with open(path, encoding="utf-8", errors="replace") as file:
+                refuse_device(file, path)
                 for at, line in enumerate(file, 1):
                     self.take(path, at, line.partition("#")[0].split())
 

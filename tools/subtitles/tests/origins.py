@@ -136,6 +136,38 @@ def tells_what_is_not_unique(case: Case) -> None:
     case.test("all of them", (status, found) == (0, 0), told)
 
 
+def tells_that_a_few_edges_fit_elsewhere(case: Case) -> None:
+    """One subtitle of two seconds, and recordings in which others last as long."""
+    def sent_as(texts: list[bytes]) -> bytes:
+        blocks = [subtitle_blocks(number, 200 * number + 100, 200 * number + 150, 22, 2, text)
+                  for number, text in enumerate(texts)]
+        stl = case.write("sent.stl", gsi_block(b"Sent", len(texts), len(texts)) + b"".join(blocks))
+        case.schedule(stl, "sent.pes")
+        return case.read("sent.pes")
+
+    one = case.write("one.stl", gsi_block(b"One", 1, 1)
+                     + subtitle_blocks(0, 100, 150, 22, 2, b"Own"))
+    for name, texts, wanted in (
+            ("one other text", [b"Other"], 0),  # nothing else fits
+            ("two other texts", [b"Other", b"Another"], None),
+            ("its text and another", [b"Own", b"Other"], 0),
+            ("another and its text", [b"Other", b"Own"], 200 * TICKS),
+            ("its text twice", [b"Own", b"Own"], None)):
+        status, found, told = origin_of(case, one, sent_as(texts))
+        case.test(name, (status, found) == (int(wanted is None), wanted)
+                  and any("not unique" in line for line in told) == (wanted is None),
+                  (found, told))
+    blank, begin = packets(sent_as([b"Other", b"Own"]))[1:3]
+    status, found, told = origin_of(case, one, begin)
+    case.test("its beginning alone", (status, found) == (0, 200 * TICKS), (found, told))
+    status, found, told = origin_of(case, one, blank)
+    case.test("an erased page alone", (status, found) == (1, None), (found, told))
+    status, found, told = origin_of(case, example("comments.stl"), example_bytes("hello.pes"))
+    case.test("two edges of other letters, or an erased page", (status, found) == (1, None)
+              and "origin: it is not unique: as good as --origin 0 are --origin 8589574592" in told,
+              (found, told))
+
+
 def tells_what_does_not_fit(case: Case) -> None:
     other = case.write("other.stl", random_subtitles(7)[0])
     data, _ = random_subtitles(8)
@@ -200,4 +232,5 @@ def asks_many_in_one_step(case: Case) -> None:
 CASES = [counts_all_pairs, asks_many_in_one_step, finds_that_of_the_examples,
          finds_that_of_transmissions_at_random, finds_it_where_sendings_are_lost,
          tells_that_all_is_late, tells_that_ends_are_late, tells_that_rows_are_late, tells_jitter,
-         tells_what_is_not_unique, tells_what_does_not_fit, goes_on_with_damaged_files]
+         tells_what_is_not_unique, tells_that_a_few_edges_fit_elsewhere,
+         tells_what_does_not_fit, goes_on_with_damaged_files]

@@ -95,6 +95,37 @@ def tells_a_full_device(case: Case) -> None:
               "device"], done)
 
 
+def refuses_devices_that_do_not_end(case: Case) -> None:
+    """Where all of a file is read: by name, and as standard input, also through a link."""
+    os.symlink("/dev/zero", case.path("link"))
+    for device in ("/dev/zero", "/dev/full", "/dev/urandom", case.path("link")):
+        if not os.path.exists(device):
+            case.bench.over.append(f"a device that does not end, since there is no {device}")
+            continue
+        for words in (["poke", device], ["poke", device, "-c", "4"], ["text", device],
+                      ["part", device, *TIMES, "-o", "a.stl"], ["origin", device, PES],
+                      ["cut", PES, "--stl", device, "-o", "a.pes"],
+                      ["qc", STL, "--severity", device], ["qc", "--batch", device]):
+            done = case.tool(*words)
+            case.test(" ".join(words), done == (2, b"", [f"{words[0]}: {device} is a device: give "
+                                                         "a file or a pipe"]), done)
+        for words in (["poke", "-"], ["poke", "/dev/stdin"], ["part", "-", *TIMES, "-o", "a.stl"]):
+            done = case.call(["sh", "-c", 'exec "$0" "$@" <' + device,
+                              tool_path(words[0]), *words[1:]])
+            case.test(f"{' '.join(words)} <{device}", done.status == 2 and not done.out
+                      and done.told == [f"{words[0]}: {words[1]} is a device: give a file or a "
+                                        "pipe"], done)
+
+
+def reads_pipes_and_the_empty_device(case: Case) -> None:
+    done = case.tool("poke", "-", "0=41", data=b"abc")
+    case.test("a pipe", done == (0, b"Abc", []), done)
+    done = case.tool("poke", "/dev/stdin", data=b"abc")
+    case.test("a pipe by its name", done == (0, b"abc", []), done)
+    done = case.tool("poke", "/dev/null")
+    case.test("/dev/null", done == (0, b"", []), done)
+
+
 def names_files_as_they_were_typed(case: Case) -> None:
     """No part of a name, no number and no name that was made on the way."""
     for words, named in ((["origin", STL, "/dev/null"], "/dev/null"),
@@ -112,4 +143,5 @@ def names_files_as_they_were_typed(case: Case) -> None:
                   and "subttx-" not in done.told[-1], done)
 
 
-CASES = [refuses_wrong_words, helps, tells_a_full_device, names_files_as_they_were_typed]
+CASES = [refuses_wrong_words, helps, tells_a_full_device, refuses_devices_that_do_not_end,
+         reads_pipes_and_the_empty_device, names_files_as_they_were_typed]
