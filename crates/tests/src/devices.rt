@@ -20,17 +20,23 @@ fn gives_its_bytes_and_then_ends(rt: HostRuntime) {
     assert_fills(&rt, &mut source, Ok(0), b"\0\0\0", 0);
 }
 
+// Asserts how many of five bytes are got into this much room, and by how many pulls.
+fn assert_gets(rt: &impl Abort, room: usize, got: usize, pulls: u64) {
+    let inner = MemSource::new(b"abcde");
+    let mut source = Counting { inner, pulls: 0 };
+    let mut to = [0; 9];
+    assert!(rt; room <= 9);
+    assert_same(rt, &fill(&mut source, &mut to[..room]), &Ok(got));
+    assert_same(rt, &source.pulls, &pulls);
+}
+
 #[test]
 fn asks_no_more_once_a_pull_gave_nothing(rt: HostRuntime) {
-    // room, what is got, and by how many pulls: the last one finds the end
-    for (room, got, pulls) in [(0, 0, 0), (5, 5, 1), (6, 5, 2), (9, 5, 2)] {
-        let inner = MemSource::new(b"abcde");
-        let mut source = Counting { inner, pulls: 0 };
-        let mut to = [0; 9];
-        assert!(rt; room <= 9);
-        assert_same(&rt, &fill(&mut source, &mut to[..room]), &Ok(got));
-        assert_same(&rt, &source.pulls, &pulls);
-    }
+    assert_gets(&rt, 0, 0, 0);
+    assert_gets(&rt, 5, 5, 1);
+    // the last pull finds the end
+    assert_gets(&rt, 6, 5, 2);
+    assert_gets(&rt, 9, 5, 2);
 }
 
 // Asserts what a sink answers to bytes, and all that it has taken then.

@@ -5,20 +5,20 @@ use std::process::Abort;
 use sub_plan::{OptionFault, Options};
 use ttx_packet::PageId;
 
+// Asserts what is wrong with a repeat bound and an origin.
+fn assert_wrong(rt: &impl Abort, every: u64, origin: u64, want: Option<OptionFault>) {
+    let page = PageId::parse("888").expect(rt, "page 888");
+    let fault = Options::new(page, every, origin).err();
+    assert_same_in(rt, &fault, &want, &[every, origin]);
+}
+
 #[test]
 fn refuses_a_bound_before_an_origin(rt: HostRuntime) {
-    let page = PageId::parse("888").expect(&rt, "page 888");
-    // repeat bound, origin, what is wrong
-    for (every, origin, want) in [
-        (1, 0, None),
-        (1500, 0x1_FFFF_FFFF, None),
-        (0, 0, Some(OptionFault::Every)),
-        (1501, 0x2_0000_0000, Some(OptionFault::Every)), // told before the origin
-        (1, 0x2_0000_0000, Some(OptionFault::Origin)),
-    ] {
-        let got = Options::new(page, every, origin);
-        assert_same_in(&rt, &got.err(), &want, &(every, origin));
-    }
+    assert_wrong(&rt, 1, 0, None);
+    assert_wrong(&rt, 1500, 0x1_FFFF_FFFF, None);
+    assert_wrong(&rt, 0, 0, Some(OptionFault::Every));
+    assert_wrong(&rt, 1501, 0x2_0000_0000, Some(OptionFault::Every)); // told before the origin
+    assert_wrong(&rt, 1, 0x2_0000_0000, Some(OptionFault::Origin));
 }
 
 // The options of page 888, a bound of 250 and this origin.

@@ -1,7 +1,7 @@
 //! Packets, page numbers, and codes of which libzvbi printed no table.
 use crate::asserting::{assert_same, assert_same_in};
 use bitflags::Flags;
-use fixtures::HEADER;
+use fixtures::{HEADER, packet_of};
 use std::process::Abort;
 use ttx_packet::{
     Control, Header, Packet, PageId, SentPacket, ham, is_odd, is_word, mirror, mirrored,
@@ -77,22 +77,20 @@ fn reads_a_header_as_it_is_sent(rt: HostRuntime) {
     assert_same(&rt, &got.header(), &packet.header());
 }
 
+// Asserts the magazine and the packet number that two address bytes say.
+fn assert_addresses(rt: &impl Abort, words: [u8; 2], want: Option<(u8, u8)>) {
+    let packet = Packet::new(packet_of(&words));
+    assert_same_in(rt, &packet.address(), &want, &words);
+}
+
 #[test]
 fn reads_addresses(rt: HostRuntime) {
-    // the two address bytes, magazine and packet number
-    for (first, second, want) in [
-        (0x15, 0x8C, Some((0, 20))),
-        (0xD0, 0x8C, Some((0, 21))),
-        (0x15, 0x9B, Some((0, 22))),
-        (0x15, 0xB6, Some((0, 26))),
-        (0x02, 0x15, Some((1, 0))),
-        (0x16, 0x15, None), // two bits wrong
-    ] {
-        let mut bytes = [0x20; 42];
-        bytes[0] = first;
-        bytes[1] = second;
-        assert_same_in(&rt, &Packet::new(bytes).address(), &want, &(first, second));
-    }
+    assert_addresses(&rt, [0x15, 0x8C], Some((0, 20)));
+    assert_addresses(&rt, [0xD0, 0x8C], Some((0, 21)));
+    assert_addresses(&rt, [0x15, 0x9B], Some((0, 22)));
+    assert_addresses(&rt, [0x15, 0xB6], Some((0, 26)));
+    assert_addresses(&rt, [0x02, 0x15], Some((1, 0)));
+    assert_addresses(&rt, [0x16, 0x15], None); // two bits wrong
 }
 
 #[test]

@@ -12,23 +12,32 @@ use stl_rows::{
 use sub_io::MemSource;
 use ttx_page::Page;
 
-// Asserts the first frame after each of these at which another page may be due.
-fn assert_edges(rt: &impl Abort, programme: &Programme, edges: &[(u32, Option<u32>)]) {
-    for (frame, edge) in edges {
-        assert_same_in(rt, &programme.next_edge(*frame), edge, frame);
-    }
+// Asserts the first frame after this one at which another page may be due.
+fn assert_edge(rt: &impl Abort, programme: &Programme, frame: u32, edge: Option<u32>) {
+    assert_same_in(rt, &programme.next_edge(frame), &edge, &frame);
 }
 
-// Asserts the first cell that isn't a space of the page that is due at each of these frames.
-fn assert_due(rt: &impl Abort, programme: &Programme, firsts: &[(u32, Option<(u8, u8)>)]) {
-    let blank = Page::blank();
-    for (frame, first) in firsts {
-        let page = programme.due_page(*frame);
-        assert_same_in(rt, &page.first_difference(&blank), first, frame);
-    }
+// Asserts the first cell that isn't a space of the page that is due at this frame.
+fn assert_due(rt: &impl Abort, programme: &Programme, frame: u32, first: Option<(u8, u8)>) {
+    let page = programme.due_page(frame);
+    assert_same_in(rt, &page.first_difference(&Page::blank()), &first, &frame);
 }
 
-#[rattlefmt::skip]
+// Asserts both of a programme of two subtitles, of two seconds each.
+fn assert_both_due(rt: &impl Abort, programme: &Programme) {
+    assert_edge(rt, programme, 0, Some(TEN));
+    assert_edge(rt, programme, TEN - 1, Some(TEN));
+    assert_edge(rt, programme, TEN, Some(TEN + 50));
+    assert_edge(rt, programme, TEN + 50, Some(TEN + 100));
+    assert_edge(rt, programme, TEN + 100, None);
+    assert_due(rt, programme, TEN - 1, None);
+    assert_due(rt, programme, TEN, Some((22, 16)));
+    assert_due(rt, programme, TEN + 49, Some((22, 16)));
+    assert_due(rt, programme, TEN + 50, Some((22, 17)));
+    assert_due(rt, programme, TEN + 99, Some((22, 17)));
+    assert_due(rt, programme, TEN + 100, None);
+}
+
 #[test]
 fn loads_subtitles_in_order(rt: HostRuntime) -> Result<(), Fail> {
     let second = block(&head(TEN + 50, TEN + 100, 22), &[0x41]);
@@ -39,21 +48,7 @@ fn loads_subtitles_in_order(rt: HostRuntime) -> Result<(), Fail> {
     assert_same(&rt, &programme.national(), &National::German);
     assert_same(&rt, &programme.first_in(), &Some(TEN));
     assert_same(&rt, &programme.last_out(), &Some(TEN + 100));
-    assert_edges(&rt, &programme, &[
-        (0, Some(TEN)),
-        (TEN - 1, Some(TEN)),
-        (TEN, Some(TEN + 50)),
-        (TEN + 50, Some(TEN + 100)),
-        (TEN + 100, None),
-    ]);
-    assert_due(&rt, &programme, &[
-        (TEN - 1, None),
-        (TEN, Some((22, 16))),
-        (TEN + 49, Some((22, 16))),
-        (TEN + 50, Some((22, 17))),
-        (TEN + 99, Some((22, 17))),
-        (TEN + 100, None),
-    ]);
+    assert_both_due(&rt, &programme);
     Ok(())
 }
 
@@ -66,8 +61,8 @@ fn loads_a_file_without_subtitles(rt: HostRuntime) -> Result<(), Fail> {
         &(programme.first_in(), programme.last_out()),
         &(None, None),
     );
-    assert_edges(&rt, &programme, &[(0, None)]);
-    assert_due(&rt, &programme, &[(0, None)]);
+    assert_edge(&rt, &programme, 0, None);
+    assert_due(&rt, &programme, 0, None);
     Ok(())
 }
 
@@ -85,9 +80,9 @@ fn reads_a_pair_over_two_blocks(rt: HostRuntime) -> Result<(), Fail> {
     let programme = load(rt.alloc(), &mut MemSource::new(&file), National::German)?;
     let page = programme.due_page(TEN);
     // Centred, as all lines of these files.
-    for (column, code) in [(16, 0x20), (17, 0x0B), (19, 0x7D), (20, 0x0A), (22, 0x20)] {
-        assert_same_in(&rt, &page.cell(4, column), &code, &column);
-    }
+    let row = page.row(4);
+    assert!(rt; row[16] == 0x20 && row[17] == 0x0B && row[19] == 0x7D);
+    assert!(rt; row[20] == 0x0A && row[22] == 0x20);
     let kind = LoadFaultKind::Row(RowFault {
         kind: RowFaultKind::Character,
         at: 111,

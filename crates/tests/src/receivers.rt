@@ -72,31 +72,39 @@ fn assert_becomes<R: Receiver + Drop>(
     assert_same_in(rt, &[page.cell(22, 0), page.cell(22, 1)], &cells, starts);
 }
 
-#[rattlefmt::skip]
-const CASES: [([[u8; 10]; 3], [bool; 2], [u8; 3]); 9] = [
-    // packets, heard and open, cell 0, cell 1 of Keep, cell 1 of Blank
-    // C4 blanks the old page, and without it the page stays
-    ([HEADER, NO_ADDRESS, NO_ADDRESS], [true, true], [0x20, 0x20, 0x20]),
-    ([WITHOUT_C4, NO_ADDRESS, NO_ADDRESS], [true, true], [0x3F, 0x3F, 0x3F]),
-    // an even byte; a row before a header; page tens 16
-    ([WITHOUT_C4, ROW_22, NO_ADDRESS], [true, true], [0x41, 0x3F, 0x20]),
-    ([ROW_22, NO_ADDRESS, NO_ADDRESS], [false, false], [0x3F, 0x3F, 0x3F]),
-    ([TENS_16, ROW_22, NO_ADDRESS], [false, false], [0x3F, 0x3F, 0x3F]),
-    // another page ends it; so does one of another magazine with C11 set, and not with C11 clear
-    ([HEADER, CLOSING, ROW_22], [true, false], [0x20, 0x20, 0x20]),
-    ([HEADER, SERIAL_188, ROW_22], [true, false], [0x20, 0x20, 0x20]),
-    ([HEADER, PAGE_188, ROW_22], [true, true], [0x41, 0x20, 0x20]),
-    // another magazine's row
-    ([HEADER, ROW_122, NO_ADDRESS], [true, true], [0x20, 0x20, 0x20]),
-];
+// Asserts what both receivers become by three packets: heard and open, cell 0 of row 22, and its
+// cell 1 of `Keep` and of `Blank`.
+fn assert_both_become(
+    rt: &impl Abort,
+    starts: &[[u8; 10]; 3],
+    heard_and_open: [bool; 2],
+    [first, kept, blanked]: [u8; 3],
+) {
+    assert_becomes::<Keep>(rt, starts, heard_and_open, [first, kept]);
+    assert_becomes::<Blank>(rt, starts, heard_and_open, [first, blanked]);
+}
 
+#[rattlefmt::skip]
 #[test]
-fn receives_by_the_standard(rt: HostRuntime) {
-    for (starts, heard_and_open, cells) in &CASES {
-        let [first, kept, blanked] = *cells;
-        assert_becomes::<Keep>(&rt, starts, *heard_and_open, [first, kept]);
-        assert_becomes::<Blank>(&rt, starts, *heard_and_open, [first, blanked]);
-    }
+fn blanks_at_c4_alone_and_stores_odd_bytes(rt: HostRuntime) {
+    // C4 blanks the old page, and without it the page stays
+    assert_both_become(&rt, &[HEADER, NO_ADDRESS, NO_ADDRESS], [true, true], [0x20, 0x20, 0x20]);
+    assert_both_become(&rt, &[WITHOUT_C4, NO_ADDRESS, NO_ADDRESS], [true, true], [0x3F, 0x3F, 0x3F]);
+    // an even byte; a row before a header; page tens 16
+    assert_both_become(&rt, &[WITHOUT_C4, ROW_22, NO_ADDRESS], [true, true], [0x41, 0x3F, 0x20]);
+    assert_both_become(&rt, &[ROW_22, NO_ADDRESS, NO_ADDRESS], [false, false], [0x3F, 0x3F, 0x3F]);
+    assert_both_become(&rt, &[TENS_16, ROW_22, NO_ADDRESS], [false, false], [0x3F, 0x3F, 0x3F]);
+}
+
+#[rattlefmt::skip]
+#[test]
+fn ends_its_page_by_the_standard(rt: HostRuntime) {
+    // another page ends it; so does one of another magazine with C11 set, and not with C11 clear
+    assert_both_become(&rt, &[HEADER, CLOSING, ROW_22], [true, false], [0x20, 0x20, 0x20]);
+    assert_both_become(&rt, &[HEADER, SERIAL_188, ROW_22], [true, false], [0x20, 0x20, 0x20]);
+    assert_both_become(&rt, &[HEADER, PAGE_188, ROW_22], [true, true], [0x41, 0x20, 0x20]);
+    // another magazine's row
+    assert_both_become(&rt, &[HEADER, ROW_122, NO_ADDRESS], [true, true], [0x20, 0x20, 0x20]);
 }
 
 // Asserts cell 0 of row 22 on a screen with nothing on it before, after three packets.

@@ -120,58 +120,49 @@ fn reads_each_tti_field_at_its_place(rt: HostRuntime) {
     assert!(rt; tti.write().as_slice() == bytes.as_slice());
 }
 
+// Asserts the frame of a time code: hours, minutes, seconds, frames.
+fn assert_counts(rt: &impl Abort, code: [u8; 4], want: Option<u32>) {
+    let frame = match TimeCode::new(code[0], code[1], code[2], code[3]) {
+        Some(time) => Some(time.frame()),
+        None => None,
+    };
+    assert_same_in(rt, &frame, &want, &code);
+}
+
 #[test]
 fn counts_frames_of_the_day(rt: HostRuntime) {
-    for (hours, minutes, seconds, frames, want) in [
-        (0, 0, 0, 0, Some(0)),
-        (10, 0, 2, 0, Some(900_050)),
-        (23, 59, 59, 24, Some(2_159_999)),
-        (23, 59, 59, 25, None),
-        (24, 0, 0, 0, None),
-        (0, 60, 0, 0, None),
-        (0, 0, 60, 0, None),
-    ] {
-        let time = TimeCode::new(hours, minutes, seconds, frames);
-        assert_same_in(
-            &rt,
-            &time.map(|t| t.frame()),
-            &want,
-            &(hours, minutes, seconds, frames),
-        );
-    }
+    assert_counts(&rt, [0, 0, 0, 0], Some(0));
+    assert_counts(&rt, [10, 0, 2, 0], Some(900_050));
+    assert_counts(&rt, [23, 59, 59, 24], Some(2_159_999));
+    assert_counts(&rt, [23, 59, 59, 25], None);
+    assert_counts(&rt, [24, 0, 0, 0], None);
+    assert_counts(&rt, [0, 60, 0, 0], None);
+    assert_counts(&rt, [0, 0, 60, 0], None);
     assert!(rt; TimeCode::of_frame(2_159_999).to_bytes() == [23, 59, 59, 24]);
+}
+
+// Asserts whether a subtitle is taken of these frames in and out, row and justification, and text.
+fn assert_takes(rt: &impl Abort, times: [u32; 2], [vp, jc]: [u8; 2], text: &[u8], want: bool) {
+    assert!(rt; times[0] < 2_160_000 && times[1] < 2_160_000);
+    let (tci, tco) = (TimeCode::of_frame(times[0]), TimeCode::of_frame(times[1]));
+    let is_taken = Subtitle::new(1, 2, tci, tco, vp, jc, text).is_some();
+    assert_same_in(rt, &is_taken, &want, &[vp, jc]);
 }
 
 #[test]
 fn takes_what_a_subtitle_can_be(rt: HostRuntime) {
-    let text = [b'A'; 1009];
-    // frames in and out, row, justification, length of the text, taken
-    for (tci, tco, vp, jc, len, want) in [
-        (0, 1, 1, 0, 0, true),
-        (5, 2_159_999, 23, 3, 1008, true),
-        (5, 5, 20, 2, 1, false),
-        (6, 5, 20, 2, 1, false),
-        (0, 1, 0, 2, 1, false),
-        (0, 1, 24, 2, 1, false),
-        (0, 1, 20, 4, 1, false),
-        (0, 1, 20, 2, 1009, false),
-    ] {
-        let tci = TimeCode::of_frame(tci);
-        let tco = TimeCode::of_frame(tco);
-        let (text, _) = text.split_at(len);
-        let made = Subtitle::new(1, 2, tci, tco, vp, jc, text);
-        assert_same_in(&rt, &made.is_some(), &want, &(vp, len));
-    }
-    let unused = Subtitle::new(
-        1,
-        2,
-        TimeCode::of_frame(0),
-        TimeCode::of_frame(1),
-        20,
-        2,
-        &[b'A', 0x8f],
-    );
-    assert!(rt; unused.is_none());
+    let long = [b'A'; 1009];
+    let (text, _) = long.split_at(1008);
+    assert_takes(&rt, [0, 1], [1, 0], &[], true);
+    assert_takes(&rt, [5, 2_159_999], [23, 3], text, true);
+    assert_takes(&rt, [0, 1], [20, 2], &long, false);
+    assert_takes(&rt, [5, 5], [20, 2], b"A", false);
+    assert_takes(&rt, [6, 5], [20, 2], b"A", false);
+    assert_takes(&rt, [0, 1], [0, 2], b"A", false);
+    assert_takes(&rt, [0, 1], [24, 2], b"A", false);
+    assert_takes(&rt, [0, 1], [20, 4], b"A", false);
+    // unused space
+    assert_takes(&rt, [0, 1], [20, 2], &[b'A', 0x8f], false);
 }
 
 // Asserts SGN, SN, VP, JC, TCI and TCO of the next subtitle, its text, and the block then.
