@@ -118,6 +118,7 @@ impl<S: Source> Source for BufferedSource<'_, S> {
     /// # Errors
     ///
     /// `Failed` where the source inside fails, which is asked only where no byte is held.
+    #[inline(always)]
     fn pull(&mut self, to: &mut [u8]) -> Result<usize, Failed>
         requires { CanFail (S.failure_count self.old.device) }
 

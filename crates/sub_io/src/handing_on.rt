@@ -42,6 +42,7 @@ impl<S: Ahead, A: Live> Source for HandingOn<'_, S, A> {
     /// # Errors
     ///
     /// `Failed` where the source inside fails, and where the device beside it can't hand on.
+    #[inline(always)]
     fn pull(&mut self, to: &mut [u8]) -> Result<usize, Failed> {
         if self.refused > 0 || self.source.asks() && self.beside.hand_on().is_err() {
             self.refused += 1;
