@@ -55,4 +55,20 @@ impl<S: Ahead, A: Live> Source for HandingOn<'_, S, A> {
     fn failures(&self) -> u64 {
         self.source.failures().saturating_add(self.refused)
     }
+
+    /// What the source inside lends.
+    #[inline(always)]
+    fn held(&self) -> &[u8] {
+        self.source.held()
+    }
+
+    /// Passes over bytes that the source inside lends, where that need not ask: nothing is handed
+    /// on.
+    #[inline(always)]
+    fn pass(&mut self, count: usize) -> bool {
+        if self.refused > 0 || self.source.asks() {
+            return false;
+        }
+        self.source.pass(count)
+    }
 }
