@@ -32,6 +32,18 @@ impl<S: Source> Source for NeverAsks<'_, S> {
     fn failures(&self) -> u64 {
         self.source.failures()
     }
+
+    /// What the source inside lends.
+    #[inline(always)]
+    fn held(&self) -> &[u8] {
+        self.source.held()
+    }
+
+    /// Passes over bytes that the source inside lends.
+    #[inline(always)]
+    fn pass(&mut self, count: usize) -> bool {
+        self.source.pass(count)
+    }
 }
 
 impl<S: Source> Ahead for NeverAsks<'_, S> {

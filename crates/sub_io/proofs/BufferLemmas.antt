@@ -1,13 +1,20 @@
 -- Bytes that a buffer holds before those of the device inside; main lemmas: held-split,
--- held-moved.
+-- held-moved. Bytes that are lent, NAME_begin, and passed over, NAME_passed.
 use Rattle.std.proofs.Common.{◌≡◌, ℕ, ◌+◌, ◌-◌, ◌≤◌, List, [], ◌++◌, length, take, drop}
-use Rattle.std.proofs.Common.{slice_range}
-use Rattle.std.proofs.Common.{Option, Result, sym, ap, ◌∙◌, arith, drop-drop, length-drop}
+use Rattle.std.proofs.Common.{slice_range, ◌<◌, append_assoc, length-take-le, take-append-drop}
+use Rattle.std.proofs.Common.{Option, Some, None, Result, sym, ap, ◌∙◌, arith, drop-drop}
+use Rattle.std.proofs.Common.{length-drop, length-take}
 use Rattle.std.proofs.KnownBytes.{append_known-moved, prepend_known-nil}
+use Rattle.std.proofs.Math.Seq.{take-length}
+use Rattle.std.proofs.lemmas.List.{drop-take}
 use Rattle.std.proofs.lemmas.List.Edits.{take-paste}
+use Rattle.std.proofs.lemmas.Option.{same_Some}
 use Rattle.std.specs.Io.KnownBytes.{Appends, Keeps, append_known, prepend_known}
 use lib.Seq.{paste, take-add, take-append_seam}
-use Rattle.sub_io.specs.Device.{Pulls}
+use Rattle.sub_io.specs.Buffered.{ReadAhead}
+use Rattle.sub_io.specs.Calls.{ReadsAhead}
+use Rattle.sub_io.specs.Device.{Passes, Pulls}
+use Rattle.sub_io.specs.Reading.{Begins}
 
 -- The first n of the bytes from a to e, and those after them.
 slice_range-split : (xs : List ℕ) (a e n : ℕ)
@@ -71,3 +78,71 @@ held-moved x y old room moved n len some within was now p =
     append_known-moved x y (take n room) (take (len - n) moved) old p
     (was ∙ held-rest room n len some within
     ∙ ap (λ l. take n room ++ take (len - n) l) (sym now))
+
+-- ---- bytes that are lent and passed over
+
+-- How many bytes are held.
+pub held_length : (xs : List ℕ) (a e : ℕ)
+    → a ≤ e
+    → e ≤ length xs
+    → length (slice_range xs a e) ≡ e - a
+held_length xs a e le within = omega (arith, length-take (e - a) (drop a xs), length-drop a xs)
+
+-- The bytes from a to e without the first n.
+pub held_past : (xs : List ℕ) (a e n : ℕ)
+    → a + n ≤ e
+    → slice_range xs (a + n) e ≡ drop n (slice_range xs a e)
+held_past xs a e n within =
+    let whole : e - a ≡ n + (e - (a + n)) = omega arith in
+    ap (take (e - (a + n))) (sym (drop-drop n a xs))
+    ∙ sym (drop-take n (e - (a + n)) (drop a xs))
+    ∙ ap (λ k. drop n (take k (drop a xs))) (sym whole)
+
+-- All bytes of a device over memory.
+pub all_begin : (xs : List ℕ) → Begins xs (Some xs)
+all_begin xs bytes e = ap (take (length xs)) (sym (same_Some xs bytes e)) ∙ take-length xs
+
+-- The bytes that are held before those of the device inside.
+pub held_begin : (held : List ℕ) (x : Option (List ℕ)) → Begins held (prepend_known held x)
+held_begin held None bytes e = absurd cc
+held_begin held (Some xs) bytes e =
+    ap (take (length held)) (sym (same_Some (held ++ xs) bytes e)) ∙ take-append_seam held xs
+
+-- The first of all bytes of a device over memory.
+pub front_passed : (xs rest : List ℕ) (n : ℕ)
+    → n ≤ length xs
+    → rest ≡ drop n xs
+    → Passes (Some xs) n (Some rest)
+front_passed xs rest n le e = record {
+  bytes = take n xs;
+  number = length-take-le n xs le;
+  consumed = sym (take-append-drop n xs) ∙ ap (λ l. take n xs ++ l) (sym e);
+}
+
+-- The first of the bytes that are held.
+pub held_passed : (x : Option (List ℕ)) (held left : List ℕ) (n : ℕ)
+    → n ≤ length held
+    → left ≡ drop n held
+    → Passes (prepend_known held x) n (prepend_known left x)
+held_passed None held left n le e =
+    record { bytes = take n held; number = length-take-le n held le; consumed = tt }
+held_passed (Some xs) held left n le e = record {
+  bytes = take n held;
+  number = length-take-le n held le;
+  consumed = ap (λ l. l ++ xs) (sym (take-append-drop n held))
+      ∙ append_assoc (take n held) (drop n held) xs
+      ∙ ap (λ l. take n held ++ (l ++ xs)) (sym e);
+}
+
+-- The source inside is not called for them.
+pub held_read : {D : Type 0} (IsPull : D → ℕ → Option ℕ → D → Type 0)
+    (old new : ReadAhead D) (n : ℕ)
+    → 0 < n
+    → n ≤ length old.held
+    → new.device ≡ old.device
+    → ReadsAhead IsPull old n (Some n) new
+held_read IsPull old new n some le same = record {
+  held = λ _. same;
+  straight = λ none. absurd (omega (arith, ap length none, some, le));
+  ahead = λ none. absurd (omega (arith, ap length none, some, le));
+}

@@ -7,12 +7,12 @@ use Rattle.std.proofs.lemmas.Slice.{take-put_mid_below}
 use Rattle.std.specs.Io.KnownBytes.{Appends, Consumes}
 use Rattle.std.proofs.KnownBytes.{Appends-trans, Consumes-trans}
 use borrow.Rule.Slice.PartMut.{put_mid, post_of}
-use Rattle.std.proofs.lemmas.List.{take_rest}
+use Rattle.std.proofs.lemmas.List.{take-take, take_rest}
 use Rattle.std.proofs.Math.Seq.{take-append-add, take-length}
 use Rattle.std.proofs.lemmas.Option.{same_Some}
-use lib.Seq.{take-add, take-append-le}
-use Rattle.sub_io.specs.Device.{AppendsPrefix, Fills, Told, Writes}
-use Rattle.sub_io.specs.Reading.{IfTold}
+use lib.Seq.{take-add, take-append-le, take-append_seam}
+use Rattle.sub_io.specs.Device.{AppendsPrefix, Fills, Passes, Told, Writes}
+use Rattle.sub_io.specs.Reading.{Begins, IfTold}
 use Rattle.sub_io.specs.declared.source.Failed.{Failed}
 
 -- The first bytes of a slice whose part from a on was written.
@@ -39,6 +39,23 @@ pub Consumes-more : (x y z : Option (List ℕ)) (a k n : ℕ) (xs ys : List ℕ)
     → Consumes x z (take (a + n) (put_mid a k xs ys))
 Consumes-more x y z a k n xs ys within fits p q =
     subst (Consumes x z) (sym (take-put_mid a k n xs ys within fits)) (Consumes-trans x y z _ _ p q)
+
+-- The first of the bytes that a device lends, passed over.
+pub Consumes-passed : (old new : Option (List ℕ)) (front : List ℕ) (n : ℕ)
+    → Begins front old
+    → n ≤ length front
+    → Passes old n new
+    → Consumes old new (take n front)
+Consumes-passed None new front n begins le p = tt
+Consumes-passed (Some xs) None front n begins le p = absurd p.consumed
+Consumes-passed (Some xs) (Some ys) front n begins le p =
+    let same : take n front ≡ p.bytes =
+    ap (take n) (sym (begins xs refl))
+    ∙ take-take n (length front) xs le
+    ∙ ap (take n) p.consumed
+    ∙ ap (λ k. take k (p.bytes ++ ys)) (sym p.number)
+    ∙ take-append_seam p.bytes ys in
+    p.consumed ∙ ap (λ l. l ++ ys) (sym same)
 
 -- The next piece of the bytes that are written.
 pub Appends-more : (x y z : Option (List ℕ)) (a m n : ℕ) (xs : List ℕ)

@@ -39,6 +39,12 @@ Pulls old new buffer result =
     (λ n. Consumes old new (take n buffer) × (n ≡ 0 → 0 < length buffer → IsAtEnd new))
     (λ _. Keeps old new)
 
+-- So many bytes were passed over.
+pub record Passes (old : Option (List ℕ)) (count : ℕ) (new : Option (List ℕ)) : Type 0 where
+  pub bytes : List ℕ
+  pub number : length bytes ≡ count
+  pub consumed : Consumes old new bytes
+
 -- One push: an `Ok` of n added the first n of the bytes, an `Err` added nothing.
 abbrev pub Pushes : {E : Type 0}
     → Option (List ℕ) → Option (List ℕ) → List ℕ → Result ℕ E → Type 0

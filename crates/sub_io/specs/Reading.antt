@@ -1,5 +1,6 @@
 -- Words that the definitions of all readers share.
-use Rattle.std.specs.Prelude.{◌≡◌, ℕ, ◌<◌, List, Option, Some, Result, Ok, Err, slice_index}
+use Rattle.std.specs.Prelude.{◌≡◌, ℕ, ◌<◌, List, length, take, Option, Some, Result, Ok, Err}
+use Rattle.std.specs.Prelude.{slice_index}
 
 infixl 10 ◌>>=◌
 -- One step of a reading after another: the first fault ends it.
@@ -14,3 +15,7 @@ IfTold told P = (bytes : List ℕ) → told ≡ Some bytes → P bytes
 -- Each number of the list is a byte's.
 abbrev pub AreBytes : List ℕ → Type 0
 AreBytes bytes = (i : ℕ) → slice_index bytes i < 256
+
+-- A device's bytes begin with these where it tells them.
+abbrev pub Begins : List ℕ → Option (List ℕ) → Type 0
+Begins front told = IfTold told (λ bytes. take (length front) bytes ≡ front)

@@ -2,11 +2,13 @@
 
 ghost use Rattle.std.specs.Prelude.{◌≡◌, ◌≢◌, ◌==◌, ◌+◌, ◌<◌, ◌≤◌, min, [], ◌++◌, length, take};
 ghost use Rattle.std.specs.Prelude.{slice_range, Ok, Some, None, IfOk, OnErr, MatchResult};
+ghost use Rattle.std.specs.Prelude.{◌↔◌, drop, false, true};
 ghost use Rattle.std.specs.Io.{ReadsAtMost};
 ghost use Rattle.std.specs.Io.KnownBytes.{Consumes, IsAtEnd, Keeps, prepend_known};
 ghost use Rattle.sub_io.specs.Buffered.{ReadAhead};
 ghost use Rattle.sub_io.specs.Calls.{ReadsAhead, answered};
-ghost use Rattle.sub_io.specs.Device.{CanFail, CountsFailure, Pulls};
+ghost use Rattle.sub_io.specs.Device.{CanFail, CountsFailure, Passes, Pulls};
+ghost use Rattle.sub_io.specs.Reading.{Begins};
 
 use crate::{Ahead, Failed, Source};
 use std::marker::Model;
@@ -118,6 +120,7 @@ impl<S: Source> Source for BufferedSource<'_, S> {
     /// # Errors
     ///
     /// `Failed` where the source inside fails, which is asked only where no byte is held.
+    #[inline(always)]
     fn pull(&mut self, to: &mut [u8]) -> Result<usize, Failed>
         requires { CanFail (S.failure_count self.old.device) }
 
@@ -156,6 +159,38 @@ impl<S: Source> Source for BufferedSource<'_, S> {
     /// The failures of the source inside.
     fn failures(&self) -> u64 {
         self.inner.failures()
+    }
+
+    /// All bytes that are held.
+    #[inline(always)]
+    fn held(&self) -> &[u8]
+        ensures all { result.now ≡ self.now.held }
+        ensures bytes { Begins result.now
+            (prepend_known self.now.held (S.remaining self.now.device)) }
+    {
+        &self.room[self.start..self.end]
+    }
+
+    /// Passes over bytes that are held; the source inside is not asked.
+    #[inline(always)]
+    fn pass(&mut self, count: usize) -> bool
+        requires some { 0 < count }
+        requires count { CanFail (S.failure_count self.old.device) }
+        ensures held { (result ≡ true) ↔ (count ≤ length self.old.held) }
+        ensures passed { result ≡ true → (self.new.held ≡ drop count self.old.held)
+            × (self.new.device ≡ self.old.device) × (self.new.room ≡ self.old.room) }
+        ensures call { result ≡ true → ReadsAhead S.is_pull self.old count (Some count) self.new }
+        ensures bytes { result ≡ true → Passes
+            (prepend_known self.old.held (S.remaining self.old.device)) count
+            (prepend_known self.new.held (S.remaining self.new.device)) }
+        ensures none { result ≡ false → self.new ≡ self.old }
+        ensures count { S.failure_count self.new.device ≡ S.failure_count self.old.device }
+    {
+        if self.end - self.start < count {
+            return false;
+        }
+        self.start += count;
+        true
     }
 }
 

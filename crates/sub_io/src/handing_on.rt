@@ -42,6 +42,7 @@ impl<S: Ahead, A: Live> Source for HandingOn<'_, S, A> {
     /// # Errors
     ///
     /// `Failed` where the source inside fails, and where the device beside it can't hand on.
+    #[inline(always)]
     fn pull(&mut self, to: &mut [u8]) -> Result<usize, Failed> {
         if self.refused > 0 || self.source.asks() && self.beside.hand_on().is_err() {
             self.refused += 1;
@@ -53,5 +54,21 @@ impl<S: Ahead, A: Live> Source for HandingOn<'_, S, A> {
     /// The failures of the source inside, and the pulls that were refused.
     fn failures(&self) -> u64 {
         self.source.failures().saturating_add(self.refused)
+    }
+
+    /// What the source inside lends.
+    #[inline(always)]
+    fn held(&self) -> &[u8] {
+        self.source.held()
+    }
+
+    /// Passes over bytes that the source inside lends, where that need not ask: nothing is handed
+    /// on.
+    #[inline(always)]
+    fn pass(&mut self, count: usize) -> bool {
+        if self.refused > 0 || self.source.asks() {
+            return false;
+        }
+        self.source.pass(count)
     }
 }

@@ -1,10 +1,11 @@
 //! Devices over memory: a source that gives the bytes of a slice, and a sink that fills one.
 
 ghost use Rattle.std.specs.Prelude.{◌≡◌, ℕ, ◌+◌, ◌-◌, ◌<◌, ◌≤◌, min, List, [], length, take, Ok};
-ghost use Rattle.std.specs.Prelude.{IfOk, IsErr, OnOk, Some, false, true, ◌↔◌};
+ghost use Rattle.std.specs.Prelude.{IfOk, IsErr, OnOk, Some, false, true, ◌↔◌, drop};
 ghost use Rattle.std.specs.Io.{ReadsAtMost};
 ghost use Rattle.std.specs.Io.KnownBytes.{Keeps};
-ghost use Rattle.sub_io.specs.Device.{CanFail, CountsFailure, Pulls, Pushes, holds_nothing};
+ghost use Rattle.sub_io.specs.Device.{CanFail, CountsFailure, Passes, Pulls, Pushes, holds_nothing};
+ghost use Rattle.sub_io.specs.Reading.{Begins};
 ghost use Rattle.sub_io.specs.Memory.{Written};
 
 use crate::{Ahead, Close, Failed, Flush, Sink, Source};
@@ -55,6 +56,30 @@ impl Source for MemSource<'_> {
     /// 0, since no call fails.
     fn failures(&self) -> u64 {
         0
+    }
+
+    /// All bytes that are left.
+    fn held(&self) -> &[u8]
+        ensures all { result.now ≡ self.now }
+        ensures bytes { Begins result.now (Some self.now) }
+    {
+        self.rest
+    }
+
+    /// Passes over bytes that are left.
+    #[tactic(auto, using(crate::proofs::BufferLemmas::front_passed))]
+    fn pass(&mut self, count: usize) -> bool
+        ensures held { (result ≡ true) ↔ (count ≤ length self.old) }
+        ensures passed { result ≡ true → self.new ≡ drop count self.old }
+        ensures bytes { result ≡ true → Passes (Some self.old) count (Some self.new) }
+        ensures none { result ≡ false → self.new ≡ self.old }
+    {
+        if self.rest.len() < count {
+            return false;
+        }
+        let (_, left) = self.rest.split_at(count);
+        self.rest = left;
+        true
     }
 }
 

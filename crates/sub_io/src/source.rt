@@ -1,12 +1,12 @@
 //! Devices that give bytes.
 
 ghost use Rattle.std.specs.Prelude.{◌≡◌, ℕ, ◌+◌, ◌<◌, ◌≤◌, List, length, take, Option, IfOk, OnErr};
-ghost use Rattle.std.specs.Prelude.{is_ok};
+ghost use Rattle.std.specs.Prelude.{Some, false, is_ok, true};
 ghost use Rattle.std.specs.Io.{ReadsAtMost};
 ghost use Rattle.std.specs.Io.KnownBytes.{Consumes, IsAtEnd};
 ghost use Rattle.sub_io.specs.Calls.{FillsByPulls, answered, any_call};
-ghost use Rattle.sub_io.specs.Device.{CanFail, CountsFailure, Fills, Pulls, Told};
-ghost use Rattle.sub_io.specs.Reading.{AreBytes, IfTold};
+ghost use Rattle.sub_io.specs.Device.{CanFail, CountsFailure, Fills, Passes, Pulls, Told};
+ghost use Rattle.sub_io.specs.Reading.{AreBytes, Begins, IfTold};
 
 /// A device's call failed: it gave or took nothing.
 #[derive(Clone, Copy, Debug, PartialEq, Eq)]
@@ -39,6 +39,27 @@ pub trait Source {
     /// How many calls of `pull` have failed.
     fn failures(&self) -> u64
         ensures { result ≡ failure_count self.now };
+
+    /// The bytes that it holds and lends where they stand: those that it gives next. A device that
+    /// holds none, or lends none, says so by an empty slice.
+    fn held(&self) -> &[u8]
+        ensures { Begins result.now (remaining self.now) }
+    {
+        &[]
+    }
+
+    /// Passes over so many of the bytes that it lends, as one pull that gives them, and answers
+    /// whether it did: where it lends fewer, nothing is done.
+    fn pass(&mut self, count: usize) -> bool
+        requires some { 0 < count }
+        requires count { CanFail (failure_count self.old) }
+        ensures call { result ≡ true → is_pull self.old count (Some count) self.new }
+        ensures bytes { result ≡ true → Passes (remaining self.old) count (remaining self.new) }
+        ensures none { result ≡ false → self.new ≡ self.old }
+        ensures count { failure_count self.new ≡ failure_count self.old }
+    {
+        false
+    }
 }
 
 /// Pulls until `to` is full or the source is at its end, and answers how many bytes it got.

@@ -11,6 +11,7 @@ pub mod KeptFrameLemmas
 pub mod ReaderLemmas
 pub mod OutcomeLemmas
 pub mod SameBytesLemmas
+pub mod SentAgainLemmas
 pub mod TakenPackets
 pub mod PieceLemmas
 pub mod PieceListLemmas

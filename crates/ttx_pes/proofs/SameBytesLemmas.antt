@@ -1,13 +1,16 @@
--- Slices compared in blocks: same_block for one, same_more for the next, same_whole at the end.
-use Rattle.std.proofs.Common.{◌≡◌, ◌↔◌, ℕ, ◌+◌, ◌*◌, ◌≤◌, ◌^◌, ◌%◌, ◌-◌, Bool, true, List, [], ◌∷◌}
-use Rattle.std.proofs.Common.{◌++◌, map, length, take, drop, cond, nat_eq, refl, sym, ap, ap₂, ◌∙◌}
-use Rattle.std.proofs.Common.{arith, not, w8, eqb-true, eq-eqb, take-append-drop}
+-- Slices compared in blocks: same_block for one, four_same for one of four, same_more and
+-- same_more_long for the next, same_whole at the end.
+use Rattle.std.proofs.Common.{◌≡◌, ◌↔◌, ℕ, ◌+◌, ◌*◌, ◌≤◌, ◌^◌, ◌%◌, ◌-◌, Bool, true, List, []}
+use Rattle.std.proofs.Common.{◌∷◌, ◌++◌, map, length, take, drop, cond, nat_eq, refl, sym, ap}
+use Rattle.std.proofs.Common.{ap₂, ◌∙◌, ◌/◌, ◌<◌, ◌&&◌, arith, not, w8, eqb-true, eq-eqb}
+use Rattle.std.proofs.Common.{take-append-drop, take_all, get_or, false}
 use Rattle.std.proofs.lemmas.Bool.Decides.{nat_tests}
 use Rattle.std.proofs.lemmas.List.{take-take}
+use Rattle.std.specs.Simd.{first_chunks}
 use Rattle.std.proofs.lemmas.Simd.{length-zip2, mask_l-mod, tops_compared}
 use lib.Lanes.{zip2, mask_l, top, chunk}
 use lib.Seq.{take-add}
-use Rattle.ttx_packet.proofs.BlockLemmas.{block_at}
+use Rattle.ttx_packet.proofs.BlockLemmas.{block_at, block_of}
 
 -- Whether two bytes differ.
 abbrev pub differ : ℕ → ℕ → Bool
@@ -38,15 +41,80 @@ same_block a b la lb =
     ap (λ m. mask_l m % 2 ^ 64) (tops_compared w8 differ a b) ∙ mask_l-mod _ 64 size in
     grind (arith, nat_tests, same_from_none, eqb-true, eq-eqb, none_differ)
 
--- A block more. For `is_same`.
+-- A block more.
+more : (n at : ℕ) (a b : List ℕ)
+    → take at a ≡ take at b
+    → chunk at n a ≡ chunk at n b
+    → take (at + n) a ≡ take (at + n) b
+more n at a b front block = grind (arith, nat_tests, take-add at n a, take-add at n b)
+
+-- A block of 64 more. For `is_same_by_blocks`.
 pub same_more : (a b : List ℕ) (i : ℕ)
     → take (64 * i) a ≡ take (64 * i) b
     → chunk (64 * i) 64 a ≡ chunk (64 * i) 64 b
     → take (64 * (i + 1)) a ≡ take (64 * (i + 1)) b
 same_more a b i front block =
-    grind (arith, nat_tests, take-add (64 * i) 64 a, take-add (64 * i) 64 b)
+    let e : 64 * i + 64 ≡ 64 * (i + 1) = omega arith in
+    rw (← e) (more 64 (64 * i) a b front block)
 
--- Blocks up to a place, and all from a place that is not after it. For `is_same`.
+-- A block of 256 more. For `is_same_by_long_blocks`.
+pub same_more_long : (a b : List ℕ) (i : ℕ)
+    → take (256 * i) a ≡ take (256 * i) b
+    → chunk (256 * i) 256 a ≡ chunk (256 * i) 256 b
+    → take (256 * (i + 1)) a ≡ take (256 * (i + 1)) b
+same_more_long a b i front block =
+    let e : 256 * i + 256 ≡ 256 * (i + 1) = omega arith in
+    rw (← e) (more 256 (256 * i) a b front block)
+
+-- Four blocks of 64 are a block of 256.
+same_four : (a b : List ℕ)
+    → length a ≡ 256
+    → length b ≡ 256
+    → chunk (64 * 0) 64 a ≡ chunk (64 * 0) 64 b
+    → chunk (64 * 1) 64 a ≡ chunk (64 * 1) 64 b
+    → chunk (64 * 2) 64 a ≡ chunk (64 * 2) 64 b
+    → chunk (64 * 3) 64 a ≡ chunk (64 * 3) 64 b
+    → a ≡ b
+same_four a b la lb c0 c1 c2 c3 =
+    let whole = more 64 192 a b (more 64 128 a b (more 64 64 a b (more 64 0 a b refl c0) c1) c2) c3
+    in sym (take_all 256 a (omega (arith, la))) ∙ whole ∙ take_all 256 b (omega (arith, lb))
+
+-- Both of two tests hold.
+both : (x y : Bool) → (x && y) ≡ true → (x ≡ true) × (y ≡ true)
+both true y e = (refl, e)
+both false y e = absurd cc
+
+-- The four blocks were compared. For `is_same_long_block`.
+pub four_same : (a b : List ℕ) (xs ys : List (List ℕ)) (p q r s : Bool)
+    → length a ≡ 256
+    → length b ≡ 256
+    → xs ≡ first_chunks 64 (length a / 64) a
+    → ys ≡ first_chunks 64 (length b / 64) b
+    → ((p ≡ true) ↔ (get_or xs 0 [] ≡ get_or ys 0 []))
+    → ((q ≡ true) ↔ (get_or xs 1 [] ≡ get_or ys 1 []))
+    → ((r ≡ true) ↔ (get_or xs 2 [] ≡ get_or ys 2 []))
+    → ((s ≡ true) ↔ (get_or xs 3 [] ≡ get_or ys 3 []))
+    → ((((p && q) && r) && s) ≡ true) ↔ (a ≡ b)
+four_same a b xs ys p q r s la lb of_a of_b is_p is_q is_r is_s = (
+  λ all.
+      let pqr = both ((p && q) && r) s all in
+      let pq = both (p && q) r pqr.0 in
+      let one = both p q pq.0 in
+      let block : (i : ℕ) → i < 4 → get_or xs i [] ≡ get_or ys i []
+      → chunk (64 * i) 64 a ≡ chunk (64 * i) 64 b =
+      λ i l e. sym (block_of xs 64 a i of_a (rw la l)) ∙ e
+      ∙ block_of ys 64 b i of_b (rw lb l) in
+      same_four a b la lb
+      (block 0 (omega arith) (is_p.0 one.0)) (block 1 (omega arith) (is_q.0 one.1))
+      (block 2 (omega arith) (is_r.0 pq.1)) (block 3 (omega arith) (is_s.0 pqr.1)),
+  λ e.
+      let blocks : xs ≡ ys =
+      of_a ∙ ap (λ (l : List ℕ). first_chunks 64 (length l / 64) l) e ∙ sym of_b in
+      let each : (i : ℕ) → get_or xs i [] ≡ get_or ys i [] = λ i. ap (λ l. get_or l i []) blocks in
+      rw (is_p.1 (each 0), is_q.1 (each 1), is_r.1 (each 2), is_s.1 (each 3)) refl,
+)
+
+-- Blocks up to a place, and all from a place that is not after it.
 pub same_whole : (a b : List ℕ) (m n : ℕ)
     → m ≤ n
     → take n a ≡ take n b
@@ -57,5 +125,5 @@ same_whole a b m n le front back =
     sym (take-take m n a le) ∙ ap (take m) front ∙ take-take m n b le in
     sym (take-append-drop m a) ∙ ap₂ (λ (x y : List ℕ). x ++ y) first back ∙ take-append-drop m b
 
--- For the loop of `is_same`.
-pub ruleset same_blocks = (block_at, same_more, same_whole)
+-- For the loops over blocks.
+pub ruleset same_blocks = (block_at, same_more, same_more_long, same_whole)

@@ -3,11 +3,11 @@ use Rattle.std.specs.Prelude.{◌≡◌, ℕ, zero, suc, ◌+◌, ◌*◌, ◌/�
 use Rattle.std.specs.Prelude.{length, take, drop, slice_index, if◌then◌else◌, Bool, Option, Result}
 use Rattle.std.specs.Prelude.{Ok}
 use Rattle.std.specs.Io.KnownBytes.{Consumes, IsAtEnd}
-use Rattle.sub_io.specs.Reading.{◌>>=◌}
+use Rattle.sub_io.specs.Reading.{◌>>=◌, AreBytes}
 use Rattle.ttx_pes.specs.declared.fault.PesFault.{PesFault}
 use Rattle.ttx_pes.specs.DataUnit.{UnitValue, data_unit_size, is_teletext}
 use Rattle.ttx_pes.specs.PesPacket.{IsPesValue, PesValue, longest_packet}
-use Rattle.ttx_pes.specs.Reading.{packet_at, units_at}
+use Rattle.ttx_pes.specs.Reading.{packet_at, size_at, units_at, value_at}
 use Rattle.ttx_pes.specs.SentUnits.{AreWithin, sent_units}
 
 -- Where the bytes held were all that was taken since some time before, the bytes taken are so now.
@@ -94,6 +94,18 @@ pub record IsHeld (field : List ℕ) (h : HeldValue) : Type 0 where
   pub units : HasUnits field (sent_units field h.places)
   pub all : AreAllPlaces field h.places
   pub value : IsPesValue (held_frame field h)
+
+-- The bytes begin with the packet of that data field of which this is known, sent again with that
+-- PTS.
+pub record IsSentAgain (field : List ℕ) (h : HeldValue) (bytes : List ℕ) (pts : ℕ) : Type 0 where
+  pub fit : AreBytes bytes
+  pub long : h.count + 45 ≤ length bytes
+  pub sized : size_at (take 6 bytes) ≡ Ok (h.count + 45)
+  pub value :
+      value_at (drop 6 (take (h.count + 45) bytes))
+      ≡ Ok (held_frame field (record h { pts = pts }))
+  pub field_is : drop 45 (take (h.count + 45) bytes) ≡ field
+  pub held : IsHeld field (record h { pts = pts })
 
 -- The room of two in which the packet stands that is kept.
 abbrev pub kept_room : Bool → List ℕ → List ℕ → List ℕ

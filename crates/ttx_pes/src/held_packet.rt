@@ -1,17 +1,17 @@
 //! What is known of the PES packet in a room, so that one that is sent again is compared and not
 //! read again.
 ghost use Rattle.std.specs.Prelude.{◌≡◌, ◌+◌, ◌/◌, ◌%◌, ◌≤◌, ◌↔◌, true, Ok, Err, OnOk, IfOk, IfErr};
-ghost use Rattle.std.specs.Prelude.{length, drop, []};
+ghost use Rattle.std.specs.Prelude.{IfSome, length, drop, take, []};
 ghost use Rattle.ttx_pes.specs.DataUnit.{data_unit_size};
 ghost use Rattle.ttx_pes.specs.PesPacket.{IsPesValue, longest_packet, payload_size};
-ghost use Rattle.ttx_pes.specs.Reading.{units_at, value_at, is_format_fault};
+ghost use Rattle.ttx_pes.specs.Reading.{size_at, units_at, value_at, is_format_fault};
 ghost use Rattle.ttx_pes.specs.SentUnits.{AreWithin, sent_units};
-ghost use Rattle.ttx_pes.specs.Taking.{AreAllPlaces, HasUnits, IsHeld, field_in, held_frame};
-ghost use Rattle.ttx_pes.specs.Taking.{no_packet};
+ghost use Rattle.ttx_pes.specs.Taking.{AreAllPlaces, HasUnits, IsHeld, IsSentAgain, field_in};
+ghost use Rattle.ttx_pes.specs.Taking.{held_frame, no_packet};
 
 use crate::fault::PesFault;
 use crate::packet_bytes::Room;
-use crate::pes_header::pts_of;
+use crate::pes_header::{pts_of, size_of};
 use crate::same_bytes::is_same;
 use crate::same_heads::are_same_heads;
 use crate::sent_units::SentUnits;
@@ -28,6 +28,8 @@ pub(crate) struct HeldPacket {
     pts: u64,
     count: usize,
     places: UnitPlaces,
+    // Whether it was the packet before, sent again: then it may be so of the next one too.
+    repeats: bool,
 }
 
 impl Model for HeldPacket {
@@ -62,6 +64,20 @@ fn find_places(places: &mut UnitPlaces, kept: &[u8], field: &[u8]) -> Result<(),
     take_places(places, field)
 }
 
+// Whether bytes begin as a packet of that size does.
+fn begins_with_size(bytes: &[u8], size: usize) -> bool
+    ensures { result ≡ true → (size_at (take 6 bytes.now) ≡ Ok size)
+        × (payload_size ≤ size) × (size ≤ longest_packet) × (size % payload_size ≡ 0) }
+{
+    let Some(head) = bytes.first_chunk() else {
+        return false;
+    };
+    match size_of(head) {
+        Ok(told) => told == size,
+        Err(_) => false,
+    }
+}
+
 // Whether a data field is the one that is kept.
 fn is_kept(kept: &[u8], field: &[u8]) -> bool
     requires { 139 ≤ length field.now }
@@ -79,6 +95,7 @@ impl HeldPacket {
             pts: 0,
             count: 0,
             places: UnitPlaces::new(),
+            repeats: false,
         }
     }
 
@@ -89,6 +106,7 @@ impl HeldPacket {
         self.pts = 0;
         self.count = 0;
         self.places.clear();
+        self.repeats = false;
     }
 
     // The PTS.
@@ -96,6 +114,46 @@ impl HeldPacket {
         ensures { result ≡ self.now.pts }
     {
         self.pts
+    }
+
+    // The size of the packet, which is that of none where no packet is known.
+    pub(crate) fn size(&self) -> usize
+        requires { self.now.count + 45 ≤ longest_packet }
+        ensures { result ≡ self.now.count + 45 }
+    {
+        FIELD + self.count
+    }
+
+    // Another PTS.
+    pub(crate) fn set_pts(&mut self, pts: u64)
+        ensures { self.new ≡ record self.old { pts = pts } }
+    {
+        self.pts = pts;
+    }
+
+    // The PTS of the packet that begins the bytes, if that is the one in the room, sent again: it
+    // is whole, has no fault, and the same data field. Asked only of one that was sent again
+    // before: where each packet is another, none is compared twice.
+    #[inline(always)]
+    pub(crate) fn pts_again(&self, before: &Room, bytes: &[u8]) -> Option<u64>
+        requires held { IsHeld (field_in self.now.count before.now) self.now }
+        ensures again { IfSome result (λ pts.
+            IsSentAgain (field_in self.now.count before.now) self.now bytes.now pts) }
+    {
+        let size = self.size();
+        if !self.repeats || bytes.len() < size || !begins_with_size(bytes, size) {
+            return None;
+        }
+        let (packet, _) = bytes.split_at(size);
+        let (_, body) = packet.split_at(6);
+        let (_, field) = body.split_at(39);
+        if !is_kept(self.field(before), field) {
+            return None;
+        }
+        match pts_of(body) {
+            Ok(pts) => Some(pts),
+            Err(_) => None,
+        }
     }
 
     // The data field, in the packet's room.
@@ -141,11 +199,13 @@ impl HeldPacket {
         let kept = self.field(before);
         if is_kept(kept, field) {
             self.pts = pts;
+            self.repeats = true;
             return Ok(true);
         }
         find_places(&mut self.places, kept, field)?;
         self.pts = pts;
         self.count = field.len();
+        self.repeats = false;
         Ok(false)
     }
 }

@@ -1,5 +1,6 @@
 //! The PES packet that was read last, and room for the next.
-ghost use Rattle.std.specs.Prelude.{◌≡◌, ◌≢◌, ◌+◌, ◌≤◌, true, [], Ok, IfErr, if◌then◌else◌};
+ghost use Rattle.std.specs.Prelude.{◌≡◌, ◌≢◌, ◌+◌, ◌≤◌, false, true, [], Ok, IfErr};
+ghost use Rattle.std.specs.Prelude.{Some, if◌then◌else◌};
 ghost use Rattle.sub_io.specs.Calls.{PullsSome};
 ghost use Rattle.sub_io.specs.Device.{CanFail, CountsIf, failed};
 ghost use Rattle.ttx_pes.specs.Comparing.{as_given, TakesDataField};
@@ -16,7 +17,7 @@ ghost use Rattle.ttx_pes.specs.declared.progress.Progress.TheVariants.{Reading};
 use crate::comparing_reader::Compared;
 use crate::fault::PesFault;
 use crate::held_packet::HeldPacket;
-use crate::packet_bytes::{Room, body_of, take_packet};
+use crate::packet_bytes::{MOST_PACKETS, Room, body_of, take_packet};
 use crate::pes_header::LONGEST_PACKET;
 use crate::sent_units::SentUnits;
 use std::marker::Model;
@@ -101,6 +102,39 @@ fn read_compared<S: Source>(
     }
 }
 
+// Passes over the packet that the source lends next, and answers whether it did: where that is the
+// one in a room, sent again. Else nothing is done.
+#[inline(always)]
+fn passes_again<S: Source>(given: u32, source: &mut S, before: &Room, held: &mut HeldPacket) -> bool
+    requires count { CanFail (S.failure_count source.old) }
+    requires held { IsHeld (field_in held.old.count before.now) held.old }
+    ensures held { IsHeld (field_in held.old.count before.now) held.new }
+    ensures known { held.new ≡ record held.old { pts = held.new.pts } }
+    ensures tells { result ≡ true → TellsPacket (Reading given)
+        (S.remaining source.old) (S.remaining source.new)
+        (Ok (Some (held_frame (field_in held.old.count before.now) held.new))) }
+    ensures taken { result ≡ true → TakesDataField
+        (S.remaining source.old) (S.remaining source.new)
+        (held_frame (field_in held.old.count before.now) held.new)
+        (field_in held.old.count before.now) }
+    ensures below { result ≡ true → given ≢ most_packets }
+    ensures pulls { PullsSome S.is_pull source.old source.new }
+    ensures count { S.failure_count source.new ≡ S.failure_count source.old }
+    ensures none { result ≡ false → (source.new ≡ source.old) × (held.new ≡ held.old) }
+{
+    if given == MOST_PACKETS {
+        return false;
+    }
+    let Some(pts) = held.pts_again(before, source.held()) else {
+        return false;
+    };
+    if !source.pass(held.size()) {
+        return false;
+    }
+    held.set_pts(pts);
+    true
+}
+
 // The room in which the packet stands that is kept.
 fn kept_in<'a>(in_second: bool, first: &'a Room, second: &'a Room) -> &'a Room
     ensures { result.now ≡ (if in_second then second.now else first.now) }
@@ -166,6 +200,10 @@ impl KeptFrame {
         ensures pulls { PullsSome S.is_pull source.old source.new }
         ensures count { CountsIf S.failure_count source.old (failed is_read result) source.new }
     {
+        let kept = kept_in(self.in_second, &self.first, &self.second);
+        if passes_again(given, source, kept, &mut self.held) {
+            return Ok(Compared::Same);
+        }
         if self.in_second {
             self.in_second = false;
             read_compared(given, source, &mut self.first, &self.second, &mut self.held)

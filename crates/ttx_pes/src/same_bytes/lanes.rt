@@ -1,4 +1,4 @@
-//! 64 bytes compared at once, a byte in each lane of a vector.
+//! 64 and 256 bytes compared at once, a byte in each lane of a vector.
 ghost use Rattle.std.specs.Prelude.{◌≡◌, ◌↔◌, true};
 
 use std::simd::prelude::*;
@@ -12,4 +12,17 @@ pub(super) fn is_same_block(a: &[u8; 64], b: &[u8; 64]) -> bool
         .simd_ne(u8x64::from_array(*b))
         .to_bitmask()
         == 0
+}
+
+// The same of four times as many bytes: no branch stands between its quarters.
+#[inline(always)]
+pub(super) fn is_same_long_block(a: &[u8; 256], b: &[u8; 256]) -> bool
+    ensures { (result ≡ true) ↔ (a.now ≡ b.now) }
+{
+    let (a_blocks, _) = a.as_chunks::<64>();
+    let (b_blocks, _) = b.as_chunks::<64>();
+    is_same_block(&a_blocks[0], &b_blocks[0])
+        & is_same_block(&a_blocks[1], &b_blocks[1])
+        & is_same_block(&a_blocks[2], &b_blocks[2])
+        & is_same_block(&a_blocks[3], &b_blocks[3])
 }

@@ -1,0 +1,6 @@
+-- All bytes are held, by all_begin.
+use Rattle.sub_io.proofs.BufferLemmas.{all_begin}
+use Rattle.sub_io.proofs.memory.MemSourceSource.held.Goals as goal
+
+pub returns-clause-bytes : goal.returns-clause-bytes
+returns-clause-bytes c = rw (← c.self.view_is) (all_begin c.self.inside.rest.now)

@@ -1,0 +1,6 @@
+-- The blocks before this one are the same.
+use Rattle.std.proofs.Common.{◌≡◌, ◌*◌, take}
+use Rattle.ttx_pes.proofs.same_bytes.is_same_by_long_blocks.Given as goal
+
+abbrev pub invariant-loop-i : goal.invariant-loop-i
+invariant-loop-i l = take (256 * l.i) l.a ≡ take (256 * l.i) l.b
