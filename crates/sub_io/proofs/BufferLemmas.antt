@@ -13,8 +13,8 @@ use Rattle.std.specs.Io.KnownBytes.{Appends, Keeps, append_known, prepend_known}
 use lib.Seq.{paste, take-add, take-append_seam}
 use Rattle.sub_io.specs.Buffered.{ReadAhead}
 use Rattle.sub_io.specs.Calls.{ReadsAhead}
-use Rattle.sub_io.specs.Device.{Passes, Pulls}
-use Rattle.sub_io.specs.Reading.{Begins}
+use Rattle.sub_io.specs.Device.{PassesOver, Pulls}
+use Rattle.sub_io.specs.Reading.{AreNext}
 
 -- The first n of the bytes from a to e, and those after them.
 slice_range-split : (xs : List ℕ) (a e n : ℕ)
@@ -99,20 +99,20 @@ held_past xs a e n within =
     ∙ ap (λ k. drop n (take k (drop a xs))) (sym whole)
 
 -- All bytes of a device over memory.
-pub all_begin : (xs : List ℕ) → Begins xs (Some xs)
-all_begin xs bytes e = ap (take (length xs)) (sym (same_Some xs bytes e)) ∙ take-length xs
+pub all_are_next : (xs : List ℕ) → AreNext xs (Some xs)
+all_are_next xs bytes e = ap (take (length xs)) (sym (same_Some xs bytes e)) ∙ take-length xs
 
 -- The bytes that are held before those of the device inside.
-pub held_begin : (held : List ℕ) (x : Option (List ℕ)) → Begins held (prepend_known held x)
-held_begin held None bytes e = absurd cc
-held_begin held (Some xs) bytes e =
+pub held_are_next : (held : List ℕ) (x : Option (List ℕ)) → AreNext held (prepend_known held x)
+held_are_next held None bytes e = absurd cc
+held_are_next held (Some xs) bytes e =
     ap (take (length held)) (sym (same_Some (held ++ xs) bytes e)) ∙ take-append_seam held xs
 
 -- The first of all bytes of a device over memory.
 pub front_passed : (xs rest : List ℕ) (n : ℕ)
     → n ≤ length xs
     → rest ≡ drop n xs
-    → Passes (Some xs) n (Some rest)
+    → PassesOver (Some xs) n (Some rest)
 front_passed xs rest n le e = record {
   bytes = take n xs;
   number = length-take-le n xs le;
@@ -123,7 +123,7 @@ front_passed xs rest n le e = record {
 pub held_passed : (x : Option (List ℕ)) (held left : List ℕ) (n : ℕ)
     → n ≤ length held
     → left ≡ drop n held
-    → Passes (prepend_known held x) n (prepend_known left x)
+    → PassesOver (prepend_known held x) n (prepend_known left x)
 held_passed None held left n le e =
     record { bytes = take n held; number = length-take-le n held le; consumed = tt }
 held_passed (Some xs) held left n le e = record {

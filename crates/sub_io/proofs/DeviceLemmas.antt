@@ -11,8 +11,8 @@ use Rattle.std.proofs.lemmas.List.{take-take, take_rest}
 use Rattle.std.proofs.Math.Seq.{take-append-add, take-length}
 use Rattle.std.proofs.lemmas.Option.{same_Some}
 use lib.Seq.{take-add, take-append-le, take-append_seam}
-use Rattle.sub_io.specs.Device.{AppendsPrefix, Fills, Passes, Told, Writes}
-use Rattle.sub_io.specs.Reading.{Begins, IfTold}
+use Rattle.sub_io.specs.Device.{AppendsPrefix, Fills, PassesOver, Told, Writes}
+use Rattle.sub_io.specs.Reading.{AreNext, IfTold}
 use Rattle.sub_io.specs.declared.source.Failed.{Failed}
 
 -- The first bytes of a slice whose part from a on was written.
@@ -42,9 +42,9 @@ Consumes-more x y z a k n xs ys within fits p q =
 
 -- The first of the bytes that a device lends, passed over.
 pub Consumes-passed : (old new : Option (List ℕ)) (front : List ℕ) (n : ℕ)
-    → Begins front old
+    → AreNext front old
     → n ≤ length front
-    → Passes old n new
+    → PassesOver old n new
     → Consumes old new (take n front)
 Consumes-passed None new front n begins le p = tt
 Consumes-passed (Some xs) None front n begins le p = absurd p.consumed

@@ -40,7 +40,7 @@ Pulls old new buffer result =
     (λ _. Keeps old new)
 
 -- So many bytes were passed over.
-pub record Passes (old : Option (List ℕ)) (count : ℕ) (new : Option (List ℕ)) : Type 0 where
+pub record PassesOver (old : Option (List ℕ)) (count : ℕ) (new : Option (List ℕ)) : Type 0 where
   pub bytes : List ℕ
   pub number : length bytes ≡ count
   pub consumed : Consumes old new bytes

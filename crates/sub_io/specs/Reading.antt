@@ -16,6 +16,6 @@ IfTold told P = (bytes : List ℕ) → told ≡ Some bytes → P bytes
 abbrev pub AreBytes : List ℕ → Type 0
 AreBytes bytes = (i : ℕ) → slice_index bytes i < 256
 
--- A device's bytes begin with these where it tells them.
-abbrev pub Begins : List ℕ → Option (List ℕ) → Type 0
-Begins front told = IfTold told (λ bytes. take (length front) bytes ≡ front)
+-- These are the bytes that a device gives next, where it tells them.
+abbrev pub AreNext : List ℕ → Option (List ℕ) → Type 0
+AreNext next told = IfTold told (λ bytes. take (length next) bytes ≡ next)

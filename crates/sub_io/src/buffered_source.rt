@@ -7,8 +7,8 @@ ghost use Rattle.std.specs.Io.{ReadsAtMost};
 ghost use Rattle.std.specs.Io.KnownBytes.{Consumes, IsAtEnd, Keeps, prepend_known};
 ghost use Rattle.sub_io.specs.Buffered.{ReadAhead};
 ghost use Rattle.sub_io.specs.Calls.{ReadsAhead, answered};
-ghost use Rattle.sub_io.specs.Device.{CanFail, CountsFailure, Passes, Pulls};
-ghost use Rattle.sub_io.specs.Reading.{Begins};
+ghost use Rattle.sub_io.specs.Device.{CanFail, CountsFailure, PassesOver, Pulls};
+ghost use Rattle.sub_io.specs.Reading.{AreNext};
 
 use crate::{Ahead, Failed, Source};
 use std::marker::Model;
@@ -165,7 +165,7 @@ impl<S: Source> Source for BufferedSource<'_, S> {
     #[inline(always)]
     fn held(&self) -> &[u8]
         ensures all { result.now ≡ self.now.held }
-        ensures bytes { Begins result.now
+        ensures bytes { AreNext result.now
             (prepend_known self.now.held (S.remaining self.now.device)) }
     {
         &self.room[self.start..self.end]
@@ -180,7 +180,7 @@ impl<S: Source> Source for BufferedSource<'_, S> {
         ensures passed { result ≡ true → (self.new.held ≡ drop count self.old.held)
             × (self.new.device ≡ self.old.device) × (self.new.room ≡ self.old.room) }
         ensures call { result ≡ true → ReadsAhead S.is_pull self.old count (Some count) self.new }
-        ensures bytes { result ≡ true → Passes
+        ensures bytes { result ≡ true → PassesOver
             (prepend_known self.old.held (S.remaining self.old.device)) count
             (prepend_known self.new.held (S.remaining self.new.device)) }
         ensures none { result ≡ false → self.new ≡ self.old }

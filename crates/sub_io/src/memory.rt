@@ -4,8 +4,9 @@ ghost use Rattle.std.specs.Prelude.{◌≡◌, ℕ, ◌+◌, ◌-◌, ◌<◌, �
 ghost use Rattle.std.specs.Prelude.{IfOk, IsErr, OnOk, Some, false, true, ◌↔◌, drop};
 ghost use Rattle.std.specs.Io.{ReadsAtMost};
 ghost use Rattle.std.specs.Io.KnownBytes.{Keeps};
-ghost use Rattle.sub_io.specs.Device.{CanFail, CountsFailure, Passes, Pulls, Pushes, holds_nothing};
-ghost use Rattle.sub_io.specs.Reading.{Begins};
+ghost use Rattle.sub_io.specs.Device.{CanFail, CountsFailure, PassesOver, Pulls, Pushes};
+ghost use Rattle.sub_io.specs.Device.{holds_nothing};
+ghost use Rattle.sub_io.specs.Reading.{AreNext};
 ghost use Rattle.sub_io.specs.Memory.{Written};
 
 use crate::{Ahead, Close, Failed, Flush, Sink, Source};
@@ -61,7 +62,7 @@ impl Source for MemSource<'_> {
     /// All bytes that are left.
     fn held(&self) -> &[u8]
         ensures all { result.now ≡ self.now }
-        ensures bytes { Begins result.now (Some self.now) }
+        ensures bytes { AreNext result.now (Some self.now) }
     {
         self.rest
     }
@@ -71,7 +72,7 @@ impl Source for MemSource<'_> {
     fn pass(&mut self, count: usize) -> bool
         ensures held { (result ≡ true) ↔ (count ≤ length self.old) }
         ensures passed { result ≡ true → self.new ≡ drop count self.old }
-        ensures bytes { result ≡ true → Passes (Some self.old) count (Some self.new) }
+        ensures bytes { result ≡ true → PassesOver (Some self.old) count (Some self.new) }
         ensures none { result ≡ false → self.new ≡ self.old }
     {
         if self.rest.len() < count {

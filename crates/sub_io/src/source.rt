@@ -5,8 +5,8 @@ ghost use Rattle.std.specs.Prelude.{Some, false, is_ok, true};
 ghost use Rattle.std.specs.Io.{ReadsAtMost};
 ghost use Rattle.std.specs.Io.KnownBytes.{Consumes, IsAtEnd};
 ghost use Rattle.sub_io.specs.Calls.{FillsByPulls, answered, any_call};
-ghost use Rattle.sub_io.specs.Device.{CanFail, CountsFailure, Fills, Passes, Pulls, Told};
-ghost use Rattle.sub_io.specs.Reading.{AreBytes, Begins, IfTold};
+ghost use Rattle.sub_io.specs.Device.{CanFail, CountsFailure, Fills, PassesOver, Pulls, Told};
+ghost use Rattle.sub_io.specs.Reading.{AreBytes, AreNext, IfTold};
 
 /// A device's call failed: it gave or took nothing.
 #[derive(Clone, Copy, Debug, PartialEq, Eq)]
@@ -43,7 +43,7 @@ pub trait Source {
     /// The bytes that it holds and lends where they stand: those that it gives next. A device that
     /// holds none, or lends none, says so by an empty slice.
     fn held(&self) -> &[u8]
-        ensures { Begins result.now (remaining self.now) }
+        ensures { AreNext result.now (remaining self.now) }
     {
         &[]
     }
@@ -54,7 +54,7 @@ pub trait Source {
         requires some { 0 < count }
         requires count { CanFail (failure_count self.old) }
         ensures call { result ≡ true → is_pull self.old count (Some count) self.new }
-        ensures bytes { result ≡ true → Passes (remaining self.old) count (remaining self.new) }
+        ensures bytes { result ≡ true → PassesOver (remaining self.old) count (remaining self.new) }
         ensures none { result ≡ false → self.new ≡ self.old }
         ensures count { failure_count self.new ≡ failure_count self.old }
     {

@@ -5,8 +5,8 @@ use Rattle.std.proofs.Common.{Ok, refl, sym, ap, subst, ◌∙◌, arith, length
 use Rattle.std.proofs.lemmas.List.{drop-drop, take-take}
 use Rattle.std.specs.Io.KnownBytes.{Consumes}
 use Rattle.sub_io.proofs.DeviceLemmas.{Consumes-passed}
-use Rattle.sub_io.specs.Device.{Passes}
-use Rattle.sub_io.specs.Reading.{AreBytes, Begins}
+use Rattle.sub_io.specs.Device.{PassesOver}
+use Rattle.sub_io.specs.Reading.{AreBytes, AreNext}
 use Rattle.ttx_pes.specs.declared.progress.Progress.TheVariants.{Reading}
 use Rattle.ttx_pes.specs.Comparing.{TakesDataField}
 use Rattle.ttx_pes.specs.PesPacket.{PesValue}
@@ -67,10 +67,10 @@ pub record IsPassedAgain
 pub passed_again : (given : ℕ) (old new : Option (List ℕ)) (bytes field : List ℕ) (h : HeldValue)
     (size t : ℕ)
     → given ≢ most_packets
-    → Begins bytes old
+    → AreNext bytes old
     → IsSentAgain field h bytes t
     → size ≡ h.count + 45
-    → Passes old size new
+    → PassesOver old size new
     → IsPassedAgain given old new field (record h { pts = t })
 passed_again given old new bytes field h size t ne begins again e passes =
     let n = h.count + 45 in

@@ -1,11 +1,11 @@
--- What the source tells begins with what is held, by held_begin.
+-- What the source tells begins with what is held, by held_are_next.
 use Rattle.std.proofs.Common.{slice_range}
-use Rattle.sub_io.proofs.BufferLemmas.{held_begin}
+use Rattle.sub_io.proofs.BufferLemmas.{held_are_next}
 use Rattle.sub_io.proofs.buffered_source.BufferedSourceSource.held.Goals as goal
 
 pub returns-clause-bytes : goal.returns-clause-bytes
 returns-clause-bytes g c =
     let here = c.self.inside in
     rw (← c.self.view_is)
-    (held_begin (slice_range here.room.now here.start here.end)
+    (held_are_next (slice_range here.room.now here.start here.end)
     (g.S.Source.remaining here.inner))

@@ -1,6 +1,6 @@
--- All bytes are held, by all_begin.
-use Rattle.sub_io.proofs.BufferLemmas.{all_begin}
+-- All bytes are held, by all_are_next.
+use Rattle.sub_io.proofs.BufferLemmas.{all_are_next}
 use Rattle.sub_io.proofs.memory.MemSourceSource.held.Goals as goal
 
 pub returns-clause-bytes : goal.returns-clause-bytes
-returns-clause-bytes c = rw (← c.self.view_is) (all_begin c.self.inside.rest.now)
+returns-clause-bytes c = rw (← c.self.view_is) (all_are_next c.self.inside.rest.now)
