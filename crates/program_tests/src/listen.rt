@@ -1,6 +1,8 @@
 //! `listen`: what a receiver shows of the transmission of `Hi`.
 use crate::answers::{assert_fills, assert_prints, assert_prints_of};
-use fixtures::{HEADER, ROW, TEN, every_second, every_second_twice, push_pes, schedule_of_hi};
+use fixtures::{
+    CLOSING, HEADER, ROW, TEN, every_second, every_second_twice, push_pes, schedule_of_hi,
+};
 use std::alloc::Global;
 use std::process::Abort;
 use std::test::Fail;
@@ -205,6 +207,20 @@ fn keeps_or_blanks_a_cell_as_it_was_asked(rt: HostRuntime) {
     assert_hears(&rt, pes.written(), "10:00:00:10", &keep, opened);
     let blank = ["--flip", "2:21:1", "--receiver", "blank"];
     assert_hears(&rt, pes.written(), "10:00:00:10", &blank, hit);
+}
+
+// Three sendings of one data field. The second one has a flip, so the third is heard anew.
+#[test]
+fn hears_a_sending_anew_after_one_with_a_flip(rt: HostRuntime) {
+    let sent = [HEADER, ROW, CLOSING];
+    let mut room = [0; 552];
+    let mut pes = MemSink::new(&mut room);
+    push_pes(&mut pes, TEN, &sent);
+    push_pes(&mut pes, TEN + 1, &sent);
+    push_pes(&mut pes, TEN + 2, &sent);
+    let flip = ["--flip", "4:21:1"];
+    assert_hears(&rt, pes.written(), "10:00:00:01", &flip, HIT);
+    assert_hears(&rt, pes.written(), "10:00:00:02", &flip, HI);
 }
 
 #[test]

@@ -50,6 +50,7 @@ fn assert_is_schedule(
         } => {
             assert!(rt; *stl == "a" && *pes == "b" && *options == *want);
             assert!(rt; *serial == is_serial && *national == option);
+            assert_writes(rt, request);
         }
         _ => panic!(rt; "no schedule"),
     }
@@ -67,6 +68,14 @@ fn reads_the_words_of_a_schedule(rt: HostRuntime) -> Result<(), Fail> {
     let given = options("100", 25, 1)?;
     assert_schedules(&rt, &words, &given, true, National::German);
     Ok(())
+}
+
+// Asserts that a request reads a subtitle file a and writes a file b.
+fn assert_writes(rt: &impl Abort, request: &Request<'_>) {
+    match request.files() {
+        FileNames::Write(input, output) => assert!(rt; input.name() == "a" && output.name() == "b"),
+        _ => panic!(rt; "no file is written"),
+    }
 }
 
 // Asserts that words ask for a check of files a and b with these flags.
@@ -182,16 +191,11 @@ fn reads_the_words_of_a_receiver(rt: HostRuntime) -> Result<(), Fail> {
 
 #[test]
 fn names_what_is_read_and_what_is_written(rt: HostRuntime) {
-    let request = Request::Normal {
+    let normal = Request::Normal {
         input: "a",
         output: "b",
     };
-    match request.files() {
-        FileNames::Write(input, output) => {
-            assert_same(&rt, &(input.name(), output.name()), &("a", "b"))
-        }
-        _ => panic!(rt; "no file is written"),
-    }
+    assert_writes(&rt, &normal);
     match (Request::Show { stl: "a" }).files() {
         FileNames::ReadStl(input) => assert_same(&rt, &input.name(), &"a"),
         _ => panic!(rt; "no file is read"),

@@ -27,7 +27,8 @@ fn prints_the_line_of_refused_words_into_any_output(rt: HostRuntime) {
 
 // Words that are no command.
 #[rattlefmt::skip]
-const NO_WORDS: [&[&str]; 33] = [
+const NO_WORDS: [&[&str]; 34] = [
+    &[], // not even the program's name
     &["subttx"],
     &["subttx", "--help"],
     &["subttx", "-h"],
