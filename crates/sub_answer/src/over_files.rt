@@ -1,5 +1,5 @@
-//! Opens the files that a request names, and answers it over them: a function for each way of opening
-//! them.
+//! Opens the files that a request names, and answers it over them, by a function for each way of
+//! opening.
 ghost use Rattle.std.specs.Prelude.{◌≡◌, ◌≤◌, [], IfErr, IfOk, Some, length};
 ghost use Rattle.sub_io.specs.Buffered.{failures_and_refused};
 ghost use Rattle.sub_request.specs.Files.{files_of};
@@ -20,8 +20,8 @@ use sub_request::{Request, UsageFault};
 ///
 /// # Errors
 ///
-/// `Memory` where memory runs out before a file is opened, `Open` where a file can't be opened: then
-/// nothing is printed.
+/// `Memory` where memory runs out before a file is opened, `Open` where a file can't be opened.
+/// Then nothing is printed.
 pub fn open_and_answer<R: AllocGlobal + Files, K: Sink>(
     rt: &R,
     request: &Request<'_>,

@@ -1,5 +1,5 @@
--- How a run of the program ends, of the words that the system gave: what was answered, or why nothing
--- was.
+-- How a run of the program ends, of the words that the system gave: what was answered, or why
+-- nothing was.
 use Rattle.std.specs.Prelude.{◌≡◌, ◌⊎◌, ⊤, ℕ, true, List, Option, Result, Ok, Err}
 use Rattle.clap.specs.Words.{Text}
 use Rattle.sub_request.specs.Files.{files_of, reads_one}
