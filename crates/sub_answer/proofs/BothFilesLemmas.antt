@@ -147,7 +147,7 @@ status-told national options stl pes out listing status answer printed sources d
     }
 
 -- What an answer tells of the sources of both files, without whether that of the PES file was
--- touched. For `subttx`.
+-- touched. For EndingLemmas.
 pub sources-touched :
     {Counts : Type 0} (AtBlock AtPes : ℕ → Type 0) (Untouched : Type 0) (is : Bool)
     (stl pes : SourceCall) (answer : Result Counts CheckFault)

@@ -3,3 +3,4 @@ pub mod AnsweringLemmas
 pub mod ListenListingLemmas
 pub mod EveryFaultLemmas
 pub mod AllAnswerLemmas
+pub mod EndingLemmas

@@ -1,7 +1,7 @@
 //! The files of a request, opened.
 //!
 //! Stands on `sub_request` for the names of the files, and on nothing else, so that it is proved
-//! beside what answers a request. `subttx` reads and writes what is opened here.
+//! beside what answers a request. `sub_answer` reads and writes what is opened here.
 //!
 //! ```text
 //! let files = open(rt, &request.files()); // Opened::ReadStl: film.stl

@@ -1,2 +1,1 @@
-pub mod EndingLemmas
 pub mod WordsLemmas

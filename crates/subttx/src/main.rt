@@ -1,31 +1,24 @@
 //! `subttx` reads and checks Teletext subtitles from the command line.
 //!
-//! It stands above all other crates: words become a `Request` (`sub_words`), the files that it
-//! names are opened here, each behind a buffer, and its answer is printed (`sub_answer`) and ends
-//! in a `Status`.
+//! It stands above all other crates: words become a `Request` (`sub_words`), which is answered over
+//! the files that it names, and ends in a `Status` (`sub_answer`).
 #![tactic(auto)]
 
-mod answering;
-mod ending;
-mod handing_on;
 mod words;
 
-ghost use Rattle.std.specs.Prelude.{◌≡◌, ◌≤◌, IfErr, IfOk, length};
+ghost use Rattle.std.specs.Prelude.{◌≡◌, IfErr, IfOk};
 ghost use Rattle.sub_io.specs.Buffered.{failures_and_refused};
-ghost use Rattle.sub_request.specs.Files.{files_of};
-ghost use Rattle.subttx.specs.Ending.{Answered, Ends, EndsRun, IsCause, lines_of};
-ghost use Rattle.sub_files.specs.Opening.{IsUnopened};
+ghost use Rattle.sub_answer.specs.Ending.{lines_of};
+ghost use Rattle.subttx.specs.Run.{Answered, EndsRun, IsCause};
 ghost use Rattle.subttx.specs.Words.{words_given};
 
-use crate::answering::answer_opened;
-use crate::ending::say_and_hand_on;
 use crate::words::{texts_of, words_of};
 use std::env::Args;
 use std::process::ExitCode;
 use std::rt::{Env, Files};
 use std::{env, io};
-use sub_answer::{Status, say};
-use sub_files::{BUFFER, open, room, size_of_rooms};
+use sub_answer::{Status, open_and_answer, say, say_and_hand_on};
+use sub_files::{BUFFER, room};
 use sub_io::{BufferedSink, IntoWrite, Sink};
 use sub_request::{Request, UsageFault};
 use sub_words::ParseWords;
@@ -81,46 +74,4 @@ fn answer_given<R: AllocGlobal + Files, K: Sink>(
     };
     let request = Request::parse(rt.alloc(), texts.as_slice())?;
     open_and_answer(rt, &request, out)
-}
-
-// Opens the files that the request names, and answers it over them, with room for their buffers.
-// Where memory runs out, or a file can't be opened, nothing is printed.
-fn open_and_answer<R: AllocGlobal + Files, K: Sink>(
-    rt: &R,
-    request: &Request<'_>,
-    out: &mut BufferedSink<'_, K>,
-) -> Result<Status, UsageFault>
-    requires { failures_and_refused (K.failure_count out.old.device) out.old.refused ≡ 0 }
-    ensures ends { IfOk result (Ends R.File.remaining R.File.contents request.now
-        (lines_of K.contents K.failure_count out.old)
-        (lines_of K.contents K.failure_count out.new)) }
-    ensures unanswered { IfErr result (λ _. out.new ≡ out.old) }
-    ensures fault { IfErr result (IsUnopened (files_of request.now)) }
-{
-    let names = request.files();
-    let Some(mut rooms) = room(rt.alloc(), size_of_rooms(&names)) else {
-        return Err(UsageFault::Memory);
-    };
-    open_in_rooms(rt, request, rooms.as_mut_slice(), out)
-}
-
-// The same, where the room is there.
-fn open_in_rooms<R: AllocGlobal + Files, K: Sink>(
-    rt: &R,
-    request: &Request<'_>,
-    rooms: &mut [u8],
-    out: &mut BufferedSink<'_, K>,
-) -> Result<Status, UsageFault>
-    requires rooms { 2 ≤ length rooms.old }
-    requires out { failures_and_refused (K.failure_count out.old.device) out.old.refused ≡ 0 }
-    ensures ends { IfOk result (Ends R.File.remaining R.File.contents request.now
-        (lines_of K.contents K.failure_count out.old)
-        (lines_of K.contents K.failure_count out.new)) }
-    ensures unanswered { IfErr result (λ _. out.new ≡ out.old) }
-    ensures fault { IfErr result (IsUnopened (files_of request.now)) }
-{
-    match open(rt, &request.files()) {
-        Some(files) => Ok(answer_opened(rt.alloc(), request, files, rooms, out)),
-        None => Err(UsageFault::Open),
-    }
 }

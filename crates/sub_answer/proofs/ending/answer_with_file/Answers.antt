@@ -1,6 +1,6 @@
 use Rattle.std.proofs.Common.{Some, ap}
-use Rattle.subttx.proofs.EndingLemmas.{ends_with_file}
-use Rattle.subttx.proofs.ending.answer_with_file.Goals as goal
+use Rattle.sub_answer.proofs.EndingLemmas.{ends_with_file}
+use Rattle.sub_answer.proofs.ending.answer_with_file.Goals as goal
 
 pub returns-clause-ends : goal.returns-clause-ends
 returns-clause-ends g c =

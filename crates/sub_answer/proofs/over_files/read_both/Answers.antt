@@ -1,6 +1,6 @@
 use Rattle.std.proofs.KnownBytes.{prepend_known-nil}
-use Rattle.subttx.proofs.EndingLemmas.{ends_over}
-use Rattle.subttx.proofs.answering.read_both.Goals as goal
+use Rattle.sub_answer.proofs.EndingLemmas.{ends_over}
+use Rattle.sub_answer.proofs.over_files.read_both.Goals as goal
 
 pub returns : goal.returns
 returns g c =

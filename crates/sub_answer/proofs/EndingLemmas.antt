@@ -10,8 +10,8 @@ use Rattle.sub_listing.specs.DeviceCall.{SinkCall, SourceCall}
 use Rattle.sub_listing.specs.declared.status.Status.{Status}
 use Rattle.sub_request.specs.declared.request.Request.{Request}
 use Rattle.sub_request.specs.declared.request.Request.TheVariants as ask
-use Rattle.subttx.specs.Ending.{EndsFrom, EndsFromBoth, EndsOver, EndsWith, EndsWithFile, Given}
-use Rattle.subttx.specs.Ending.{Lines}
+use Rattle.sub_answer.specs.Ending.{EndsFrom, EndsFromBoth, EndsOver, EndsWith, EndsWithFile, Given}
+use Rattle.sub_answer.specs.Ending.{Lines}
 
 -- Nothing after the bytes that are known: so a sink tells that holds none back.
 pub append_known-nil : (known : Option (List ℕ)) → append_known known [] ≡ known

@@ -1,18 +1,69 @@
-//! Answers a request over the files that it names: a function for each way of opening them.
-ghost use Rattle.std.specs.Prelude.{◌≡◌, ◌≤◌, [], Some, length};
+//! Opens the files that a request names, and answers it over them, by a function for each way of
+//! opening.
+ghost use Rattle.std.specs.Prelude.{◌≡◌, ◌≤◌, [], IfErr, IfOk, Some, length};
 ghost use Rattle.sub_io.specs.Buffered.{failures_and_refused};
-ghost use Rattle.subttx.specs.Ending.{EndsOver, given_by, lines_of};
+ghost use Rattle.sub_request.specs.Files.{files_of};
+ghost use Rattle.sub_files.specs.Opening.{IsUnopened};
+ghost use Rattle.sub_answer.specs.Ending.{Ends, EndsOver, given_by, lines_of};
 
 use crate::ending::{answer_from, answer_pair, answer_with_file};
 use std::alloc::Global;
 use std::io::{Read, Write};
-use sub_answer::Status;
-use sub_files::{CreatedFile, Opened, PesFile, StlFile};
+use std::rt::Files;
+use sub_files::{CreatedFile, Opened, PesFile, StlFile, open, room, size_of_rooms};
 use sub_io::{BufferedSink, BufferedSource, FromRead, IntoFile, MemSource, Sink};
-use sub_request::Request;
+use sub_listing::Status;
+use sub_request::{Request, UsageFault};
 
-/// Answers a request over its files, each behind a buffer. These share the rooms.
-pub fn answer_opened<F: Read + Write + Drop, K: Sink>(
+/// Opens the files that the request names, and answers it over them, with room for their buffers;
+/// then the lines are handed on.
+///
+/// # Errors
+///
+/// `Memory` where memory runs out before a file is opened, `Open` where a file can't be opened.
+/// Then nothing is printed.
+pub fn open_and_answer<R: AllocGlobal + Files, K: Sink>(
+    rt: &R,
+    request: &Request<'_>,
+    out: &mut BufferedSink<'_, K>,
+) -> Result<Status, UsageFault>
+    requires { failures_and_refused (K.failure_count out.old.device) out.old.refused ≡ 0 }
+    ensures ends { IfOk result (Ends R.File.remaining R.File.contents request.now
+        (lines_of K.contents K.failure_count out.old)
+        (lines_of K.contents K.failure_count out.new)) }
+    ensures unanswered { IfErr result (λ _. out.new ≡ out.old) }
+    ensures fault { IfErr result (IsUnopened (files_of request.now)) }
+{
+    let names = request.files();
+    let Some(mut rooms) = room(rt.alloc(), size_of_rooms(&names)) else {
+        return Err(UsageFault::Memory);
+    };
+    open_in_rooms(rt, request, rooms.as_mut_slice(), out)
+}
+
+// The same, where the room is there.
+fn open_in_rooms<R: AllocGlobal + Files, K: Sink>(
+    rt: &R,
+    request: &Request<'_>,
+    rooms: &mut [u8],
+    out: &mut BufferedSink<'_, K>,
+) -> Result<Status, UsageFault>
+    requires rooms { 2 ≤ length rooms.old }
+    requires out { failures_and_refused (K.failure_count out.old.device) out.old.refused ≡ 0 }
+    ensures ends { IfOk result (Ends R.File.remaining R.File.contents request.now
+        (lines_of K.contents K.failure_count out.old)
+        (lines_of K.contents K.failure_count out.new)) }
+    ensures unanswered { IfErr result (λ _. out.new ≡ out.old) }
+    ensures fault { IfErr result (IsUnopened (files_of request.now)) }
+{
+    match open(rt, &request.files()) {
+        Some(files) => Ok(answer_opened(rt.alloc(), request, files, rooms, out)),
+        None => Err(UsageFault::Open),
+    }
+}
+
+// Answers a request over its files, each behind a buffer. These share the rooms.
+fn answer_opened<F: Read + Write + Drop, K: Sink>(
     alloc: Global,
     request: &Request<'_>,
     files: Opened<'_, F>,

@@ -6,14 +6,15 @@ ghost use Rattle.std.specs.Prelude.{◌≡◌, true, []};
 ghost use Rattle.sub_io.specs.Buffered.{HandsOn, failures_and_refused};
 ghost use Rattle.sub_io.specs.Device.{CanFail};
 ghost use Rattle.sub_listing.specs.DeviceCall.{source_call};
-ghost use Rattle.subttx.specs.Ending.{EndsFrom, EndsFromBoth, EndsWith, EndsWithFile};
-ghost use Rattle.subttx.specs.Ending.{HandsOnBeside, HoldsNothing, Says, buffered_call, lines_in};
-ghost use Rattle.subttx.specs.Ending.{lines_of};
+ghost use Rattle.sub_answer.specs.Ending.{EndsFrom, EndsFromBoth, EndsWith, EndsWithFile};
+ghost use Rattle.sub_answer.specs.Ending.{HandsOnBeside, HoldsNothing, Says, buffered_call};
+ghost use Rattle.sub_answer.specs.Ending.{lines_in, lines_of};
 
+use crate::answering::{answer, say};
 use crate::handing_on::{HandOn, hand_on_all};
 use std::alloc::Global;
-use sub_answer::{Status, answer, say};
 use sub_io::{Ahead, BufferedSink, Close, MemSink, MemSource, Sink};
+use sub_listing::Status;
 use sub_request::{Request, UsageFault};
 
 /// Answers a request that reads one source.

@@ -1,23 +1,21 @@
--- How a run of the program ends: what was answered, what was handed on, and the status.
-use Rattle.std.specs.Prelude.{◌≡◌, ◌⊎◌, ⊤, ℕ, ◌+◌, true, List, [], Option, Some, Result, Ok, Err}
+-- How a run ends that answers a request over its files: what was answered, what was handed on, and
+-- the status.
+use Rattle.std.specs.Prelude.{◌≡◌, ◌⊎◌, ⊤, ℕ, ◌+◌, List, [], Option, Some}
 use Rattle.std.specs.Io.KnownBytes.{Keeps, append_known}
-use Rattle.clap.specs.Words.{Text}
 use Rattle.sub_io.specs.Buffered.{HeldBack, failures_and_refused}
-use Rattle.sub_request.specs.Files.{files_of, reads_one}
+use Rattle.sub_request.specs.Files.{files_of}
 use Rattle.sub_request.specs.declared.request.Request.{Request}
 use Rattle.sub_request.specs.declared.request.UsageFault.{UsageFault}
-use Rattle.sub_request.specs.declared.request.UsageFault.TheVariants as usage
-use Rattle.sub_words.specs.Requests.{AsksFor, IsFaultOf}
-use Rattle.sub_answer.specs.Answering.{Answers}
+use Rattle.sub_files.specs.Opening.{AreOf}
+use Rattle.sub_files.specs.declared.opening.Opened.{Opened}
+use Rattle.sub_files.specs.declared.opening.Opened.TheVariants.{Nothing, ReadBoth, ReadPes, ReadStl}
+use Rattle.sub_files.specs.declared.opening.Opened.TheVariants.{Write}
 use Rattle.sub_listing.specs.DeviceCall.{SinkCall, SourceCall, sink_call}
 use Rattle.sub_listing.specs.Faults.{usage_told}
 use Rattle.sub_listing.specs.Listing.{PrintsOrFails, told_listing}
 use Rattle.sub_listing.specs.declared.status.Status.{Status}
 use Rattle.sub_listing.specs.declared.status.Status.TheVariants.{Fault}
-use Rattle.sub_files.specs.Opening.{AreOf}
-use Rattle.sub_files.specs.declared.opening.Opened.{Opened}
-use Rattle.sub_files.specs.declared.opening.Opened.TheVariants.{Nothing, ReadBoth, ReadPes, ReadStl}
-use Rattle.sub_files.specs.declared.opening.Opened.TheVariants.{Write}
+use Rattle.sub_answer.specs.Answering.{Answers}
 
 -- A sink behind a buffer, by what it has taken, what it holds back of that, and how often it has
 -- failed.
@@ -166,30 +164,6 @@ pub record Ends
   pub are_opened : AreOf (files_of request) files
   pub ends : EndsOver request (given_by remaining contents files) old new result
 
--- The words that the system gave asked for a request, and it was answered so.
-pub record Answered
-    {F : Type 0} (remaining contents : F → Option (List ℕ)) (given : Result (List Text) UsageFault)
-    (old new : Lines) (result : Status)
-    : Type 0 where
-  pub words : List Text
-  pub are_given : given ≡ Ok words
-  pub request : Request
-  pub asked : AsksFor words request
-  pub ends : Ends remaining contents request old new result
-
--- Why words are not answered: memory ran out, or a file that they ask for can't be opened, or this
--- is their fault.
-abbrev pub IsWhy : List Text → UsageFault → Type 0
-IsWhy words usage.Memory = ⊤
-IsWhy words usage.Open =
-    (request : Request) × AsksFor words request × (reads_one (files_of request) ≡ true)
-IsWhy words fault = IsFaultOf words fault
-
--- Why a run answers no request, of the words that the system gave or why it gave none.
-abbrev pub IsCause : Result (List Text) UsageFault → UsageFault → Type 0
-IsCause (Ok words) fault = IsWhy words fault
-IsCause (Err why) fault = fault ≡ why
-
 -- The line of a fault was printed, and then handed on.
 pub record Says (fault : UsageFault) (old new : Lines) (result : Status) : Type 0 where
   pub printed : Lines
@@ -202,19 +176,3 @@ pub record Says (fault : UsageFault) (old new : Lines) (result : Status) : Type 
       })
       (told_listing (usage_told fault)) Fault
   pub handed_on : HandsOnHeldLines printed Fault new result
-
--- No request was answered, and the line of the fault was printed that tells why.
-pub record IsUnanswered (given : Result (List Text) UsageFault) (old new : Lines) (result : Status)
-    : Type 0 where
-  pub fault : UsageFault
-  pub cause : IsCause given fault
-  pub says : Says fault old new result
-
--- How a run ends of what the system gave as words and what its files tell, by what is printed and
--- the status.
-abbrev pub EndsRun :
-    {F : Type 0}
-    → (F → Option (List ℕ)) → (F → Option (List ℕ)) → Result (List Text) UsageFault
-    → Lines → Lines → Status → Type 0
-EndsRun remaining contents given old new result =
-    Answered remaining contents given old new result ⊎ IsUnanswered given old new result

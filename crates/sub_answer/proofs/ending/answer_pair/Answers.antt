@@ -1,6 +1,6 @@
 use Rattle.std.proofs.Common.{refl}
-use Rattle.subttx.proofs.EndingLemmas.{ends_from_both}
-use Rattle.subttx.proofs.ending.answer_pair.Goals as goal
+use Rattle.sub_answer.proofs.EndingLemmas.{ends_from_both}
+use Rattle.sub_answer.proofs.ending.answer_pair.Goals as goal
 
 pub returns : goal.returns
 returns g c =

@@ -1,5 +1,5 @@
-use Rattle.subttx.specs.Ending.{lines_in, lines_of}
-use Rattle.subttx.proofs.ending.answer_and_hand_on.Goals as goal
+use Rattle.sub_answer.specs.Ending.{lines_in, lines_of}
+use Rattle.sub_answer.proofs.ending.answer_and_hand_on.Goals as goal
 
 pub returns-clause-ends : goal.returns-clause-ends
 returns-clause-ends g c = record {

@@ -3,10 +3,10 @@ ghost use Rattle.std.specs.Prelude.{◌≡◌, ℕ, List, true};
 ghost use Rattle.sub_io.specs.Buffered.{HeldBack, failures_and_refused};
 ghost use Rattle.sub_io.specs.Device.{CanFail};
 ghost use Rattle.sub_listing.specs.declared.status.Status.{Status};
-ghost use Rattle.subttx.specs.Ending.{HandsOnHeldLines, lines_in, lines_of};
+ghost use Rattle.sub_answer.specs.Ending.{HandsOnHeldLines, lines_in, lines_of};
 
-use sub_answer::Status;
 use sub_io::{BufferedSink, Close, Flush, Sink};
+use sub_listing::Status;
 
 /// Lines that are handed on beside a file, once that is closed.
 ///

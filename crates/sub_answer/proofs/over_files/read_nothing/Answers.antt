@@ -1,6 +1,6 @@
 use Rattle.std.proofs.Common.{Some, ap}
-use Rattle.subttx.proofs.EndingLemmas.{ends_over}
-use Rattle.subttx.proofs.answering.read_nothing.Goals as goal
+use Rattle.sub_answer.proofs.EndingLemmas.{ends_over}
+use Rattle.sub_answer.proofs.over_files.read_nothing.Goals as goal
 
 pub returns : goal.returns
 returns g c =

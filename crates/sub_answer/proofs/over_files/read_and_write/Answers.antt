@@ -1,6 +1,6 @@
 use Rattle.std.proofs.KnownBytes.{prepend_known-nil}
-use Rattle.subttx.proofs.EndingLemmas.{append_known-nil, ends_over}
-use Rattle.subttx.proofs.answering.read_and_write.Goals as goal
+use Rattle.sub_answer.proofs.EndingLemmas.{append_known-nil, ends_over}
+use Rattle.sub_answer.proofs.over_files.read_and_write.Goals as goal
 
 pub returns : goal.returns
 returns g c =
