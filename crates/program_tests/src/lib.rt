@@ -1,5 +1,5 @@
-//! Tests of the program's other answers, over devices in memory, and of the words that ask for them.
-//! Nothing here is part of the product.
+//! Tests of the program's other answers, over devices in memory, and of the words that ask for
+//! them. Nothing here is part of the product.
 //!
 //! They stand apart from the tests of the libraries and of checks, since the tests of a crate are
 //! proved by one job.

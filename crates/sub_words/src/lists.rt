@@ -1,5 +1,6 @@
 //! Lists as people write them.
-ghost use Rattle.std.specs.Prelude.{◌≡◌, ◌==◌, ℕ, Bool, IfOk, List, [], None, Option, Some, map};
+ghost use Rattle.std.specs.Prelude.{◌≡◌, ◌==◌, ℕ, Bool, IfOk, List, [], ◌∷◌, None, Option};
+ghost use Rattle.std.specs.Prelude.{Some, map};
 ghost use Rattle.std.specs.Prelude.{if◌then◌else◌, option_map};
 ghost use Rattle.std.specs.List.{list_any, slice_split};
 ghost use Rattle.sub_words.specs.Texts.{comma, items_after, list_of_text};
@@ -79,14 +80,26 @@ fn add_items<A: Allocator, T: Item>(
         ≡ (if all then Some list.new.items else None)) }
 {
     for text in texts {
-        let Some(item) = T::read(text) else {
-            return Ok(false);
-        };
-        if stands_in(&item, list.as_slice()) {
+        if !add_item(list, text)? {
             return Ok(false);
         }
-        list.push(item)?;
     }
+    Ok(true)
+}
+
+// Adds the item that a text is to a list. Whether it is one, and not the same as one before it.
+fn add_item<A: Allocator, T: Item>(list: &mut Vec<T, A>, text: &str) -> Result<bool, AllocError>
+    ensures { IfOk result (λ added. (more : List (List ℕ))
+        → items_after T.said T.same list.old.items (text.now ∷ more)
+        ≡ (if added then items_after T.said T.same list.new.items more else None)) }
+{
+    let Some(item) = T::read(text) else {
+        return Ok(false);
+    };
+    if stands_in(&item, list.as_slice()) {
+        return Ok(false);
+    }
+    list.push(item)?;
     Ok(true)
 }
 
@@ -94,5 +107,10 @@ fn add_items<A: Allocator, T: Item>(
 fn stands_in<T: Item>(item: &T, list: &[T]) -> bool
     ensures { result ≡ list_any (T.same item.now) list.now }
 {
-    list.iter().any(|other| item.is_same(other))
+    for other in list {
+        if item.is_same(other) {
+            return true;
+        }
+    }
+    false
 }

@@ -89,7 +89,8 @@ fn assert_both_become(
 fn blanks_at_c4_alone_and_stores_odd_bytes(rt: HostRuntime) {
     // C4 blanks the old page, and without it the page stays
     assert_both_become(&rt, &[HEADER, NO_ADDRESS, NO_ADDRESS], [true, true], [0x20, 0x20, 0x20]);
-    assert_both_become(&rt, &[WITHOUT_C4, NO_ADDRESS, NO_ADDRESS], [true, true], [0x3F, 0x3F, 0x3F]);
+    assert_both_become(&rt, &[WITHOUT_C4, NO_ADDRESS, NO_ADDRESS], [true, true],
+        [0x3F, 0x3F, 0x3F]);
     // an even byte; a row before a header; page tens 16
     assert_both_become(&rt, &[WITHOUT_C4, ROW_22, NO_ADDRESS], [true, true], [0x41, 0x3F, 0x20]);
     assert_both_become(&rt, &[ROW_22, NO_ADDRESS, NO_ADDRESS], [false, false], [0x3F, 0x3F, 0x3F]);
