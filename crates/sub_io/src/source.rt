@@ -71,6 +71,7 @@ pub trait Source {
 ///
 /// `Failed` at the first pull that fails: some bytes may have been taken, fewer than `to.len()`,
 /// and what `to` holds is not said.
+#[inline(always)]
 pub fn fill<S: Source>(source: &mut S, to: &mut [u8]) -> Result<usize, Failed>
     requires { CanFail (S.failure_count source.old) }
     ensures bound { IfOk result (λ n. n ≤ length to.new) }
@@ -93,6 +94,7 @@ pub fn fill<S: Source>(source: &mut S, to: &mut [u8]) -> Result<usize, Failed>
 }
 
 // `fill` without the clauses that follow from the others.
+#[inline(always)]
 fn fill_up<S: Source>(source: &mut S, to: &mut [u8]) -> Result<usize, Failed>
     requires { CanFail (S.failure_count source.old) }
     ensures calls { FillsByPulls S.is_pull source.old (length to.old) (is_ok result) source.new }

@@ -12,7 +12,7 @@ ghost use Rattle.ttx_pes.specs.Taking.{held_frame, no_packet};
 use crate::fault::PesFault;
 use crate::packet_bytes::Room;
 use crate::pes_header::{pts_of, size_of};
-use crate::same_bytes::is_same;
+use crate::same_bytes::{begin_alike, is_same};
 use crate::same_heads::are_same_heads;
 use crate::sent_units::SentUnits;
 use crate::unit_places::{UnitPlaces, take_places};
@@ -78,12 +78,14 @@ fn begins_with_size(bytes: &[u8], size: usize) -> bool
     }
 }
 
-// Whether a data field is the one that is kept.
+// Whether a data field is the one that is kept. One that is not is mostly another in its first
+// eight bytes, or in its last ones.
+#[inline(always)]
 fn is_kept(kept: &[u8], field: &[u8]) -> bool
     requires { 139 ≤ length field.now }
     ensures { (result ≡ true) ↔ (field.now ≡ kept.now) }
 {
-    kept.len() == field.len() && is_same(field, kept)
+    kept.len() == field.len() && begin_alike(field, kept) && is_same(field, kept)
 }
 
 impl HeldPacket {
@@ -131,9 +133,15 @@ impl HeldPacket {
         self.pts = pts;
     }
 
+    // Whether the packet was the one before, sent again, so that the next one may be too. Nothing
+    // but the way in which that is read depends on it.
+    #[inline(always)]
+    pub(crate) fn repeats(&self) -> bool {
+        self.repeats
+    }
+
     // The PTS of the packet that begins the bytes, if that is the one in the room, sent again: it
-    // is whole, has no fault, and the same data field. Asked only of one that was sent again
-    // before: where each packet is another, none is compared twice.
+    // is whole, has no fault, and the same data field.
     #[inline(always)]
     pub(crate) fn pts_again(&self, before: &Room, bytes: &[u8]) -> Option<u64>
         requires held { IsHeld (field_in self.now.count before.now) self.now }
@@ -141,7 +149,7 @@ impl HeldPacket {
             IsSentAgain (field_in self.now.count before.now) self.now bytes.now pts) }
     {
         let size = self.size();
-        if !self.repeats || bytes.len() < size || !begins_with_size(bytes, size) {
+        if bytes.len() < size || !begins_with_size(bytes, size) {
             return None;
         }
         let (packet, _) = bytes.split_at(size);

@@ -103,7 +103,8 @@ fn read_compared<S: Source>(
 }
 
 // Passes over the packet that the source lends next, and answers whether it did: where that is the
-// one in a room, sent again. Else nothing is done.
+// one in a room, sent again. Else nothing is done. It looks for one only where the packet in the
+// room was sent again too: where each packet is another, none is compared twice.
 #[inline(always)]
 fn passes_again<S: Source>(given: u32, source: &mut S, before: &Room, held: &mut HeldPacket) -> bool
     requires count { CanFail (S.failure_count source.old) }
@@ -122,7 +123,7 @@ fn passes_again<S: Source>(given: u32, source: &mut S, before: &Room, held: &mut
     ensures count { S.failure_count source.new ≡ S.failure_count source.old }
     ensures none { result ≡ false → (source.new ≡ source.old) × (held.new ≡ held.old) }
 {
-    if given == MOST_PACKETS {
+    if !held.repeats() || given == MOST_PACKETS {
         return false;
     }
     let Some(pts) = held.pts_again(before, source.held()) else {

@@ -6,16 +6,22 @@ mod lanes;
 use self::lanes::{is_same_block, is_same_long_block};
 use byteorder::{ByteOrder, LittleEndian};
 
-// Whether two slices of one length hold the same bytes. Those that do not are mostly other ones in
-// the first eight, which are compared before all.
+// Whether two slices have the same first eight bytes.
+#[inline(always)]
+pub(crate) fn begin_alike(a: &[u8], b: &[u8]) -> bool
+    requires a { 8 ≤ length a.now }
+    requires b { 8 ≤ length b.now }
+    ensures { a.now ≡ b.now → result ≡ true }
+{
+    LittleEndian::read_u64(a) == LittleEndian::read_u64(b)
+}
+
+// Whether two slices of one length hold the same bytes.
 pub(crate) fn is_same(a: &[u8], b: &[u8]) -> bool
     requires long { 64 ≤ length a.now }
     requires length { length a.now ≡ length b.now }
     ensures { (result ≡ true) ↔ (a.now ≡ b.now) }
 {
-    if LittleEndian::read_u64(a) != LittleEndian::read_u64(b) {
-        return false;
-    }
     if a.len() < 256 {
         is_same_by_blocks(a, b)
     } else {
