@@ -108,27 +108,12 @@ module _ (programme : ProgrammeValue) (options : OptionsValue) (unread : Option 
       → WrongFirst g frames n f row column
       → IsWrongEverywhere programme options frames f row column
   wrong_everywhere n f row column r w =
-      let last = take_last frames n r.fits r.some in
-      record {
-        read = take n frames;
-        are_read =
-            grind (
-              arith,
-              take_rising frames n r.fits r.rises,
-              r.some,
-              r.fits,
-              r.up_to,
-              r.next,
-            );
-        wrong = λ old new unheard shut hears e.
-            w.broken
-            (sym (all_show g.watched frames n r.fits (λ i k l. r.packets i l k)
-            (first_header-packets_before g.watched frames n r.some r.fits r.header) old new unheard
-            shut
-            (grind (
-              arith,
-              nat_tests,
-              on_air_read frames n f r.some r.fits r.rises r.up_to,
-            )) row column w.is_cell)
-            ∙ e);
-      }
+      grind (
+        arith,
+        nat_tests,
+        take_last frames n r.fits r.some,
+        take_rising frames n r.fits r.rises,
+        all_show g.watched frames n r.fits,
+        first_header-packets_before g.watched frames n r.some r.fits r.header,
+        on_air_read frames n f r.some r.fits r.rises r.up_to,
+      )

@@ -49,10 +49,7 @@ module _ (pieces : List Piece) (a b : ℕ) where
         λ some low.
             let all = part_length frames in
             let at = last_of_done some in
-            elim (outside done ahead u parts (omega arith) (omega arith)) [
-              | inl before ↦ inl (omega arith)
-              | inr after ↦ inr (omega arith)
-            ],
+            grind (arith, nat_tests),
         is_outside outside n (done ++ Passed u ∷ []) ahead
             (parts ∙ sym (append_assoc done (Passed u ∷ []) ahead)) (omega arith),
       )

@@ -17,7 +17,4 @@ latest_at frames zero rises some = absurd (omega arith)
 latest_at frames (suc zero) rises some = grind (arith, nat_tests)
 latest_at frames (suc (suc m)) rises some =
     let ih = latest_at frames (suc m) (λ i a b. rises i a (omega arith)) (omega arith) in
-    let r = rises (suc m) (omega arith) (omega arith) in
-    let e : suc (suc m) - 1 ≡ suc m = omega arith in
-    let f = ap (frame_at frames) e in
-    omega arith
+    grind (arith, nat_tests)

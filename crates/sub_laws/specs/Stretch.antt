@@ -28,10 +28,8 @@ pub record HasPromises
     : Type 0 where
   -- The headline.
   pub robust : Robust programme transmission options
-  -- With lost rows too.
-  pub to_loss : RobustToMarkedLoss programme transmission options
-  -- In all frames receivers recover from whatever they held before, and where pages are complete,
-  -- what is due is on their screens.
+  -- In all frames receivers recover from whatever they held before, where rows are lost too, and
+  -- where pages are complete, what is due is on their screens.
   pub trusted :
       MayBeTrusted programme transmission options (first_frame transmission)
       (last_frame transmission)
