@@ -9,7 +9,7 @@ use Rattle.std.proofs.lemmas.List.{take-take}
 use Rattle.std.proofs.lemmas.List.Elements.{Contains-append_left, Contains-append_right}
 use Rattle.ttx_page.specs.PacketKind.{kind}
 use Rattle.ttx_page.specs.Span.{holds_header}
-use Rattle.sub_rules.specs.Events.{frame_events, gap_length, standing_at, standing_before}
+use Rattle.sub_rules.specs.Events.{frame_events, standing_at}
 use Rattle.sub_rules.specs.Events.{unread_fault}
 use Rattle.sub_rules.specs.FrameRules.{Task, Unread, end_frame, frame_at, packets_of_frame}
 use Rattle.sub_rules.specs.PacketTests.{breaks}
@@ -20,7 +20,7 @@ use Rattle.sub_rules.specs.declared.event.Event.{Event}
 use Rattle.sub_rules.specs.declared.event.Event.TheVariants.{Trusted, Told}
 use Rattle.sub_rules.specs.declared.packet_rule.PacketRule.{PacketRule}
 use Rattle.sub_rules.specs.PieceEvents.{all_of_pieces, at_pes, closing_of_pieces, last_of_run}
-use Rattle.sub_rules.specs.PieceEvents.{no_run, run_after_each, run_at, told_of_each, told_of_frame}
+use Rattle.sub_rules.specs.PieceEvents.{run_after_each, run_at, told_of_each, told_of_frame}
 use Rattle.sub_rules.specs.PieceEvents.{told_of_passed, told_of_pieces}
 use Rattle.sub_rules.specs.Pieces.{Piece, frames_of}
 use Rattle.sub_rules.specs.Pieces.Piece.{Passed, Sent}

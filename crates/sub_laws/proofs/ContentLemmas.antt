@@ -1,7 +1,7 @@
 -- Where content is refused, every receiver shows another code than is due: `wrong_everywhere`.
 use Rattle.std.proofs.lemmas.Bool.Decides.{nat_tests}
 use Rattle.std.proofs.Common.{List, [], subst, ◌≡◌, ℕ, ◌-◌, ◌<◌, ◌≤◌, true, Option, length, take}
-use Rattle.std.proofs.Common.{IsFalse, sym, ◌∙◌, arith}
+use Rattle.std.proofs.Common.{IsFalse, ◌∙◌, arith}
 use Rattle.std.proofs.lemmas.List.Elements.{All-from_get_or}
 use Rattle.std.proofs.lemmas.List.{length-take-le, take-take, take_all}
 use Rattle.ttx_packet.specs.PageHeader.{HasExactWords}

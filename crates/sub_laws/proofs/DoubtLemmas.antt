@@ -2,7 +2,7 @@
 -- `trusted_in_run`, and what is left of a run, `over-some`.
 use Rattle.std.proofs.lemmas.Bool.Decides.{nat_tests}
 use Rattle.std.proofs.Common.{◌≡◌, ℕ, ◌-◌, ◌<◌, Bool, true, false, List, [], ◌∷◌, map, ◌++◌, All}
-use Rattle.std.proofs.Common.{Contains, Option, Some, None, is_some, refl, sym, ap, ◌∙◌, subst}
+use Rattle.std.proofs.Common.{Contains, Option, Some, None, is_some, refl, ap, ◌∙◌, subst}
 use Rattle.std.proofs.Common.{zero, suc, arith, cond}
 use Rattle.std.proofs.lemmas.Bool.{lt-ltb, ltb-true}
 use Rattle.std.proofs.lemmas.List.{get_or-map, length-map}

@@ -10,7 +10,7 @@ use Rattle.std.proofs.lemmas.Bool.Decides.{nat_tests, Decides-ltb}
 use Rattle.std.proofs.lemmas.List.{append-nil}
 use Rattle.std.proofs.lemmas.Option.{none-some, same_Some}
 use Rattle.ttx_packet.specs.PacketAddress.{IsPacket}
-use Rattle.sub_rules.specs.Events.{closing_events, end_before, end_events, endings, events}
+use Rattle.sub_rules.specs.Events.{closing_events, end_before, end_events, events}
 use Rattle.sub_rules.specs.Events.{events_at_end, events_of_first, first_header_events}
 use Rattle.sub_rules.specs.Events.{frame_events, gap_events, gap_length, is_gap, is_incomplete}
 use Rattle.sub_rules.specs.Events.{latest, late_events, nothing_stands, order_events, packet_events}

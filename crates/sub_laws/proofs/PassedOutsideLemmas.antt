@@ -1,6 +1,6 @@
 -- No piece is passed over that may have been sent in a stretch: said piece by piece, `is_outside`.
 use Rattle.std.proofs.lemmas.Bool.Decides.{nat_tests}
-use Rattle.std.proofs.Common.{◌≡◌, ℕ, zero, suc, ◌-◌, ◌<◌, ◌≤◌, inl, inr, List, [], ◌∷◌}
+use Rattle.std.proofs.Common.{◌≡◌, ℕ, zero, suc, ◌-◌, ◌<◌, ◌≤◌, List, [], ◌∷◌}
 use Rattle.std.proofs.Common.{length, refl, sym, ap, ◌∙◌, arith, ◌⊎◌, ◌++◌, append_assoc}
 use Rattle.std.proofs.Common.{length-append}
 use Rattle.sub_rules.specs.FrameRules.{frame_at}

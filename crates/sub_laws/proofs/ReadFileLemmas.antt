@@ -3,7 +3,7 @@
 use Rattle.std.proofs.lemmas.Bool.Decides.{nat_tests}
 use Rattle.std.proofs.Common.{◌≡◌, ℕ, zero, suc, ◌+◌, ◌-◌, ◌*◌, ◌/◌, ◌<◌, ◌≤◌, Bool, true, false}
 use Rattle.std.proofs.Common.{List, [], ◌∷◌, length, map, take, drop, slice_index, Option, None}
-use Rattle.std.proofs.Common.{Some, Result, Ok, Err, MatchResult, IfSome, cond, refl, nat_lt}
+use Rattle.std.proofs.Common.{Some, Result, Ok, Err, MatchResult, IfSome, cond, nat_lt}
 use Rattle.std.proofs.Common.{if◌then◌else◌, ◌∙◌, arith, length-take, length-drop}
 use Rattle.std.proofs.lemmas.List.{length-map}
 use Rattle.std.specs.List.{AllByRecursion}

@@ -1,8 +1,8 @@
 -- What stands broken at an end: its first wrong cell, `first_wrong`, `none_wrong`; whether the
 -- repeat bound has passed, `gap_decided`; whether the page is open, `incomplete_decided`; and
 -- whether anything stands broken, `quiet_decided`.
-use Rattle.std.proofs.Common.{◌≡◌, ◌↔◌, ℕ, zero, suc, ◌+◌, ◌-◌, ◌<◌, ◌≤◌, inl, inr, Bool, true}
-use Rattle.std.proofs.Common.{false, [], length, take, Option, Some, None, refl, sym, ap, ◌∙◌}
+use Rattle.std.proofs.Common.{◌≡◌, ◌↔◌, ℕ, zero, suc, ◌+◌, ◌-◌, ◌<◌, ◌≤◌, Bool, true}
+use Rattle.std.proofs.Common.{false, [], length, take, Option, Some, None, refl, sym}
 use Rattle.std.proofs.Common.{subst, arith, not, ◌||◌, ◌==◌, get_or, is_some, option_map}
 use Rattle.std.specs.Prelude.{option_and_then}
 use Rattle.std.specs.List.{list_any}

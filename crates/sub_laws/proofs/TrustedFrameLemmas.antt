@@ -2,7 +2,7 @@
 use Rattle.std.proofs.lemmas.Bool.Decides.{nat_tests}
 use Rattle.std.specs.Bool.{Decides}
 use Rattle.std.proofs.Common.{◌≡◌, ℕ, zero, suc, ◌+◌, ◌-◌, ◌<◌, ◌≤◌, inl, inr, true, false, length}
-use Rattle.std.proofs.Common.{take, None, refl, ap, ◌∙◌, subst, arith}
+use Rattle.std.proofs.Common.{take, None, ap, ◌∙◌, arith}
 use Rattle.std.proofs.lemmas.Bool.{cases_lt, cases_eq}
 use Rattle.std.proofs.lemmas.List.{length-take-le, take-take}
 use Rattle.std.proofs.lemmas.List.Elements.{All-contains}
@@ -11,19 +11,16 @@ use Rattle.ttx_page.specs.Span.{holds_header}
 use Rattle.sub_rules.specs.Events.{Standing, is_gap, is_incomplete, standing_at}
 use Rattle.sub_rules.specs.FrameRules.{Task, frame_at, IsEnded, packets_of_frame, task_of}
 use Rattle.sub_rules.specs.PacketTests.{breaks}
-use Rattle.sub_rules.specs.PieceEvents.{all_of_pieces}
 use Rattle.sub_rules.specs.Pieces.{frames_of}
 use Rattle.sub_rules.specs.Transmission.{Transmission, last_frame, packets_of}
 use Rattle.sub_rules.specs.Trusted.{stands_none}
 use Rattle.sub_rules.specs.declared.packet_rule.PacketRule.{PacketRule}
-use Rattle.sub_rules.specs.declared.event.Event.TheVariants.{Trusted}
 use Rattle.sub_laws.specs.CleanStretch.{AtEnds, IsCleanStretch, IsEnd, IsStretch, IsUntold}
 use Rattle.sub_laws.specs.CleanStretch.{is_needed}
 use Rattle.sub_laws.specs.TrustedFrames.{LawOfTrusted, rises_at, rising_count, rising_part}
 use Rattle.sub_laws.proofs.CleanStretchLemmas.{law_of_clean_stretch}
 use Rattle.sub_laws.proofs.GoodLemmas.{any_sent}
 use Rattle.sub_laws.proofs.UntoldLemmas.{law_of_untold_stretch}
-use Rattle.sub_laws.proofs.DoubtLemmas.{OnTrusted}
 use Rattle.sub_laws.proofs.PrefixLemmas.{RiseTo, before, first-same, frame_at-take, packet_at}
 use Rattle.sub_laws.proofs.PrefixLemmas.{packets-take, rises_to, take_last, take_rising}
 use Rattle.sub_laws.proofs.TrustedPieceLemmas.{StaysTo, all_stay}

@@ -1,11 +1,10 @@
 -- What is so of each stretch that is told as trusted of pieces, where its run is over: `all_stay`.
 use Rattle.std.proofs.lemmas.Bool.Decides.{nat_tests}
-use Rattle.std.proofs.Common.{◌≡◌, ℕ, zero, suc, ◌+◌, ◌-◌, ◌<◌, ◌≤◌, ◌⊎◌, Bool, true, false, not}
-use Rattle.std.proofs.Common.{◌||◌, List, [], ◌∷◌, ◌++◌, length, map, Option, Some, None, refl, ap}
+use Rattle.std.proofs.Common.{◌≡◌, ℕ, zero, suc, ◌+◌, ◌-◌, ◌<◌, ◌≤◌, ◌⊎◌, Bool, true, not}
+use Rattle.std.proofs.Common.{◌||◌, List, [], ◌∷◌, ◌++◌, length, map, Option, Some, None, refl}
 use Rattle.std.proofs.Common.{subst, arith, ◌≢◌}
 use Rattle.sub_rules.specs.Events.{closing_events, frame_events, unread_fault}
 use Rattle.sub_rules.specs.FrameRules.{Task, end_frame, frame_at, Unread}
-use Rattle.sub_rules.specs.FrameRules.Unread.{BadPacket, NoFrame}
 use Rattle.sub_rules.specs.PieceEvents.{ended_run, all_announced, all_of_pieces, at_pes}
 use Rattle.sub_rules.specs.PieceEvents.{closing_of_pieces, last_of_run, no_run, passed_after_all}
 use Rattle.sub_rules.specs.PieceEvents.{run_after_each, run_at, told_of_each, told_of_frame}

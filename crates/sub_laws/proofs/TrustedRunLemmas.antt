@@ -1,6 +1,6 @@
 -- What a run of quiet frames holds, `Run`; and it does so after the next frame, `run_next`.
 use Rattle.std.proofs.lemmas.Bool.Decides.{nat_tests}
-use Rattle.std.proofs.Common.{◌≡◌, ℕ, zero, suc, ◌+◌, ◌-◌, ◌<◌, ◌≤◌, ◌⊎◌, inl, inr, Bool, true}
+use Rattle.std.proofs.Common.{◌≡◌, ℕ, zero, suc, ◌+◌, ◌-◌, ◌<◌, ◌≤◌, ◌⊎◌, inl, inr, true}
 use Rattle.std.proofs.Common.{false, List, length, Option, Some, None, refl, sym, ap, ◌∙◌, subst}
 use Rattle.std.proofs.Common.{arith}
 use Rattle.std.specs.List.{list_any}
@@ -13,7 +13,7 @@ use Rattle.sub_rules.specs.FrameRules.{HasHeader, Task, frame_at, packets_of_fra
 use Rattle.sub_rules.specs.PacketTests.{breaks}
 use Rattle.sub_rules.specs.PieceEvents.{run_at}
 use Rattle.sub_rules.specs.Transmission.{Transmission}
-use Rattle.sub_rules.specs.Trusted.{begun, frame_before, is_order, is_quiet, own_events, run_over}
+use Rattle.sub_rules.specs.Trusted.{frame_before, is_order, is_quiet, own_events}
 use Rattle.sub_rules.specs.Trusted.{stands_none}
 use Rattle.sub_rules.specs.declared.event.Event.{Event}
 use Rattle.sub_rules.specs.declared.packet_rule.PacketRule.{PacketRule}

@@ -1,5 +1,5 @@
 -- A stretch of which nothing is told is clean: `law_of_untold_stretch`.
-use Rattle.std.proofs.Common.{arith, ◌≡◌, ℕ, Bool, true, false, not, ◌&&◌, refl, sym, ap, IsFalse}
+use Rattle.std.proofs.Common.{arith, ◌≡◌, ℕ, Bool, true, false, not, ◌&&◌, refl, ap, IsFalse}
 use Rattle.std.proofs.lemmas.Bool.Decides.{nat_tests}
 use Rattle.sub_laws.specs.CleanStretch.{AtPackets, IsKeptWithin, IsUntold, KeepsCodes}
 use Rattle.sub_laws.specs.CleanStretch.{LawOfUntoldStretch, Part, is_needed}
