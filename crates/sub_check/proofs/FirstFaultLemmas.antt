@@ -1,5 +1,6 @@
 -- What the device of `check` kept decides its answer: `nothing_kept`, `fault_kept`, `read_failed`,
 -- `fails_at_packet`.
+use Rattle.std.proofs.lemmas.Bool.Decides.{nat_tests}
 use Rattle.std.proofs.Common.{◌≡◌, ℕ, zero, suc, List, Option, Some, None}
 use Rattle.std.proofs.Common.{Result, Ok, Err, true, false, is_some}
 use Rattle.std.proofs.Common.{refl, sym, ◌∙◌, subst, arith, length, take, replicate}
@@ -49,9 +50,7 @@ module _ (programme : ProgrammeValue) (options : OptionsValue) (bytes : List ℕ
       → first_told (all_events_of programme options bytes) ≡ Some f
       → is_of_rule f ≡ true
   first_of_rule f is =
-      let file = pes_file_of options.origin bytes in
-      (first_named programme options bytes file.frames file.unread refl f
-      (sym (first_of_pieces programme options bytes) ∙ is)).0
+      grind (arith, nat_tests, first_named, first_of_pieces)
 
   -- The source failed, and the device had kept nothing: all pieces before were sent.
   sent_before : (empty kept : Option CheckFault) (f : CheckFault) (pes : ℕ)
@@ -102,9 +101,7 @@ module _ (programme : ProgrammeValue) (options : OptionsValue) (bytes : List ℕ
         let first = first_of_taken n all f
         (kept_is kept (take n all) (λ g h. first_of_rule g (first_of_taken n all g h)) part.in_turn
         ∙ is) in
-        refused_first programme options fine bytes f p
-        (sym (first_of_pieces programme options bytes) ∙ first)
-        (of_rule f (first_of_rule f first))
+        grind (arith, nat_tests, refused_first, first_of_pieces, of_rule, first_of_rule)
 
     -- The source failed. For `check`.
     pub read_failed : (empty kept : Option CheckFault) (f : CheckFault)
@@ -150,16 +147,8 @@ pub fails_at_packet : (programme : ProgrammeValue) (options : OptionsValue)
     length (frames_of (take pes (piece_file_of options.origin bytes).pieces)) ≡ pes
     → FailsAtPacket pes old new)
     → FailsAtPacket pes old new
-fails_at_packet programme options empty kept f pes None new e quiet is at told sent = record {
-  behind = at.behind;
-  before = record {
-    packets = replicate pes (canonical_packet empty_value);
-    number = length-replicate pes (canonical_packet empty_value);
-    each = any_packets pes;
-    consumed = tt;
-  };
-  within = at.within;
-}
+fails_at_packet programme options empty kept f pes None new e quiet is at told sent =
+    grind (arith, nat_tests, length-replicate pes (canonical_packet empty_value), any_packets pes)
 fails_at_packet programme options empty kept f pes (Some bytes) new e quiet is at told sent =
     sent bytes refl
     (sent_before programme options bytes empty kept f pes e quiet (told bytes refl) is).sent

@@ -2,8 +2,8 @@
 -- rule, `first_named`, and decides the answer of `check`, `first_decides`.
 use Rattle.std.proofs.lemmas.Bool.Decides.{nat_tests}
 use Rattle.std.proofs.Common.{◌≡◌, ℕ, ◌≤◌, List, [], ◌∷◌, length, Option, Some}
-use Rattle.std.proofs.Common.{None, Result, Err, refl, sym, ap, ◌∙◌, subst}
-use Rattle.std.proofs.Common.{arith, All, MatchResult, cond, true}
+use Rattle.std.proofs.Common.{None, Result, Err, refl, sym, subst}
+use Rattle.std.proofs.Common.{arith, All, MatchResult, true}
 use Rattle.std.specs.List.{AllByRecursion}
 use Rattle.std.proofs.lemmas.Bool.{true≢false}
 use Rattle.std.proofs.lemmas.List.Elements.{All-from_recursion}
@@ -12,11 +12,10 @@ use Rattle.ttx_packet.specs.PacketAddress.{IsPacket}
 use Rattle.ttx_pes.specs.declared.fault.PesFault.TheVariants.{Read}
 use Rattle.stl_rows.specs.Programme.{ProgrammeValue}
 use Rattle.sub_plan.specs.Options.{OptionsValue}
-use Rattle.sub_check.specs.CheckedFiles.{answer_by, first_answer}
+use Rattle.sub_check.specs.CheckedFiles.{first_answer}
 use Rattle.sub_check.specs.FirstTold.{IsRuleFault, KeepsFirstFault, is_of_rule}
 use Rattle.sub_checker.specs.declared.telling.Accepted.{Accepted}
 use Rattle.sub_rules.specs.Events.{events, events_of_first, first_told, unread_fault}
-use Rattle.sub_rules.specs.Fault.{is_pes_read}
 use Rattle.sub_rules.specs.FrameRules.{Task, Unread, task_of}
 use Rattle.sub_rules.specs.FrameRules.Unread.{BadPacket, NoFrame}
 use Rattle.sub_rules.specs.PesReading.{ReadsAs}
@@ -55,8 +54,7 @@ pub no_read : (f : CheckFault) (pes : ℕ)
     → (let r : Result Accepted CheckFault = Err f in r) ≡ Err (fault.Pes pes Read)
     → ⊥
 no_read f pes own is =
-    let same : f ≡ fault.Pes pes Read = cc in
-    true≢false (sym (ap is_pes_read same) ∙ own.no_source)
+    grind (arith, nat_tests, true≢false)
 
 -- ---- what the device keeps
 
@@ -73,9 +71,7 @@ pub kept_is : (new : Option CheckFault) (xs : List Event)
     → first_told xs ≡ new
 kept_is new [] named told = sym told
 kept_is new (Told f ∷ xs) named (mid, keeps, rest) =
-    let kept : mid ≡ Some f =
-    keeps.1 ∙ ap (λ b. cond b (Some f) None) (named f refl) in
-    sym (kept_last f new xs (rw kept at rest))
+    grind (arith, nat_tests, kept_last)
 kept_is new (Trusted from to ∷ xs) named (mid, keeps, rest) =
     kept_is new xs named (subst (λ m. TellsInTurn KeepsFirstFault m new xs) keeps.1 rest)
 kept_is new (Ended rule f ∷ xs) named (mid, keeps, rest) =
@@ -140,9 +136,7 @@ module _ (programme : ProgrammeValue) (options : OptionsValue) (bytes : List ℕ
             → Named f
         go [] told e = cc
         go (x ∷ xs) told e =
-            let (first, is, named) = told.first x xs refl in
-            let same : first ≡ f = let s = rw is at e in cc in
-            subst Named same named
+            grind (arith, nat_tests)
 
     -- Where the page is refused at a cell. For `check`.
     pub wrong_of_first : (frame row column : ℕ)
@@ -165,10 +159,4 @@ module _ (programme : ProgrammeValue) (options : OptionsValue) (bytes : List ℕ
     pub first_decides : (a : Accepted)
         → MatchResult (first_answer (events g frames) a) (λ b. (b ≡ a) × (events g frames ≡ []))
         (λ f. (first_told (events g frames) ≡ Some f) × IsRuleFault f)
-    first_decides a = go (first_told (events g frames)) refl
-      where
-        go : (o : Option CheckFault) → first_told (events g frames) ≡ o
-            → MatchResult (answer_by o a) (λ b. (b ≡ a) × (events g frames ≡ []))
-            (λ f. (first_told (events g frames) ≡ Some f) × IsRuleFault f)
-        go None e = (refl, none_told (events g frames) all_named e)
-        go (Some f) e = (e, of_rule f (first_named f e).0)
+    first_decides a = grind (arith, nat_tests, none_told, all_named, of_rule, first_named)

@@ -107,8 +107,7 @@ first_of_front programme options bytes n f is =
 -- ---- nothing is told first of the first pieces
 
 both_none : (a b : Option CheckFault) → or_else a b ≡ None → (a ≡ None) × (b ≡ None)
-both_none None b none = (refl, none)
-both_none (Some f) b none = cc
+both_none a b h1 = grind (arith, nat_tests)
 
 -- Then each of them is sent, and nothing is told first of its frame.
 none_passed : (g : Task) (frames : Transmission) (i n : ℕ) (run : Option ℕ) (pieces : List Piece)

@@ -55,14 +55,14 @@ example_of_clean_stretch = record {
       let sent : List (List ℕ) = header_888 ∷ row_22 ∷ closing ∷ [] in
       let trusted = (law_of_clean_stretch later_subtitle damaged_first (each 1) None 900001 900002
       clean).trusted in
-      let restored =
+      let served =
       trusted.recovers Storing 900001 0 900001 (all_kept sent) got old new
       (record {
         listening = listening damaged_first 900001 900002 900001 0 900001 refl;
         marked = may_all sent;
         near = near;
       }) hears in
-      elim (restored.served.cells refl 22 19 (omega arith, omega arith, omega arith)) [
+      elim (served.cells refl 22 19 (omega arith, omega arith, omega arith)) [
         | inl due ↦ inl due
         | inr hit ↦ inr hit.0
       ];

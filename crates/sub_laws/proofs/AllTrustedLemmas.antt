@@ -9,7 +9,7 @@ use Rattle.std.proofs.lemmas.List.{take-take}
 use Rattle.std.proofs.lemmas.List.Elements.{Contains-append_left, Contains-append_right}
 use Rattle.ttx_page.specs.PacketKind.{kind}
 use Rattle.ttx_page.specs.Span.{holds_header}
-use Rattle.sub_rules.specs.Events.{frame_events, gap_length, standing_at, standing_before}
+use Rattle.sub_rules.specs.Events.{frame_events, standing_at}
 use Rattle.sub_rules.specs.Events.{unread_fault}
 use Rattle.sub_rules.specs.FrameRules.{Task, Unread, end_frame, frame_at, packets_of_frame}
 use Rattle.sub_rules.specs.PacketTests.{breaks}
@@ -20,7 +20,7 @@ use Rattle.sub_rules.specs.declared.event.Event.{Event}
 use Rattle.sub_rules.specs.declared.event.Event.TheVariants.{Trusted, Told}
 use Rattle.sub_rules.specs.declared.packet_rule.PacketRule.{PacketRule}
 use Rattle.sub_rules.specs.PieceEvents.{all_of_pieces, at_pes, closing_of_pieces, last_of_run}
-use Rattle.sub_rules.specs.PieceEvents.{no_run, run_after_each, run_at, told_of_each, told_of_frame}
+use Rattle.sub_rules.specs.PieceEvents.{run_after_each, run_at, told_of_each, told_of_frame}
 use Rattle.sub_rules.specs.PieceEvents.{told_of_passed, told_of_pieces}
 use Rattle.sub_rules.specs.Pieces.{Piece, frames_of}
 use Rattle.sub_rules.specs.Pieces.Piece.{Passed, Sent}
@@ -58,19 +58,13 @@ module _ (g : Task) (pieces : List Piece) (a b : ℕ) (can : CanStay g pieces a 
   packets_quiet r k p needed l low high below =
       let all = part_length frames in
       let ps = packets-take frames m k l in
-      let at = frame_at-take frames m k l in
-      let earlier = take-take k m frames (omega arith) in
-      grind (arith, nat_tests)
+      grind (arith, nat_tests, frame_at-take frames m k l, take-take k m frames)
 
   -- Nothing stands at its ends.
   ends_quiet : (n f : ℕ) → IsEnd part n f → 0 < m → n ≤ m → a ≤ f → f ≤ b
       → stands_none (standing_at g frames n f) ≡ true
   ends_quiet n f end some l low high =
-      let content = can.untold.content n f end low high in
-      let gap = can.untold.gap n f end low high in
-      let shut = can.closed n f end low high in
-      let same = standing-take g frames m n f some l in
-      ap stands_none (sym same) ∙ grind (arith, nat_tests)
+      grind (arith, nat_tests, standing-take g frames m n f some l)
 
   own_end : (k : ℕ) → k < m → a ≤ frame_at frames k → frame_at frames k ≤ b
       → stands_none (standing_at g frames (suc k) (frame_at frames k)) ≡ true
@@ -82,18 +76,13 @@ module _ (g : Task) (pieces : List Piece) (a b : ℕ) (can : CanStay g pieces a 
   gap_end n f some l later earlier low high =
       let all = part_length frames in
       let at = frame_at-take frames m n l in
-      ends_quiet n f (
-        some,
-        omega arith,
-        inr (
-          omega arith,
-          omega arith,
-          λ k below.
-              let e = frame_at-take frames m k (omega arith) in
-              let h = rises_to frames m (part_rises frames) k (n - 1) (omega arith) (omega arith) in
-              omega arith,
-        ),
-      )
+      ends_quiet n f (grind (
+        arith,
+        nat_tests,
+        frame_at-take frames m,
+        rises_to frames m (part_rises frames),
+        part_rises frames,
+      ))
       (omega arith) (omega arith) low high
 
   -- ---- a frame in it
@@ -101,8 +90,7 @@ module _ (g : Task) (pieces : List Piece) (a b : ℕ) (can : CanStay g pieces a 
   own_calm : (k : ℕ) → k < m → a ≤ frame_at frames k → frame_at frames k ≤ b
       → first_doubt (frame_before frames k) (own_events g frames k) ≡ None
   own_calm k l low high =
-      (own_doubt g frames k).calm
-      (λ r p needed below. packets_quiet r k p needed l low high below, own_end k l low high)
+      grind (arith, nat_tests, own_doubt g frames k, packets_quiet, own_end k l low high)
 
   quiet_if : (k : ℕ) → suc k ≤ m
       → first_doubt (frame_before frames k) (own_events g frames k) ≡ None
@@ -111,8 +99,7 @@ module _ (g : Task) (pieces : List Piece) (a b : ℕ) (can : CanStay g pieces a 
   unfolding is_quiet
   quiet_if k l own stands =
       let orders = rises_untold g frames (suc k) (λ i a h. part_rises frames i a (omega arith)) in
-      let any = any_doubt (frame_before frames k) (own_events g frames k) in
-      rw (orders, any, own, stands) refl
+      grind (arith, nat_tests, any_doubt (frame_before frames k) (own_events g frames k))
 
   module _ (i : ℕ) (there : i < m) (low : a ≤ frame_at frames i) (high : frame_at frames i ≤ b)
       (header : holds_header (kind g.watched.page) (packets_of_frame frames i) ≡ true)
@@ -160,8 +147,7 @@ module _ (g : Task) (pieces : List Piece) (a b : ℕ) (can : CanStay g pieces a 
 
           a_low : a ≤ frame_at frames k
           a_low =
-              let rise = rises_to frames n run.rises i k l (omega arith) in
-              omega arith
+              grind (arith, nat_tests, rises_to frames n run.rises i k l)
 
           back : frame_at frames (n - 1) ≡ frame_at frames k
           back = ap (frame_at frames) (omega arith)
@@ -177,61 +163,41 @@ module _ (g : Task) (pieces : List Piece) (a b : ℕ) (can : CanStay g pieces a 
           past : (x : ℕ) → first_doubt last (frame_events g frames n) ≡ Some x → b < x
           past x e = elim (ways g frames k next from run) [
             | inl (not_up, is) ↦
-                let at : x ≡ frame_at frames k = cc in
-                elim (cases_lt n m) [
-                  | inl inside ↦ absurd (not_up (falls inside))
-                  | inr outside ↦
-                      let low = n_low in
-                      let all = part_length frames in
-                      let same : n ≡ m = omega arith in
-                      let before = can.before_fall (omega arith) in
-                      let end = part_last frames (omega arith) in
-                      let place = ap (λ j. frame_at frames (j - 1)) same in
-                      let e = back in
-                      omega arith
-                ]
+                grind (arith, nat_tests, cases_lt, falls, n_low, part_length, part_last, back)
             | inr (rise, rest) ↦
-                let lower = a_low in
-                let same = back in
-                elim (cases_lt b x) [
-                  | inl after ↦ after
-                  | inr no_later ↦ elim rest [
-                    | inl (y, is, j, below, at, quiet, broken) ↦
-                        let one : y ≡ x = cc in
-                        let whole = long g frames k next from run rise in
-                        let late = latest_is g frames k next from run in
-                        absurd (broken
-                        (gap_end n y (omega arith) (rises_in rise) (omega arith) (omega arith)
-                        (omega arith) (omega arith)))
-                    | inr (quiet, own) ↦
-                        let at = (own_doubt g frames n).at x (sym own ∙ e) in
-                        let calm = own_calm n (rises_in rise) (omega arith) (omega arith) in
-                        cc
-                  ]
-                ]
+                grind (
+                  arith,
+                  nat_tests,
+                  a_low,
+                  back,
+                  cases_lt b x,
+                  long g frames k next from run rise,
+                  latest_is g frames k next from run,
+                  gap_end n,
+                  rises_in rise,
+                  own_doubt g frames n,
+                  own_calm n (rises_in rise),
+                )
           ]
 
           -- Where there is none the run goes on.
           on : first_doubt last (frame_events g frames n) ≡ None
               → run_at g frames n (Some from) ≡ Some from
           unfolding run_at
-          on none = elim (ways g frames k next from run) [
-            | inl (falls, is) ↦ cc
-            | inr (rise, rest) ↦ elim rest [
-              | inl found ↦ let is = found.1 in cc
-              | inr (calm, own) ↦
-                  let none_own = sym own ∙ none in
-                  let was =
-                  stood_before g frames n (omega arith) (latest_is g frames k next from run)
-                  (stood g frames k next from run) (gap_length frames n) calm in
-                  let before : stands_none (standing_before g frames n f) ≡ true =
-                  subst (λ x. stands_none (standing_before g frames n x) ≡ true)
-                  (long g frames k next from run rise) was in
-                  let stands = ((own_doubt g frames n).quiet none_own).1 before in
-                  let quiet = quiet_if n (rises_in rise) none_own stands in
-                  rw (quiet, over-is last (Some from) (frame_events g frames n), none) refl
-            ]
-          ]
+          on none =
+              grind (
+                arith,
+                nat_tests,
+                ways g frames k next from run,
+                stood_before g frames n,
+                latest_is g frames k next from run,
+                stood g frames k next from run,
+                long g frames k next from run,
+                own_doubt g frames n,
+                quiet_if n,
+                rises_in,
+                over-is last (Some from) (frame_events g frames n),
+              )
 
       -- ---- to the end
 
@@ -249,8 +215,7 @@ module _ (g : Task) (pieces : List Piece) (a b : ℕ) (can : CanStay g pieces a 
       -- The same behind what is told of one more piece.
       goes_more : {R : Type 0} (from : ℕ) (xs ys : List Event) → IsTold from ys ⊎ R
           → IsTold from (xs ++ ys) ⊎ R
-      goes_more from xs ys (inl (to, l, c)) = inl (to, l, Contains-append_right xs ys _ c)
-      goes_more from xs ys (inr end) = inr end
+      goes_more from xs ys h1 = grind (arith, nat_tests, Contains-append_right)
 
       module _ (from : ℕ) (from_low : from ≤ frame_at frames i) where
         is_over : (last x : ℕ) (es : List Event) → first_doubt last es ≡ Some x → b < x
@@ -302,13 +267,7 @@ module _ (g : Task) (pieces : List Piece) (a b : ℕ) (can : CanStay g pieces a 
                 let told =
                 is_over (frame_before frames (suc k)) x (frame_events g frames (suc k)) is
                 (past from k l (omega arith) run x is) in
-                inl (
-                  told.0,
-                  told.1,
-                  Contains-append_left _ _ _
-                      (contains-at pes (told_of_frame g frames (suc k) (Some from)) from told.0
-                      told.2),
-                )
+                inl (grind (arith, nat_tests, Contains-append_left, contains-at))
 
       -- From the first piece on.
       begins : (pes n : ℕ) (kept : Option ℕ) (ahead : List Piece) → IsOutside pieces a b n ahead
@@ -341,8 +300,7 @@ module _ (g : Task) (pieces : List Piece) (a b : ℕ) (can : CanStay g pieces a 
               first.1,
               goes_more first.0 (map (at_pes pes) (told_of_frame g frames n kept)) _
                   (subst (λ o. Goes first.0 (suc pes) (suc n) o ahead) (sym first.2)
-                  (goes first.0 first.1 (suc pes) n ahead outside (omega arith) (omega arith)
-                  run)),
+                  (grind (arith, nat_tests, goes first.0 first.1 (suc pes) n ahead outside))),
             )
       ]
 
@@ -364,10 +322,7 @@ module _ (g : Task) (pieces : List Piece) (a b : ℕ) (can : CanStay g pieces a 
               → b < trust_end u (end_frame frames)
           end_later all None is = let low = last_low all in omega arith
           end_later all (Some u) is =
-              let before = can.before_unread u is in
-              let at = part_last frames (omega arith) in
-              let place = ap (λ k. frame_at frames (k - 1)) all in
-              omega arith
+              grind (arith, nat_tests, part_last)
 
 -- ---- the law
 
@@ -402,13 +357,6 @@ law_of_all_trusted g pieces a b i can there low high header told =
             end.1,
             Contains-append_left _ closing _
                 (Contains-append_right each _ _
-                (subst (λ o. Contains (last_of_run g frames kept o) (Trusted found.0 end.0))
-                (sym (any_told g frames kept each closing told)) end.2)),
+                (grind (arith, nat_tests, any_told))),
           )
-    ] in (
-      found.0,
-      whole.0,
-      let low = found.1 in omega arith,
-      whole.1,
-      Contains-append_left _ _ _ (contains-announced no_run _ found.0 whole.0 whole.2),
-    )
+    ] in grind (arith, nat_tests, Contains-append_left, contains-announced)

@@ -66,8 +66,7 @@ Refutes b P = Decides (not b) P
 
 -- It fails exactly there.
 pub refuted : {P : Type 0} (b : Bool) → Refutes b P → (b ≡ false) ↔ P
-refuted true d = (λ e. absurd (true≢false e), λ p. let no = d.1 p in cc)
-refuted false d = (λ e. d.0 refl, λ p. refl)
+refuted b h1 = grind (arith, nat_tests, true≢false)
 
 -- The coded bytes of a packet X/0.
 pub coded : (o : Option PacketAddress) (b : Bool) (P : Type 0) → Decides b P
@@ -95,8 +94,7 @@ subtitle_header national h =
 pub controlled : (national : National) (k : PacketKind)
     → Refutes (is_wrong_header national k)
     ((h : Header) → k ≡ ThisPage h → IsSubtitleHeader national h)
-controlled national (ThisPage h) = grind (arith, nat_tests, subtitle_header)
-controlled national k = (λ e h is. grind arith, λ h. refl)
+controlled national k = grind (arith, nat_tests, subtitle_header)
 
 -- The text's parity.
 pub odd_text : (p : List ℕ) → Refutes (is_some (first_even_byte p)) (HasOddText p)
@@ -115,22 +113,19 @@ odd_text p = go (first_below 40 (λ column. not (is_odd (text_byte p column)))) 
       λ f. absurd (true≢false (sym f)),
       λ h.
           let even = first_below_is 40 (λ column. not (is_odd (text_byte p column))) column e in
-          let odd = h column even.0 in
-          absurd (grind (arith, nat_tests)),
+          grind (arith, nat_tests),
     )
 
 -- A row's.
 pub odd_row : (p : List ℕ) (k : PacketKind)
     → Refutes (is_some_row k && is_some (first_even_byte p))
     ((row : ℕ) → k ≡ Row row → HasOddText p)
-odd_row p (Row y) = (λ e row is. (odd_text p).0 e, λ h. (odd_text p).1 (h y refl))
-odd_row p k = (λ e row is. grind arith, λ h. refl)
+odd_row p k = grind (arith, nat_tests, odd_text)
 
 -- A packet that no page of level 1 has.
 pub no_enhancement : (page : PageIdValue) (p : List ℕ) (o : Option PacketAddress) → address p ≡ o
     → Refutes (is_of_enhancement page o) (IsEnhancement page p → ⊥)
-no_enhancement page p None e = (λ f is. none-some is.0 (sym e ∙ is.1), λ h. refl)
-no_enhancement page p (Some a) e = grind (arith, nat_tests, same_Some)
+no_enhancement page p o h1 = grind (arith, nat_tests, none-some, same_Some)
 
 -- ---- rows
 
@@ -181,10 +176,7 @@ each_sound w packets s =
     Each-join (λ q. IsPacket q × HasExactAddress q)
     (λ q. IsOddRow w.page q × All (IsSameRow w.page q) packets) (IsSoundPacket w packets)
     (λ q a b. (a, b.0, b.1)) packets s.whole
-    (Each-join (IsOddRow w.page) (λ q. All (IsSameRow w.page q) packets)
-    (λ q. IsOddRow w.page q × All (IsSameRow w.page q) packets) (λ q a b. (a, b)) packets
-    (recursion_from_All (IsOddRow w.page) packets s.clean.odd)
-    (recursion_from_All (λ q. All (IsSameRow w.page q) packets) packets s.clean.same))
+    (grind (arith, nat_tests, Each-join, recursion_from_All))
 
 -- A row has an address of the magazine with its number.
 address-row : (w : Watched) (p : List ℕ) (row : ℕ) → kind w.page p ≡ Row row
@@ -218,10 +210,7 @@ module _ (w : Watched) (packets : List (List ℕ)) (s : IsSoundSpan w packets) (
         (λ is. Each-map (IsSameRow w.page q.0) (λ x. kind w.page x ≡ Row row → x ≡ p)
         (λ x same of. sym (same row k of) ∙ is) packets
         (recursion_from_All (IsSameRow w.page q.0) packets q.3.2))
-        (λ all. let other = Each-find (λ q. is_row row (kind w.page q))
-        (λ x. kind w.page x ≡ Row row → x ≡ p) packets e all in
-        same_Some _ _ (sym q.1 ∙ other.1)
-        ∙ other.3 (row_from_test row (kind w.page other.0) other.2))
+        (λ all. grind (arith, nat_tests, Each-find, same_Some, row_from_test))
         (found q.0 k q.3))
     | inr e ↦
         subst (λ o. Refutes (is_other_text o (codes_of p)) EachSame)
@@ -273,8 +262,7 @@ sound_span w packets clean =
 module _ (w : Watched) (before : List (List ℕ)) (p : List ℕ) where
   -- A rule of the page while it is open.
   opened : (b c : Bool) (P : Type 0) → (IsTrue b → Refutes c P) → Refutes (b && c) (IsTrue b → P)
-  opened true c P d = (λ e t. (d refl).0 e, λ h. (d refl).1 (h refl))
-  opened false c P d = (λ e t. absurd (true≢false (sym t)), λ h. refl)
+  opened b c P h1 = grind (arith, nat_tests, true≢false)
 
   same_row : (k : PacketKind) → kind w.page p ≡ k → IsComparable w before p
       → IsTrue (is_open_after (kind w.page) before)

@@ -90,10 +90,7 @@ module _ (programme : ProgrammeValue) (transmission : Transmission) (options : O
         packets_between-split transmission (first_frame transmission)
         (frame_at transmission i + 1) a (clean.kept FramesRise) (omega arith) (omega arith) in
         let here = on_air_at transmission rising i l ∙ joined_more transmission i l in
-        let one = simp length-append at (ap length split) in
-        let two = simp length-append at (ap length here) in
-        let three = simp (length-append, length-take) at far in
-        absurd (omega arith)
+        grind (arith, nat_tests, length-append, length-take)
   ]
 
   -- What is on air from its first frame on is sound.
@@ -118,8 +115,7 @@ module _ (programme : ProgrammeValue) (transmission : Transmission) (options : O
       (λ k l.
       let at : MayFollow options.page (earlier ++ take k more) (slice_index_or more k []) =
       rw (← (take-append-add earlier more k), ← (get_or-append-add earlier more k []))
-      (each (length earlier + k) (rw length-append (omega arith))
-      (simp (length-take, length-append) (omega arith))) in
+      (grind (arith, nat_tests, length-append, length-take)) in
       rw append-nil at)
 
   -- At each frame's end a header of the page is less than the repeat bound ago, or the first frame
@@ -170,10 +166,8 @@ module _ (programme : ProgrammeValue) (transmission : Transmission) (options : O
       repeats start low high =
           let from = clean.stretch.from in
           elim (cases_eq options.every 0) [
-            | inl none ↦ elim (covered a (le_refl a) clean.stretch.in_order) [
-              | inl early ↦ absurd (omega arith)
-              | inr (j, l, before, late, has) ↦ absurd (omega arith)
-            ]
+            | inl none ↦
+                grind (arith, nat_tests, covered a (le_refl a) clean.stretch.in_order, le_refl a)
             | inr every ↦
                 elim (covered (start + options.every - 1) (omega arith) (omega arith)) [
                   | inl early ↦ absurd (omega arith)
@@ -195,7 +189,6 @@ module _ (programme : ProgrammeValue) (transmission : Transmission) (options : O
   complete asks ended f low high holds =
       let end = end_of f low high in
       let shut = ended end.0 f end.1 low high asks in
-      let on = end.2 in
       grind (arith, nat_tests)
 
 -- A clean stretch may be trusted.

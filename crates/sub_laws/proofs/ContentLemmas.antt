@@ -1,7 +1,7 @@
 -- Where content is refused, every receiver shows another code than is due: `wrong_everywhere`.
 use Rattle.std.proofs.lemmas.Bool.Decides.{nat_tests}
 use Rattle.std.proofs.Common.{List, [], subst, ◌≡◌, ℕ, ◌-◌, ◌<◌, ◌≤◌, true, Option, length, take}
-use Rattle.std.proofs.Common.{IsFalse, sym, ◌∙◌, arith}
+use Rattle.std.proofs.Common.{IsFalse, ◌∙◌, arith}
 use Rattle.std.proofs.lemmas.List.Elements.{All-from_get_or}
 use Rattle.std.proofs.lemmas.List.{length-take-le, take-take, take_all}
 use Rattle.ttx_packet.specs.PageHeader.{HasExactWords}
@@ -108,27 +108,12 @@ module _ (programme : ProgrammeValue) (options : OptionsValue) (unread : Option 
       → WrongFirst g frames n f row column
       → IsWrongEverywhere programme options frames f row column
   wrong_everywhere n f row column r w =
-      let last = take_last frames n r.fits r.some in
-      record {
-        read = take n frames;
-        are_read =
-            grind (
-              arith,
-              take_rising frames n r.fits r.rises,
-              r.some,
-              r.fits,
-              r.up_to,
-              r.next,
-            );
-        wrong = λ old new unheard shut hears e.
-            w.broken
-            (sym (all_show g.watched frames n r.fits (λ i k l. r.packets i l k)
-            (first_header-packets_before g.watched frames n r.some r.fits r.header) old new unheard
-            shut
-            (grind (
-              arith,
-              nat_tests,
-              on_air_read frames n f r.some r.fits r.rises r.up_to,
-            )) row column w.is_cell)
-            ∙ e);
-      }
+      grind (
+        arith,
+        nat_tests,
+        take_last frames n r.fits r.some,
+        take_rising frames n r.fits r.rises,
+        all_show g.watched frames n r.fits,
+        first_header-packets_before g.watched frames n r.some r.fits r.header,
+        on_air_read frames n f r.some r.fits r.rises r.up_to,
+      )

@@ -2,7 +2,7 @@
 -- `trusted_in_run`, and what is left of a run, `over-some`.
 use Rattle.std.proofs.lemmas.Bool.Decides.{nat_tests}
 use Rattle.std.proofs.Common.{◌≡◌, ℕ, ◌-◌, ◌<◌, Bool, true, false, List, [], ◌∷◌, map, ◌++◌, All}
-use Rattle.std.proofs.Common.{Contains, Option, Some, None, is_some, refl, sym, ap, ◌∙◌, subst}
+use Rattle.std.proofs.Common.{Contains, Option, Some, None, is_some, refl, ap, ◌∙◌, subst}
 use Rattle.std.proofs.Common.{zero, suc, arith, cond}
 use Rattle.std.proofs.lemmas.Bool.{lt-ltb, ltb-true}
 use Rattle.std.proofs.lemmas.List.{get_or-map, length-map}
@@ -80,14 +80,7 @@ module _ (P : ℕ → ℕ → Type 0) where
   pub each-at : (pes : ℕ) (es : List Event) → EachTrusted es → EachTrusted (map (at_pes pes) es)
   unfolding at_pes
   each-at pes es p =
-      All-map (OnTrusted P) (at_pes pes) es
-      (All-weaker (OnTrusted P) (λ e. OnTrusted P (at_pes pes e)) same es p)
-    where
-      same : (e : Event) → OnTrusted P e → OnTrusted P (at_pes pes e)
-      same (Trusted from to) h = h
-      same (Told f) h = tt
-      same (PassedUntil f) h = tt
-      same (Ended rule f) h = tt
+      grind (arith, nat_tests, All-map (OnTrusted P) (at_pes pes) es, All-weaker (OnTrusted P))
 
   -- Nor does up to which piece is passed over.
   pub each-ended : (run : PassedRun) → EachTrusted (ended_run run)
@@ -151,8 +144,7 @@ unfolding all_announced announced joins
 contains-announced run [] from to (k, l, e) = absurd (omega arith)
 contains-announced run (x ∷ es) from to (zero, l, e) =
     Contains-append_left (announced run x) _ _
-    (subst (λ y. Contains (announced run y) (Trusted from to)) (sym e)
-    (Contains-push (ended_run run) (Trusted from to)))
+    (grind (arith, nat_tests, Contains-push (ended_run run) (Trusted from to)))
 contains-announced run (x ∷ es) from to (suc k, l, e) =
     Contains-append_right (announced run x) _ _
     (contains-announced (passed_after run x) es from to (k, omega arith, e))

@@ -10,7 +10,7 @@ use Rattle.std.proofs.lemmas.Bool.Decides.{nat_tests, Decides-ltb}
 use Rattle.std.proofs.lemmas.List.{append-nil}
 use Rattle.std.proofs.lemmas.Option.{none-some, same_Some}
 use Rattle.ttx_packet.specs.PacketAddress.{IsPacket}
-use Rattle.sub_rules.specs.Events.{closing_events, end_before, end_events, endings, events}
+use Rattle.sub_rules.specs.Events.{closing_events, end_before, end_events, events}
 use Rattle.sub_rules.specs.Events.{events_at_end, events_of_first, first_header_events}
 use Rattle.sub_rules.specs.Events.{frame_events, gap_events, gap_length, is_gap, is_incomplete}
 use Rattle.sub_rules.specs.Events.{latest, late_events, nothing_stands, order_events, packet_events}
@@ -64,11 +64,7 @@ module _ {Named : CheckFault → Type 0} where
   FirstOf-append : {A B : Type 0} {xs ys : List Event} → FirstOf Named A xs
       → (A → FirstOf Named B ys) → (B → A) → FirstOf Named B (xs ++ ys)
   FirstOf-append {xs = []} a next back = next (a.none refl)
-  FirstOf-append {xs = x ∷ xs} a next back = record {
-    none = λ e. absurd (grind arith);
-    holds = λ b. let none = a.holds (back b) in absurd (grind arith);
-    first = λ event rest e. a.first event xs (grind arith);
-  }
+  FirstOf-append {xs = x ∷ xs} a next back = grind (arith, nat_tests)
 
   -- The same fact in other words.
   FirstOf-like : {A B : Type 0} {xs : List Event} → (A → B) → (B → A) → FirstOf Named A xs
@@ -82,12 +78,7 @@ module _ {Named : CheckFault → Type 0} where
       → FirstOf Named ((j : ℕ) → j < suc n → P j) (xs ++ ys)
   FirstOf-next {P} n before next =
       FirstOf-append before
-      (λ past. FirstOf-like
-      (λ here j l. elim (cases_lt j n) [
-        | inl earlier ↦ past j earlier
-        | inr last ↦ let e : n ≡ j = omega arith in subst P e here
-      ])
-      (λ all. all n (omega arith)) (next past))
+      (λ past. grind (arith, nat_tests, FirstOf-like, cases_lt))
       (λ all j l. all j (omega arith))
 
   -- A refusal, where a test says so.
@@ -137,8 +128,7 @@ module _ (g : Task) (frames : Transmission) (Named : CheckFault → Type 0)
   order_told : (n : ℕ) → Tells (OrderOk g frames n) (order_events g frames n)
   order_told zero = grind (arith, nat_tests, FirstOf-like, start_told)
   order_told (suc i) =
-      FirstOf-like (λ l. record { start = λ z. absurd (omega arith); rises = λ some. grind arith })
-      (λ o. let l = o.rises (omega arith) in grind arith) (rise_told i)
+      grind (arith, nat_tests, FirstOf-like, rise_told i)
 
   -- ---- an end
 
@@ -204,8 +194,7 @@ module _ (g : Task) (frames : Transmission) (Named : CheckFault → Type 0)
         subst
         (λ s. Tells (IsQuiet g frames n f)
         (end_events s (end_before frames n f) (standing_at g frames n f) f))
-        (sym
-        (nothing_before f (last + m) (grind (arith, nat_tests)) (quiet_at quiet m (omega arith))))
+        (grind (arith, nat_tests, nothing_before f (last + m), quiet_at quiet m))
         (quiet_told n f (end_before frames n f) (record {
           some = some;
           fits = omega arith;
@@ -362,13 +351,7 @@ module _ (g : Task) (frames : Transmission) (Named : CheckFault → Type 0)
       (end_events s (end_before frames n f) (standing_at g frames (n + 1) f) f))
       (sym (stood_before n past there order gap))
       (FirstOf-like
-      (λ quiet. record {
-        order = order;
-        gap = gap;
-        packets = packets;
-        header = header;
-        end = quiet;
-      })
+      (λ quiet. grind (arith, nat_tests))
       (λ ok. ok.end)
       (quiet_told (n + 1) f (end_before frames n f) (record {
         some = omega arith;
@@ -386,9 +369,7 @@ module _ (g : Task) (frames : Transmission) (Named : CheckFault → Type 0)
       up_to i b = elim (cases_lt i n) [
         | inl earlier ↦ let ok = past i earlier in (ok.order.rises, ok.packets)
         | inr here ↦
-            let e : n ≡ i = omega arith in
-            subst (λ j. (0 < j → frame_at frames (j - 1) < frame_at frames j)
-            × PacketsOk g frames j (length (packets_of_frame frames j))) e (order.rises, packets)
+            grind (arith, nat_tests)
       ]
 
       first_has : (0 < n) ⊎ (n ≤ 0) → HasHeader g frames 0
@@ -437,14 +418,7 @@ module _ (g : Task) (frames : Transmission) (Named : CheckFault → Type 0)
   unfolding closing_events end_events
   closing_told zero e past = grind (arith, nat_tests, rule_told)
   closing_told (suc m) e past =
-      subst (λ xs. Tells (AllOk g frames) (xs ++ rest_events g frames g.unread)) (sym none)
-      (rest_told past (omega arith) g.unread refl)
-    where
-      quiet : IsQuiet g frames (suc m) (end_frame frames)
-      quiet = grind (arith, nat_tests)
-
-      none : endings (standing_at g frames (suc m) (end_frame frames)) (end_frame frames) ≡ []
-      none = grind (arith, nat_tests, quiet_decided, quiet)
+      grind (arith, nat_tests, rest_told, quiet_decided)
 
   -- All that is told.
   pub all_told : EachPacket IsPacket frames → Tells (AllOk g frames) (events g frames)
@@ -468,26 +442,19 @@ law_of_broken_places g frames = record {
   header = grind (arith, nat_tests);
   ends = λ n f l. stands_broken g frames n f l;
   late = grind (arith, nat_tests, same_Some);
-  first = λ event rest whole e.
-      let told =
-      (all_told g frames Any (λ f e. tt) (λ u e. tt) (λ n f r c a b. tt) whole).first event rest e
-      in (told.0, told.1);
+  first = grind (arith, nat_tests, all_told g frames Any);
 }
 
 pub law_of_nothing_told : LawOfNothingTold
 law_of_nothing_told programme options unread frames some whole =
     let g = task_of programme options unread in
-    let told = all_told g frames Any (λ f e. tt) (λ u e. tt) (λ n f r c a b. tt) whole in (
-      λ e.
-          let ok = told.none e in (
-            Good-from_holds programme options unread frames some ok sizes,
-            Complete-from_holds programme options unread frames some ok,
-            ok.unread,
-          ),
-      λ (good, complete, none).
-          told.holds
-          (subst (λ u. AllOk (task_of programme options u) frames) (sym none)
-          (holds-from_good programme options frames good complete)),
+    let told = all_told g frames Any (λ f e. tt) (λ u e. tt) (λ n f r c a b. tt) whole in
+    grind (
+      arith,
+      nat_tests,
+      Good-from_holds programme options unread frames some,
+      Complete-from_holds programme options unread frames some,
+      holds-from_good programme options frames,
     )
   where
     sizes : EachPacket (λ packet. length packet ≡ 42) frames

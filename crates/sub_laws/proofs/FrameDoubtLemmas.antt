@@ -154,8 +154,7 @@ module _ (g : Task) (frames : Transmission) where
   -- What is told of the first header makes none so.
   header_doubt : (last f i : ℕ) → Doubts last f ⊤ ⊤ (first_header_events g frames i)
   unfolding first_header_events doubted
-  header_doubt last f zero = grind (arith, nat_tests)
-  header_doubt last f (suc i) = record { at = λ x e. cc; quiet = λ e. tt; calm = λ h. refl }
+  header_doubt last f i = grind (arith, nat_tests)
 
 -- ---- the frames of the day before a frame of the list
 
@@ -171,12 +170,7 @@ module _ (g : Task) (frames : Transmission) (n : ℕ) (some : 0 < n)
     -- Nor before the next one.
     pub stood_before : (k : ℕ) → AreQuiet k
         → stands_none (standing_before g frames n (latest frames n + suc k)) ≡ true
-    stood_before zero quiet = grind (arith, nat_tests, standing_before_is)
-    stood_before (suc k) quiet =
-        let at : end_before frames n (latest frames n + suc (suc k)) ≡ latest frames n + suc k =
-        grind (arith, nat_tests) in
-        rw (standing_before_is g frames n (latest frames n + suc (suc k)) some, at)
-        (quiet k (omega arith))
+    stood_before k h1 = grind (arith, nat_tests, standing_before_is)
 
     -- The first of them that is quiet no more, if there is one.
     pub record GapDoubt (last k : ℕ) : Type 0 where

@@ -71,9 +71,7 @@ pub rises_each : (t : Transmission) → IsRising t → (i : ℕ) → 0 < i → i
     → frame_at t (i - 1) < frame_at t i
 rises_each t rising i a l =
     let nothing : SentFrame = record { frame = 0; packets = [] } in
-    let r = rising (i - 1) i nothing (omega arith) (omega arith) in
-    let x = number_at t (i - 1) nothing (omega arith) in
-    let y = number_at t i nothing l in omega arith
+    grind (arith, nat_tests, number_at t (i - 1) nothing, number_at t i nothing l)
 
 -- An item of two lists joined is one of the first or of the second.
 any-split : {X : Type 0} (f : X → Bool) (xs ys : List X) → list_any f (xs ++ ys) ≡ true
@@ -91,8 +89,6 @@ sent_any w (s ∷ ss) n e =
     elim (any-split (λ x. is_this_page (kind w.page x))
     (cond (nat_le n s.frame && nat_lt s.frame (n + 1)) s.packets []) (packets_of ss n) e) [
       | inl here ↦
-          let both : (s.frame ≡ n) × (holds_header (kind w.page) s.packets ≡ true) =
-          grind (arith, nat_tests) in
-          (0, omega arith, both.0, both.1)
+          grind (arith, nat_tests)
       | inr there ↦ let r = later there in (suc r.0, omega (arith, r.1), r.2, r.3)
     ]

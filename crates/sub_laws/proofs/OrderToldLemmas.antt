@@ -57,14 +57,12 @@ module _ (g : Task) (frames : Transmission) where
 
   no_header : (i : ℕ) → NoOrder (first_header_events g frames i)
   unfolding first_header_events is_order
-  no_header zero = grind (arith, nat_tests)
-  no_header (suc i) = refl
+  no_header i = grind (arith, nat_tests)
 
   no_order : (i : ℕ) → (0 < i → frame_at frames (i - 1) < frame_at frames i)
       → NoOrder (order_events g frames i)
   unfolding order_events is_order
-  no_order zero rise = grind (arith, nat_tests)
-  no_order (suc i) rise = grind (arith, nat_tests, lt-ltb)
+  no_order i h1 = grind (arith, nat_tests, lt-ltb)
 
   -- Where the first frames rise none tells of it.
   pub rises_untold : (n : ℕ) → RiseTo frames n → NoOrder (events_of_first g frames n)
@@ -80,8 +78,7 @@ module _ (g : Task) (frames : Transmission) where
   order_none : (i : ℕ) → 0 < i → NoOrder (order_events g frames i)
       → frame_at frames (i - 1) < frame_at frames i
   unfolding order_events is_order
-  order_none zero some e = absurd (omega arith)
-  order_none (suc i) some e = grind (arith, nat_tests)
+  order_none i h1 h2 = grind (arith, nat_tests)
 
   -- Where none of two lists tells of it neither does.
   no_parts : (xs ys : List Event) → NoOrder (xs ++ ys) → NoOrder xs × NoOrder ys

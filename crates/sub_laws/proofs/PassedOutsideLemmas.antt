@@ -1,6 +1,6 @@
 -- No piece is passed over that may have been sent in a stretch: said piece by piece, `is_outside`.
 use Rattle.std.proofs.lemmas.Bool.Decides.{nat_tests}
-use Rattle.std.proofs.Common.{◌≡◌, ℕ, zero, suc, ◌-◌, ◌<◌, ◌≤◌, inl, inr, List, [], ◌∷◌}
+use Rattle.std.proofs.Common.{◌≡◌, ℕ, zero, suc, ◌-◌, ◌<◌, ◌≤◌, List, [], ◌∷◌}
 use Rattle.std.proofs.Common.{length, refl, sym, ap, ◌∙◌, arith, ◌⊎◌, ◌++◌, append_assoc}
 use Rattle.std.proofs.Common.{length-append}
 use Rattle.sub_rules.specs.FrameRules.{frame_at}
@@ -49,10 +49,7 @@ module _ (pieces : List Piece) (a b : ℕ) where
         λ some low.
             let all = part_length frames in
             let at = last_of_done some in
-            elim (outside done ahead u parts (omega arith) (omega arith)) [
-              | inl before ↦ inl (omega arith)
-              | inr after ↦ inr (omega arith)
-            ],
+            grind (arith, nat_tests),
         is_outside outside n (done ++ Passed u ∷ []) ahead
             (parts ∙ sym (append_assoc done (Passed u ∷ []) ahead)) (omega arith),
       )

@@ -40,8 +40,7 @@ packet_of given (x ∷ b) v e = go (given == most_packets) (packet_at (x ∷ b))
         → (rest : List ℕ) × (packet_at (x ∷ b) ≡ Ok (v, rest))
     go true r q d = cc
     go false (Err f) q d = cc
-    go false (Ok (w, rest)) q d = let same : w ≡ v = cc in
-        (rest, q ∙ ap (λ u. let r : Result (PesValue × List ℕ) PesFault = Ok (u, rest) in r) same)
+    go false (Ok (w, rest)) q d = grind (arith, nat_tests)
 
 -- The bytes are PES packets of these values, joined, that are sent as these frames; with `given`
 -- before them they are no more than a day has frames.
@@ -125,8 +124,7 @@ sent_of :
     → file_at origin given bytes ≡ record { frames = frames; unread = None }
     → AreSent origin given bytes frames
 sent_of origin zero given bytes frames fit all reads =
-    sent_by origin given bytes frames fit (omega arith) reads
-    (λ v at. absurd (reads-below given bytes v at (omega arith)))
+    grind (arith, nat_tests, sent_by origin given bytes frames fit, reads-below given bytes)
 sent_of origin (suc m) given bytes frames fit all reads =
     sent_by origin given bytes frames fit (omega arith) reads
     (λ v at fits e. sent_of origin m (given + 1) (rest_after bytes) _ fits (omega arith) e)
@@ -164,17 +162,6 @@ carried_is_read origin bytes frames is =
 -- What is read to the end is a PES file that carries the frames, and the other way round.
 pub law_of_pes_files : LawOfPesFiles
 law_of_pes_files origin bytes frames fit = (
-  λ (reads, rising).
-      let s = sent_of origin most_packets 0 bytes frames fit refl reads in
-      let few = s.few in
-      record {
-        values = s.values;
-        packets = s.packets;
-        each = s.each;
-        few = omega arith;
-        joined = s.joined;
-        sent = s.sent;
-        rising = rising;
-      },
+  grind (arith, nat_tests, sent_of origin most_packets 0 bytes frames fit),
   λ is. (carried_is_read origin bytes frames is, is.rising),
 )

@@ -94,18 +94,14 @@ agree_step : (heard : List (List ℕ)) (p : List ℕ)
     → (c11 h) ≡ (c11 first)) → AllByRecursion (Agrees heard) heard
     → AllByRecursion (Agrees (heard ++ p ∷ [])) (heard ++ p ∷ [])
 agree_step heard p mode h =
-    Each-push (Agrees (heard ++ p ∷ [])) heard p
-    (Each-map (Agrees heard) (Agrees (heard ++ p ∷ [])) keeps heard h)
-    (λ b e. new b e (first_header heard) refl)
-  where
-    keeps : (q : List ℕ) → Agrees heard q → Agrees (heard ++ p ∷ []) q
-    keeps q a b e = grind (arith, nat_tests, first_header-push)
-
-    new : (b : Header) → header p ≡ Some b → (o : Option Header) → first_header heard ≡ o
-        → (f : Header) × (first_header (heard ++ p ∷ []) ≡ Some f) × ((c11 b) ≡ (c11 f))
-    new b e None q = (b, first_header-push heard p ∙ ap (λ o. option_or o (header p)) q ∙ e, refl)
-    new b e (Some f) q =
-        (f, first_header-push heard p ∙ ap (λ o. option_or o (header p)) q, mode b f e q)
+    grind (
+      arith,
+      nat_tests,
+      Each-push (Agrees (heard ++ p ∷ [])) heard p,
+      Each-map (Agrees heard) (Agrees (heard ++ p ∷ [])),
+      first_header-push,
+      first_header-push heard p,
+    )
 
 -- A packet of the list has the first header.
 first_pick : (P : List ℕ → Type 0) (xs : List (List ℕ)) (f : Header) → first_header xs ≡ Some f
@@ -136,8 +132,7 @@ module _ (programme : ProgrammeValue) (options : OptionsValue) (unread : Option 
       → (get_or t i d).frame < (get_or t j d).frame
   rising_of i j d l m =
       let r = rises_strictly t rising i j l m in
-      let one = number_at t i d (omega arith) in
-      let other = number_at t j d m in omega arith
+      grind (arith, nat_tests, number_at)
 
   -- Each packet keeps the rules.
   clean_at : (i k : ℕ) → i < length t → k < length (packets_of_frame t i)
@@ -193,12 +188,7 @@ module _ (programme : ProgrammeValue) (options : OptionsValue) (unread : Option 
         | inr (j, m, below, head) ↦
             let r = rises_to t (length t) rising j (n - 1) (omega arith)
             (omega (arith, end.0, end.1)) in
-            let there : j < length t = omega (arith, end.1) in (
-              frame_at t j,
-              omega arith,
-              below,
-              any_sent (watched_of programme options) t j (frame_at t j) there refl head,
-            )
+            grind (arith, nat_tests, any_sent (watched_of programme options) t j (frame_at t j))
       ]
 
   -- Each header has the C11 of the first.
@@ -234,8 +224,7 @@ module _ (programme : ProgrammeValue) (options : OptionsValue) (unread : Option 
   Complete-from_holds asks f low high holds =
       let (n, end, on, from) =
       end_at t rising f some (omega (arith, first-same t)) (omega (arith, last-same t)) in
-      let shut = (quiet_at n f end).ended asks in
-      grind arith
+      grind (arith, nat_tests, quiet_at)
 
 -- ---- the law, the other way
 
@@ -291,10 +280,8 @@ module _ (programme : ProgrammeValue) (options : OptionsValue) (t : Transmission
         each_at (IsControlled programme.national options.page) t i k good.control l m
     free_at i k l m rule.Parity = λ opened row e.
         (may_follow i k l m (ap is_this_page e) (ap ends_page e) opened).odd row e
-    free_at i k l m rule.RowChanged = λ opened row e.
-        let follows = may_follow i k l m (ap is_this_page e) (ap ends_page e) opened in
-        recursion_from_All (λ q. kind options.page q ≡ Row row → q ≡ packet_at t i k)
-        (span (kind options.page) (before t i k)) (λ j d n f. follows.same j d n row f e)
+    free_at i k l m rule.RowChanged =
+        grind (arith, nat_tests, may_follow i k l m, recursion_from_All)
     free_at i k l m rule.Enhancement = λ opened is.
         let e = enhancement_is_other (watched_of programme options) (packet_at t i k) is in
         (may_follow i k l m (ap is_this_page e) (ap ends_page e) opened).plain is
@@ -303,12 +290,7 @@ module _ (programme : ProgrammeValue) (options : OptionsValue) (t : Transmission
     starts : HasHeader (task_of programme options None) t 0
     starts =
         let r = sent_any (watched_of programme options) t (first_frame t) good.opens in
-        let first = first-same t in
-        elim (cases_eq r.0 0) [
-          | inl e ↦ subst (λ j. HasHeader (task_of programme options None) t j) e r.3
-          | inr other ↦ let s = rises_strictly t rises 0 r.0 (omega arith) r.1 in
-              absurd (omega (arith, r.2))
-        ]
+        grind (arith, nat_tests, first-same t, cases_eq r.0 0, rises_strictly t rises 0 r.0)
 
     -- A header is not too long ago.
     covered_at : (n f : ℕ) → f ≤ end_frame t
@@ -320,11 +302,7 @@ module _ (programme : ProgrammeValue) (options : OptionsValue) (t : Transmission
           let first = first-same t in
           let last = last-same t in
           let r = good.repeats (f + 1 - options.every) (omega arith) (omega arith) in
-          let s = sent_any (watched_of programme options) t r.0 r.3 in
-          elim (cases_lt s.0 n) [
-            | inl within ↦ inr (s.0, within, omega (arith, s.2, r.1), s.3)
-            | inr after ↦ let x = later s.0 after s.1 in absurd (omega (arith, s.2, r.2))
-          ]
+          grind (arith, nat_tests, sent_any (watched_of programme options) t r.0 r.3, cases_lt)
     ]
 
     -- What is asked at an end.
@@ -337,13 +315,9 @@ module _ (programme : ProgrammeValue) (options : OptionsValue) (t : Transmission
         let to : f ≤ last_frame t = omega (arith, last-same t) in
         let on = on_air_is t rises n f le (λ s. low) high in
         record {
-          shows = λ row column is.
-              sym (ap (λ xs. shown options.page xs row column) on)
-              ∙ good.content f row column from to is;
+          shows = grind (arith, nat_tests);
           covered = covered_at n f last
-              (λ j a b.
-              let r = rises_to t (length t) rises n j a b in
-              let s = high (omega arith) in omega arith);
+              (grind (arith, nat_tests, rises_to t (length t) rises n));
           ended = λ asks. let shut = complete asks f from to in grind arith;
         }
 
@@ -355,9 +329,7 @@ module _ (programme : ProgrammeValue) (options : OptionsValue) (t : Transmission
         rises = λ some. rises i some l;
       };
       gap = λ f gap.
-          let last = last_at_least i l in
-          quiet_of i f gap.0 (omega arith) (omega (arith, gap.2)) (λ m. gap.3)
-          (omega (arith, gap.3));
+          grind (arith, nat_tests, last_at_least i l, quiet_of i f gap.0);
       packets = λ k m. free_at i k l m;
       header = λ z. starts;
       end =

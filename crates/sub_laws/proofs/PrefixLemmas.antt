@@ -80,12 +80,10 @@ pub EachAfter-push : (Holds : List (List ℕ) → List ℕ → Type 0) (xs : Lis
     → EachAfter Holds xs → Holds xs p → EachAfter Holds (xs ++ p ∷ [])
 EachAfter-push Holds xs p each more k l = elim (cases_lt k (length xs)) [
   | inl within ↦
-      rw (get_or_append_left xs (p ∷ []) [] k within, take-append-le k xs (p ∷ []) (omega arith))
-      (each k within)
+      grind (arith, nat_tests, get_or_append_left, within, take-append-le)
   | inr past ↦
       let at : length xs + 0 ≡ k = omega (arith, length_push xs p) in
-      subst (λ j. Holds (take j (xs ++ p ∷ [])) (get_or (xs ++ p ∷ []) j [])) at
-      (rw (get_or-append-add xs (p ∷ []) 0 [], take-append-add xs (p ∷ []) 0, append-nil xs) more)
+      grind (arith, nat_tests, get_or-append-add, take-append-add, append-nil)
 ]
 
 -- What holds so of each packet of the first m frames holds so of each of them in one list.
@@ -95,9 +93,7 @@ pub each_after : (Holds : List (List ℕ) → List ℕ → Type 0) (t : Transmis
     → Holds (before t i k) (packet_at t i k))
     → EachAfter Holds (packets_before t m)
 each_after Holds t m fits each =
-    at_start t m fits (EachAfter Holds) (λ k l. absurd (omega arith))
-    (λ i k l h ih. EachAfter-push Holds (before t i k) (packet_at t i k) ih (each i k l h)) m
-    (omega arith)
+    grind (arith, nat_tests, at_start t m fits (EachAfter Holds), EachAfter-push Holds)
 
 -- What holds of each packet of the transmission holds of this one.
 pub each_at : (P : List ℕ → Type 0) (t : Transmission) (i k : ℕ) → EachPacket P t → i < length t
@@ -112,10 +108,7 @@ pub each_from : (P : List ℕ → Type 0) (t : Transmission)
     → ((i k : ℕ) → i < length t → k < length (packets_of_frame t i) → P (packet_at t i k))
     → EachPacket P t
 each_from P t every i d l k e m =
-    let at = get_or-map (λ (s : SentFrame). s.packets) t i d [] l in
-    let within = subst (λ ps. k < length ps) (sym at) m in
-    subst (λ ps. P (get_or ps k e)) at
-    (subst P (get_or_default (packets_of_frame t i) k [] e within) (every i k l within))
+    grind (arith, nat_tests, get_or-map, get_or_default (packets_of_frame t i) k)
 
 -- ---- frames
 
@@ -140,8 +133,7 @@ module _ (t : Transmission) (rising : RiseTo t (length t)) where
   -- Each is before a later one.
   pub rises_strictly : (i j : ℕ) → i < j → j < length t → frame_at t i < frame_at t j
   rises_strictly i j h l =
-      let r = rises_to t (length t) rising i (j - 1) (omega arith) (omega arith) in
-      let s = rising j (omega arith) l in omega arith
+      grind (arith, nat_tests, rises_to t (length t) rising i (j - 1))
 
   -- A frame of the day from the first on is in the list, or in a gap.
   pub locate : (n f : ℕ) → n < length t → frame_at t 0 ≤ f → f ≤ frame_at t n
@@ -150,8 +142,7 @@ module _ (t : Transmission) (rising : RiseTo t (length t)) where
   locate (suc n) f l a b = elim (cases_eq f (frame_at t (suc n))) [
     | inl e ↦ inl (suc n, l, sym e)
     | inr other ↦ elim (cases_lt (frame_at t n) f) [
-      | inl after ↦ let e : frame_at t (suc n - 1) ≡ frame_at t n =
-          ap (frame_at t) (omega arith) in inr (suc n, (omega arith, l, omega arith, omega arith))
+      | inl after ↦ grind (arith, nat_tests)
       | inr before ↦ locate n f (omega arith) a before
     ]
   ]
@@ -194,14 +185,8 @@ module _ (t : Transmission) (rising : RiseTo t (length t)) where
   on_air_is n f le low high =
       let first = first-same t in
       between_take t n (first_frame t) (f + 1)
-      (λ j l m.
-      let a = rises_to t (length t) rising 0 j (omega arith) l in
-      let r = rises_to t (length t) rising j (n - 1) (omega arith) (omega arith) in
-      let b = low (omega arith) in
-      (omega arith, omega arith))
-      (λ j l m.
-      let r = rises_to t (length t) rising n j l m in
-      let s = high (omega arith) in omega arith)
+      (grind (arith, nat_tests, rises_to t (length t) rising 0, rises_to t (length t) rising))
+      (grind (arith, nat_tests, rises_to t (length t) rising n))
 
   -- At the end of frame i of the list all its packets so far are on air.
   pub on_air_at : (i : ℕ) → i < length t → on_air_until t (frame_at t i) ≡ packets_before t (i + 1)
@@ -213,23 +198,9 @@ module _ (t : Transmission) (rising : RiseTo t (length t)) where
   end_at f some low high =
       elim (locate t rising (length t - 1) f (omega arith) low high) [
         | inl (i, l, is) ↦
-            let same : frame_at t (i + 1 - 1) ≡ frame_at t i = ap (frame_at t) (omega arith) in (
-              i + 1,
-              (omega arith, omega arith, inl (sym is ∙ sym same)),
-              ap (on_air_until t) (sym is) ∙ on_air_at i l,
-              omega arith,
-            )
+            grind (arith, nat_tests, on_air_at i l)
         | inr (i, gap) ↦
-            let from = gap.2 in
-            let earlier : (j : ℕ) → j < i → frame_at t j < f =
-            λ j l. let r = rises_to t (length t) rising j (i - 1) (omega arith)
-            (omega (arith, gap.1)) in
-            omega arith in (
-              i,
-              (gap.0, omega (arith, gap.1), inr (gap.1, gap.3, earlier)),
-              on_air_is i f (omega (arith, gap.1)) (λ s. omega arith) (λ m. gap.3),
-              omega arith,
-            )
+            grind (arith, nat_tests, rises_to t (length t) rising, on_air_is i f)
       ]
 
 -- ---- the first frames of a list

@@ -3,7 +3,7 @@
 use Rattle.std.proofs.lemmas.Bool.Decides.{nat_tests}
 use Rattle.std.proofs.Common.{◌≡◌, ℕ, zero, suc, ◌+◌, ◌-◌, ◌*◌, ◌/◌, ◌<◌, ◌≤◌, Bool, true, false}
 use Rattle.std.proofs.Common.{List, [], ◌∷◌, length, map, take, drop, slice_index, Option, None}
-use Rattle.std.proofs.Common.{Some, Result, Ok, Err, MatchResult, IfSome, cond, refl, nat_lt}
+use Rattle.std.proofs.Common.{Some, Result, Ok, Err, MatchResult, IfSome, cond, nat_lt}
 use Rattle.std.proofs.Common.{if◌then◌else◌, ◌∙◌, arith, length-take, length-drop}
 use Rattle.std.proofs.lemmas.List.{length-map}
 use Rattle.std.specs.List.{AllByRecursion}
@@ -146,12 +146,10 @@ packet_sound b =
     λ size x. value_at x >>= last size in
     let second : ℕ → Result (PesValue × List ℕ) PesFault = λ size. body size >>= third size in
     then_sound IsAny IsWholePacket head (λ x. size_at x >>= second)
-    (or_fault IsAny (nat_lt (length b) 6) fault.Truncated (Ok (take 6 b)) refl refl
-    (ok IsAny (take 6 b) tt))
+    (grind (arith, nat_tests, or_fault, ok))
     (λ x h. then_sound IsAny IsWholePacket (size_at x) second (size_sound x)
     (λ size k. then_sound IsAny IsWholePacket (body size) (third size)
-    (or_fault IsAny (nat_lt (length b) size) fault.Truncated (Ok (take (size - 6) (drop 6 b))) refl
-    refl (ok IsAny (take (size - 6) (drop 6 b)) tt))
+    (grind (arith, nat_tests, or_fault, ok))
     (λ y l. then_sound IsWholeValue IsWholePacket (value_at y) (last size) (value_sound y)
     (λ v whole. ok IsWholePacket (v, drop size b) whole))))
 

@@ -1,6 +1,6 @@
 -- The latest of frames that rise: `latest_at`.
 use Rattle.std.proofs.lemmas.Bool.Decides.{nat_tests}
-use Rattle.std.proofs.Common.{◌≡◌, ℕ, zero, suc, ◌-◌, ◌<◌, ap, arith}
+use Rattle.std.proofs.Common.{◌≡◌, ℕ, zero, suc, ◌-◌, ◌<◌, arith}
 use Rattle.sub_rules.specs.Events.{latest}
 use Rattle.sub_rules.specs.FrameRules.{frame_at}
 use Rattle.sub_rules.specs.Transmission.{Transmission}
@@ -17,7 +17,4 @@ latest_at frames zero rises some = absurd (omega arith)
 latest_at frames (suc zero) rises some = grind (arith, nat_tests)
 latest_at frames (suc (suc m)) rises some =
     let ih = latest_at frames (suc m) (λ i a b. rises i a (omega arith)) (omega arith) in
-    let r = rises (suc m) (omega arith) (omega arith) in
-    let e : suc (suc m) - 1 ≡ suc m = omega arith in
-    let f = ap (frame_at frames) e in
-    omega arith
+    grind (arith, nat_tests)

@@ -1,5 +1,7 @@
 -- A good transmission has what suffices, `suffices`, and so all that is promised of it: the laws of
 -- the headline.
+use Rattle.std.proofs.Common.{arith}
+use Rattle.std.proofs.lemmas.Bool.Decides.{nat_tests}
 use Rattle.std.proofs.Common.{ℕ, ◌+◌, List, length, subst, le_refl}
 use Rattle.std.proofs.lemmas.List.{take_all}
 use Rattle.ttx_packet.specs.PageHeader.{HasExactWords}
@@ -43,8 +45,7 @@ suffices programme transmission options good = record {
 pub law_of_good : LawOfGood
 law_of_good programme transmission options good =
     law_of_whole_stretch programme transmission options
-    (law_of_stretch programme transmission options _ _
-    (suffices programme transmission options good))
+    (grind (arith, nat_tests, law_of_stretch, suffices))
 
 -- The law of the window.
 pub law_of_window : LawOfWindow

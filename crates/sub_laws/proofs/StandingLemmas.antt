@@ -1,8 +1,8 @@
 -- What stands broken at an end: its first wrong cell, `first_wrong`, `none_wrong`; whether the
 -- repeat bound has passed, `gap_decided`; whether the page is open, `incomplete_decided`; and
 -- whether anything stands broken, `quiet_decided`.
-use Rattle.std.proofs.Common.{◌≡◌, ◌↔◌, ℕ, zero, suc, ◌+◌, ◌-◌, ◌<◌, ◌≤◌, inl, inr, Bool, true}
-use Rattle.std.proofs.Common.{false, [], length, take, Option, Some, None, refl, sym, ap, ◌∙◌}
+use Rattle.std.proofs.Common.{◌≡◌, ◌↔◌, ℕ, zero, suc, ◌+◌, ◌-◌, ◌<◌, ◌≤◌, Bool, true}
+use Rattle.std.proofs.Common.{false, [], length, take, Option, Some, None, refl, sym}
 use Rattle.std.proofs.Common.{subst, arith, not, ◌||◌, ◌==◌, get_or, is_some, option_map}
 use Rattle.std.specs.Prelude.{option_and_then}
 use Rattle.std.specs.List.{list_any}
@@ -164,20 +164,11 @@ module _ (g : Task) (frames : Transmission) (n f : ℕ) where
       let next : suc m ≡ m + 1 = omega arith in
       let more : list_any (covers g f) (take (suc m) frames)
       ≡ (list_any (covers g f) (take m frames) || covers g f (get_or frames m d)) =
-      ap (λ k. list_any (covers g f) (take k frames)) next
-      ∙ list_any_more (covers g f) frames m d (omega arith) in
+      grind (arith, nat_tests, list_any_more (covers g f) frames m d) in
       Decides-at _ _ more
       (Decides-like _
-      (λ h. elim h [
-        | inl near ↦ (near.0, omega (arith, near.1), near.2, near.3)
-        | inr here ↦ (m, omega arith, here.1, here.0)
-      ])
-      (λ h. elim (cases_lt h.0 m) [
-        | inl near ↦ inl (h.0, near, h.2, h.3)
-        | inr here ↦ let e : h.0 ≡ m = omega (arith, h.1) in
-            inr
-            (subst (HasHeader g frames) e h.3, subst (λ j. f < frame_at frames j + g.every) e h.2)
-      ])
+      (λ h. grind (arith, nat_tests))
+      (λ h. grind (arith, nat_tests, cases_lt))
       (Decides-or _ _ (near_decided m (omega arith)) (covers_at m d (omega arith))))
 
   -- Whether the repeat bound has passed.

@@ -1,4 +1,5 @@
 -- The rules of the span and of the repeats, packet by packet and frame by frame.
+use Rattle.std.proofs.lemmas.Bool.Decides.{nat_tests}
 use Rattle.std.proofs.Common.{◌≡◌, ℕ, zero, suc, ◌+◌, ◌-◌, ◌<◌, ◌≤◌, inl, inr, Bool, true, false}
 use Rattle.std.proofs.Common.{not, ◌&&◌, cond, List, [], ◌∷◌, ◌++◌, length, take, slice_index_or}
 use Rattle.std.proofs.Common.{All, refl, sym, ap, ◌∙◌, subst, arith, add-one, le_refl}
@@ -33,8 +34,7 @@ push_clean page packets packet clean follows = record {
       All-push (λ first. All (IsSameRow page first) (packets ++ packet ∷ [])) packets packet
       (λ k d l. All-push (IsSameRow page (slice_index_or packets k d)) packets packet
       (clean.same k d l) (follows.same k d l))
-      (All-push (IsSameRow page packet) packets packet
-      (λ k d l row a b. sym (follows.same k d l row b a)) (λ row a b. refl));
+      (grind (arith, nat_tests, All-push (IsSameRow page packet) packets packet));
   plain = All-push (λ p. IsEnhancement page p → ⊥) packets packet clean.plain follows.plain;
 }
 
@@ -68,13 +68,7 @@ last_clean page packets packet clean =
 cut_twice :
     {A : Type 0} (n m : ℕ) (xs : List A) → (k : ℕ) × (take n (take m xs) ≡ take k xs)
 cut_twice n m xs =
-    elim (cases_lt n m) [
-      | inl below ↦ (n, take-take n m xs (omega arith))
-      | inr above ↦
-          let short : length (take m xs) ≤ n =
-          simp length-take (omega arith) in
-          (m, take_all n (take m xs) short)
-    ]
+    grind (arith, nat_tests, cases_lt n m, take-take n m xs, length-take, take_all n (take m xs))
 
 -- No packets are a clean span.
 clean_nil : (page : PageIdValue) → IsCleanSpan page []
@@ -125,8 +119,7 @@ clean_cuts page packets each (suc n) =
           subst (λ ps. IsCleanSpan page (span (kind page) ps)) (sym more)
           (pushed page (take n packets) (slice_index_or packets n []) ih (each n [] within))
       | inr past ↦
-          subst (λ ps. IsCleanSpan page (span (kind page) ps))
-          (take_all n packets past ∙ sym (take_all (suc n) packets (omega arith))) ih
+          grind (arith, nat_tests, take_all)
     ]
 
 -- Where the span of each cut is clean, each packet may follow: by the cut after it.
@@ -139,9 +132,7 @@ each_follows page packets clean i d within up other going =
     let more : take (i + 1) packets ≡ take i packets ++ p ∷ [] = take_more packets i d within in
     let grown :
     span (kind page) (take i packets ++ p ∷ []) ≡ span (kind page) (take i packets) ++ p ∷ [] =
-    span-push (kind page) (take i packets) p
-    ∙ cond-false _ _ _ other
-    ∙ cond-true _ _ _ (and_from _ _ up (ap not going)) in
+    grind (arith, nat_tests, span-push, cond-false, cond-true, and_from) in
     last_clean page (span (kind page) (take i packets)) p
     (subst (IsCleanSpan page) (ap (span (kind page)) more ∙ grown) (clean (i + 1)))
 
@@ -165,8 +156,7 @@ on_air_until-cut frames f rising l =
           let so_far : List (List ℕ) = on_air_until frames f in
           let rest : List (List ℕ) = packets_between frames (f + 1) (last_frame frames + 1) in
           let split : on_air_until frames (last_frame frames) ≡ so_far ++ rest =
-          packets_between-split frames (first_frame frames) (f + 1) (last_frame frames + 1) rising
-          (omega arith) (omega arith) in
+          grind (arith, nat_tests, packets_between-split) in
           (length so_far, sym (ap (take (length so_far)) split ∙ take-append_seam so_far rest))
     ]
 
@@ -185,8 +175,7 @@ law_of_spans_by_packet page frames rising = (by_packet, by_frame)
     by_frame each f n l =
         let cut = on_air_until-cut frames f rising l in
         let twice = cut_twice n cut.0 whole in
-        subst (λ ps. IsCleanSpan page (span (kind page) ps))
-        (sym (ap (take n) cut.1 ∙ twice.1)) (clean_cuts page whole each twice.0)
+        grind (arith, nat_tests, clean_cuts page whole each twice.0)
 
 -- ---- repeats
 

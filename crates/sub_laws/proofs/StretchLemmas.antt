@@ -36,7 +36,7 @@ use Rattle.sub_rules.specs.Transmission.{Transmission, first_frame, last_frame, 
 use Rattle.sub_rules.specs.Transmission.{on_air, on_air_until, packets_of}
 use Rattle.sub_laws.specs.LostRows.{IsRobustWithMarks, RobustToMarkedLoss}
 use Rattle.sub_laws.specs.OnScreen.{CompleteWithin, ShownWithin}
-use Rattle.sub_laws.specs.Recovery.{IsRestored, RecoversWithin}
+use Rattle.sub_laws.specs.Recovery.{RecoversWithin}
 use Rattle.sub_laws.specs.Robust.{IsListening, IsServed, Robust}
 use Rattle.sub_laws.specs.Stretch.{LawOfWholeRecovery, LawOfWholeStretch}
 use Rattle.sub_laws.specs.Sufficient.{IsSufficient, LawOfStretch}
@@ -122,13 +122,13 @@ module _ (programme : ProgrammeValue) (transmission : Transmission) (options : O
       ∙ ap (λ ps. shown options.page ps row column) (sym so_far)
       ∙ enough.content f row column (le_trans listening.from listening.in_order) listening.to named
 
-  -- So a receiver is restored by what the law of recovery says of it.
-  restored :
+  -- So a receiver is served by what the law of recovery says of it.
+  served :
       (IsExcused : ℕ → ℕ → Type 0) (old new : State)
       → new.heard ≡ (old.heard || holds_header K sent)
       → (holds_header K sent ≡ true → EndsAfresh options.page sent IsExcused new)
-      → IsRestored programme options g f sent IsExcused old new
-  restored IsExcused old new heard afresh = grind (arith, nat_tests, window, shows_due)
+      → IsServed programme options g f sent IsExcused old new
+  served IsExcused old new heard afresh = grind (arith, nat_tests, window, shows_due)
 
   -- The page is ended at the end of frame f, where pages are complete.
   ended :
@@ -176,7 +176,7 @@ module _ (programme : ProgrammeValue) (transmission : Transmission) (options : O
     recovers g j f marks got old new is hears =
         let sent : List (List ℕ) = on_air transmission g j f in
         let clean = sound programme transmission options a b enough g j f is.listening in
-        restored programme transmission options a b enough g j f is.listening _ old new
+        served programme transmission options a b enough g j f is.listening _ old new
         (heard_after class options.page got old new hears
         ∙ ap (λ h. old.heard || h)
         (holds-got options.page sent marks got (recursion_from_All _ sent clean.exact) is.marked
@@ -202,7 +202,7 @@ module _ (programme : ProgrammeValue) (transmission : Transmission) (options : O
               ∙ holds)
               (held.is_open holds
               ∙ ended programme transmission options a b enough g j f is.listening complete holds),
-          held.served.cells holds,
+          held.cells holds,
         )
 
 -- A stretch that has what suffices may be trusted.
@@ -267,7 +267,7 @@ module _ (programme : ProgrammeValue) (transmission : Transmission) (options : O
   -- Where receivers recover in all frames, the transmission is robust to lost rows.
   to_loss : RobustToMarkedLoss programme transmission options
   to_loss marks g j f got old new is unheard shut hears =
-      (recovers g j f marks got old new is hears).served
+      recovers g j f marks got old new is hears
 
   -- So the transmission is robust. Also for the examples.
   pub robust_of_recovers : Robust programme transmission options

@@ -2,7 +2,7 @@
 -- pass a test, as a transmission: `sent_at`, `sent_none`, `rises`.
 use Rattle.std.proofs.Common.{◌≡◌, ℕ, zero, suc, ◌+◌, ◌<◌, ◌≤◌, inl, inr, Bool, true, false, ◌&&◌}
 use Rattle.std.proofs.Common.{nat_le, nat_lt, cond, List, [], ◌∷◌, ◌++◌, map, filter, flat_map}
-use Rattle.std.proofs.Common.{slice_index_or, All, refl, sym, ap, ap₂, ◌∙◌, arith, append_assoc}
+use Rattle.std.proofs.Common.{slice_index_or, All, refl, ap, ◌∙◌, arith, append_assoc}
 use Rattle.std.proofs.Common.{append-nil}
 use Rattle.std.specs.List.{AllByRecursion, range_with_len}
 use Rattle.std.proofs.lemmas.Bool.{cases_lt, le-ltb, and_right}
@@ -63,25 +63,14 @@ pub packets_between-split :
 packets_between-split [] a b c rising l m = refl
 packets_between-split (s ∷ frames) a b c rising l m =
     let ih = packets_between-split frames a b c (rising-tail s frames rising) l m in
-    elim (cases_lt s.frame b) [
-      | inl below ↦
-          let first : piece a c s ≡ piece a b s = grind (arith, nat_tests) in
-          let second : piece b c s ≡ [] = grind (arith, nat_tests) in
-          ap₂ ◌++◌ first ih
-          ∙ sym (append_assoc (piece a b s) _ _)
-          ∙ ap
-          (λ ys. (piece a b s ++ packets_between frames a b)
-          ++ (ys ++ packets_between frames b c))
-          (sym second)
-      | inr above ↦
-          let first : piece a b s ≡ [] = grind (arith, nat_tests) in
-          let same : piece a c s ≡ piece b c s = grind (arith, nat_tests) in
-          let none : packets_between frames a b ≡ [] =
-          packets_between-none frames a b (later_than s frames b rising above) in
-          ap₂ ◌++◌ same (ih ∙ ap (λ ys. ys ++ packets_between frames b c) none)
-          ∙ ap₂ (λ xs ys. (xs ++ ys) ++ (piece b c s ++ packets_between frames b c))
-          (sym first) (sym none)
-    ]
+    grind (
+      arith,
+      nat_tests,
+      cases_lt s.frame b,
+      append_assoc (piece a b s),
+      packets_between-none frames a b,
+      later_than s frames b rising,
+    )
 
 -- What holds of each packet of a transmission holds of those between two frames.
 pub packets_between-each :
@@ -91,8 +80,7 @@ pub packets_between-each :
 packets_between-each P [] a b h = All-nil P
 packets_between-each P (s ∷ frames) a b h =
     All-append P (piece a b s) (packets_between frames a b)
-    (of_piece (nat_le a s.frame && nat_lt s.frame b)
-    (All-head (λ (f : SentFrame). All P f.packets) s frames h))
+    (grind (arith, nat_tests, All-head))
     (packets_between-each P frames a b
     (All-tail (λ (f : SentFrame). All P f.packets) s frames h))
   where
@@ -139,7 +127,6 @@ module _ (made : ℕ → SentFrame) (numbered : (f : ℕ) → (made f).frame ≡
       elim (cases_lt a g) [
         | inl before ↦
             let ih = sent_at g (a + 1) n h (omega arith) (omega arith) in
-            let is = numbered a in
             grind (arith, nat_tests)
         | inr here ↦ let e : a ≡ g = omega arith in at (p a) (ap p e ∙ h) e
       ]

@@ -2,7 +2,7 @@
 use Rattle.std.proofs.lemmas.Bool.Decides.{nat_tests}
 use Rattle.std.specs.Bool.{Decides}
 use Rattle.std.proofs.Common.{◌≡◌, ℕ, zero, suc, ◌+◌, ◌-◌, ◌<◌, ◌≤◌, inl, inr, true, false, length}
-use Rattle.std.proofs.Common.{take, None, refl, ap, ◌∙◌, subst, arith}
+use Rattle.std.proofs.Common.{take, None, ap, ◌∙◌, arith}
 use Rattle.std.proofs.lemmas.Bool.{cases_lt, cases_eq}
 use Rattle.std.proofs.lemmas.List.{length-take-le, take-take}
 use Rattle.std.proofs.lemmas.List.Elements.{All-contains}
@@ -11,19 +11,16 @@ use Rattle.ttx_page.specs.Span.{holds_header}
 use Rattle.sub_rules.specs.Events.{Standing, is_gap, is_incomplete, standing_at}
 use Rattle.sub_rules.specs.FrameRules.{Task, frame_at, IsEnded, packets_of_frame, task_of}
 use Rattle.sub_rules.specs.PacketTests.{breaks}
-use Rattle.sub_rules.specs.PieceEvents.{all_of_pieces}
 use Rattle.sub_rules.specs.Pieces.{frames_of}
 use Rattle.sub_rules.specs.Transmission.{Transmission, last_frame, packets_of}
 use Rattle.sub_rules.specs.Trusted.{stands_none}
 use Rattle.sub_rules.specs.declared.packet_rule.PacketRule.{PacketRule}
-use Rattle.sub_rules.specs.declared.event.Event.TheVariants.{Trusted}
 use Rattle.sub_laws.specs.CleanStretch.{AtEnds, IsCleanStretch, IsEnd, IsStretch, IsUntold}
 use Rattle.sub_laws.specs.CleanStretch.{is_needed}
 use Rattle.sub_laws.specs.TrustedFrames.{LawOfTrusted, rises_at, rising_count, rising_part}
 use Rattle.sub_laws.proofs.CleanStretchLemmas.{law_of_clean_stretch}
 use Rattle.sub_laws.proofs.GoodLemmas.{any_sent}
 use Rattle.sub_laws.proofs.UntoldLemmas.{law_of_untold_stretch}
-use Rattle.sub_laws.proofs.DoubtLemmas.{OnTrusted}
 use Rattle.sub_laws.proofs.PrefixLemmas.{RiseTo, before, first-same, frame_at-take, packet_at}
 use Rattle.sub_laws.proofs.PrefixLemmas.{packets-take, rises_to, take_last, take_rising}
 use Rattle.sub_laws.proofs.TrustedPieceLemmas.{StaysTo, all_stay}
@@ -35,14 +32,12 @@ module _ (frames : Transmission) where
   rises_is : (i : ℕ) → 0 < i
       → Decides (rises_at frames i) (frame_at frames (i - 1) < frame_at frames i)
   unfolding rises_at
-  rises_is zero some = absurd (omega arith)
-  rises_is (suc i) some = grind (arith, nat_tests)
+  rises_is i h1 = grind (arith, nat_tests)
 
   -- The last of the first n frames is.
   rises_last : (n : ℕ) → RiseTo frames (suc n) → rises_at frames n ≡ true
   unfolding rises_at
-  rises_last zero rises = refl
-  rises_last (suc i) rises = grind (arith, nat_tests, rises_is)
+  rises_last n h1 = grind (arith, nat_tests, rises_is)
 
   -- How many of the first n frames come before the first one that is not.
   pub count_low : (n : ℕ) → rising_count frames n ≤ n
@@ -66,13 +61,10 @@ module _ (frames : Transmission) where
   count_most (suc n) k l rises = elim (cases_lt n k) [
     | inl whole ↦
         let all = count_most n n (omega arith) (λ i a b. rises i a (omega arith)) in
-        let low = count_low n in
-        let up = rises_last n (λ i a b. rises i a (omega arith)) in
-        grind (arith, nat_tests)
+        grind (arith, nat_tests, count_low, rises_last)
     | inr less ↦
         let rest = count_most n k (omega arith) rises in
-        let low = count_low n in
-        grind (arith, nat_tests)
+        grind (arith, nat_tests, count_low)
   ]
 
   -- How many frames rise.
@@ -136,10 +128,7 @@ module _ (g : Task) (frames : Transmission) (from to : ℕ) (stays : StaysTo g f
 
   -- An end in it is one of the whole list, up to which no more frames count than the run has.
   end_whole : (n f : ℕ) → IsEnd part n f → IsEnd frames n f
-  end_whole n f (some_n, below, inl is) =
-      grind (arith, nat_tests, part_length, risen_low, frame_at-take)
-  end_whole n f (some_n, below, inr (there, high, low)) =
-      grind (arith, nat_tests, part_length, risen_low, frame_at-take)
+  end_whole n f h1 = grind (arith, nat_tests, part_length, risen_low, frame_at-take)
 
   end_few : (n f : ℕ) → IsEnd part n f → f ≤ to → n ≤ stays.n
   end_few n f (some_n, below, place) high =
@@ -183,13 +172,7 @@ module _ (g : Task) (frames : Transmission) (from to : ℕ) (stays : StaysTo g f
       → frame_at frames i ≤ to
       → breaks r g.watched (before frames i k) (packet_at frames i k) ≡ false
   packets_quiet r i k needed l below low high =
-      stays.run.packets r i k needed not_before not_after below
-    where
-      not_after : i < stays.n
-      not_after = grind (arith, nat_tests, cases_lt, later)
-
-      not_before : stays.run.j ≤ i
-      not_before = grind (arith, nat_tests, cases_lt, order, j_low, part_rises)
+      grind (arith, nat_tests, cases_lt, later, order, j_low, part_rises)
 
   untold : IsUntold g part from to
   untold = record {
@@ -197,13 +180,7 @@ module _ (g : Task) (frames : Transmission) (from to : ℕ) (stays : StaysTo g f
     rising = take_rising frames m (risen_low frames) (part_rises frames);
     packets = λ r needed i k l below low high.
         let all = part_length frames in
-        let there : i < m = omega arith in
-        let ps = packets-take frames m i there in
-        let at = frame_at-take frames m i there in
-        let earlier = take-take i m frames (omega arith) in
-        rw (ps, earlier)
-        (packets_quiet r i k needed there (subst (λ xs. k < length xs) ps below) (omega arith)
-        (omega arith));
+        grind (arith, nat_tests, packets-take, frame_at-take, take-take, packets_quiet);
     content = λ n f at low high. (none_of_three _ (stands_quiet n f at low high)).0;
     gap = λ n f at low high. (none_of_three _ (stands_quiet n f at low high)).1;
   }
@@ -222,8 +199,7 @@ module _ (g : Task) (frames : Transmission) (from to : ℕ) (stays : StaysTo g f
       let all = part_length frames in
       any_sent g.watched part stays.run.j from (let l = j_low in omega arith)
       (frame_at-take frames m stays.run.j j_low ∙ stays.run.at)
-      (ap (holds_header (kind g.watched.page)) (packets-take frames m stays.run.j j_low)
-      ∙ stays.run.header)
+      (grind (arith, nat_tests, packets-take, j_low))
 
 -- ---- the law
 
@@ -232,8 +208,7 @@ law_of_trusted programme options unread pieces from to told =
     let g = task_of programme options unread in
     let frames = frames_of pieces in
     let stays : StaysTo g frames from to =
-    All-contains (OnTrusted (StaysTo g frames)) (all_of_pieces g pieces) (Trusted from to)
-    (all_stay g pieces) told in
+    grind (arith, nat_tests, All-contains, all_stay) in
     let trusted =
     law_of_clean_stretch programme (rising_part frames) options unread from to
     (clean g frames from to stays) in

@@ -1,11 +1,10 @@
 -- What is so of each stretch that is told as trusted of pieces, where its run is over: `all_stay`.
 use Rattle.std.proofs.lemmas.Bool.Decides.{nat_tests}
-use Rattle.std.proofs.Common.{◌≡◌, ℕ, zero, suc, ◌+◌, ◌-◌, ◌<◌, ◌≤◌, ◌⊎◌, Bool, true, false, not}
-use Rattle.std.proofs.Common.{◌||◌, List, [], ◌∷◌, ◌++◌, length, map, Option, Some, None, refl, ap}
+use Rattle.std.proofs.Common.{◌≡◌, ℕ, zero, suc, ◌+◌, ◌-◌, ◌<◌, ◌≤◌, ◌⊎◌, Bool, true, not}
+use Rattle.std.proofs.Common.{◌||◌, List, [], ◌∷◌, ◌++◌, length, map, Option, Some, None, refl}
 use Rattle.std.proofs.Common.{subst, arith, ◌≢◌}
 use Rattle.sub_rules.specs.Events.{closing_events, frame_events, unread_fault}
 use Rattle.sub_rules.specs.FrameRules.{Task, end_frame, frame_at, Unread}
-use Rattle.sub_rules.specs.FrameRules.Unread.{BadPacket, NoFrame}
 use Rattle.sub_rules.specs.PieceEvents.{ended_run, all_announced, all_of_pieces, at_pes}
 use Rattle.sub_rules.specs.PieceEvents.{closing_of_pieces, last_of_run, no_run, passed_after_all}
 use Rattle.sub_rules.specs.PieceEvents.{run_after_each, run_at, told_of_each, told_of_frame}
@@ -26,15 +25,13 @@ use Rattle.sub_laws.proofs.TrustedRunLemmas.{EndsQuiet, IsRun, Run, ended, run_n
 pub passed_doubt : (last pes : ℕ) (u : Unread)
     → first_doubt last (Told (unread_fault pes (Some u)) ∷ []) ≡ Some last
 unfolding doubted
-passed_doubt last pes (BadPacket f) = refl
-passed_doubt last pes NoFrame = refl
+passed_doubt last pes u = grind (arith, nat_tests)
 
 -- The frame before the next one.
 pub before_is : (frames : Transmission) (n j : ℕ) → j < n
     → frame_before frames n ≡ frame_at frames (n - 1)
 unfolding frame_before
-before_is frames zero j l = absurd (omega arith)
-before_is frames (suc i) j l = ap (frame_at frames) (omega arith)
+before_is frames n j h1 = grind (arith, nat_tests)
 
 module _ (g : Task) (frames : Transmission) where
   -- ---- what is told as trusted
@@ -132,15 +129,12 @@ module _ (g : Task) (frames : Transmission) where
       kept_after n None pieces all (λ from e. cc)
 
   end_low-trusted : (u : Option Unread) (f : ℕ) → trust_end u f ≤ f + 1
-  end_low-trusted None f = omega arith
-  end_low-trusted (Some u) f = omega arith
+  end_low-trusted u f = grind (arith, nat_tests)
 
   last_stays : (kept : Option ℕ) (any : Bool) → IsRun g frames (length frames) kept
       → EachTrusted StaysTo (last_of_run g frames kept any)
   unfolding last_of_run
-  last_stays kept false before = All-nil (OnTrusted StaysTo)
-  last_stays kept true before =
-      grind (arith, nat_tests, each-put, end_low-trusted, run_stays)
+  last_stays kept any h1 = grind (arith, nat_tests, All-nil, each-put, end_low-trusted, run_stays)
 
   -- What is told after them.
   plain_stays : (pes n : ℕ) → EachTrusted StaysTo (map (at_pes pes) (closing_events g frames n))
@@ -150,10 +144,7 @@ module _ (g : Task) (frames : Transmission) where
 
   closing_stays : (pes n : ℕ) → EachTrusted StaysTo (closing_of_pieces g frames pes n)
   unfolding closing_of_pieces
-  closing_stays (suc pes) zero = grind (arith, nat_tests, All-nil, All-cons)
-  closing_stays zero zero = plain_stays zero zero
-  closing_stays zero (suc n) = plain_stays zero (suc n)
-  closing_stays (suc pes) (suc n) = plain_stays (suc pes) (suc n)
+  closing_stays pes n = grind (arith, nat_tests, All-nil, All-cons, plain_stays)
 
 -- All that is told as trusted of pieces.
 pub all_stay : (g : Task) (pieces : List Piece)
@@ -185,6 +176,4 @@ pub any_told : (g : Task) (sent : Transmission) (kept : Option ℕ) (each closin
     all_announced no_run told ++ ended_run (passed_after_all no_run told)) ≢ []
     → (not (tells_none each) || not (tells_none closing)) ≡ true
 unfolding last_of_run all_announced passed_after_all
-any_told g sent kept [] [] some = absurd (some refl)
-any_told g sent kept (e ∷ es) closing some = refl
-any_told g sent kept [] (e ∷ es) some = refl
+any_told g sent kept each closing = grind (arith, nat_tests)

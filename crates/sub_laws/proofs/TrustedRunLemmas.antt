@@ -1,6 +1,6 @@
 -- What a run of quiet frames holds, `Run`; and it does so after the next frame, `run_next`.
 use Rattle.std.proofs.lemmas.Bool.Decides.{nat_tests}
-use Rattle.std.proofs.Common.{◌≡◌, ℕ, zero, suc, ◌+◌, ◌-◌, ◌<◌, ◌≤◌, ◌⊎◌, inl, inr, Bool, true}
+use Rattle.std.proofs.Common.{◌≡◌, ℕ, zero, suc, ◌+◌, ◌-◌, ◌<◌, ◌≤◌, ◌⊎◌, inl, inr, true}
 use Rattle.std.proofs.Common.{false, List, length, Option, Some, None, refl, sym, ap, ◌∙◌, subst}
 use Rattle.std.proofs.Common.{arith}
 use Rattle.std.specs.List.{list_any}
@@ -13,7 +13,7 @@ use Rattle.sub_rules.specs.FrameRules.{HasHeader, Task, frame_at, packets_of_fra
 use Rattle.sub_rules.specs.PacketTests.{breaks}
 use Rattle.sub_rules.specs.PieceEvents.{run_at}
 use Rattle.sub_rules.specs.Transmission.{Transmission}
-use Rattle.sub_rules.specs.Trusted.{begun, frame_before, is_order, is_quiet, own_events, run_over}
+use Rattle.sub_rules.specs.Trusted.{frame_before, is_order, is_quiet, own_events}
 use Rattle.sub_rules.specs.Trusted.{stands_none}
 use Rattle.sub_rules.specs.declared.event.Event.{Event}
 use Rattle.sub_rules.specs.declared.packet_rule.PacketRule.{PacketRule}
@@ -75,8 +75,7 @@ module _ (g : Task) (frames : Transmission) where
         × (stands_none (standing_at g frames (suc n) (frame_at frames n)) ≡ true)
     unfolding is_quiet
     parts_quiet =
-        let any = any_doubt (frame_before frames n) (own_events g frames n) in
-        grind (arith, nat_tests)
+        grind (arith, nat_tests, any_doubt (frame_before frames n) (own_events g frames n))
 
     rises_on : RiseTo frames (suc n)
     rises_on = rises_of g frames (suc n) parts_quiet.0
@@ -84,8 +83,7 @@ module _ (g : Task) (frames : Transmission) where
     -- An end of the frame, up to which one frame more counts.
     own_end : (m f : ℕ) → IsEnd frames m f → m ≤ suc n → n < m → f ≤ frame_at frames n
         → stands_none (standing_at g frames m f) ≡ true
-    own_end m f (some, within, inl is) l more high = grind (arith, nat_tests, parts_quiet)
-    own_end m f (some, within, inr (there, below, later)) l more high = grind (arith, nat_tests)
+    own_end m f h1 h2 h3 h4 = grind (arith, nat_tests, parts_quiet)
 
     -- A run that begins here.
     pub run_begins : holds_header (kind g.watched.page) (packets_of_frame frames n) ≡ true
@@ -103,8 +101,7 @@ module _ (g : Task) (frames : Transmission) where
           (((own_doubt g frames n).quiet parts_quiet.1).0 r k needed) l;
       ends = λ m f end within low high. elim (cases_lt n m) [
         | inl more ↦
-            own_end m f end within more
-            (let e = ap (frame_at frames) (let b : suc n - 1 ≡ n = omega arith in b) in omega arith)
+            grind (arith, nat_tests, own_end)
         | inr fewer ↦ absurd (early m f end (omega arith) low)
       ];
     }
@@ -112,8 +109,7 @@ module _ (g : Task) (frames : Transmission) where
         early : (m f : ℕ) → IsEnd frames m f → m ≤ n → frame_at frames n ≤ f → ⊥
         early m f (some, within, inl is) l low =
             let up = rises_to frames (suc n) rises_on (m - 1) (n - 1) (omega arith) (omega arith) in
-            let one = rises_on n (omega arith) (omega arith) in
-            omega arith
+            grind (arith, nat_tests, rises_on)
         early m f (some, within, inr (there, below, later)) l low =
             let up = rises_to frames (suc n) rises_on m n l (omega arith) in omega arith
 
@@ -142,16 +138,10 @@ module _ (g : Task) (frames : Transmission) where
       ];
       ends = λ m f end within low high. elim (cases_lt n m) [
         | inl more ↦
-            own_end m f end within more
-            (let e = ap (frame_at frames) (let b : suc n - 1 ≡ n = omega arith in b) in omega arith)
+            grind (arith, nat_tests, own_end)
         | inr fewer ↦ elim (cases_lt (frame_at frames (n - 1)) f) [
           | inr no_later ↦ run.ends m f end (omega arith) low (omega arith)
-          | inl later ↦ elim (cases_lt m n) [
-            | inl before ↦ let early = end_low n run.rises m f end before in absurd (omega arith)
-            | inr all ↦
-                let same : m ≡ n = omega arith in
-                gap m f end same later (in_gap m f end same later)
-          ]
+          | inl later ↦ grind (arith, nat_tests, cases_lt m n, end_low n run.rises m f end)
         ]
       ];
     }
@@ -178,10 +168,7 @@ module _ (g : Task) (frames : Transmission) where
 
     pub from_low : from ≤ frame_at frames (n - 1)
     from_low =
-        let at = run.at in
-        let below = run.below in
-        let up = rises_to frames n run.rises run.j (n - 1) (omega arith) (omega arith) in
-        omega arith
+        grind (arith, nat_tests, rises_to frames n run.rises run.j (n - 1))
 
     pub stood : stands_none (standing_at g frames n (frame_at frames (n - 1))) ≡ true
     stood = grind (arith, nat_tests, from_low)
@@ -199,9 +186,7 @@ module _ (g : Task) (frames : Transmission) where
             let same : n ≡ m = omega arith in
             let place : latest frames n + suc (f - (latest frames n + 1)) ≡ f =
             let l = latest_is in omega arith in
-            subst (λ k. stands_none (standing_at g frames k f) ≡ true) same
-            (subst (λ x. stands_none (standing_at g frames n x) ≡ true) place
-            (quiet (f - (latest frames n + 1)) (let l = latest_is in omega arith)))
+            grind (arith, nat_tests, latest_is)
       ]
     ]
 
@@ -243,19 +228,7 @@ module _ (g : Task) (frames : Transmission) where
             → Ways (first_doubt last (frame_events g frames n))
         by_gap up none (Some x) is =
             let so = gap_doubt g frames n some latest_is stood last (gap_length frames n) in
-            let found = so.at x is in
-            inr (
-              up,
-              inl (
-                x,
-                rw (frame_doubt g frames n, none, is) refl,
-                found.0,
-                found.1,
-                found.2,
-                found.3,
-                found.4,
-              ),
-            )
+            grind (arith, nat_tests, frame_doubt g frames n)
         by_gap up none None is =
             let so = gap_doubt g frames n some latest_is stood last (gap_length frames n) in
             inr (up, inr (so.quiet is, rw (frame_doubt g frames n, none, is) refl))
@@ -265,25 +238,14 @@ module _ (g : Task) (frames : Transmission) where
         by_order None is =
             by_gap ((order_doubt g frames last i).quiet is) is (first_doubt last gap) refl
         by_order (Some x) is =
-            let so = order_doubt g frames last i in
-            let all : first_doubt last (frame_events g frames n) ≡ Some x =
-            rw (frame_doubt g frames n, is) refl in
-            inl (λ up. let calm = so.calm up in cc, all ∙ ap (λ y. Some y) (so.at x is))
+            grind (arith, nat_tests, order_doubt g frames last i, frame_doubt g frames n)
 
     -- No frame is quiet no more: so are the ends before it.
     gap_quiet : first_doubt last (frame_events g frames n) ≡ None
         → (m f : ℕ) → IsEnd frames m f → m ≡ n → frame_at frames (n - 1) < f → f < frame_at frames n
         → stands_none (standing_at g frames m f) ≡ true
-    gap_quiet none m f at same later high = elim ways [
-      | inl (falls, is) ↦ cc
-      | inr (up, rest) ↦ elim rest [
-        | inl found ↦ let is = found.1 in cc
-        | inr (quiet, own) ↦
-            let whole = long up in
-            let low = from_low in
-            gap_ends (gap_length frames n) quiet m f at (omega arith) (omega arith) (omega arith)
-      ]
-    ]
+    gap_quiet none m f at same later high =
+        grind (arith, nat_tests, ways, long, from_low, gap_ends (gap_length frames n))
 
     -- One is: what is so of those before it.
     pub record Ended (x : ℕ) : Type 0 where
@@ -295,29 +257,18 @@ module _ (g : Task) (frames : Transmission) where
     ended_in_gap : frame_at frames i < frame_at frames n → (k x : ℕ) → k ≤ gap_length frames n
         → x ≡ latest frames n + suc k → Quiet k → Ended x
     ended_in_gap up k x l is quiet =
-        let whole = long up in
-        let e = last_is in
-        record {
-          ends = subst (EndsQuiet n from) (sym is) (gap_ends k quiet);
-          high = inl (omega arith, omega arith);
-        }
+        grind (arith, nat_tests, long up, last_is, gap_ends k quiet)
 
     pub ended : (x : ℕ) → first_doubt last (frame_events g frames n) ≡ Some x → Ended x
     ended x e = elim ways [
       | inl (falls, is) ↦
-          let at : x ≡ frame_at frames i = cc in
-          let back = last_is in
-          record {
-            ends = λ m f end within low high. run.ends m f end within low (omega arith);
-            high = inr (omega arith);
-          }
+          grind (arith, nat_tests, last_is)
       | inr (up, rest) ↦ elim rest [
         | inl (y, is, k, l, at, quiet, broken) ↦
             let same : y ≡ x = cc in ended_in_gap up k x (omega arith) (sym same ∙ at) quiet
         | inr (quiet, own) ↦
             let whole = long up in
-            let at = (own_doubt g frames n).at x (sym own ∙ e) in
-            ended_in_gap up (gap_length frames n) x (omega arith) (omega arith) quiet
+            grind (arith, nat_tests, own_doubt g frames n, ended_in_gap up (gap_length frames n) x)
       ]
     ]
 
@@ -340,17 +291,4 @@ module _ (g : Task) (frames : Transmission) where
   pub run_next : (n : ℕ) (kept : Option ℕ) → n < length frames → IsRun n kept
       → IsRun (suc n) (run_at g frames n kept)
   unfolding run_at
-  run_next n kept there before from e = by_quiet (is_quiet g frames n) refl
-    where
-      by_run : is_quiet g frames n ≡ true → (o : Option ℕ)
-          → run_over (frame_before frames n) kept (frame_events g frames n) ≡ o
-          → (h : Bool) → holds_header (kind g.watched.page) (packets_of_frame frames n) ≡ h
-          → begun o h (frame_at frames n) ≡ Some from
-          → Run (suc n) from
-      by_run quiet None is true holds e = grind (arith, nat_tests, run_begins)
-      by_run quiet None is false holds e = cc
-      by_run quiet (Some f) is h holds e = grind (arith, nat_tests, over-some, goes_on, before)
-
-      by_quiet : (b : Bool) → is_quiet g frames n ≡ b → Run (suc n) from
-      by_quiet true quiet = grind (arith, nat_tests, by_run)
-      by_quiet false other = let none = rw other at e in cc
+  run_next n kept there before from e = grind (arith, nat_tests, run_begins, over-some, goes_on)

@@ -1,5 +1,5 @@
 -- A stretch of which nothing is told is clean: `law_of_untold_stretch`.
-use Rattle.std.proofs.Common.{arith, ◌≡◌, ℕ, Bool, true, false, not, ◌&&◌, refl, sym, ap, IsFalse}
+use Rattle.std.proofs.Common.{arith, ◌≡◌, ℕ, Bool, true, false, not, ◌&&◌, refl, ap, IsFalse}
 use Rattle.std.proofs.lemmas.Bool.Decides.{nat_tests}
 use Rattle.sub_laws.specs.CleanStretch.{AtPackets, IsKeptWithin, IsUntold, KeepsCodes}
 use Rattle.sub_laws.specs.CleanStretch.{LawOfUntoldStretch, Part, is_needed}
@@ -20,13 +20,11 @@ use Rattle.sub_laws.proofs.StandingLemmas.{gap_decided, incomplete_decided, none
 
 -- What is not false is true.
 not_false : (b : Bool) → not b ≡ false → b ≡ true
-not_false true e = refl
-not_false false e = sym e
+not_false b h1 = grind (arith, nat_tests)
 
 -- Of tests that fail together, the last where the others pass.
 last_of_two : (x y : Bool) → (x && y) ≡ false → x ≡ true → y ≡ false
-last_of_two true y e one = e
-last_of_two false y e one = cc
+last_of_two x y h1 h2 = grind (arith, nat_tests)
 
 module _ (w : Watched) (frames : Transmission) (a b : ℕ) where
   -- Packets of which no test of the rule fails keep it.

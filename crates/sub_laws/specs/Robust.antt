@@ -6,7 +6,7 @@ use Rattle.ttx_page.specs.Page.{Rows, space, cell, IsCell}
 use Rattle.ttx_page.specs.PacketKind.{kind}
 use Rattle.ttx_page.specs.Receiver.{State, Hears}
 use Rattle.ttx_page.specs.Shown.{IsHit}
-use Rattle.ttx_page.specs.Span.{holds_header}
+use Rattle.ttx_page.specs.Span.{holds_header, is_unended}
 use Rattle.stl_rows.specs.Programme.{ProgrammeValue}
 use Rattle.sub_plan.specs.Options.{OptionsValue}
 use Rattle.sub_rules.specs.Transmission.{Transmission, first_frame, last_frame, packets_of, on_air}
@@ -42,6 +42,10 @@ pub record IsServed
   pub cells :
       IsTrue (holds_header (kind options.page) sent)
       → HoldsDuePage programme f IsExcused new.page
+  -- And the page is open exactly where no header after its last one ends the span.
+  pub is_open :
+      IsTrue (holds_header (kind options.page) sent)
+      → new.is_open ≡ is_unended (kind options.page) sent
 
 -- A robust transmission: wherever one starts and stops, whatever is got with at most one bit wrong
 -- in each byte, whatever old page a receiver holds that has not heard its page yet, and whatever

@@ -1,7 +1,7 @@
 -- Two packets of code words and odd text that say the same are equal: `same_packet`.
 use Rattle.std.proofs.lemmas.Bool.Decides.{nat_tests}
 use Rattle.std.proofs.Common.{◌≡◌, ℕ, zero, suc, ◌+◌, ◌*◌, ◌/◌, ◌%◌, ◌<◌, true, not, List}
-use Rattle.std.proofs.Common.{[], ◌∷◌, get_or, slice_index, drop, map, Some, sym, ap, ◌∙◌}
+use Rattle.std.proofs.Common.{[], ◌∷◌, get_or, slice_index, drop, map, Some, sym, ◌∙◌}
 use Rattle.std.proofs.Common.{subst, arith, refl}
 use Rattle.std.proofs.lemmas.Bool.{agree_below_at, true≢false}
 use Rattle.std.proofs.lemmas.List.{same_lists, get_or-drop, get_or_default}
@@ -10,7 +10,7 @@ use Rattle.std.specs.Int.RustNames.{count_ones}
 use lib.Count.{ones_in}
 use Rattle.ttx_packet.specs.Hamming84.{code_word}
 use Rattle.ttx_packet.specs.Parity.{is_odd, code_of}
-use Rattle.ttx_packet.specs.PacketAddress.{PacketAddress, address, HasExactAddress, IsPacket}
+use Rattle.ttx_packet.specs.PacketAddress.{address, HasExactAddress, IsPacket}
 use Rattle.ttx_packet.specs.RowPacket.{HasOddText}
 use Rattle.ttx_packet.proofs.Hamming84Lemmas.{decoded-code_word}
 use Rattle.sub_rules.specs.PacketRules.{codes_of}
@@ -63,17 +63,7 @@ same_address p q x y e =
     let f =
     same_Some _ _
     (sym (address_is p a.0 b.0 a.1 b.1 a.2 b.2) ∙ e ∙ address_is q c.0 d.0 c.1 d.1 c.2 d.2) in
-    let m : (a.0 + 0x10 * b.0) % 8 ≡ (c.0 + 0x10 * d.0) % 8 =
-    ap (λ (s : PacketAddress). s.magazine) f in
-    let n : (a.0 + 0x10 * b.0) / 8 ≡ (c.0 + 0x10 * d.0) / 8 =
-    ap (λ (s : PacketAddress). s.packet_number) f in
-    let la : a.0 < 16 = a.1 in
-    let lb : b.0 < 16 = b.1 in
-    let lc : c.0 < 16 = c.1 in
-    let ld : d.0 < 16 = d.1 in
-    let low : a.0 ≡ c.0 = omega arith in
-    let high : b.0 ≡ d.0 = omega arith in
-    (a.2 ∙ ap code_word low ∙ sym c.2, b.2 ∙ ap code_word high ∙ sym d.2)
+    grind (arith, nat_tests)
 
 -- The code of a byte, in a list of any length.
 pub code_at : (bytes : List ℕ) (k : ℕ)

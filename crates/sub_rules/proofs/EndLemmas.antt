@@ -1,6 +1,7 @@
 -- The end before a frame of the list: what stood broken there, and how many frames of the day come
 -- after it.
-use Rattle.std.proofs.Common.{◌≡◌, ℕ, zero, suc, ◌+◌, ◌-◌, ◌<◌, refl, arith}
+use Rattle.std.proofs.lemmas.Bool.Decides.{nat_tests}
+use Rattle.std.proofs.Common.{◌≡◌, ℕ, ◌+◌, ◌-◌, ◌<◌, arith}
 use Rattle.sub_rules.specs.Events.{end_before, gap_length, latest, standing_at, standing_before}
 use Rattle.sub_rules.specs.FrameRules.{Task, frame_at}
 use Rattle.sub_rules.specs.Transmission.{Transmission}
@@ -11,8 +12,7 @@ pub gap_length-is :
     → 0 < n
     → gap_length frames n ≡ frame_at frames n - (latest frames n + 1)
 unfolding gap_length
-gap_length-is frames zero some = absurd (omega arith)
-gap_length-is frames (suc i) some = refl
+gap_length-is frames n h1 = grind (arith, nat_tests)
 
 -- What stood broken at the end before.
 pub standing_before_is :
@@ -20,5 +20,4 @@ pub standing_before_is :
     → 0 < n
     → standing_before g frames n f ≡ standing_at g frames n (end_before frames n f)
 unfolding standing_before
-standing_before_is g frames zero f some = absurd (omega arith)
-standing_before_is g frames (suc n) f some = refl
+standing_before_is g frames n f h1 = grind (arith, nat_tests)

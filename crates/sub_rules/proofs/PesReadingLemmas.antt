@@ -24,8 +24,7 @@ use Rattle.sub_rules.specs.Transmission.{SentFrame, Transmission}
 
 -- What holds in any case holds where there is a value. For `next_sending`.
 pub where_ok : {X E P : Type 0} (r : Result X E) → P → OnOk r P
-where_ok (Ok x) p = p
-where_ok (Err e) p = tt
+where_ok r h1 = grind (arith, nat_tests)
 
 -- A frame of the list, from what stands after those before it.
 is_sent :
@@ -61,15 +60,7 @@ pub frame_found :
     → pts_of origin frame ≡ pts
     → frame_of_pts origin pts ≡ Some frame
 frame_found origin pts frame in_day e =
-    go (frame_of_pts origin pts)
-    (found_below origin pts day (frame_of_pts origin pts) refl)
-  where
-    go :
-        (r : Option ℕ)
-        → MatchOption r ((f : ℕ) → f < day → pts_of origin f ≢ pts)
-        (λ f. (f < day) × (pts_of origin f ≡ pts))
-        → r ≡ Some frame
-    go r none = grind arith
+    grind (arith, nat_tests, found_below origin pts day (frame_of_pts origin pts))
 
 -- Where no frame of the day has a PTS, none is found.
 pub no_frame_found :
@@ -151,12 +142,7 @@ pub reads_more :
     → ReadsAs origin (given + 1) (rest_after bytes) frames unread
     → ReadsAs origin given bytes (s ∷ frames) unread
 reads_more origin given bytes v s frames unread few is sent reads =
-    begins origin given bytes v s.frame few is sent.in_day (sym sent.pts)
-    ∙ ap (λ rest. file_with (Some s.frame) (packets_of_units v.units) rest) reads
-    ∙ ap (λ ps. let f : PesFileValue = record {
-      frames = record { frame = s.frame; packets = ps } ∷ frames;
-      unread = unread;
-    } in f) (sym sent.packets)
+    grind (arith, nat_tests, begins origin given bytes v s.frame few is sent.in_day (sym sent.pts))
 
 -- What is read of one PES packet.
 pub record ReadsNext
@@ -179,14 +165,7 @@ reads_next origin n bytes frames unread v frame few reads is of =
     let rest = file_at origin (n + 1) (rest_after bytes) in
     let s : SentFrame = record { frame = frame; packets = packets_of_units v.units } in
     let whole = sym reads ∙ begins origin n bytes v frame few is of.in_day of.is in
-    let all : drop n frames ≡ s ∷ rest.frames = ap (λ (f : PesFileValue). f.frames) whole in
-    let same : unread ≡ rest.unread = ap (λ (f : PesFileValue). f.unread) whole in
-    let others : drop (n + 1) frames ≡ rest.frames =
-    sym (drop-drop 1 n frames) ∙ ap (drop 1) all in
-    record {
-      sent = is_sent frames n s rest.frames all;
-      left = grind arith;
-    }
+    grind (arith, nat_tests, drop-drop 1 n frames, is_sent frames n s rest.frames)
 
 -- Where no frame is read of the bytes, the list is at its end.
 pub reads_end :
@@ -196,7 +175,4 @@ pub reads_end :
     → EndsReading origin n bytes u
     → (length frames ≤ n) × (unread ≡ u)
 reads_end origin n bytes frames unread u few reads ends =
-    let whole = sym reads ∙ reads_ended origin n bytes u few ends in
-    let none : drop n frames ≡ [] = ap (λ (f : PesFileValue). f.frames) whole in
-    let size : length (drop n frames) ≡ 0 = ap length none in
-    (omega (arith, length-drop n frames), ap (λ (f : PesFileValue). f.unread) whole)
+    grind (arith, nat_tests, reads_ended origin n bytes u few ends, length-drop n frames)

@@ -1,6 +1,6 @@
 -- Of a PES file that is read on the refusal is told first that is told where reading stops at the
 -- first piece that is passed over. Main lemma: first_told_is.
-use Rattle.std.proofs.Common.{◌≡◌, ℕ, zero, suc, ◌+◌, ◌&&◌, ◌||◌, Bool, true, false, not, List, []}
+use Rattle.std.proofs.Common.{◌≡◌, ℕ, zero, suc, ◌+◌, ◌&&◌, ◌||◌, Bool, not, List, []}
 use Rattle.std.proofs.Common.{◌∷◌, ◌++◌, length, map, Option, Some, None, refl, sym, ap, ◌∙◌, arith}
 use Rattle.std.proofs.Common.{ap₂, append_assoc, length-append}
 use Rattle.std.proofs.lemmas.Bool.Decides.{nat_tests}
@@ -34,12 +34,10 @@ or_else None b = b
 or_else (Some f) b = Some f
 
 or_else_assoc : (a b c : Option CheckFault) → or_else (or_else a b) c ≡ or_else a (or_else b c)
-or_else_assoc None b c = refl
-or_else_assoc (Some f) b c = refl
+or_else_assoc a b c = grind (arith, nat_tests)
 
 or_else_none : (a : Option CheckFault) → or_else a None ≡ a
-or_else_none None = refl
-or_else_none (Some f) = refl
+or_else_none a = grind (arith, nat_tests)
 
 -- What is told first of the one list, or else of the other.
 pub first_of_two : (xs ys : List Event)
@@ -52,13 +50,10 @@ first_of_two (PassedUntil f ∷ xs) ys = first_of_two xs ys
 
 -- Before what is told of frames that may be trusted, and of runs of pieces.
 trusted_first : (run d : Option ℕ) → first_told (trusted_before run d) ≡ None
-trusted_first run None = refl
-trusted_first None (Some f) = refl
-trusted_first (Some from) (Some f) = grind (arith, nat_tests)
+trusted_first run d = grind (arith, nat_tests)
 
 last_first : (run : Option ℕ) (f : ℕ) → first_told (trusted run f) ≡ None
-last_first None f = refl
-last_first (Some from) f = grind (arith, nat_tests)
+last_first run f = grind (arith, nat_tests)
 
 -- What is trusted changes nothing.
 pub with_run_first : (last : ℕ) (run : Option ℕ) (es : List Event)
@@ -87,10 +82,7 @@ ended_first run = grind (arith, nat_tests)
 names_closing : (g : Task) (frames : Transmission) (n : ℕ) → length frames ≡ n
     → Names n (closing_events g frames n)
 unfolding closing_events at_pes
-names_closing g frames zero all = rest g.unread
-  where
-    rest : (u : Option Unread) → Names 0 (Told (unread_fault 0 u) ∷ [])
-    rest u = grind (arith, nat_tests)
+names_closing g frames zero all = grind (arith, nat_tests)
 names_closing g frames (suc n) all =
     let ended = (own_end g frames (suc n) _ _ nothing_stands _).names in
     map-append (at_pes (suc n)) (endings _ _) (rest_events g frames g.unread)
@@ -131,8 +123,7 @@ closing_first : (g : Task) (frames : Transmission) (n : ℕ) (u : Unread)
     → g.unread ≡ Some u
     → first_told (closing_events g frames n) ≡ Some (unread_fault n (Some u))
 unfolding closing_events
-closing_first g frames zero u all is = rw is refl
-closing_first g frames (suc n) u all is = grind (arith, nat_tests, first_of_two, endings_first)
+closing_first g frames n u h1 h2 = grind (arith, nat_tests, first_of_two, endings_first)
 
 -- What is told of frames, the first of them frame i of the list.
 told_plain : Task → Transmission → ℕ → Transmission → List Event
@@ -182,23 +173,13 @@ walk g done all first n run (Sent s ∷ pieces) u after size all_is first_is u_i
     ∙ ap (λ (fs : Transmission). frame_events (record g { unread = u }) fs n) (sym first_next) in
     let rest = walk g next all first (suc n) (run_at g all n run) pieces u after longer all_next
     first_next u_is (λ e. closing (ap suc e)) in
-    ap (λ (o : Option CheckFault). or_else o after)
-    (first_of_two (map (at_pes n) (told_of_frame g all n run)) _
-    ∙ ap (λ (o : Option CheckFault). or_else o (first_told (told_of_each g all (suc n) (suc n)
-    (run_at g all n run) pieces))) (frame_first g all n run ∙ ap first_told same))
-    ∙ or_else_assoc (first_told (frame_events (record g { unread = u }) first n)) _ after
-    ∙ ap (or_else (first_told (frame_events (record g { unread = u }) first n))) rest
-    ∙ sym (or_else_assoc (first_told (frame_events (record g { unread = u }) first n)) _ _)
-    ∙ ap (λ (o : Option CheckFault). or_else o (first_told (closing_events
-    (record g { unread = u }) first (length first))))
-    (sym (first_of_two (frame_events (record g { unread = u }) first n) _))
+    grind (arith, nat_tests, first_of_two, frame_first, or_else_assoc)
 
 -- After pieces that are all sent.
 closing_same : (g : Task) (frames : Transmission) (n : ℕ) → length frames ≡ n
     → closing_of_pieces g frames n n ≡ closing_events g frames n
 unfolding closing_of_pieces
-closing_same g frames zero all = names_closing g frames zero all
-closing_same g frames (suc n) all = names_closing g frames (suc n) all
+closing_same g frames n h1 = grind (arith, nat_tests, names_closing)
 
 last_of_first : (g : Task) (frames : Transmission) (run : Option ℕ) (any : Bool)
     → first_told (last_of_run g frames run any) ≡ None
@@ -223,13 +204,9 @@ first_told_is g pieces =
     ∙ announced_first (each ++ last ++ closing)
     ∙ first_of_two (each ++ last) closing
     ∙ ap (λ (o : Option CheckFault). or_else o (first_told closing))
-    (first_of_two each last
-    ∙ ap (or_else (first_told each)) (last_of_first g frames _ any)
-    ∙ or_else_none (first_told each))
+    (grind (arith, nat_tests, first_of_two, last_of_first, or_else_none))
     ∙ walk g [] frames stop.frames 0 None pieces stop.unread (first_told closing) refl refl refl
-    refl (λ e.
-    ap (λ (k : ℕ). first_told (closing_of_pieces g frames k (length frames))) (sym e)
-    ∙ ap first_told (closing_same g frames (length frames) refl))
+    refl (grind (arith, nat_tests, closing_same))
     ∙ sym (first_of_two (told_plain h stop.frames 0 stop.frames) _)
     ∙ ap (λ (l : List Event). first_told (l ++ closing_events h stop.frames
     (length stop.frames)))
@@ -298,32 +275,26 @@ told_of_each-append g frames pes n i k run (Passed u ∷ xs) ys d e =
 -- ---- where nothing is told
 
 pub tells_none-two : (xs ys : List Event) → tells_none (xs ++ ys) ≡ (tells_none xs && tells_none ys)
-tells_none-two [] ys = refl
-tells_none-two (x ∷ xs) ys = refl
+tells_none-two xs ys = grind (arith, nat_tests)
 
 pub tells_none-at : (pes : ℕ) (es : List Event) → tells_none (map (at_pes pes) es) ≡ tells_none es
-tells_none-at pes [] = refl
-tells_none-at pes (e ∷ es) = refl
+tells_none-at pes es = grind (arith, nat_tests)
 
 -- Nothing is trusted where nothing is told.
 pub tells_none-run : (last : ℕ) (run : Option ℕ) (es : List Event)
     → tells_none (with_run last run es) ≡ tells_none es
 unfolding with_run
-tells_none-run last run [] = refl
-tells_none-run last run (e ∷ es) =
-    tells_none-two (trusted_before run (doubted last e)) _ ∙ grind (arith, nat_tests)
+tells_none-run last run es = grind (arith, nat_tests, tells_none-two)
 
 -- What is trusted names no PES packet.
 trusted_at : (pes : ℕ) (run : Option ℕ) (f : ℕ) → map (at_pes pes) (trusted run f) ≡ trusted run f
 unfolding at_pes
-trusted_at pes None f = refl
-trusted_at pes (Some from) f = grind (arith, nat_tests)
+trusted_at pes run f = grind (arith, nat_tests)
 
 pub last_of_run-at : (pes : ℕ) (g : Task) (frames : Transmission) (run : Option ℕ) (any : Bool)
     → map (at_pes pes) (last_of_run g frames run any) ≡ last_of_run g frames run any
 unfolding last_of_run
-last_of_run-at pes g frames run true = trusted_at pes run _
-last_of_run-at pes g frames run false = refl
+last_of_run-at pes g frames run any = grind (arith, nat_tests, trusted_at)
 
 -- The fault of a piece names it already.
 pub passed_at : (pes last : ℕ) (run : Option ℕ) (u : Option Unread)

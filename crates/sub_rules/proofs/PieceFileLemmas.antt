@@ -1,15 +1,15 @@
 -- One piece read, in terms of the value of the whole file: `reads_sent`, `reads_off`, `reads_bad`,
 -- `pieces_end`; and that a file is read up to the first piece that is passed over: `file_until`.
 use Rattle.std.proofs.lemmas.Bool.Decides.{nat_tests}
-use Rattle.std.proofs.Common.{◌≡◌, ◌≢◌, ℕ, zero, suc, ◌+◌, ◌<◌, ◌≤◌, Bool, true, false, List, []}
-use Rattle.std.proofs.Common.{◌∷◌, Option, Some, None, Result, Ok, Err, refl, sym, ap, ◌∙◌, arith}
+use Rattle.std.proofs.Common.{◌≡◌, ◌≢◌, ℕ, zero, suc, ◌+◌, ◌<◌, ◌≤◌, true, false, List, []}
+use Rattle.std.proofs.Common.{◌∷◌, Option, Some, None, Result, Ok, Err, refl, ap, ◌∙◌, arith}
 use Rattle.std.proofs.Common.{cond}
 use Rattle.std.proofs.Common.{◌++◌, length-append}
 use Rattle.std.proofs.KnownBytes.{Consumes-nil, Consumes-trans}
 use Rattle.std.proofs.lemmas.List.{append-nil}
 use Rattle.std.proofs.lemmas.List.Folds.{concat-append}
 use Rattle.std.specs.List.{AllByRecursion, concat}
-use Rattle.ttx_pes.proofs.PesHeaderLemmas.{body_complete, body_of, packet_of_body, six_of}
+use Rattle.ttx_pes.proofs.PesHeaderLemmas.{body_complete, packet_of_body}
 use Rattle.ttx_pes.proofs.PieceListLemmas.{behind_packet, pieces_after-next}
 use Rattle.ttx_pes.specs.Comparing.{TakesDataField}
 use Rattle.ttx_pes.specs.Fault.{is_of_piece, is_read}
@@ -24,8 +24,8 @@ use Rattle.sub_rules.specs.FrameRules.{Unread}
 use Rattle.sub_rules.specs.FrameRules.Unread.{BadPacket, NoFrame}
 use Rattle.ttx_pes.specs.SentUnits.{packets_of_units}
 use Rattle.sub_rules.specs.Pieces.{Piece, PieceFileValue, ReadsPiece, ReadsPieces, file_of_pieces}
-use Rattle.sub_rules.specs.PesReading.{PesFileValue, file_at, file_with, frame_of_pts}
-use Rattle.sub_rules.specs.Pieces.{TakesOnePiece, TakesPieces, piece_of, piece_with, pieces_at}
+use Rattle.sub_rules.specs.PesReading.{PesFileValue, file_at}
+use Rattle.sub_rules.specs.Pieces.{TakesOnePiece, TakesPieces, piece_of, pieces_at}
 use Rattle.sub_rules.specs.Pieces.{read_until_passed}
 use Rattle.sub_rules.specs.Pieces.Piece.{Passed, Sent}
 use Rattle.sub_rules.specs.Sendings.{IsFrameOf}
@@ -73,14 +73,7 @@ reads_piece : (origin n : ℕ) (bytes : List ℕ) (pieces : List Piece) (unread 
     → ((rest : PieceFileValue) → pieces_by origin answer rest ≡ before piece rest)
     → ReadsPiece origin n bytes pieces unread piece
 reads_piece origin n bytes pieces unread piece answer few reads is by =
-    let rest = pieces_at origin (n + 1) (behind_piece bytes) in
-    let whole = sym reads ∙ pieces_at-next origin n bytes answer few is ∙ by rest in
-    record {
-      more = rest.pieces;
-      first = ap (λ (f : PieceFileValue). f.pieces) whole;
-      left = let same : unread ≡ rest.unread = ap (λ (f : PieceFileValue). f.unread) whole in
-          grind arith;
-    }
+    grind (arith, nat_tests, pieces_at-next origin n bytes answer few is)
 
 -- A PES packet with a frame is a piece that is sent.
 pub reads_sent : (origin n : ℕ) (bytes : List ℕ) (pieces : List Piece) (unread : Option Unread)
@@ -125,8 +118,7 @@ pub pieces_end : (origin n : ℕ) (bytes : List ℕ) (pieces : List Piece) (unre
     → answer_at n bytes ≡ Ok None
     → (pieces ≡ []) × (unread ≡ None)
 pieces_end origin n bytes pieces unread few reads is =
-    let whole = sym reads ∙ pieces_at-next origin n bytes (Ok None) few is in
-    (ap (λ (f : PieceFileValue). f.pieces) whole, ap (λ (f : PieceFileValue). f.unread) whole)
+    grind (arith, nat_tests, pieces_at-next origin n bytes (Ok None) few is)
 
 -- Where bytes are left that are no piece, no piece is left.
 pub pieces_stop : (origin n : ℕ) (bytes : List ℕ) (pieces : List Piece) (unread : Option Unread)
@@ -137,8 +129,7 @@ pub pieces_stop : (origin n : ℕ) (bytes : List ℕ) (pieces : List Piece) (unr
     → is_of_piece f ≡ false
     → (pieces ≡ []) × (unread ≡ Some (BadPacket f))
 pieces_stop origin n bytes pieces unread f few reads is kind =
-    let whole = sym reads ∙ pieces_at-next origin n bytes (Err f) few is ∙ rw kind refl in
-    (ap (λ (x : PieceFileValue). x.pieces) whole, ap (λ (x : PieceFileValue). x.unread) whole)
+    grind (arith, nat_tests, pieces_at-next origin n bytes (Err f) few is)
 
 -- The fault of a piece is not that the source failed.
 pub no_failure : (f : PesFault) → is_of_piece f ≡ true → is_read f ≡ false
@@ -151,28 +142,7 @@ until_by : (origin : ℕ) (answer : Result (Option PesValue) PesFault) (rest : P
     → file_by origin answer (read_until_passed rest.pieces rest.unread)
     ≡ read_until_passed (pieces_by origin answer rest).pieces (pieces_by origin answer rest).unread
 unfolding read_until_passed piece_of
-until_by origin (Ok None) rest = refl
-until_by origin (Ok (Some v)) rest = go (frame_of_pts origin v.pts)
-  where
-    go : (f : Option ℕ)
-        → file_with f (packets_of_units v.units) (read_until_passed rest.pieces rest.unread)
-        ≡ read_until_passed (before (piece_with f (packets_of_units v.units)) rest).pieces
-        (before (piece_with f (packets_of_units v.units)) rest).unread
-    go None = refl
-    go (Some frame) = refl
-until_by origin (Err f) rest = go (is_of_piece f)
-  where
-    stop : PieceFileValue
-    stop = record { pieces = []; unread = Some (BadPacket f) }
-
-    passed : PieceFileValue
-    passed = before (Passed (BadPacket f)) rest
-
-    go : (b : Bool)
-        → record { frames = []; unread = Some (BadPacket f) }
-        ≡ read_until_passed (cond b passed stop).pieces (cond b passed stop).unread
-    go true = refl
-    go false = refl
+until_by origin answer rest = grind (arith, nat_tests)
 
 -- One answer on.
 until_step : (origin given : ℕ) (bytes : List ℕ) (r : Result (Option PesValue) PesFault)
@@ -211,8 +181,7 @@ until_from : (origin room given : ℕ) (bytes : List ℕ)
     ≡ read_until_passed (pieces_at origin given bytes).pieces
     (pieces_at origin given bytes).unread
 until_from origin zero given bytes e =
-    until_one origin given bytes (omega arith)
-    (λ v is. absurd (reads-below given bytes v is (omega arith)))
+    grind (arith, nat_tests, until_one origin given bytes, reads-below given bytes)
 until_from origin (suc room) given bytes e =
     until_one origin given bytes (omega arith) (λ v is.
     ap (file_at origin (given + 1)) (behind_packet given bytes v is)
@@ -229,21 +198,14 @@ file_until origin bytes = until_from origin most_packets 0 bytes refl
 -- A PES packet is a piece.
 pub packet_is_piece : (v : PesValue) (b : List ℕ) → IsPesPacket v b → IsPiece b
 packet_is_piece v b h =
-    let body = body_of v b h in
-    let parts = packet_of_body v b h in
-    let size = h.size.0 in
-    let c = body_complete v b h in
-    grind (arith, nat_tests, length-append, six_of)
+    grind (arith, nat_tests, packet_of_body v b h, body_complete v b h, length-append)
 
 -- The PES packet that was taken, as a piece.
 pub packet_taken : (old new : Option (List ℕ)) (v : PesValue) (field : List ℕ)
     → TakesDataField old new v field
     → TakesOnePiece old new
-packet_taken old new v field t = record {
-  bytes = t.packet.bytes;
-  is_piece = packet_is_piece v t.packet.bytes t.packet.is_packet;
-  consumed = t.packet.consumed;
-}
+packet_taken old new v field t =
+    grind (arith, nat_tests, packet_is_piece v t.packet.bytes t.packet.is_packet)
 
 -- One piece more, for a loop over them.
 each_piece_more : (pieces : List (List ℕ)) (b : List ℕ)

@@ -43,9 +43,7 @@ module _ (g : Task) (u : Option Unread) (done more : Transmission) where
   stood_same : (i f : ℕ) → 0 < length done → i ≤ length done
       → standing_before g all i f ≡ standing_before h done i f
   unfolding standing_before
-  stood_same zero f some l = refl
-  stood_same (suc i) f some l =
-      rw (before_same (suc i) f some l, standing_same (suc i) _ some l) refl
+  stood_same i f h1 h2 = grind (arith, nat_tests, before_same, standing_same)
 
   end_same : (i n f : ℕ) → 0 < length done → i ≤ length done → n ≤ length done
       → events_at_end g all i n f ≡ events_at_end h done i n f
@@ -60,19 +58,16 @@ module _ (g : Task) (u : Option Unread) (done more : Transmission) where
 
   length_same : (i : ℕ) → i < length done → gap_length all i ≡ gap_length done i
   unfolding gap_length
-  length_same zero l = refl
-  length_same (suc i) l = rw (at (suc i) l, latest_same (suc i) (omega arith)) refl
+  length_same i h1 = grind (arith, nat_tests, at, latest_same)
 
   order_same : (i : ℕ) → i < length done → order_events g all i ≡ order_events h done i
   unfolding order_events
-  order_same zero l = rw (at 0 l) refl
-  order_same (suc i) l = rw (at i (omega arith), at (suc i) l) refl
+  order_same i h1 = grind (arith, nat_tests, at)
 
   header_same : (i : ℕ) → i < length done
       → first_header_events g all i ≡ first_header_events h done i
   unfolding first_header_events
-  header_same zero l = rw (packets 0 l, at 0 l) refl
-  header_same (suc i) l = refl
+  header_same i h1 = grind (arith, nat_tests, packets, at)
 
   -- What is told of a frame.
   pub frame_events-prefix : (i : ℕ) → i < length done

@@ -2,7 +2,7 @@
 -- where there is none, nothing is put in: `with_run-none`. What is told of a frame names its PES
 -- packet, and tells nothing of what is trusted: `own_frame`.
 use Rattle.std.proofs.lemmas.Bool.Decides.{nat_tests}
-use Rattle.std.proofs.Common.{◌≡◌, ℕ, zero, suc, List, [], ◌∷◌, ◌++◌, map, Option, Some}
+use Rattle.std.proofs.Common.{◌≡◌, ℕ, zero, suc, List, [], ◌∷◌, ◌++◌, map, Option}
 use Rattle.std.proofs.Common.{None, refl, sym, ap, ap₂, ◌∙◌, append_assoc, arith}
 use Rattle.std.proofs.lemmas.List.{map-append}
 use Rattle.sub_rules.specs.Events.{Standing, closing_events, end_events, endings}
@@ -22,12 +22,10 @@ use Rattle.sub_rules.specs.declared.packet_rule.Watched.{Watched}
 
 -- No run.
 kept-none : (d : Option ℕ) → kept None d ≡ None
-kept-none None = refl
-kept-none (Some f) = refl
+kept-none d = grind (arith, nat_tests)
 
 trusted-none : (d : Option ℕ) → trusted_before None d ≡ []
-trusted-none None = refl
-trusted-none (Some f) = refl
+trusted-none d = grind (arith, nat_tests)
 
 pub with_run-none : (last : ℕ) (es : List Event) → with_run last None es ≡ es
 unfolding with_run
@@ -99,8 +97,7 @@ module _ (g : Task) (frames : Transmission) where
 
   own_order : (i : ℕ) → AreOwn i (order_events g frames i)
   unfolding order_events at_pes
-  own_order zero = grind (arith, nat_tests)
-  own_order (suc i) = grind (arith, nat_tests)
+  own_order i = grind (arith, nat_tests)
 
   own_gap : (pes i n : ℕ) → AreOwn pes (gap_events g frames i n)
   unfolding gap_events
@@ -123,8 +120,7 @@ module _ (g : Task) (frames : Transmission) where
 
   own_header : (pes i : ℕ) → AreOwn pes (first_header_events g frames i)
   unfolding first_header_events at_pes
-  own_header pes zero = grind (arith, nat_tests)
-  own_header pes (suc i) = none_own pes
+  own_header pes i = grind (arith, nat_tests, none_own)
 
   -- What is told of a frame.
   pub own_frame : (i : ℕ) → AreOwn i (frame_events g frames i)

@@ -48,8 +48,7 @@ returns-then-frame-least-clause-exact g c = λ frames unread bytes told reads fi
     c.next_sending.new.reader.frame c.in-Some.sending.frame
     (rw c.in-Some.is at (c.in_ok-next.ensures.exact i.rest i.rest_is refl))
     (takes-more c.packets.index _ _ _ _ c.packets.invariant.taken
-    (c.in_ok-next.ensures.taken c.in-Some.sending
-    (ap (λ x. let r : Result (Option Sending) CheckFault = Ok x in r) c.in-Some.is)))
+    (c.in_ok-next.ensures.taken c.in-Some.sending (cc)))
     c.if-frame-least.true
 
 pub returns-then-frame-listening-clause-exact : goal.returns-then-frame-listening-clause-exact
@@ -61,8 +60,7 @@ returns-then-frame-listening-clause-exact g c = λ frames unread bytes told read
     c.next_sending.new.reader.frame c.in-Some.sending.frame
     (rw c.in-Some.is at (c.in_ok-next.ensures.exact i.rest i.rest_is refl))
     (takes-more c.packets.index _ _ _ _ c.packets.invariant.taken
-    (c.in_ok-next.ensures.taken c.in-Some.sending
-    (ap (λ x. let r : Result (Option Sending) CheckFault = Ok x in r) c.in-Some.is)))
+    (c.in_ok-next.ensures.taken c.in-Some.sending (cc)))
     (omega (arith, rises)) (omega (arith, late))
 
 pub returns-in-Some-first_lost_header-clause-exact :
@@ -77,8 +75,7 @@ returns-in-Some-first_lost_header-clause-exact g c = λ frames unread bytes told
     c.next_sending.new.reader.frame c.in-Some.sending.frame
     (rw c.in-Some.is at (c.in_ok-next.ensures.exact i.rest i.rest_is refl))
     (takes-more c.packets.index _ _ _ _ c.packets.invariant.taken
-    (c.in_ok-next.ensures.taken c.in-Some.sending
-    (ap (λ x. let r : Result (Option Sending) CheckFault = Ok x in r) c.in-Some.is))) packet
+    (c.in_ok-next.ensures.taken c.in-Some.sending (cc))) packet
     (omega (arith, rises)) (omega (arith, in_time))
     (ap (λ (us : List UnitValue). first_lost_header (reception_of l) c.packets.number
     (packets_of_units us))

@@ -1,7 +1,7 @@
 -- With no packet listed as lost; one packet more that is not lost, or may be. By
 -- first_lost_header-none, lost_here and lost_later.
 use Rattle.std.proofs.lemmas.Bool.Decides.{nat_tests}
-use Rattle.std.proofs.Common.{◌≡◌, ◌<◌, ℕ, length, arith, rules, sym, ◌∙◌}
+use Rattle.std.proofs.Common.{◌<◌, ℕ, length, arith, rules, sym, ◌∙◌}
 use Rattle.std.proofs.lemmas.List.{length-map, nil_from_length}
 use Rattle.ttx_pes.specs.DataUnit.{UnitValue}
 use Rattle.sub_rules.specs.PacketRules.{packets_of_units}
@@ -18,8 +18,7 @@ returns-then-is_lost_header c =
     let units = c.args.units.now in
     let k : ℕ = c.loop-k.k in
     let l : k < length units = search rules in
-    let long : length (packets_of_units units) ≡ length units =
-    length-map units (λ (u : UnitValue). u.packet) in
+    let long = length-map units (λ (u : UnitValue). u.packet) in
     lost_here (reception_of c.args.listening.now) c.args.number (packets_of_units units) k
     c.packet.result (omega (arith, l, long)) c.packet.ensures c.loop-k.invariant
     (sym c.is_lost_header.ensures ∙ c.if-is_lost_header.true)
@@ -29,8 +28,7 @@ loop-k-preserved c =
     let units = c.args.units.now in
     let k : ℕ = c.loop-k.k in
     let l : k < length units = search rules in
-    let long : length (packets_of_units units) ≡ length units =
-    length-map units (λ (u : UnitValue). u.packet) in
+    let long = length-map units (λ (u : UnitValue). u.packet) in
     lost_later (reception_of c.args.listening.now) c.args.number (packets_of_units units) k
     c.packet.result (omega (arith, l, long)) c.packet.ensures c.loop-k.invariant
     (sym c.is_lost_header.ensures ∙ c.if-is_lost_header.false)

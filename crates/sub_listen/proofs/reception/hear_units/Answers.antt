@@ -1,12 +1,12 @@
 -- One packet on: next_packet.
-use Rattle.std.proofs.Common.{◌≡◌, ◌+◌, ◌<◌, ℕ, ◌∷◌, List, drop, filter, length, arith, rules}
+use Rattle.std.proofs.Common.{◌≡◌, ◌+◌, ◌<◌, ℕ, ◌∷◌, List, drop, length, arith, rules}
 use Rattle.std.proofs.Common.{subst, ◌∙◌}
 use Rattle.std.proofs.lemmas.List.{length-map}
 use Rattle.ttx_packet.specs.PageId.{PageIdValue}
 use Rattle.ttx_page.specs.Screen.{display}
 use Rattle.ttx_pes.specs.DataUnit.{UnitValue}
 use Rattle.sub_rules.specs.PacketRules.{packets_of_units}
-use Rattle.sub_listen.specs.Reception.{RunsThrough, as_heard, is_taken}
+use Rattle.sub_listen.specs.Reception.{RunsThrough, as_heard}
 use Rattle.sub_listen.proofs.PassedLemmas.{next_packet}
 use Rattle.sub_listen.proofs.reception.hear_units.Goals as goal
 

@@ -6,7 +6,7 @@ use Rattle.ttx_packet.specs.PageId.{PageIdValue}
 use Rattle.ttx_page.specs.Screen.{display}
 use Rattle.ttx_pes.specs.DataUnit.{UnitValue}
 use Rattle.sub_rules.specs.PacketRules.{packets_of_units}
-use Rattle.sub_listen.specs.Reception.{RunsThrough, as_heard, is_taken}
+use Rattle.sub_listen.specs.Reception.{RunsThrough, is_taken}
 use Rattle.sub_listen.proofs.PassedLemmas.{next_packet, run_through}
 use Rattle.sub_listen.proofs.reception.hear_untouched.Goals as goal
 

@@ -1,5 +1,5 @@
 -- A packet more that is passed.
-use Rattle.std.proofs.Common.{◌≡◌, ℕ, inl, inr, arith}
+use Rattle.std.proofs.Common.{◌≡◌, inl, inr, arith}
 use Rattle.std.proofs.lemmas.Bool.{cases_lt}
 use Rattle.sub_listen.proofs.reception.next_heard.Goals as goal
 
