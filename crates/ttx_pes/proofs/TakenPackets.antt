@@ -1,10 +1,10 @@
--- PES packets that are taken one after the other, for loops over a reader: takes-none, takes-more.
+-- PES packets that are taken one after the other, for loops over a reader: takes-more.
 use Rattle.std.proofs.Common.{◌≡◌, ℕ, ◌+◌, List, [], ◌∷◌, ◌++◌, Option, arith, length-append}
 use Rattle.std.proofs.lemmas.Bool.Decides.{nat_tests}
 use Rattle.std.proofs.lemmas.List.{append-nil}
 use Rattle.std.proofs.lemmas.List.Folds.{concat-append}
 use Rattle.std.specs.List.{AllByRecursion, concat}
-use Rattle.std.proofs.KnownBytes.{Consumes-nil, Consumes-trans}
+use Rattle.std.proofs.KnownBytes.{Consumes-trans}
 use Rattle.ttx_pes.specs.PesPacket.{PesValue, IsPesPacket}
 use Rattle.ttx_pes.specs.Reader.{TakesPackets, TakesPesPacket}
 
@@ -15,10 +15,6 @@ each-more : (packets : List (List ℕ)) (b : List ℕ)
     → AllByRecursion (λ x. (v : PesValue) × IsPesPacket v x) (packets ++ b ∷ [])
 each-more [] b h p = (p, tt)
 each-more (x ∷ packets) b h p = (h.0, each-more packets b h.1 p)
-
--- At first none was taken.
-pub takes-none : (old : Option (List ℕ)) → TakesPackets 0 old old
-takes-none old = grind (arith, nat_tests, Consumes-nil)
 
 -- One more was.
 pub takes-more : (n : ℕ) (old mid new : Option (List ℕ)) (v : PesValue)
