@@ -1,9 +1,8 @@
 -- What the device of `check` kept decides its answer: `nothing_kept`, `fault_kept`, `read_failed`,
 -- `fails_at_packet`.
 use Rattle.std.proofs.lemmas.Bool.Decides.{nat_tests}
-use Rattle.std.proofs.Common.{◌≡◌, ℕ, zero, suc, List, Option, Some, None}
-use Rattle.std.proofs.Common.{Result, Ok, Err, true, false, is_some}
-use Rattle.std.proofs.Common.{refl, sym, ◌∙◌, subst, arith, length, take, replicate}
+use Rattle.std.proofs.Common.{◌≡◌, ℕ, zero, suc, List, Option, Some, None, Result, Ok, Err, true}
+use Rattle.std.proofs.Common.{false, is_some, refl, sym, ◌∙◌, subst, arith, length, take, replicate}
 use Rattle.std.proofs.lemmas.List.{length-replicate}
 use Rattle.std.proofs.lemmas.Bool.{true≢false}
 use Rattle.std.specs.List.{AllByRecursion}
@@ -15,8 +14,7 @@ use Rattle.ttx_pes.specs.PesPacket.{empty_value}
 use Rattle.ttx_pes.specs.Reader.{FailsAtPacket}
 use Rattle.ttx_pes.proofs.PesPacketLemmas.{canonical_is_packet}
 use Rattle.sub_plan.specs.Options.{OptionsValue, IsOptions}
-use Rattle.sub_check.specs.CheckedFiles.{IsChecked}
-use Rattle.sub_check.specs.CheckedFiles.{all_events_of, answer_by}
+use Rattle.sub_check.specs.CheckedFiles.{IsChecked, all_events_of, answer_by}
 use Rattle.sub_check.specs.CheckedFiles.{events_of_first_pieces}
 use Rattle.sub_check.specs.FirstTold.{KeepsFirstFault, is_of_rule}
 use Rattle.sub_checker.specs.PieceTelling.{TellsPieces}
@@ -26,8 +24,7 @@ use Rattle.sub_rules.specs.PesReading.{pes_file_of}
 use Rattle.sub_rules.specs.Pieces.{FailsAtPiece, Piece, ReadsPieces, frames_of, piece_file_of}
 use Rattle.sub_checker.specs.declared.telling.Accepted.{Accepted}
 use Rattle.sub_rules.specs.declared.fault.CheckFault.{CheckFault}
-use Rattle.sub_check.proofs.FirstToldLemmas.{first_named, frames_named, kept_is}
-use Rattle.sub_check.proofs.FirstToldLemmas.{none_told, of_rule}
+use Rattle.sub_check.proofs.FirstToldLemmas.{first_named, frames_named, kept_is, none_told, of_rule}
 use Rattle.sub_check.proofs.ReadOnLemmas.{AreSent, are_sent, first_of_front, first_of_pieces}
 use Rattle.sub_check.proofs.ReadOnLemmas.{first_of_taken}
 use Rattle.sub_rules.specs.Fault.{is_pes_read}

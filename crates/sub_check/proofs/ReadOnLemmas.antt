@@ -2,21 +2,17 @@
 -- lemmas: `read_whole`, `first_of_pieces`, `are_sent`.
 use Rattle.std.proofs.lemmas.Bool.Decides.{nat_tests}
 use Rattle.std.proofs.lemmas.Bool.{ltb-true}
-use Rattle.std.proofs.Common.{◌≡◌, ℕ, zero, suc, ◌+◌, ◌<◌, Bool, true, false}
-use Rattle.std.proofs.Common.{nat_lt}
-use Rattle.std.proofs.Common.{◌≤◌, List, [], ◌∷◌, ◌++◌, length, map, take, drop, Option, Some, None}
-use Rattle.std.proofs.Common.{refl, sym, ap, ◌∙◌, subst, arith, length-append}
+use Rattle.std.proofs.Common.{◌≡◌, ℕ, zero, suc, ◌+◌, ◌<◌, Bool, true, false, nat_lt, ◌≤◌, List, []}
+use Rattle.std.proofs.Common.{◌∷◌, ◌++◌, length, map, take, drop, Option, Some, None, refl, sym, ap}
+use Rattle.std.proofs.Common.{◌∙◌, subst, arith, length-append}
 use Rattle.std.proofs.lemmas.List.{length-take-le, take-append-drop}
 use Rattle.stl_rows.specs.Programme.{ProgrammeValue}
 use Rattle.sub_plan.specs.Options.{OptionsValue}
-use Rattle.sub_rules.specs.Events.{events, events_of_first, first_told}
-use Rattle.sub_rules.specs.Events.{frame_events, unread_fault}
+use Rattle.sub_rules.specs.Events.{events, events_of_first, first_told, frame_events, unread_fault}
 use Rattle.sub_rules.specs.FrameRules.{Task, Unread, task_of}
 use Rattle.sub_rules.specs.PesReading.{PesFileValue, ReadsAs, pes_file_of}
-use Rattle.sub_rules.specs.PieceEvents.{at_pes}
-use Rattle.sub_rules.specs.PieceEvents.{events_of_pieces}
-use Rattle.sub_rules.specs.PieceEvents.{run_at, told_of_each, told_of_frame}
-use Rattle.sub_rules.specs.PieceEvents.{told_of_passed}
+use Rattle.sub_rules.specs.PieceEvents.{at_pes, events_of_pieces, run_at, told_of_each}
+use Rattle.sub_rules.specs.PieceEvents.{told_of_frame, told_of_passed}
 use Rattle.sub_rules.specs.Pieces.{Piece, frames_of, piece_file_of, read_until_passed}
 use Rattle.sub_rules.specs.Pieces.Piece.{Passed, Sent}
 use Rattle.sub_rules.specs.Transmission.{Transmission}

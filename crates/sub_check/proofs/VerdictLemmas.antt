@@ -18,9 +18,8 @@ use Rattle.stl_rows.specs.declared.national.National.{National}
 use Rattle.ttx_pes.specs.PesPacket.{IsPesPacket}
 use Rattle.sub_plan.specs.Options.{OptionsValue, IsOptions}
 use Rattle.sub_plan.specs.Schedule.{plan}
-use Rattle.sub_check.specs.CheckedFiles.{AreAccepted, IsChecked, Mean, HasCounts}
-use Rattle.sub_check.specs.CheckedFiles.{TellsEvents, all_events_of, answer_by, events_of}
-use Rattle.sub_check.specs.CheckedFiles.{first_answer}
+use Rattle.sub_check.specs.CheckedFiles.{AreAccepted, IsChecked, Mean, HasCounts, TellsEvents}
+use Rattle.sub_check.specs.CheckedFiles.{all_events_of, answer_by, events_of, first_answer}
 use Rattle.sub_check.specs.FirstTold.{IsRuleFault}
 use Rattle.sub_checker.specs.PieceTelling.{IsReadOn, TellsPieces}
 use Rattle.sub_checker.specs.Telling.{IsRead}
@@ -37,11 +36,8 @@ use Rattle.sub_rules.specs.Transmission.{Transmission}
 use Rattle.sub_checker.specs.declared.telling.Accepted.{Accepted}
 use Rattle.sub_rules.specs.declared.event.Event.{Event}
 use Rattle.sub_rules.specs.declared.fault.CheckFault.{CheckFault}
-use Rattle.sub_check.proofs.FirstToldLemmas.{first_decides}
-use Rattle.sub_check.proofs.FirstToldLemmas.{no_read, packets_whole}
-use Rattle.sub_check.proofs.FirstToldLemmas.{wrong_of_first}
-use Rattle.sub_check.proofs.ReadOnLemmas.{first_of_pieces}
-use Rattle.sub_check.proofs.ReadOnLemmas.{read_whole}
+use Rattle.sub_check.proofs.FirstToldLemmas.{first_decides, no_read, packets_whole, wrong_of_first}
+use Rattle.sub_check.proofs.ReadOnLemmas.{first_of_pieces, read_whole}
 use Rattle.sub_laws.proofs.EventLemmas.{law_of_nothing_told}
 use Rattle.sub_laws.proofs.GoodLemmas.{rises_each, whole-is}
 use Rattle.sub_laws.proofs.PrefixLemmas.{first-same, last-same}

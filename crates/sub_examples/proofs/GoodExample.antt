@@ -10,11 +10,10 @@ use Rattle.ttx_packet.specs.Parity.{is_odd}
 use Rattle.ttx_page.specs.Page.{blank, blank_row}
 use Rattle.sub_rules.specs.PacketTests.{are_code_words, is_word_below}
 use Rattle.sub_rules.specs.PacketTests.{breaks, broken_rules, packet_rules}
-use Rattle.sub_rules.specs.Events.{events, events_of_first, frame_events, order_events}
-use Rattle.sub_rules.specs.Events.{gap_events, gap_length, packet_events, rules_told}
-use Rattle.sub_rules.specs.Events.{first_header_events, standing_at, standing_before, end_events}
-use Rattle.sub_rules.specs.Events.{wrong_after, first_cell, is_gap, is_incomplete, latest}
-use Rattle.sub_rules.specs.Events.{closing_events}
+use Rattle.sub_rules.specs.Events.{events, events_of_first, frame_events, order_events, gap_events}
+use Rattle.sub_rules.specs.Events.{gap_length, packet_events, rules_told, first_header_events}
+use Rattle.sub_rules.specs.Events.{standing_at, standing_before, end_events, wrong_after}
+use Rattle.sub_rules.specs.Events.{first_cell, is_gap, is_incomplete, latest, closing_events}
 use Rattle.ttx_packet.specs.RowPacket.{first_even_byte}
 use Rattle.ttx_page.specs.PacketKind.{kind}
 use Rattle.stl_rows.specs.DrawnPage.{drawn, page_of_lines, line_fault_kinds}

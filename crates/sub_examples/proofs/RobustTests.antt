@@ -4,12 +4,10 @@ use Rattle.std.proofs.lemmas.Bool.Decides.{nat_tests, Decides-and, Decides-eqb, 
 use Rattle.std.proofs.lemmas.Bool.Decides.{Decides-ltb}
 use Rattle.std.proofs.lemmas.List.Kept.{AllPairs-cons}
 use Rattle.std.specs.List.{list_all}
-use Rattle.std.proofs.Common.{◌≡◌, ◌⊎◌, ℕ, suc, ◌+◌, ◌-◌, ◌≤◌, inl, inr, ◌==◌, Bool}
-use Rattle.std.proofs.Common.{true, not, None, IsFalse}
-use Rattle.std.proofs.Common.{◌&&◌, ◌||◌, nat_le, nat_lt, List, [], ◌++◌, length, take, refl, sym}
-use Rattle.std.proofs.Common.{ap, ◌∙◌, arith, eqb-true}
-use Rattle.std.proofs.Common.{slice_index_or}
-use Rattle.std.proofs.Common.{false, replicate, subst, zero, ◌∷◌, ◌<◌, find, option_map, unwrap_or}
+use Rattle.std.proofs.Common.{◌≡◌, ◌⊎◌, ℕ, suc, ◌+◌, ◌-◌, ◌≤◌, inl, inr, ◌==◌, Bool, true, not}
+use Rattle.std.proofs.Common.{None, IsFalse, ◌&&◌, ◌||◌, nat_le, nat_lt, List, [], ◌++◌, length}
+use Rattle.std.proofs.Common.{take, refl, sym, ap, ◌∙◌, arith, eqb-true, slice_index_or, false}
+use Rattle.std.proofs.Common.{replicate, subst, zero, ◌∷◌, ◌<◌, find, option_map, unwrap_or}
 use Rattle.std.proofs.Common.{slice_index, Option}
 use Rattle.std.proofs.lemmas.Bool.{and_parts, or_cases, leb-true}
 use Rattle.std.specs.Bool.{Decides}
@@ -41,8 +39,7 @@ use Rattle.sub_rules.specs.declared.packet_rule.PacketRule.TheVariants as rule
 use Rattle.sub_laws.proofs.StandingLemmas.{gap_decided}
 use Rattle.sub_laws.proofs.StretchLemmas.{robust_of_recovers}
 use Rattle.sub_rules.proofs.TestLemmas.{all_below, at_most, below, each_below, each_of, fails}
-use Rattle.sub_rules.proofs.TestLemmas.{holds, implied}
-use Rattle.sub_rules.proofs.TestLemmas.{same_bit}
+use Rattle.sub_rules.proofs.TestLemmas.{holds, implied, same_bit}
 use Rattle.sub_laws.proofs.UntoldLemmas.{packets_kept, rows_kept}
 
 -- It has heard nothing, and holds a page of question marks.

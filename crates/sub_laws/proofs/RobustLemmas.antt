@@ -1,8 +1,7 @@
 -- A good transmission has what suffices, `suffices`, and so all that is promised of it: the laws of
 -- the headline.
-use Rattle.std.proofs.Common.{arith}
+use Rattle.std.proofs.Common.{arith, ℕ, ◌+◌, List, length, subst, le_refl}
 use Rattle.std.proofs.lemmas.Bool.Decides.{nat_tests}
-use Rattle.std.proofs.Common.{ℕ, ◌+◌, List, length, subst, le_refl}
 use Rattle.std.proofs.lemmas.List.{take_all}
 use Rattle.ttx_packet.specs.PageHeader.{HasExactWords}
 use Rattle.ttx_page.specs.Noise.{ErasesPage}

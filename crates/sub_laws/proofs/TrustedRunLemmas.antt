@@ -1,8 +1,7 @@
 -- What a run of quiet frames holds, `Run`; and it does so after the next frame, `run_next`.
 use Rattle.std.proofs.lemmas.Bool.Decides.{nat_tests}
-use Rattle.std.proofs.Common.{◌≡◌, ℕ, zero, suc, ◌+◌, ◌-◌, ◌<◌, ◌≤◌, ◌⊎◌, inl, inr, true}
-use Rattle.std.proofs.Common.{false, List, length, Option, Some, None, refl, sym, ap, ◌∙◌, subst}
-use Rattle.std.proofs.Common.{arith}
+use Rattle.std.proofs.Common.{◌≡◌, ℕ, zero, suc, ◌+◌, ◌-◌, ◌<◌, ◌≤◌, ◌⊎◌, inl, inr, true, false}
+use Rattle.std.proofs.Common.{List, length, Option, Some, None, refl, sym, ap, ◌∙◌, subst, arith}
 use Rattle.std.specs.List.{list_any}
 use Rattle.std.proofs.lemmas.Bool.{cases_lt}
 use Rattle.ttx_page.specs.PacketKind.{kind}
@@ -13,8 +12,7 @@ use Rattle.sub_rules.specs.FrameRules.{HasHeader, Task, frame_at, packets_of_fra
 use Rattle.sub_rules.specs.PacketTests.{breaks}
 use Rattle.sub_rules.specs.PieceEvents.{run_at}
 use Rattle.sub_rules.specs.Transmission.{Transmission}
-use Rattle.sub_rules.specs.Trusted.{frame_before, is_order, is_quiet, own_events}
-use Rattle.sub_rules.specs.Trusted.{stands_none}
+use Rattle.sub_rules.specs.Trusted.{frame_before, is_order, is_quiet, own_events, stands_none}
 use Rattle.sub_rules.specs.declared.event.Event.{Event}
 use Rattle.sub_rules.specs.declared.packet_rule.PacketRule.{PacketRule}
 use Rattle.sub_rules.proofs.EndLemmas.{gap_length-is}

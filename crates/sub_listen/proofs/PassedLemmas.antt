@@ -1,10 +1,8 @@
 -- Packets that are passed leave a receiver as it is, `passed_packet`, `passed_header`, and what is
 -- run through then, `run_passed`, `run_through`. The packets that are left, one on: `next_packet`.
 use Rattle.std.proofs.Common.{◌≡◌, ◌≢◌, ℕ, ◌+◌, ◌-◌, ◌<◌, ◌≤◌, ◌&&◌, ◌==◌, Bool, true, false, cond}
-use Rattle.std.proofs.Common.{filter, inl, inr, not, List, subst, suc, zero}
-use Rattle.std.proofs.Common.{◌∷◌, [], Option, Some, None, option_map, length, get_or, drop, refl}
-use Rattle.std.proofs.Common.{sym}
-use Rattle.std.proofs.Common.{ap, ◌∙◌, arith}
+use Rattle.std.proofs.Common.{filter, inl, inr, not, List, subst, suc, zero, ◌∷◌, [], Option, Some}
+use Rattle.std.proofs.Common.{None, option_map, length, get_or, drop, refl, sym, ap, ◌∙◌, arith}
 use Rattle.std.proofs.lemmas.Bool.Decides.{nat_tests}
 use Rattle.std.proofs.lemmas.Bool.{cases_lt}
 use Rattle.std.proofs.lemmas.List.{drop_more}

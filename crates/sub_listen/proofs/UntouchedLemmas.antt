@@ -1,9 +1,8 @@
 -- What is received of packets that are untouched, and what becomes of a receiver that heard them
 -- before: `heard_now`, `heard_again`.
 use Rattle.std.proofs.lemmas.Bool.Decides.{nat_tests}
-use Rattle.std.proofs.Common.{◌≡◌, ◌∙◌, ap, refl, sym, arith, ℕ, ◌+◌, ◌<◌, ◌≤◌, true, false}
-use Rattle.std.proofs.Common.{◌&&◌, not, ◌==◌, nat_le, List, [], ◌∷◌, length, filter}
-use Rattle.std.proofs.Common.{subst}
+use Rattle.std.proofs.Common.{◌≡◌, ◌∙◌, ap, refl, sym, arith, ℕ, ◌+◌, ◌<◌, ◌≤◌, true, false, ◌&&◌}
+use Rattle.std.proofs.Common.{not, ◌==◌, nat_le, List, [], ◌∷◌, length, filter, subst}
 use Rattle.std.specs.List.{list_any}
 use Rattle.std.proofs.lemmas.Bool.{and_from, and_parts, cond-false, cond-true, le-leb}
 use Rattle.std.proofs.lemmas.Bool.{leb-true, lt-ltb, not-true, or_parts}

@@ -1,7 +1,6 @@
 -- A sending that is untouched and sent again leaves the receiver as it is: by UntouchedLemmas.
 use Rattle.std.proofs.lemmas.Bool.Decides.{nat_tests}
-use Rattle.std.proofs.Common.{arith}
-use Rattle.std.proofs.Common.{◌∙◌, ℕ, List, subst, sym}
+use Rattle.std.proofs.Common.{arith, ◌∙◌, ℕ, List, subst, sym}
 use Rattle.std.proofs.lemmas.List.{length-map}
 use Rattle.ttx_page.specs.Screen.{display}
 use Rattle.ttx_pes.specs.DataUnit.{UnitValue}

@@ -1,6 +1,5 @@
 -- One packet on: next_packet.
-use Rattle.std.proofs.Common.{◌≡◌, ◌+◌, ◌<◌, ℕ, ◌∷◌, List, drop, length, arith, rules}
-use Rattle.std.proofs.Common.{subst, ◌∙◌}
+use Rattle.std.proofs.Common.{◌≡◌, ◌+◌, ◌<◌, ℕ, ◌∷◌, List, drop, length, arith, rules, subst, ◌∙◌}
 use Rattle.std.proofs.lemmas.List.{length-map}
 use Rattle.ttx_packet.specs.PageId.{PageIdValue}
 use Rattle.ttx_page.specs.Screen.{display}
