@@ -2,12 +2,11 @@
 -- `follows_again`, `calm_again`; and what is kept beside: `judges_again`, `told_again`.
 use Rattle.std.proofs.lemmas.Bool.Decides.{nat_tests}
 use Rattle.std.proofs.Common.{◌≡◌, ℕ, zero, suc, ◌+◌, ◌-◌, ◌<◌, Bool, true, false, ◌||◌, not}
-use Rattle.std.proofs.Common.{None, ◌&&◌, nat_le, nat_lt}
+use Rattle.std.proofs.Common.{None, nat_le, nat_lt}
 use Rattle.std.proofs.Common.{List, [], ◌++◌, length, Option, Some, refl, sym, ap, ◌∙◌, subst, arith}
 use Rattle.std.proofs.Common.{Result, Ok, Err}
 use Rattle.std.proofs.lemmas.Bool.{true≢false}
 use Rattle.std.specs.Prelude.{is_err}
-use Rattle.sub_io.specs.Telling.{Tells}
 use Rattle.sub_io.proofs.TellingLemmas.{Tells-none}
 use Rattle.sub_rules.proofs.EndLemmas.{gap_length-is}
 use Rattle.sub_rules.specs.Events.{end_events, events_at_end, first_header_events}
