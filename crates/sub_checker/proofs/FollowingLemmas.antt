@@ -264,8 +264,8 @@ module _ (g : Task) (frames : Transmission) (n : ℕ) (c : CheckerValue)
     pub joined : packets_before frames n ++ ps ≡ packets_before frames (n + 1)
     joined = grind (arith, joined_more frames n there)
 
-    -- The headers among them.
-    has_header : holds_header (kind g.watched.page) ps ≡ nat_lt 0 headers
+    -- The headers among them. For `calm_again`, too.
+    pub has_header : holds_header (kind g.watched.page) ps ≡ nat_lt 0 headers
     has_header =
         let watched = ap (λ (t : Task). t.watched) arrives.waits.known.task_is in
         grind (arith, holds-count)

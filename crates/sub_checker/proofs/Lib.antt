@@ -1,3 +1,4 @@
+pub mod AgainLemmas
 pub mod AnnouncingLemmas
 pub mod EdgeLemmas
 pub mod FollowingLemmas

@@ -62,6 +62,15 @@ is_before frame (Some edge) = nat_lt frame edge
 abbrev pub later_by : Bool → ℕ → ℕ → ℕ → ℕ
 later_by found frame every before = if found then max before (frame + every + 1) else before
 
+-- The checker after a sending at frame f, with so many headers of the page, at whose end stands what
+-- stood before.
+abbrev pub after_again : ℕ → ℕ → CheckerValue → CheckerValue
+after_again f headers c = record (at_next f c) {
+  headers = c.headers + headers;
+  late_at = later_by (nat_lt 0 headers) f c.every c.late_at;
+  last = f;
+}
+
 -- What stands broken, where these packets were heard.
 abbrev pub stands : List (List ℕ) → CheckerValue → StandingRules
 stands heard c = record {
@@ -74,6 +83,20 @@ stands heard c = record {
 -- The checker after the end of its frame.
 abbrev pub after_end : List (List ℕ) → CheckerValue → CheckerValue
 after_end heard c = record c { standing = stands heard c; last = c.frame }
+
+-- What few comparisons tell after so many PES packets, and these packets: frame f is the one after
+-- the latest, `headers` is not 0, nothing stands broken, and no other page is due at frame f.
+pub record IsCalmAt (heard : List (List ℕ)) (pes f headers : ℕ) (c : CheckerValue) : Type 0 where
+  pub some : 0 < pes
+  pub next : f ≡ c.latest + 1
+  pub after : c.last < f
+  pub sent : 0 < headers
+  pub every : 0 < c.every
+  pub stood : c.standing ≡ none_stands
+  pub right : wrong_after c.listener.watched.page heard c.listener.comparison.due ≡ None
+  pub closed :
+      (c.listener.watched.complete && is_open_after (kind c.listener.watched.page) heard) ≡ false
+  pub due : c.listener.comparison.due ≡ due_in c.programme f
 
 -- The page that is kept as due and the next edge are those of the frame, and the numbers are such
 -- that none is too large.

@@ -1,11 +1,14 @@
 -- The parts of the check of one frame of the list, and what is kept after the first n frames.
 -- Private functions alone cite this.
-use Rattle.std.specs.Prelude.{◌≡◌, ℕ, suc, ◌+◌, ◌-◌, ◌<◌, List, ◌++◌, length, nat_le}
+use Rattle.std.specs.Prelude.{◌≡◌, ℕ, suc, ◌+◌, ◌-◌, ◌<◌, List, [], ◌++◌, length, nat_le, true}
+use Rattle.ttx_page.specs.PacketKind.{kind}
+use Rattle.ttx_page.specs.Span.{holds_header}
 use Rattle.sub_rules.specs.Transmission.{Transmission}
 use Rattle.sub_checker.specs.Checker.{CheckerValue, as_standing}
-use Rattle.sub_rules.specs.Events.{end_before, events_at_end, first_header_events, gap_events}
-use Rattle.sub_rules.specs.Events.{gap_length, is_gap, latest, nothing_stands, order_events}
-use Rattle.sub_rules.specs.Events.{packet_events, standing_at, standing_before}
+use Rattle.sub_rules.specs.Events.{end_before, events_at_end, first_header_events, frame_events}
+use Rattle.sub_rules.specs.Events.{gap_events, gap_length, is_gap, latest, nothing_stands}
+use Rattle.sub_rules.specs.Events.{order_events, packet_events, standing_at, standing_before}
+use Rattle.sub_rules.specs.Trusted.{own_events, stands_none}
 use Rattle.sub_rules.specs.declared.event.Event.{Event}
 use Rattle.sub_packets.specs.Listener.{KnowsLast}
 use Rattle.sub_rules.specs.FrameRules.{Task, frame_at, packets_of_frame, packets_before, task_with}
@@ -54,6 +57,14 @@ pub record Arrives (g : Task) (frames : Transmission) (n : ℕ) (c : CheckerValu
 abbrev pub arriving_events : Task → Transmission → ℕ → List Event
 arriving_events g frames i =
     order_events g frames i ++ gap_events g frames i (gap_length frames i)
+
+-- Nothing is told of frame i of the list, it has a header of the page, and nothing stands broken at
+-- its end.
+pub record IsCalm (g : Task) (frames : Transmission) (i : ℕ) : Type 0 where
+  pub none : frame_events g frames i ≡ []
+  pub own : own_events g frames i ≡ []
+  pub header : holds_header (kind g.watched.page) (packets_of_frame frames i) ≡ true
+  pub stands : stands_none (standing_at g frames (suc i) (frame_at frames i)) ≡ true
 
 -- What is told of frame i of the list after its packets.
 abbrev pub ending_events : Task → Transmission → ℕ → List Event

@@ -79,7 +79,8 @@ impl<'a> Model for Checker<'a> {
 impl<'a> Checker<'a> {
     ghost use Rattle.sub_checker.specs.Checker.{after_end, as_standing, at_first, at_frame};
     ghost use Rattle.sub_checker.specs.Checker.{at_next, none_stands, stands};
-    ghost use Rattle.sub_checker.specs.Following.{Arrives, Follows, Waits, arriving_events};
+    ghost use Rattle.sub_checker.specs.Checker.{IsCalmAt, after_again};
+    ghost use Rattle.sub_checker.specs.Following.{Arrives, Follows, IsCalm, Waits, arriving_events};
     ghost use Rattle.sub_checker.specs.Following.{ending_events, taking_events, Remembers};
     ghost use Rattle.sub_rules.specs.Sendings.{IsSentFrame};
     ghost use Rattle.sub_packets.specs.Listener.{Knows, KnowsLast};
@@ -369,6 +370,76 @@ impl<'a> Checker<'a> {
         let fault = CheckFault::NoFirstHeader { frame };
         tell_if(lacks_header(pes, headers), Event::Told(fault), audience)?;
         self.end_of_frame(audience)
+    }
+
+    // The due page stays as it is up to this frame.
+    #[inline(always)]
+    fn stays_due(&self, f: u32) -> bool
+        ensures { IsTrue result
+            → self.now.listener.comparison.due ≡ due_in self.now.programme f }
+    {
+        self.frame <= f && is_before(f, self.edge)
+    }
+
+    // Whether it is known by a few comparisons that nothing stands broken at the end of the frame
+    // after the latest one, at this frame, where its packets are those of the PES packet before, of
+    // which so many are headers of the page.
+    #[inline(always)]
+    fn is_calm(&self, pes: u32, frame: u32, headers: u8) -> bool
+        ensures { (heard : List (List ℕ)) → Knows heard self.now.listener → IsTrue result
+            → IsCalmAt heard pes frame headers self.now }
+    {
+        pes > 0
+            && frame == self.latest + 1
+            && self.last < frame
+            && headers > 0
+            && self.every > 0
+            && self.standing.has_none()
+            && self.listener.is_known_right()
+            && !self.listener.is_incomplete()
+            && self.stays_due(frame)
+    }
+
+    // Takes a sending at a frame, with so many headers of the page: what stands broken stays.
+    #[inline(always)]
+    fn pass_again(&mut self, frame: u32, headers: u8)
+        requires room { self.old.headers < 0xFFFF_FFFF_FF00 }
+        requires day { frame < day }
+        ensures { self.new ≡ after_again frame headers self.old }
+    {
+        self.arrive(frame);
+        self.count(headers);
+        self.last = frame;
+    }
+
+    /// Takes a PES packet with the packets of the one before, if it is known by a few comparisons
+    /// that nothing is told of it. If not, nothing is done.
+    ///
+    /// So it is most often: an inserter sends its page again at each frame.
+    #[inline(always)]
+    pub fn take_again(&mut self, pes: u32, sending: Sending) -> bool
+        requires room { self.old.headers ≤ 255 * pes }
+        requires day { sending.frame < day }
+        ensures other { result ≡ false → self.new ≡ self.old }
+        ensures again { IsTrue result → sending.again ≡ true }
+        ensures headers { self.new.headers ≤ 255 * (pes + 1) }
+        ensures taken { IsTrue result → (g : Task) (frames : Transmission)
+            → Follows g frames pes self.old
+            → pes < length frames → frame_at frames pes ≡ sending.frame
+            → packets_of_frame frames (pes - 1) ≡ packets_of_frame frames pes
+            → Follows g frames (pes + 1) self.new × IsCalm g frames pes }
+    {
+        if !sending.again {
+            return false;
+        }
+        let Some(headers) = self.listener.headers_again() else {
+            return false;
+        };
+        if !self.is_calm(pes, sending.frame, headers) {
+            return false;
+        }
+        self.pass_again(sending.frame, headers);
+        true
     }
 
     /// A PES packet: its number, what is sent, and its units; and which frames are trusted where it

@@ -159,7 +159,10 @@ impl Kept {
     }
 }
 
-// Tells what is told of a piece that is sent as the next of the frames.
+// Tells what is told of a piece that is sent as the next of the frames. Most often it is what was
+// sent before, and nothing is told of it.
+#[inline(always)]
+#[tactic(auto, using(sub_io::proofs::TellingLemmas::some))]
 fn tell_sent<A: Audience<Event>>(
     checker: &mut Checker<'_>,
     pes: u32,
@@ -191,12 +194,53 @@ fn tell_sent<A: Audience<Event>>(
         × JudgesWith g list (kept.old.frames + 1) (run_at g list kept.old.frames run)
         (told || not (tells_none (frame_events g list kept.old.frames))) kept.new.trust) }
 {
+    let sending = after_piece(kept.passed, sending);
+    if checker.take_again(kept.frames, sending) {
+        kept.trust.arrive();
+        kept.trust.end_frame(sending.frame, true, true);
+        kept.frames += 1;
+        return Ok(());
+    }
+    tell_other(checker, pes, sending, units, kept, audience)
+}
+
+// Tells what is told of any such piece, to a device that announces it.
+#[inline(never)]
+fn tell_other<A: Audience<Event>>(
+    checker: &mut Checker<'_>,
+    pes: u32,
+    sending: Sending,
+    units: &SentUnits<'_>,
+    kept: &mut Kept,
+    audience: &mut A,
+) -> Result<(), Stopped>
+    requires goes_on { A.has_stopped audience.old ≡ false }
+    requires few { length units.now ≤ most_units }
+    requires fewer { kept.old.frames ≤ most_packets }
+    requires room { checker.old.headers ≤ 255 * kept.old.frames }
+    requires day { sending.frame < day }
+    ensures stopped { A.has_stopped audience.new ≡ is_err result }
+    ensures some { TellsSome A.is_told audience.old audience.new }
+    ensures frames { kept.new.frames ≡ kept.old.frames + 1 }
+    ensures headers { OnOk result (checker.new.headers ≤ 255 * (kept.old.frames + 1)) }
+    ensures day { OnOk result (kept.new.trust.last < day) }
+    ensures told { (g : Task) (list : Transmission) (run : Option ℕ) (told : Bool)
+        → Follows g list kept.old.frames checker.old
+        → JudgesWith g list kept.old.frames run told kept.old.trust
+        → IsSentFrame list kept.old.frames sending.frame (packets_of_units units.now)
+        → (sending.again ≡ true
+        → packets_of_frame list (kept.old.frames - 1) ≡ packets_of_units units.now)
+        → IsToldOf A.is_told audience.old audience.new pes (as_run kept.old.run)
+        (told_of_frame g list kept.old.frames run) result (as_run kept.new.run)
+        × OnOk result (Follows g list (kept.old.frames + 1) checker.new
+        × JudgesWith g list (kept.old.frames + 1) (run_at g list kept.old.frames run)
+        (told || not (tells_none (frame_events g list kept.old.frames))) kept.new.trust) }
+{
     let mut announcing = Announcing {
         audience,
         pes,
         run: kept.run,
     };
-    let sending = after_piece(kept.passed, sending);
     let trust = &mut kept.trust;
     let told = announce_frame(checker, kept.frames, sending, units, trust, &mut announcing);
     kept.run = announcing.run;

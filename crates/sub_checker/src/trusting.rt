@@ -54,6 +54,26 @@ impl Trust {
         }
     }
 
+    /// Before the packets of a frame.
+    pub fn arrive(&mut self)
+        ensures { self.new ≡ at_packets self.old }
+    {
+        self.is_clean = self.rises;
+    }
+
+    /// The end of a frame of a PES packet: whether that has a header of the page, and whether
+    /// nothing stands broken.
+    pub fn end_frame(&mut self, frame: u32, has_header: bool, none_stands: bool)
+        ensures { self.new ≡ at_end frame has_header none_stands self.old }
+    {
+        if !(self.is_clean && none_stands) {
+            self.run = None;
+        } else if self.run.is_none() && has_header {
+            self.run = Some(frame);
+        }
+        self.last = frame;
+    }
+
     // An event, and the frame that is quiet no more by it.
     fn pass(&mut self, event: &Event, frame: Option<u32>)
         requires { frame ≡ doubted self.old.last event.now }
@@ -75,7 +95,7 @@ impl<A: Audience<Event>> Trusting<'_, A> {
     pub fn arrive(&mut self)
         ensures { self.new ≡ record self.old { trust = at_packets self.old.trust } }
     {
-        self.trust.is_clean = self.trust.rises;
+        self.trust.arrive();
     }
 
     /// The end of a frame of a PES packet: whether that has a header of the page, and whether
@@ -85,12 +105,7 @@ impl<A: Audience<Event>> Trusting<'_, A> {
           trust = at_end frame has_header none_stands self.old.trust;
         } }
     {
-        if !(self.trust.is_clean && none_stands) {
-            self.trust.run = None;
-        } else if has_header && self.trust.run.is_none() {
-            self.trust.run = Some(frame);
-        }
-        self.trust.last = frame;
+        self.trust.end_frame(frame, has_header, none_stands);
     }
 
     /// Tells what is trusted of the last run, where anything was told or will be. The last frame is

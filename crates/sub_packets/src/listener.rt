@@ -108,6 +108,14 @@ impl Listener {
         self.comparison.is_known_right()
     }
 
+    /// How many headers of the page the packets heard last hold, where the first of these is one and
+    /// they broke no rule.
+    pub fn headers_again(&self) -> Option<u8>
+        ensures { result ≡ self.now.last }
+    {
+        self.last
+    }
+
     /// The first cell that shows another code than is due.
     pub fn first_wrong(&self) -> Option<(u8, u8)>
         ensures { (heard : List (List ℕ)) → Knows heard self.now → result
