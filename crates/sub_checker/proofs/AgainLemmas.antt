@@ -24,15 +24,15 @@ use Rattle.sub_checker.specs.Announcing.{IsToldOf}
 use Rattle.sub_checker.specs.Checker.{CheckerValue, IsCalmAt, after_again, as_standing, at_next}
 use Rattle.sub_checker.specs.Checker.{later_by, none_stands, stands}
 use Rattle.sub_checker.specs.Following.{Arrives, Follows, IsCalm, Waits}
-use Rattle.sub_checker.specs.Listener.{BreakNone, Knows, KnowsLast}
+use Rattle.sub_packets.specs.Listener.{BreakNone, Knows, KnowsLast}
 use Rattle.sub_checker.specs.Trusting.{JudgesWith, at_end, at_packets}
 use Rattle.sub_checker.specs.declared.standing.StandingRules.{StandingRules}
 use Rattle.sub_checker.specs.declared.trusting.Trust.{Trust}
 use Rattle.sub_checker.proofs.FollowingLemmas.{arrives_next, end_told, follows_then}
 use Rattle.sub_checker.proofs.FollowingLemmas.{follows_waits, frame_events_are, has_header}
 use Rattle.sub_checker.proofs.FollowingLemmas.{order_are}
-use Rattle.sub_checker.proofs.PacketEventLemmas.{packet_events-none}
-use Rattle.sub_checker.proofs.SentAgainLemmas.{heard_again}
+use Rattle.sub_packets.proofs.PacketEventLemmas.{packet_events-none}
+use Rattle.sub_packets.proofs.SentAgainLemmas.{heard_again}
 use Rattle.sub_checker.proofs.TrustingLemmas.{judges_next}
 
 -- After the first frame nothing is asked of the first header.
