@@ -127,14 +127,11 @@ def with_lines(proved: Proved) -> Proved:
                                    if (name, digest) in known})
 
 
-def keep(of_sources: str, is_gate: bool) -> None:
-    """Puts into out/ the program that rt built of these sources; of the gate's with its lines."""
-    proved, old = Proved(of_sources, digest_of(RAW), toolchain(), {}), proved_in(OUT)
-    if is_gate:
-        proved = with_lines(proved)
-    elif (old.sources, old.program) == (proved.sources, proved.program):
-        return  # the gate has left the same, and its lines
-    copy(RAW, os.path.join(OUT, "subttx"), 0o755)
+def keep(of_sources: str, program: str = RAW) -> None:
+    """Puts into out/ the program that rt has proved and built of these sources, with the lines that
+    are known of them."""
+    proved = with_lines(Proved(of_sources, digest_of(program), toolchain(), {}))
+    copy(program, os.path.join(OUT, "subttx"), 0o755)
     write(os.path.join(OUT, "PROVED"), text_of(proved))
 
 

@@ -19,7 +19,7 @@ VERSION = "a toolchain"
 TOOLCHAIN = f'#!/bin/sh\n[ "$1" = version ] && echo {VERSION!r}\n'
 LINE = "logic=proved functions=7"
 NEITHER, PASSED, FAILED = (b"\n%d passed, %d failed\n" % it for it in ((0, 0), (1, 0), (0, 1)))
-NEEDED = ["subttx", "crates.txt", "tools", "crates"]
+NEEDED = ["subttx", "crates.txt", "HANDLES", "tools", "crates"]
 
 
 def left_out(folder: str, names: list[str]) -> set[str]:
@@ -68,9 +68,9 @@ class Clone:
         with open(self.path(name), "a", encoding="utf-8") as file:
             file.write(text)
 
-    def give_toolchain(self) -> str:
+    def give_toolchain(self, text: str = TOOLCHAIN) -> str:
         """Puts an rt into the clone; the PATH that finds it."""
-        self.write("bin/rt", TOOLCHAIN)
+        self.write("bin/rt", text)
         os.chmod(self.path("bin", "rt"), 0o755)
         return os.pathsep.join([self.path("bin"), path_without_rt()])
 
