@@ -10,7 +10,7 @@ use crate::apart::look_up;
 use crate::files::{CreatedFile, PesFile, StlFile, create_apart, open_pes, open_stl};
 use std::alloc::Global;
 use std::rt::Files;
-use sub_request::FileNames;
+use sub_request::{FileNames, Output, PesInput, StlInput};
 
 /// Bytes of each buffer: what a system call reads or writes at once.
 pub const BUFFER: usize = 0x1_0000;
@@ -57,14 +57,38 @@ pub fn open<'a, R: Files>(rt: &R, names: &FileNames<'a>) -> Option<Opened<'a, R:
         FileNames::None => Some(Opened::Nothing),
         FileNames::ReadStl(stl) => Some(Opened::ReadStl(open_stl(rt, stl)?)),
         FileNames::ReadPes(pes) => Some(Opened::ReadPes(open_pes(rt, pes)?)),
-        FileNames::ReadBoth(stl, pes) => {
-            let first = open_stl(rt, stl)?;
-            Some(Opened::ReadBoth(first, open_pes(rt, pes)?))
-        }
-        FileNames::Write(stl, output) => {
-            let first = open_stl(rt, stl)?;
-            let (input, there) = (look_up(rt, first.name()), look_up(rt, output.name()));
-            Some(Opened::Write(first, create_apart(rt, input, there)?))
-        }
+        FileNames::ReadBoth(stl, pes) => open_both(rt, stl, pes),
+        FileNames::Write(stl, output) => open_and_create(rt, stl, output),
+    }
+}
+
+// Opens a subtitle file and a file of PES packets.
+fn open_both<'a, R: Files>(
+    rt: &R,
+    stl: &StlInput<'a>,
+    pes: &PesInput<'a>,
+) -> Option<Opened<'a, R::File>>
+    ensures { IfSome result (AreOf (FileNames.ReadBoth stl.now pes.now)) }
+{
+    let first = open_stl(rt, stl)?;
+    match open_pes(rt, pes) {
+        Some(second) => Some(Opened::ReadBoth(first, second)),
+        None => None,
+    }
+}
+
+// Opens a subtitle file, and creates the one that is written.
+fn open_and_create<'a, R: Files>(
+    rt: &R,
+    stl: &StlInput<'a>,
+    output: &Output<'a>,
+) -> Option<Opened<'a, R::File>>
+    ensures { IfSome result (AreOf (FileNames.Write stl.now output.now)) }
+{
+    let first = open_stl(rt, stl)?;
+    let (input, there) = (look_up(rt, first.name()), look_up(rt, output.name()));
+    match create_apart(rt, input, there) {
+        Some(second) => Some(Opened::Write(first, second)),
+        None => None,
     }
 }

@@ -2,8 +2,8 @@
 -- `law_of_all_trusted`.
 use Rattle.std.proofs.lemmas.Bool.Decides.{nat_tests}
 use Rattle.std.proofs.Common.{◌≡◌, ℕ, suc, ◌+◌, ◌-◌, ◌<◌, ◌≤◌, inl, inr, Bool, true, false, List}
-use Rattle.std.proofs.Common.{[], ◌∷◌, Contains, length, Option, Some, None, refl, sym, ap, ◌∙◌}
-use Rattle.std.proofs.Common.{subst, arith, ◌⊎◌, ◌||◌, ◌++◌, not, map}
+use Rattle.std.proofs.Common.{[], ◌∷◌, ◌≢◌, Contains, length, Option, Some, None, refl, sym, ap}
+use Rattle.std.proofs.Common.{subst, arith, ◌∙◌, ◌⊎◌, ◌||◌, ◌++◌, not, map}
 use Rattle.std.proofs.lemmas.Bool.{cases_lt, lt-ltb}
 use Rattle.std.proofs.lemmas.List.{take-take}
 use Rattle.std.proofs.lemmas.List.Elements.{Contains-append_left, Contains-append_right}
@@ -18,7 +18,8 @@ use Rattle.sub_rules.specs.Trusted.{stands_none, tells_none, trust_end, with_run
 use Rattle.sub_rules.specs.declared.event.Event.{Event}
 use Rattle.sub_rules.specs.declared.event.Event.TheVariants.{Trusted, Told}
 use Rattle.sub_rules.specs.declared.packet_rule.PacketRule.{PacketRule}
-use Rattle.sub_rules.specs.PieceEvents.{all_of_pieces, at_pes, closing_of_pieces, last_of_run}
+use Rattle.sub_rules.specs.PieceEvents.{all_announced, all_of_pieces, at_pes, closing_of_pieces}
+use Rattle.sub_rules.specs.PieceEvents.{ended_run, last_of_run, no_run, passed_after_all}
 use Rattle.sub_rules.specs.PieceEvents.{run_after_each, run_at, told_of_each, told_of_frame}
 use Rattle.sub_rules.specs.PieceEvents.{told_of_passed, told_of_pieces}
 use Rattle.sub_rules.specs.Pieces.{Piece, frames_of}
@@ -35,6 +36,30 @@ use Rattle.sub_laws.proofs.PassedOutsideLemmas.{IsOutside, is_outside}
 use Rattle.sub_laws.proofs.PrefixLemmas.{before, frame_at-take, packet_at, packets-take, rises_to}
 use Rattle.sub_laws.proofs.TrustedFrameLemmas.{count_most, part_last, part_length, part_rises}
 use Rattle.sub_laws.proofs.TrustedFrameLemmas.{risen, risen_low, rises_more, standing-take}
+
+-- What is told of the pieces, or of the run at their end, is told among all.
+told_among : {R : Type 0} (from b : ℕ) (each last closing : List Event)
+    → (R → (to : ℕ) × (b ≤ to) × Contains last (Trusted from to))
+    → ((to : ℕ) × (b ≤ to) × Contains each (Trusted from to)) ⊎ R
+    → (to : ℕ)
+    × (b ≤ to)
+    × Contains (all_announced no_run (each ++ last ++ closing)
+    ++ ended_run (passed_after_all no_run (each ++ last ++ closing))) (Trusted from to)
+told_among from b each last closing at_last (inl (to, l, c)) = (
+  to,
+  l,
+  Contains-append_left _ _ _
+      (contains-announced no_run _ from to
+      (Contains-append_left _ closing _ (Contains-append_left each _ _ c))),
+)
+told_among from b each last closing at_last (inr run) =
+    let end = at_last run in (
+      end.0,
+      end.1,
+      Contains-append_left _ _ _
+          (contains-announced no_run _ from end.0
+          (Contains-append_left _ closing _ (Contains-append_right each _ _ end.2))),
+    )
 
 module _ (g : Task) (pieces : List Piece) (a b : ℕ) (can : CanStay g pieces a b) where
   abbrev frames : Transmission
@@ -323,39 +348,59 @@ module _ (g : Task) (pieces : List Piece) (a b : ℕ) (can : CanStay g pieces a 
           end_later all (Some u) is =
               grind (arith, nat_tests, part_last)
 
+      at_last : (from : ℕ) (kept : Option ℕ) (any : Bool) → from ≤ frame_at frames i → any ≡ true
+          → (kept ≡ Some from) × Run g frames (length frames) from
+          → IsTold from (last_of_run g frames kept any)
+      at_last from kept any from_low told (is, run) =
+          subst (λ (some : Bool). IsTold from (last_of_run g frames kept some)) (sym told)
+          (at_end from kept from_low is run)
+
+      -- What goes on from the first piece is told among all, where anything is told.
+      among_all : (from : ℕ) → from ≤ frame_at frames i → Goes from 0 0 None pieces
+          → all_of_pieces g pieces ≢ []
+          → IsTold from (all_of_pieces g pieces)
+      unfolding all_of_pieces told_of_pieces
+      among_all from from_low going told =
+          let each : List Event = told_of_each g frames 0 0 None pieces in
+          let closing : List Event = closing_of_pieces g frames (length pieces) (length frames) in
+          let kept : Option ℕ = run_after_each g frames 0 None pieces in
+          let any : Bool = not (tells_none each) || not (tells_none closing) in
+          told_among from b each (last_of_run g frames kept any) closing
+          (at_last from kept any from_low (any_told g frames kept each closing told)) going
+
+      all_told : all_of_pieces g pieces ≢ []
+          → (from : ℕ)
+          × (to : ℕ)
+          × (from ≤ frame_at frames i)
+          × (b ≤ to)
+          × Contains (all_of_pieces g pieces) (Trusted from to)
+      unfolding frames_of
+      all_told told =
+          of_found (begins 0 0 None pieces (is_outside pieces a b can.passed 0 [] pieces refl refl)
+          (omega arith) (omega arith) (λ from e. cc))
+        where
+          of_found : (from : ℕ) × (from ≤ frame_at frames i) × Goes from 0 0 None pieces
+              → (from : ℕ)
+              × (to : ℕ)
+              × (from ≤ frame_at frames i)
+              × (b ≤ to)
+              × Contains (all_of_pieces g pieces) (Trusted from to)
+          of_found (from, from_low, going) =
+              let whole = among_all from from_low going told in
+              (from, whole.0, from_low, whole.1, whole.2)
+
 -- ---- the law
 
 pub law_of_all_trusted : LawOfAllTrusted
-unfolding all_of_pieces told_of_pieces frames_of
 law_of_all_trusted g pieces a b i can there low high header told =
     let frames : Transmission = frames_of pieces in
-    let m : ℕ = risen frames in
-    let inside : i < m = let all = part_length (frames_of pieces) in omega arith in
-    let at = frame_at-take frames m i inside in
-    let ps = packets-take frames m i inside in
+    let inside : i < risen frames = let all = part_length (frames_of pieces) in omega arith in
+    let at = frame_at-take frames (risen frames) i inside in
+    let ps = packets-take frames (risen frames) i inside in
     let holds = ap (holds_header (kind g.watched.page)) (sym ps) ∙ header in
-    let each : List Event = told_of_each g frames 0 0 None pieces in
-    let closing : List Event = closing_of_pieces g frames (length pieces) (length frames) in
-    let kept : Option ℕ = run_after_each g frames 0 None pieces in
-    let any : Bool = not (tells_none each) || not (tells_none closing) in
-    let found =
-    begins g pieces a b can i inside (omega arith) (omega arith) holds 0 0 None pieces
-    (is_outside pieces a b can.passed 0 [] pieces refl refl) (omega arith) (omega arith)
-    (λ from e. cc) in
-    let whole : (to : ℕ)
+    subst (λ (f : ℕ). (from : ℕ)
+    × (to : ℕ)
+    × (from ≤ f)
     × (b ≤ to)
-    × Contains (each ++ last_of_run g frames kept any ++ closing) (Trusted found.0 to) =
-    elim found.2 [
-      | inl (to, l, c) ↦
-          (to, l, Contains-append_left _ closing _ (Contains-append_left each _ _ c))
-      | inr (is, run) ↦
-          let end =
-          at_end g pieces a b can i inside (omega arith) (omega arith) holds found.0 kept found.1 is
-          run in (
-            end.0,
-            end.1,
-            Contains-append_left _ closing _
-                (Contains-append_right each _ _
-                (grind (arith, nat_tests, any_told))),
-          )
-    ] in grind (arith, nat_tests, Contains-append_left, contains-announced)
+    × Contains (all_of_pieces g pieces) (Trusted from to)) (sym at)
+    (all_told g pieces a b can i inside (omega arith) (omega arith) holds told)

@@ -1,12 +1,14 @@
 -- What `clap`'s contract says of the program's own words. Main lemmas: command_in-parsed,
 -- refusals-parsed and IsFaultOf-refused for the parse, asked_for-met for its answer.
 use Rattle.std.proofs.Common.{◌≡◌, ◌≢◌, ◌∙◌, true, false, List, [], Option, Some, None, Ok, Err}
-use Rattle.std.proofs.Common.{refl, ap, subst, inl, inr, arith}
+use Rattle.std.proofs.Common.{refl, ap, subst, sym, inl, inr, arith, drop, get_or, ◌+◌, ◌≤◌}
 use Rattle.std.specs.Borrow.{Bor}
 use Rattle.std.specs.Prelude.{Box, IfErr, Result, option_map, ◌==◌, ◌<◌, ◌∷◌, ℕ, length, map}
 use Rattle.std.specs.Box.{box_value}
 use Rattle.std.proofs.lemmas.Bool.{and_parts, not-true}
 use Rattle.std.proofs.lemmas.Bool.Decides.{nat_tests}
+use Rattle.std.proofs.lemmas.List.{at_drop_all, at_drop_more}
+use Rattle.std.specs.List.{fold}
 use Rattle.clap.specs.Words.{App, FailsBy, HasKind, HasMatchesOf, IsAmong, IsParsedFrom, Kinds, Row}
 use Rattle.clap.specs.Words.{Rule}
 use Rattle.clap.specs.Words.{Text, app_of, fault_of, has_subcommand, is_simple, is_simple_and_free}
@@ -44,6 +46,25 @@ is_free-subttx = refl
 abbrev pub table_of : Bor Text × Bor (List Argument) → Text × List Rule
 table_of command = (command.0.now, map clap_rule command.1.now)
 
+-- A fold over what is left of a list goes one step on.
+pub fold_more : {A B X : Type 0} (f : B → A → B) (of : X → A) (xs : List X) (i : ℕ) (d : X)
+    → (b new all : B)
+    → i < length xs
+    → fold f b (map of (drop i xs)) ≡ all
+    → new ≡ f b (of (get_or xs i d))
+    → fold f new (map of (drop (i + 1) xs)) ≡ all
+fold_more f of xs i d b new all within whole e =
+    ap (λ b'. fold f b' (map of (drop (i + 1) xs))) e
+    ∙ sym (at_drop_more (λ rest. fold f b (map of rest)) xs i d within) ∙ whole
+
+-- Where nothing is left it is what it came to.
+pub fold_all : {A B X : Type 0} (f : B → A → B) (of : X → A) (xs : List X) (i : ℕ) (b all : B)
+    → length xs ≤ i
+    → fold f b (map of (drop i xs)) ≡ all
+    → b ≡ all
+fold_all f of xs i b all over whole =
+    sym (at_drop_all (λ rest. fold f b (map of rest)) xs i over) ∙ whole
+
 -- No words are those of no command.
 none-refused : (clap_refusals [] ≢ []) × (are_sound [] ≢ true)
 unfolding clap_refusals are_sound subttx_app clap_on_literals
@@ -63,6 +84,10 @@ pub some-texts : (words : List (Bor (List ℕ)))
     → texts_of words ≢ []
 some-texts [] some e = cc
 some-texts (w ∷ ws) some e = cc
+
+pub some-words : (words : List (Bor (List ℕ))) → words ≢ [] → texts_of words ≢ []
+some-words [] some e = some refl
+some-words (w ∷ ws) some e = cc
 
 -- A fault that the arguments have, where no memory is taken.
 own-fault : (asked : Result Asked UsageFault) (f : UsageFault)

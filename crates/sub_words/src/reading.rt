@@ -73,12 +73,16 @@ fn read_schedule<'a>(matches: &ArgMatches<'a>) -> Result<Request<'a>, UsageFault
     if stl == pes {
         return Err(UsageFault::SameFile);
     }
+    let options = options_at(matches, parse_number(text_at(matches, "every")))?;
+    let Some(national) = National::parse(text_at(matches, "option")) else {
+        return Err(UsageFault::BadOption);
+    };
     Ok(Request::Schedule {
         stl,
         pes,
-        options: options_at(matches, parse_number(text_at(matches, "every")))?,
-        national: National::parse(text_at(matches, "option")).ok_or(UsageFault::BadOption)?,
+        options,
         serial: flag_at(matches, "serial"),
+        national,
     })
 }
 
@@ -86,11 +90,15 @@ fn read_schedule<'a>(matches: &ArgMatches<'a>) -> Result<Request<'a>, UsageFault
 fn read_check<'a>(matches: &ArgMatches<'a>) -> Result<Request<'a>, UsageFault>
     ensures { IsReadExactly (check_asked (rows_of (found_of matches.now))) result }
 {
+    let options = options_at(matches, parse_number(text_at(matches, "every")))?;
+    let Some(national) = National::parse(text_at(matches, "option")) else {
+        return Err(UsageFault::BadOption);
+    };
     Ok(Request::Check {
         stl: text_at(matches, "stl"),
         pes: text_at(matches, "pes"),
-        options: options_at(matches, parse_number(text_at(matches, "every")))?,
-        national: National::parse(text_at(matches, "option")).ok_or(UsageFault::BadOption)?,
+        options,
+        national,
         all: flag_at(matches, "all"),
     })
 }
@@ -100,14 +108,30 @@ fn read_check<'a>(matches: &ArgMatches<'a>) -> Result<Request<'a>, UsageFault>
 fn read_listen<'a>(alloc: Global, matches: &ArgMatches<'a>) -> Result<Request<'a>, UsageFault>
     ensures { IsReadAs (listen_asked (rows_of (found_of matches.now))) result }
 {
+    // The repeat bound is not looked at.
+    let options = options_at(matches, Some(1))?;
+    let Some(at) = parse_time(text_at(matches, "at")) else {
+        return Err(UsageFault::BadTime);
+    };
+    let Some(skip) = parse_number(text_at(matches, "skip")) else {
+        return Err(UsageFault::BadSkip);
+    };
+    let Some(flips) = list_at(alloc, matches, "flip")? else {
+        return Err(UsageFault::BadFlip);
+    };
+    let Some(lost) = list_at(alloc, matches, "lose")? else {
+        return Err(UsageFault::BadLose);
+    };
+    let Some(receiver) = parse_receiver(text_at(matches, "receiver")) else {
+        return Err(UsageFault::BadReceiver);
+    };
     let listening = Listening {
-        // The repeat bound is not looked at.
-        options: options_at(matches, Some(1))?,
-        at: parse_time(text_at(matches, "at")).ok_or(UsageFault::BadTime)?,
-        skip: parse_number(text_at(matches, "skip")).ok_or(UsageFault::BadSkip)?,
-        flips: list_at(alloc, matches, "flip")?.ok_or(UsageFault::BadFlip)?,
-        lost: list_at(alloc, matches, "lose")?.ok_or(UsageFault::BadLose)?,
-        receiver: parse_receiver(text_at(matches, "receiver")).ok_or(UsageFault::BadReceiver)?,
+        options,
+        at,
+        skip,
+        flips,
+        lost,
+        receiver,
     };
     let pes = text_at(matches, "pes");
     Ok(Request::Listen { pes, listening })

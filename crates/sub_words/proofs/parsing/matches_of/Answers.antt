@@ -3,7 +3,7 @@
 use Rattle.std.proofs.Common.{◌∙◌}
 use Rattle.sub_words.specs.Commands.{texts_of}
 use Rattle.sub_words.proofs.CommandLemmas.{IsFaultOf-refused, command_in-parsed}
-use Rattle.sub_words.proofs.CommandLemmas.{has_subcommand-parsed, refusals-parsed}
+use Rattle.sub_words.proofs.CommandLemmas.{has_subcommand-parsed, refusals-parsed, some-words}
 use Rattle.sub_words.proofs.parsing.matches_of.Goals as goal
 
 pub returns-in-Ok-try_get_matches_from : goal.returns-in-Ok-try_get_matches_from
@@ -23,3 +23,6 @@ returns-clause-fault c =
     IsFaultOf-refused _ (texts_of c.args.words.now) c.in-Err.error c.in-Ok.ensures
     c.in-Err.ensures.kinds c.in-Err.ensures.passes
     (λ memory. c.in_default-kind.not-OutOfMemory (c.kind.ensures ∙ memory))
+
+pub returns-in-OutOfMemory-clause-fault : goal.returns-in-OutOfMemory-clause-fault
+returns-in-OutOfMemory-clause-fault c = some-words _ c.requires
