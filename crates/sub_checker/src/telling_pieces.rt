@@ -60,7 +60,6 @@ pub(crate) struct Kept {
 /// # Errors
 ///
 /// `Pes` with `Read` where the source failed: then the events are those of the pieces before.
-#[tactic(auto, using(sub_io::proofs::HandingOnLemmas::some_kept, sub_io::proofs::CallLemmas::pulls))]
 pub fn tell_pieces<S: Ahead, A: LiveAudience<Event>>(
     programme: &Programme,
     source: &mut S,

@@ -319,3 +319,29 @@ returns-in-Err-tell_sent-clause-some g c =
     (TellsSome-kept _ _ _ _ _ c.pieces.invariant.some c.requires.settled
     c.next_live.ensures.told)
     c.in-Err-tell_sent.ensures.some
+
+-- ---- some pulls were made
+
+pub returns-in_default-clause-pulls : goal.returns-in_default-clause-pulls
+returns-in_default-clause-pulls g c =
+    PullsSome-trans _ _ _ c.pieces.invariant.pulls c.next_live.ensures.pulls
+
+pub returns-then-is_source_failure-clause-pulls : goal.returns-then-is_source_failure-clause-pulls
+returns-then-is_source_failure-clause-pulls g c =
+    PullsSome-trans _ _ _ c.pieces.invariant.pulls c.next_live.ensures.pulls
+
+pub returns-in-Err-clause-pulls : goal.returns-in-Err-clause-pulls
+returns-in-Err-clause-pulls g c =
+    PullsSome-trans _ _ _ c.pieces.invariant.pulls c.next_live.ensures.pulls
+
+pub returns-in_default-next-clause-pulls : goal.returns-in_default-next-clause-pulls
+returns-in_default-next-clause-pulls g c =
+    PullsSome-trans _ _ _ c.pieces.invariant.pulls c.next_live.ensures.pulls
+
+pub returns-in-Err-tell_passed-clause-pulls : goal.returns-in-Err-tell_passed-clause-pulls
+returns-in-Err-tell_passed-clause-pulls g c =
+    PullsSome-trans _ _ _ c.pieces.invariant.pulls c.next_live.ensures.pulls
+
+pub returns-in-Err-tell_sent-clause-pulls : goal.returns-in-Err-tell_sent-clause-pulls
+returns-in-Err-tell_sent-clause-pulls g c =
+    PullsSome-trans _ _ _ c.pieces.invariant.pulls c.next_live.ensures.pulls
