@@ -1,8 +1,8 @@
 -- From base to base: sendings-step splits off the sendings of a stretch, steps-more the first of
 -- them.
-use Rattle.std.proofs.Common.{◌≡◌, ℕ, zero, suc, ◌+◌, ◌-◌, ◌%◌, ◌<◌, ◌≤◌, ◌==◌, Bool, false, true, []}
+use Rattle.std.proofs.Common.{◌≡◌, ℕ, zero, suc, ◌+◌, ◌-◌, ◌%◌, ◌<◌, ◌≤◌, ◌==◌, Bool, false, true}
 use Rattle.std.proofs.Common.{List, ◌∷◌, ◌++◌, refl, sym, ap, ◌∙◌, arith, filter, eq-eqb, ne_eqb}
-use Rattle.std.proofs.Common.{inl, inr}
+use Rattle.std.proofs.Common.{[], inl, inr}
 use Rattle.std.proofs.lemmas.Bool.Decides.{nat_tests}
 use Rattle.std.proofs.Math.Nat.{add-mod_right, mod-eq_of_lt}
 use Rattle.std.proofs.lemmas.List.Elements.{filter-append}

@@ -1,7 +1,7 @@
 -- The canonical packet is a packet of its value, and what is made of a frame is it. Main lemmas:
 -- canonical_is_packet, spelled.
-use Rattle.std.proofs.Common.{List, Some, [], append_assoc, arith, length, lit<, refl, suc, sym, take}
-use Rattle.std.proofs.Common.{zero, ℕ, ◌*◌, ◌∙◌, ◌++◌, ◌+◌, ◌-◌, ◌/◌, ◌∷◌, ◌≡◌, ◌≤◌, ◌<◌}
+use Rattle.std.proofs.Common.{List, Some, [], append_assoc, arith, length, lit<, refl, suc, sym}
+use Rattle.std.proofs.Common.{take, zero, ℕ, ◌*◌, ◌∙◌, ◌++◌, ◌+◌, ◌-◌, ◌/◌, ◌∷◌, ◌≡◌, ◌≤◌, ◌<◌}
 use Rattle.std.proofs.lemmas.Bool.Decides.{nat_tests}
 use Rattle.std.specs.Prelude.{replicate}
 use Rattle.std.proofs.lemmas.List.{append-nil, take_all}

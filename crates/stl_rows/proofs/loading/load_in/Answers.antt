@@ -1,6 +1,6 @@
 -- The first fault that is told is what comes of the file: tells-first; and where the source failed
 -- there is none before: none-told.
-use Rattle.std.proofs.Common.{ap, ◌∙◌, rules, sym}
+use Rattle.std.proofs.Common.{ap, ◌∙◌, sym}
 use Rattle.std.specs.Prelude.{Ok}
 use Rattle.stl_rows.proofs.EveryFaultLemmas.{first-not_read, first-of_file, none-told, tells-first}
 use Rattle.stl_rows.proofs.loading.load_in.Goals as goal
@@ -22,13 +22,13 @@ returns-in-Some g c =
     let of_file = c.in-Ok-None.ensures.some none in
     let own = first-not_read _ _ c.in-Some.fault c.new-first.ensures first of_file in
     record {
-      exact = search rules;
+      exact = λ bytes e. tt;
       fault = λ bytes e.
           tells-first c.args.national bytes c.in-Some.fault _
           (rw (c.new-first.ensures, first) at (c.in-Ok-None.ensures.told bytes e none))
           (rw (c.new-first.ensures, first) at of_file);
       never = own.0;
-      programme = search rules;
+      programme = tt;
       read = λ is. absurd cc;
       count = rw own.1 c.in-Ok-None.ensures.count;
     }
