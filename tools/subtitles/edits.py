@@ -1,7 +1,8 @@
 """The wrong programs of crates/*/must-fail/ and crates/*/release-edits/, each of which is an edit.
 
 A file NAME.edit has lines `file: PATH` and, below each, pairs of lines `old: TEXT` and `new: TEXT`:
-in that file of its crate the old text, which stands there once, gives way to the new one.
+in that file of its crate the old text, which stands there once, gives way to the new one. A line
+`test: NAME` names a stored test that fails on the wrong program; the prover does not read it.
 """
 from __future__ import annotations
 
@@ -18,6 +19,8 @@ TRIED_BY_GATE = "must-fail"
 TRIED_BEFORE_RELEASE = "release-edits"
 NAME = re.compile(r"[A-Za-z0-9_-]+\.edit")
 PARTS = ("src/", "specs/", "proofs/")  # of a crate, in which an edit may change a file
+# A test with its body, which ends where a brace begins a line.
+TEST = re.compile(r"(?:#\[rattlefmt::skip\]\n)?#\[test\]\nfn (\w+)\(.*?\n}\n", re.S)
 
 
 class Edit(NamedTuple):
@@ -51,16 +54,27 @@ def edits_in(folder: str) -> list[Edit]:
     return found
 
 
+def lines_of(edit: Edit) -> list[tuple[str, str]]:
+    """Its lines, each as the word before the colon and what follows."""
+    with open(edit.path(), encoding="utf-8") as file:
+        lines = [line.partition(":") for line in file.read().split("\n") if line.strip()]
+    return [(kind, rest.removeprefix(" ")) for kind, _, rest in lines]
+
+
+def test_of(edit: Edit) -> str | None:
+    """The stored test that it names, if any."""
+    names = [rest.strip() for kind, rest in lines_of(edit) if kind == "test"]
+    if len(names) > 1:
+        raise Stop(f"{edit}: it names more than one test")
+    return names[0] if names else None
+
+
 def edited(edit: Edit) -> dict[str, str]:
     """The files of the crate that the edit changes, by their path in it, with their new text."""
     path: str | None = None
     old: str | None = None
     texts: dict[str, str] = {}
-    with open(edit.path(), encoding="utf-8") as file:
-        lines = file.read().split("\n")
-    for line in lines:
-        kind, _, rest = line.partition(":")
-        rest = rest.removeprefix(" ")
+    for kind, rest in lines_of(edit):
         if kind == "file":
             path = rest.strip()
         elif kind == "old":
@@ -70,8 +84,8 @@ def edited(edit: Edit) -> dict[str, str]:
                 raise Stop(f"{edit}: a line `new:` stands before its `file:` or its `old:`")
             texts[path] = replaced(edit, path, texts.get(path), old, rest)
             old = None
-        elif line.strip():
-            raise Stop(f"{edit}: a line is none of `file:`, `old:` and `new:`: {line}")
+        elif kind != "test":
+            raise Stop(f"{edit}: a line is none of `file:`, `old:`, `new:` and `test:`: {kind}")
     if old is not None or not texts:
         raise Stop(f"{edit}: a line `new:` is missing")
     return texts
@@ -94,9 +108,27 @@ def replaced(edit: Edit, path: str, text: str | None, old: str, new: str) -> str
     return text.replace(old, new)
 
 
+def stored_tests() -> dict[str, tuple[str, str]]:
+    """The tests of all crates by their names: the crate, and the path of the file in its src/."""
+    found: dict[str, tuple[str, str]] = {}
+    several: set[str] = set()
+    for crate in sorted(os.listdir(CRATES)):
+        top = os.path.join(CRATES, crate, "src")
+        for folder, _, files in os.walk(top):
+            for file in files:
+                path = os.path.join(folder, file)
+                with open(path, encoding="utf-8") as source:
+                    for name in TEST.findall(source.read()):
+                        if name in found:
+                            several.add(name)
+                        found[name] = crate, os.path.relpath(path, top)
+    return {name: place for name, place in found.items() if name not in several}
+
+
 def count_applying() -> tuple[int, int]:
     """Tells each edit that can't be made, and answers how many can and how many can't."""
     edits = edits_in(TRIED_BY_GATE) + edits_in(TRIED_BEFORE_RELEASE)
+    tests = stored_tests()
     failed = 0
     for (crate, name), number in Counter((one.crate, one.name) for one in edits).items():
         if number > 1:
@@ -105,6 +137,9 @@ def count_applying() -> tuple[int, int]:
     for edit in edits:
         try:
             edited(edit)
+            test = test_of(edit)
+            if test is not None and test not in tests:
+                raise Stop(f"{edit}: there is not one stored test {test}")
         except Stop as stop:
             print(stop)
             failed += 1
