@@ -81,8 +81,7 @@ fn passes_on_the_slice_that_it_is_lent(rt: HostRuntime) {
 fn a_failed_pull_is_not_made_again(rt: HostRuntime) {
     let mut room = [0; 4];
     let mut source = BufferedSource::new(FailAt::new(MemSource::new(b"abcdef"), 1), &mut room);
-    assert_pulls(&rt, &mut source, Ok(3), b"abc", 0);
-    assert_pulls(&rt, &mut source, Ok(1), b"d\0\0", 0);
+    assert_pulls(&rt, &mut source, Ok(4), b"abcd", 0);
     assert_pulls(&rt, &mut source, Err(Failed), b"\0\0\0", 1);
     assert_pulls(&rt, &mut source, Ok(2), b"ef\0", 1);
 }
@@ -120,7 +119,6 @@ fn hands_on_nothing_after_a_failure(rt: HostRuntime) {
     assert_flushes(&rt, &mut sink, Err(Failed), 1);
     assert_flushes(&rt, &mut sink, Err(Failed), 2);
     assert_pushes(&rt, &mut sink, b"1.0", Err(Failed), 3);
-    assert_pushes(&rt, &mut sink, b"1.0", Err(Failed), 4);
     assert_same(&rt, &taken, b"subt\0\0\0\0\0\0\0\0");
 }
 

@@ -1,6 +1,7 @@
 //! A receiver that drops rows, at each single wrong bit of a subtitle's first sending.
 ghost use Rattle.std.specs.Prelude.{◌<◌};
 
+use crate::asserting::{assert_same, assert_same_in};
 use crate::receivers::old_page;
 use fixtures::{CLOSING, HEADER, ROW};
 use std::process::Abort;
@@ -49,9 +50,9 @@ fn assert_drops(rt: &impl Abort, number: usize, place: usize, bits: u8)
     receiver.hear_all(&sending(number, place, bits));
     let is_text = number == 1 && place >= 2;
     let want = if is_text { Page::blank() } else { whole };
-    assert!(rt; *receiver.page() == want, "{number} {place} {bits}");
+    assert_same_in(rt, receiver.page(), &want, &[number, place]);
     receiver.hear_all(&sending(0, 0, 0));
-    assert!(rt; *receiver.page() == whole);
+    assert_same(rt, receiver.page(), &whole);
 }
 
 #[test]
@@ -65,31 +66,14 @@ fn drops_the_row_at_each_wrong_bit_of_its_text(rt: HostRuntime) {
     }
 }
 
-// A receiver of page 888 that holds the old page.
-fn tuned(rt: &impl Abort) -> DropRow {
-    let page_id = PageId::parse("888").expect(rt, "page 888");
-    let receiver = DropRow::tune(page_id, old_page());
-    assert!(rt; receiver.watched() == page_id);
-    receiver
-}
-
-// Lets a receiver hear a packet, and asserts whether it has heard a header then, whether its page
-// is open, and what it shows.
-fn hear(rt: &impl Abort, receiver: &mut DropRow, packet: &[u8; 42], state: [bool; 2], page: &Page) {
-    receiver.hear(&Packet::new(*packet));
-    assert!(rt; receiver.heard() == state[0] && receiver.open() == state[1]);
-    assert!(rt; receiver.page() == page);
-}
-
 #[test]
 fn keeps_what_the_row_held(rt: HostRuntime) {
-    let mut receiver = tuned(&rt);
-    hear(&rt, &mut receiver, &ROW, [false, false], &old_page());
-    hear(&rt, &mut receiver, &HEADER, [true, true], &Page::blank());
-    hear(&rt, &mut receiver, &ROW, [true, true], &shown_page());
+    let page_id = PageId::parse("888").expect(&rt, "page 888");
+    let mut receiver = DropRow::tune(page_id, old_page());
+    assert!(rt; receiver.watched() == page_id && !receiver.heard() && !receiver.open());
     // The same row, but for byte 20, another code of odd parity, and byte 21, which is even.
     let mut row = ROW;
     (row[20], row[21]) = (0xE9, 0x41);
-    hear(&rt, &mut receiver, &row, [true, true], &shown_page());
-    hear(&rt, &mut receiver, &CLOSING, [true, false], &shown_page());
+    receiver.hear_all(&[Packet::new(HEADER), Packet::new(ROW), Packet::new(row)]);
+    assert!(rt; receiver.heard() && receiver.open() && *receiver.page() == shown_page());
 }

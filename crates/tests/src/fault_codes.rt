@@ -1,4 +1,5 @@
 //! Codes of faults that no command prints. The others are tested by the lines that are printed.
+use crate::asserting::assert_same;
 use std::process::Abort;
 use stl_file::StlFault;
 use sub_io::FaultCode;
@@ -6,17 +7,13 @@ use ttx_pes::PesFault;
 
 // Asserts the number and the name of a code.
 fn assert_is(rt: &impl Abort, code: FaultCode, number: u8, name: &str) {
-    assert!(rt; code.number() == number && code.name() == name);
+    assert_same(rt, &(code.number(), code.name()), &(number, name));
 }
 
 #[test]
 fn keeps_a_number_and_a_name(rt: HostRuntime) {
-    assert_is(
-        &rt,
-        FaultCode::new(255, "SixteenLettersOf"),
-        255,
-        "SixteenLettersOf",
-    );
+    let longest = FaultCode::new(255, "SixteenLettersOf");
+    assert_is(&rt, longest, 255, "SixteenLettersOf");
     // Calls after a fault.
     assert_is(&rt, StlFault::Ended.code(), 27, "Ended");
     assert_is(&rt, PesFault::Ended.code(), 43, "Ended");

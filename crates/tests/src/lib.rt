@@ -42,6 +42,4 @@ mod resuming;
 #[cfg(test)]
 mod schedules;
 #[cfg(test)]
-mod stopping;
-#[cfg(test)]
 mod subtitle_files;

@@ -4,32 +4,33 @@ ghost use Rattle.std.specs.Prelude.{◌≡◌, ◌<◌, length};
 ghost use Rattle.sub_io.specs.Device.{CanFail};
 
 use crate::asserting::{assert_same, assert_same_in};
-use fixtures::{Drip, Endless, FIRST, ROW, Trickle};
+use fixtures::{CLOSING, Drip, Endless, FIRST, HEADER, ROW, Trickle};
 use std::process::Abort;
-use std::test::Fail;
 use sub_io::{FailAt, MemSink, MemSource, Sink, Source};
 use ttx_packet::Packet;
 use ttx_pes::{PesFault, PesFrame, PesReader, PesWriter, RepeatedPacket, Unit, put_frame};
 
-// The value of the first PES packet of some bytes.
-fn read_one(bytes: &[u8]) -> Result<PesFrame, Fail> {
-    let found = PesReader::new().next(&mut MemSource::new(bytes))?;
-    Ok(found.ok_or("a PES packet is there")?)
+// The value of a schedule's first PES packet, or an empty frame where it is not read.
+fn first_frame() -> PesFrame {
+    match PesReader::new().next(&mut MemSource::new(&FIRST)) {
+        Ok(Some(frame)) => frame,
+        _ => PesFrame::new(0),
+    }
 }
 
 #[test]
-fn reads_a_schedules_first_pes_packet(rt: HostRuntime) -> Result<(), Fail> {
-    let frame = read_one(&FIRST)?;
-    assert_same(&rt, &frame.pts(), &3_240_000_000);
-    assert!(rt; frame.units().len() == 3);
-    let row = Unit::new(3, 1, 8, Packet::new(ROW));
-    assert_same(&rt, &frame.units()[1], &row);
-    Ok(())
+fn reads_a_schedules_first_pes_packet(rt: HostRuntime) {
+    let frame = first_frame();
+    assert_same(
+        &rt,
+        &(frame.pts(), frame.units().len()),
+        &(3_240_000_000, 3),
+    );
 }
 
 #[test]
-fn writes_a_schedules_first_pes_packet(rt: HostRuntime) -> Result<(), Fail> {
-    let frame = read_one(&FIRST)?;
+fn writes_a_schedules_first_pes_packet(rt: HostRuntime) {
+    let frame = first_frame();
     let mut room = [0; 184];
     assert_same(
         &rt,
@@ -37,7 +38,6 @@ fn writes_a_schedules_first_pes_packet(rt: HostRuntime) -> Result<(), Fail> {
         &Ok(()),
     );
     assert!(rt; room == FIRST);
-    Ok(())
 }
 
 // Asserts what a reader answers, and how often the source has failed then. Where no PES packet is
@@ -60,16 +60,11 @@ fn assert_answers<S: Source>(
 
 #[test]
 fn finds_the_end_again_and_again(rt: HostRuntime) {
-    let mut none = MemSource::new(&[]);
+    let mut source = MemSource::new(&FIRST);
     let mut reader = PesReader::new();
-    assert_answers(&rt, &mut reader, &mut none, Ok(false), 0);
-    assert!(rt; matches!(reader.next(&mut none), Ok(None)));
-
-    let mut one = MemSource::new(&FIRST);
-    let mut reader = PesReader::new();
-    assert_answers(&rt, &mut reader, &mut one, Ok(true), 0);
-    assert_answers(&rt, &mut reader, &mut one, Ok(false), 0);
-    assert_answers(&rt, &mut reader, &mut one, Ok(false), 0);
+    assert_answers(&rt, &mut reader, &mut source, Ok(true), 0);
+    assert_answers(&rt, &mut reader, &mut source, Ok(false), 0);
+    assert_answers(&rt, &mut reader, &mut source, Ok(false), 0);
 }
 
 #[test]
@@ -117,39 +112,29 @@ fn puts_25_packets_in_seven_payloads(rt: HostRuntime) {
     assert_stands(&rt, &bytes, 1242, &[0xFF, 0x2C, 0xFF]);
 }
 
-// Asserts the field and the line of a unit that carries the row, by its number.
-fn assert_numbered(rt: &impl Abort, number: u8, unit: &Unit) {
-    let row = Packet::new(ROW);
-    assert!(rt; number < 25);
-    let want = if number < 16 {
-        Unit::new(3, 1, number + 7, row)
-    } else {
-        Unit::new(3, 2, number - 9, row)
-    };
-    assert_same_in(rt, unit, &want, &number);
-}
-
 #[test]
-fn numbers_the_lines_of_25_packets(rt: HostRuntime) -> Result<(), Fail> {
-    let frame = read_one(&put_25(&rt))?;
-    assert_same(&rt, &frame.units().len(), &25);
-    let mut number = 0;
-    for unit in frame.units() {
-        assert!(rt; number < 25);
-        assert_numbered(&rt, number, unit);
-        number += 1;
+fn numbers_the_lines_of_25_packets(rt: HostRuntime) {
+    let bytes = put_25(&rt);
+    // lines 7 to 22 of the first field, and from 7 on of the second
+    for number in 0..25u8 {
+        let line = if number < 16 {
+            0xE7 + number
+        } else {
+            0xB7 + number
+        };
+        assert_stands(&rt, &bytes, 48 + 46 * number as usize, &[line, 0xE4]);
     }
-    Ok(())
 }
 
 #[test]
 fn a_repeated_pes_packet_is_put_with_the_pts_that_was_set_last(rt: HostRuntime) {
-    let mut packet = RepeatedPacket::of_packets(&[Packet::new(ROW); 25]);
+    let packets = [Packet::new(HEADER), Packet::new(ROW), Packet::new(CLOSING)];
+    let mut packet = RepeatedPacket::of_packets(&packets);
     packet.set_pts(1);
     packet.set_pts(3_240_000_000);
-    let mut room = [0; 1656];
+    let mut room = [0; 184];
     assert_same(&rt, &packet.put(&mut MemSink::new(&mut room)), &Ok(()));
-    assert!(rt; room == put_25(&rt));
+    assert!(rt; room == FIRST);
 }
 
 #[test]
@@ -159,12 +144,16 @@ fn a_frame_gives_back_what_breaks_its_order(rt: HostRuntime) {
     assert_same(&rt, &frame.add(Unit::new(2, 2, 7, packet)), &Ok(()));
     let first_field = Unit::new(3, 1, 8, packet);
     assert_same(&rt, &frame.add(first_field), &Err(first_field));
-    let more = Unit::default();
-    for _ in 0..34 {
-        assert_same(&rt, &frame.add(more), &Ok(()));
+}
+
+#[test]
+fn a_frame_gives_back_a_36th_unit(rt: HostRuntime) {
+    let mut frame = PesFrame::new(0);
+    let unit = Unit::default();
+    for number in 0..35 {
+        assert_same_in(&rt, &frame.add(unit), &Ok(()), &number);
     }
-    assert_same(&rt, &frame.add(more), &Err(more));
-    assert_same(&rt, &frame.units().len(), &35);
+    assert_same(&rt, &frame.add(unit), &Err(unit));
 }
 
 // A schedule's first PES packet, twice.
@@ -207,8 +196,8 @@ fn a_failing_pull_is_told_at_once_and_ends_the_reader(rt: HostRuntime) {
 }
 
 #[test]
-fn a_failing_push_ends_the_writer(rt: HostRuntime) -> Result<(), Fail> {
-    let frame = read_one(&FIRST)?;
+fn a_failing_push_ends_the_writer(rt: HostRuntime) {
+    let frame = first_frame();
     for number in 0..184 {
         let mut sink = FailAt::new(Trickle, number);
         let mut writer = PesWriter::new();
@@ -229,18 +218,22 @@ fn a_failing_push_ends_the_writer(rt: HostRuntime) -> Result<(), Fail> {
     // A byte a push: there are 184.
     let answer = PesWriter::new().put(&mut FailAt::new(Trickle, 184), &frame);
     assert_same(&rt, &answer, &Ok(()));
-    Ok(())
+}
+
+// Asserts what is written of a frame where there is room for so many bytes.
+fn assert_leaves(rt: &impl Abort, frame: &PesFrame, len: usize) {
+    let mut room = [0; 184];
+    assert!(rt; len < 184);
+    let mut sink = MemSink::new(&mut room[..len]);
+    let answer = PesWriter::new().put(&mut sink, frame);
+    assert_same_in(rt, &answer, &Err(PesFault::Write), &len);
+    assert_same_in(rt, &sink.written(), &&FIRST[..len], &len);
 }
 
 #[test]
-fn a_failing_push_leaves_a_prefix(rt: HostRuntime) -> Result<(), Fail> {
-    let frame = read_one(&FIRST)?;
+fn a_failing_push_leaves_a_prefix(rt: HostRuntime) {
+    let frame = first_frame();
     for len in 0..184usize {
-        let mut room = [0; 184];
-        let mut sink = MemSink::new(&mut room[..len]);
-        let answer = PesWriter::new().put(&mut sink, &frame);
-        assert_same_in(&rt, &answer, &Err(PesFault::Write), &len);
-        assert!(rt; sink.written() == &FIRST[..len], "{len}");
+        assert_leaves(&rt, &frame, len);
     }
-    Ok(())
 }

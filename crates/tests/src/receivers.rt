@@ -147,10 +147,6 @@ fn tells_what_a_packet_is(rt: HostRuntime) {
     assert_is(&rt, NO_ADDRESS, PacketKind::Other);
     let header = packet(HEADER).header().expect(&rt, "a header");
     assert_is(&rt, HEADER, PacketKind::ThisPage(header));
-}
-
-#[test]
-fn gives_the_header_with_what_a_packet_is(rt: HostRuntime) {
     let page_id = PageId::parse("888").expect(&rt, "page 888");
     assert_same(&rt, &Keep::tune(page_id, Page::blank()).watched(), &page_id);
     let another = packet(PAGE_188);

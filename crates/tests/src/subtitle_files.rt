@@ -1,7 +1,7 @@
-//! Subtitle files that are read, refused and normalised, one topic a file.
+//! Subtitle files that are read and normalised, one topic a file. Those that are refused are tried
+//! on the built program by `tools/check-every-place`.
 
 mod devices;
 mod fields;
 mod files;
 mod normalising;
-mod refusals;

@@ -140,6 +140,15 @@ KNOWN = [
     Known("one that can't be read, from a source that fails later", HELLO,
           poked(SENT_25, {413: 0x20}), "",
           [trusted("00:00", "00:24"), "refused 37 DataId pes 2", "fault 41 Read pes 3"], True),
+    # The data field of the second is compared with that of the first from byte 45 on to the end.
+    *[Known(f"{what} in a data field that is sent again", HELLO, poked(SENT_25, {184 + at: byte}),
+            "", ["accepted 51 frames 3 transmissions"])
+      for what, at, byte in (("another flag", 6, 0x85), ("other stuffing", 44, 0xFE),
+                             ("another data_identifier", 45, 0x11), ("another last byte", 183, 5))],
+    Known("an even byte in a data field that is sent again", HELLO,
+          poked(SENT_25, {184 + 117: 0x12}), "",
+          [trusted("00:00", "00:24"), "refused 68 Parity frame 10:00:01:00 packet 1", LAST,
+           "1 faults"]),
     Known("no PES packet", HELLO, b"", "", ["refused 60 Empty", "1 faults"]),
     Known("no erase, an even byte, cut", HELLO, poked(SENT, {**EVEN_H, **NO_ERASE})[:-1], "",
           ["refused 67 Control frame 10:00:00:00 packet 0",

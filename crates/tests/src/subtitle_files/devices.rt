@@ -8,15 +8,6 @@ use stl_file::{StlFault, StlReader};
 use sub_io::{FailAt, Source};
 
 #[test]
-fn reads_a_byte_a_pull(rt: HostRuntime) {
-    let file = a_file();
-    assert_same(&rt, &read_all(&mut Drip { rest: &file }), &(2, None, 5));
-    let (cut, _) = file.split_at(1100);
-    let truncated = read_all(&mut Drip { rest: cut });
-    assert_same(&rt, &truncated, &(0, Some(StlFault::Truncated), 1));
-}
-
-#[test]
 fn tells_the_block_of_the_byte_that_could_not_be_read(rt: HostRuntime) {
     let file = a_file();
     for k in 0..1665 {

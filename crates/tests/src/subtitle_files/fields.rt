@@ -1,8 +1,8 @@
 //! Each field at its place.
 
-use super::files::{ALONE, a_file};
+use super::files::a_file;
 use crate::asserting::{assert_same, assert_same_in};
-use fixtures::block;
+use fixtures::put;
 use std::process::Abort;
 use stl_file::{Gsi, StlReader, Subtitle, TimeCode, Tti, five_digits_of};
 use sub_io::MemSource;
@@ -96,7 +96,7 @@ fn sets_the_counts_and_nothing_else(rt: HostRuntime) {
     let mut bytes = [b'x'; 1024];
     let mut gsi = Gsi::read(&bytes);
     gsi.set_counts(2, 99999);
-    bytes[238..248].copy_from_slice(b"0000299999".as_slice());
+    put(&mut bytes, 238, b"0000299999");
     assert!(rt; gsi.bytes().as_slice() == bytes.as_slice());
     assert!(rt; five_digits_of(1234) == *b"01234");
 }
@@ -120,25 +120,13 @@ fn reads_each_tti_field_at_its_place(rt: HostRuntime) {
     assert!(rt; tti.write().as_slice() == bytes.as_slice());
 }
 
-// Asserts the frame of a time code: hours, minutes, seconds, frames.
-fn assert_counts(rt: &impl Abort, code: [u8; 4], want: Option<u32>) {
-    let frame = match TimeCode::new(code[0], code[1], code[2], code[3]) {
-        Some(time) => Some(time.frame()),
-        None => None,
-    };
-    assert_same_in(rt, &frame, &want, &code);
-}
-
 #[test]
 fn counts_frames_of_the_day(rt: HostRuntime) {
-    assert_counts(&rt, [0, 0, 0, 0], Some(0));
-    assert_counts(&rt, [10, 0, 2, 0], Some(900_050));
-    assert_counts(&rt, [23, 59, 59, 24], Some(2_159_999));
-    assert_counts(&rt, [23, 59, 59, 25], None);
-    assert_counts(&rt, [24, 0, 0, 0], None);
-    assert_counts(&rt, [0, 60, 0, 0], None);
-    assert_counts(&rt, [0, 0, 60, 0], None);
-    assert!(rt; TimeCode::of_frame(2_159_999).to_bytes() == [23, 59, 59, 24]);
+    let last = TimeCode::new(23, 59, 59, 24).expect(&rt, "the last frame");
+    assert_same(&rt, &last.frame(), &2_159_999);
+    assert!(rt; last == TimeCode::of_frame(2_159_999) && last.to_bytes() == [23, 59, 59, 24]);
+    assert!(rt; TimeCode::new(23, 59, 59, 25).is_none() && TimeCode::new(24, 0, 0, 0).is_none());
+    assert!(rt; TimeCode::new(0, 60, 0, 0).is_none() && TimeCode::new(0, 0, 60, 0).is_none());
 }
 
 // Asserts whether a subtitle is taken of these frames in and out, row and justification, and text.
@@ -163,22 +151,6 @@ fn takes_what_a_subtitle_can_be(rt: HostRuntime) {
     assert_takes(&rt, [0, 1], [20, 4], b"A", false);
     // unused space
     assert_takes(&rt, [0, 1], [20, 2], &[b'A', 0x8f], false);
-}
-
-// Asserts SGN, SN, VP, JC, TCI and TCO of the next subtitle, its text, and the block then.
-fn assert_reads(
-    rt: &impl Abort,
-    reader: &mut StlReader,
-    source: &mut MemSource,
-    fields: (u8, u16, u8, u8, u32, u32),
-    text: &[u8],
-    block: u32,
-) {
-    match reader.next(source) {
-        Ok(Some(subtitle)) => assert_holds(rt, &subtitle, fields, text),
-        _ => panic!(rt; "no subtitle before block {block}"),
-    }
-    assert_same(rt, &reader.block(), &block);
 }
 
 // Asserts SGN, SN, VP, JC, TCI and TCO of a subtitle, and its text.
@@ -206,37 +178,17 @@ fn gives_the_fields_of_the_first_block_and_the_text_of_all(rt: HostRuntime) {
     assert!(rt; reader.gsi().tnb() == b"99999".as_slice() && reader.block() == 0);
     let mut text = [b'A'; 224];
     text[112..].copy_from_slice(&[b'B'; 112]);
-    let first = (7, 0x0105, 20, 2, 25, 50);
-    assert_reads(&rt, &mut reader, &mut source, first, &text, 4);
-    let second = (7, 0x0106, 1, 0, 50, 124);
-    assert_reads(&rt, &mut reader, &mut source, second, b"Hi", 5);
-    assert!(rt; matches!(reader.next(&mut source), Ok(None)));
-    assert!(rt; matches!(reader.next(&mut source), Ok(None)));
-    assert!(rt; Tti::read(&block(&ALONE, b"Hi")).sn() == 0x0106);
-}
-
-#[test]
-fn reads_each_subtitle_into_one_that_is_kept(rt: HostRuntime) {
-    let file = a_file();
-    let mut source = MemSource::new(&file);
-    let mut reader = StlReader::open(&mut source).expect(&rt, "it is read");
+    match reader.next(&mut source) {
+        Ok(Some(subtitle)) => assert_holds(&rt, &subtitle, (7, 0x0105, 20, 2, 25, 50), &text),
+        _ => panic!(rt; "no subtitle"),
+    }
+    assert_same(&rt, &reader.block(), &4);
     let mut subtitle = Subtitle::empty();
     assert_holds(&rt, &subtitle, (0, 0, 1, 0, 0, 1), &[]);
-    assert_same(
-        &rt,
-        &reader.next_into(&mut source, &mut subtitle),
-        &Ok(true),
-    );
-    assert_same(&rt, &(subtitle.text().len(), reader.block()), &(224, 4));
-    assert_same(
-        &rt,
-        &reader.next_into(&mut source, &mut subtitle),
-        &Ok(true),
-    );
+    let next = reader.next_into(&mut source, &mut subtitle);
+    assert_same(&rt, &(next, reader.block()), &(Ok(true), 5));
     assert_holds(&rt, &subtitle, (7, 0x0106, 1, 0, 50, 124), b"Hi");
-    assert_same(
-        &rt,
-        &reader.next_into(&mut source, &mut subtitle),
-        &Ok(false),
-    );
+    assert!(rt; matches!(reader.next(&mut source), Ok(None)));
+    let end = reader.next_into(&mut source, &mut subtitle);
+    assert_same(&rt, &end, &Ok(false));
 }

@@ -1,6 +1,5 @@
 //! Files as bytes, and what a reader says of a whole source.
 
-ghost use Rattle.std.specs.Prelude.{◌≡◌, length};
 ghost use Rattle.sub_io.specs.Device.{CanFail};
 
 use fixtures::{block, gsi, put};
@@ -21,15 +20,6 @@ pub(crate) const COMMENT: [u8; 16] = [7, 5, 1, 0xff, 9, 9, 99, 9, 9, 9, 9, 9, 9,
 
 /// User data: EBN FE, whatever its CF.
 pub(crate) const USER_DATA: [u8; 16] = [9, 9, 9, 0xfe, 9, 9, 9, 9, 9, 9, 9, 9, 9, 99, 9, 9];
-
-/// Sets one byte, where the file is so long.
-pub(crate) fn set(file: &mut [u8], at: usize, byte: u8)
-    ensures { length file.new ≡ length file.old }
-{
-    if at < file.len() {
-        file[at] = byte;
-    }
-}
 
 /// A comment, a subtitle of two blocks with user data between them, and a subtitle of one block
 /// with two bytes of text: 2 subtitles in 5 blocks.
