@@ -44,7 +44,7 @@ EVEN_H = {117: 0x12}  # the row's H with even parity
 NO_ERASE = {55: 0xA8}  # C4 clear in the first header
 NO_END = {138: 0xFF}  # the first closing header a stuffing unit
 ROW = mirrored(SENT[96:138])  # row 22
-OTHER_ROW = bytes(ROW[:21]) + b"\x68" + bytes(ROW[22:])  # with an h in place of its H
+OTHER_ROW = poked(ROW, {21: 0x68})  # with an h in place of its H
 PAGE, WHOLE = [HEADER, CLOSING], [HEADER, ROW, CLOSING]
 
 
