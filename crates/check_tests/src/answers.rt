@@ -27,20 +27,10 @@ pub fn assert_prints<'a, S: Ahead, T: Ahead>(
     assert_right(rt, is_right, words);
 }
 
-/// Asserts what is printed of two files in memory for the words of a check with `--all`, and the
-/// status; and that without it the first line that tells no trusted frames is printed.
+/// Asserts what is printed of two files in memory for the words of a check with `--all`, in two
+/// parts, and the status; and that without it the first line that tells no trusted frames is
+/// printed.
 pub fn assert_all<'a>(
-    rt: &(impl Abort + Alloc<A = Global>),
-    words: &'a [&'a str],
-    first: &[u8],
-    second: &[u8],
-    lines: &str,
-) {
-    assert_all_parts(rt, words, first, second, lines, "");
-}
-
-/// Asserts what is printed for the words of a check with `--all`, in two parts.
-pub fn assert_all_parts<'a>(
     rt: &(impl Abort + Alloc<A = Global>),
     words: &'a [&'a str],
     first: &[u8],

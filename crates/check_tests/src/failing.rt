@@ -1,7 +1,7 @@
 //! Sources that fail at one call, give a byte at a time, or never end: the line names the block or
 //! the PES packet of the byte that was asked for, or tells a fault that was found before.
 use crate::answers::assert_prints;
-use crate::asserting::{assert_same, assert_same_in};
+use crate::asserting::assert_same_in;
 use answer_fixtures::{ACCEPTED, CHECK, SCHEDULE, answer_words};
 use fixtures::{
     Counting, Drip, Endless, FIRST, SECOND, file_of_hi, file_of_three, gsi, schedule_of_hi,
@@ -127,28 +127,21 @@ fn assert_fails(
     (stl.pulls, stl.failures(), pes.pulls, pes.failures())
 }
 
-// Asserts the line of a check where the PES source fails at each pull from one on, up to another.
 // 1152 pulls of the subtitle source give a byte each, and one the end; so do 368 of the PES source.
-fn assert_fails_from(
-    rt: &(impl Abort + Alloc<A = Global>),
-    pulls: (u64, u64),
-    want: &str,
-    failures: u64,
-) {
-    let pes = schedule_of_hi();
-    for pull in pulls.0..pulls.1 {
-        let counts = assert_fails(rt, &pes, 1153, pull, want);
-        let asked = if pull < 369 { pull + 1 } else { 369 };
-        assert_same_in(rt, &counts, &(1153, 0, asked, failures), &pull);
-    }
-}
-
 #[test]
 fn tells_the_pes_packet_of_a_failing_pull(rt: HostRuntime) {
-    assert_fails_from(&rt, (0, 184), "fault 41 Read pes 0\n", 1);
-    assert_fails_from(&rt, (184, 368), "fault 41 Read pes 1\n", 1);
-    assert_fails_from(&rt, (368, 369), "fault 41 Read pes 2\n", 1);
-    assert_fails_from(&rt, (369, 370), ACCEPTED, 0);
+    let pes = schedule_of_hi();
+    for pull in 0..369 {
+        let want = match pull {
+            0..=183 => "fault 41 Read pes 0\n",
+            184..=367 => "fault 41 Read pes 1\n",
+            _ => "fault 41 Read pes 2\n",
+        };
+        let counts = assert_fails(&rt, &pes, 1153, pull, want);
+        assert_same_in(&rt, &counts, &(1153, 0, pull + 1, 1), &pull);
+    }
+    let counts = assert_fails(&rt, &pes, 1153, 369, ACCEPTED);
+    assert_same_in(&rt, &counts, &(1153, 0, 369, 0), &ACCEPTED);
 }
 
 #[test]
@@ -161,21 +154,19 @@ fn tells_a_broken_rule_before_the_pull_that_fails_after_it(rt: HostRuntime) {
     assert_fails(&rt, &pes, 1153, 368, even);
 }
 
-// Asserts the line of a check where the subtitle source fails at each pull from one on, up to
-// another. The PES source would fail too.
-fn assert_fails_before(rt: &(impl Abort + Alloc<A = Global>), pulls: (u64, u64), want: &str) {
-    let pes = schedule_of_hi();
-    for pull in pulls.0..pulls.1 {
-        let counts = assert_fails(rt, &pes, pull, 0, want);
-        assert_same_in(rt, &counts, &(pull + 1, 1, 0, 0), &pull);
-    }
-}
-
+// The PES source would fail too.
 #[test]
 fn tells_the_block_of_a_failing_pull(rt: HostRuntime) {
-    assert_fails_before(&rt, (0, 1024), "fault 26 Read block 0\n");
-    assert_fails_before(&rt, (1024, 1152), "fault 26 Read block 1\n");
-    assert_fails_before(&rt, (1152, 1153), "fault 26 Read block 2\n");
+    let pes = schedule_of_hi();
+    for pull in 0..1153 {
+        let want = match pull {
+            0..=1023 => "fault 26 Read block 0\n",
+            1024..=1151 => "fault 26 Read block 1\n",
+            _ => "fault 26 Read block 2\n",
+        };
+        let counts = assert_fails(&rt, &pes, pull, 0, want);
+        assert_same_in(&rt, &counts, &(pull + 1, 1, 0, 0), &pull);
+    }
 }
 
 // Asserts the line of a check of a subtitle source that gives some bytes, and then others without
@@ -185,7 +176,7 @@ fn assert_ends_stl(rt: &(impl Abort + Alloc<A = Global>), rest: &[u8], again: &[
     let inner = MemSource::new(&[]);
     let mut pes = Counting { inner, pulls: 0 };
     assert_prints(rt, &CHECK, &mut stl, &mut pes, &[], want);
-    assert_same(rt, &pes.pulls, &0);
+    assert_same_in(rt, &pes.pulls, &0, &want);
 }
 
 // Asserts the line of a check of a PES source that gives these bytes without end.

@@ -23,8 +23,6 @@ mod live;
 #[cfg(test)]
 mod passed_over;
 #[cfg(test)]
-mod reading_on;
-#[cfg(test)]
 mod stopped;
 #[cfg(test)]
 mod trusted;

@@ -1,7 +1,7 @@
 //! `check --all` where a device fails, or gives no end: what was found before is told, and last of
 //! all the fault, where the output takes it.
 use crate::answers::{assert_fills, assert_prints};
-use crate::asserting::{assert_same, assert_same_in};
+use crate::asserting::assert_same_in;
 use crate::every_fault::OF_FIVE;
 use answer_fixtures::{ACCEPTED, CHECK_ALL, answer_words, first_lines};
 use fixtures::{Counting, Drip, Endless, FIRST, file_of_five, file_of_hi, schedule_of_hi};
@@ -85,7 +85,7 @@ fn ends_on_a_source_without_end_where_the_output_is_full(rt: HostRuntime) {
     let status = answer_words(rt.alloc(), words, &mut stl, &mut pes, &mut file, &mut out);
     let lines = b"refused 62 Order pes 1\nrefused 62 Order pes 2\nrefused 62 Order p";
     assert!(rt; status == Status::Fault && out.written() == lines.as_slice());
-    assert_same(&rt, &pes.pulls, &4);
+    assert_same_in(&rt, &pes.pulls, &4, &lines);
 }
 
 // Asserts what is told where a PES source gives a byte a pull and fails at one of these, or at none

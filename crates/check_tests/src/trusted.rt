@@ -23,29 +23,6 @@ const ALL: &str = "trusted frames 10:00:00:00 10:00:00:24\n\
     trusted frames 10:00:02:00 10:00:02:00\n\
     1 faults\n";
 
-// Asserts what is told of the first bytes of a transmission.
-fn assert_told_cut(rt: &(impl Abort + Alloc<A = Global>), pes: &[u8], len: usize, lines: &str) {
-    assert!(rt; len <= pes.len());
-    assert_told(rt, &pes[..len], &[], lines);
-}
-
-// What is cut off may have been sent in the last frame that was read; where a file ends, nothing
-// is.
-#[rattlefmt::skip]
-#[test]
-fn doubts_the_last_frame_where_bytes_are_left(rt: HostRuntime) {
-    let cut = "refused 30 Truncated pes 1\n1 faults\n";
-    assert_told_cut(&rt, &schedule_of_hi(), 367, cut);
-    assert_told_cut(&rt, &schedule_of_hi(), 184,
-        "trusted frames 10:00:00:00 10:00:00:00\n\
-        refused 74 Late frame 10:00:00:00\n\
-        1 faults\n");
-    assert_told_cut(&rt, &every_second(), 551,
-        "trusted frames 10:00:00:00 10:00:00:24\n\
-        refused 30 Truncated pes 2\n\
-        1 faults\n");
-}
-
 // An even byte in the first row: the first header after it is a second later.
 #[rattlefmt::skip]
 #[test]

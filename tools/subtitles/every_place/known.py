@@ -4,8 +4,12 @@ from __future__ import annotations
 import os
 from typing import NamedTuple
 
+from ..pes import pes_packet
 from ..preview import TOP
 from ..stl import GSI, TTI, subtitle_blocks
+from ..teletext import mirrored
+from ..times import TICKS
+from .one_rule import CLOSING, HEADER, PACKET_26, coded
 
 
 class Known(NamedTuple):
@@ -39,6 +43,9 @@ BLANK = SENT_25[368:]  # the last of these: a page without rows
 EVEN_H = {117: 0x12}  # the row's H with even parity
 NO_ERASE = {55: 0xA8}  # C4 clear in the first header
 NO_END = {138: 0xFF}  # the first closing header a stuffing unit
+ROW = mirrored(SENT[96:138])  # row 22
+OTHER_ROW = poked(ROW, {21: 0x68})  # with an h in place of its H
+PAGE, WHOLE = [HEADER, CLOSING], [HEADER, ROW, CLOSING]
 
 
 HI = b"\x0d\x0b\x0bHi\x0a\x0a"
@@ -73,6 +80,83 @@ def refused_between() -> bytes:
     has ended."""
     late = subtitle_blocks(1, 900_000, 900_050, 22, 2, HI)
     return HELLO + poked(late, {8: 25}) + subtitle_blocks(2, 900_040, 900_060, 22, 2, HI)
+
+
+def refused_eight() -> bytes:
+    """A text of each kind that can't be drawn, then such a one that begins before the one before
+    it has ended, and one that begins before that."""
+    texts = [(0, 10, 22, b"\x0e"), (10, 20, 22, b"\xc2e"), (20, 30, 22, b"A" * 40),
+             (30, 40, 23, b"A\x8aB"), (40, 50, 23, b"\x0dA"), (50, 60, 20, b"\x0dA\x8aB"),
+             (55, 70, 22, b"\x0e"), (54, 56, 22, b"ok")]
+    blocks = [subtitle_blocks(number, 900_000 + tci, 900_000 + tco, row, 2, text)
+              for number, (tci, tco, row, text) in enumerate(texts)]
+    return HELLO[:GSI] + b"".join(blocks)
+
+
+EIGHT = refused_eight()
+NINTH = subtitle_blocks(8, 900_000, 900_050, 22, 2, HI)
+OPEN_NINTH = poked(NINTH, {3: 0})  # the first block of a subtitle of more
+OF_EIGHT = ["refused 51 Control block 1 at 0", "refused 50 Character block 2 at 0",
+            "refused 52 RowTooLong block 3 at 0", "refused 53 PastBottom block 4 at 1",
+            "refused 54 DoubleRow block 5 at 0", "refused 55 Hidden block 6 at 1",
+            "refused 57 Overlap block 7", "refused 51 Control block 7 at 0",
+            "refused 56 OutOfOrder block 8"]
+
+
+def after_eight(name: str, blocks: bytes, *last: str) -> Known:
+    """The eight subtitles and more blocks, and the line that is told of these."""
+    return Known(f"eight subtitles and {name}", EIGHT + blocks, SENT, "",
+                 [*OF_EIGHT, *last, f"{len(OF_EIGHT) + len(last)} faults"])
+
+
+def sent_at(*frames: tuple[int, list[bytes]]) -> bytes:
+    """The PES packets of these frames, counted from 10:00:00:00."""
+    return b"".join(pes_packet((900_000 + frame) * TICKS, packets) for frame, packets in frames)
+
+
+def of_every_rule() -> bytes:
+    """The first PES packet is late and has no header of the page. The second is of the same frame:
+    its header has a wrong bit, C4 clear and C11 set; in its row a bit of the address and one of a
+    letter are wrong; another row follows, and packet 26."""
+    header = poked(HEADER, {3: 0xD1, 5: 0x15, 9: 0x02})
+    row = poked(ROW, {1: 0x9A, 21: 0x48})
+    return sent_at((1, [poked(CLOSING, {8: 0x14})]),
+                   (1, [header, row, OTHER_ROW, PACKET_26]), (50, PAGE))
+
+
+def after_even(name: str, changes: dict[int, int], *told: str) -> Known:
+    """The second PES packet can't be read after an even byte in the first."""
+    second = {184 + at: byte for at, byte in changes.items()}
+    return Known(f"an even byte, then {name}", HELLO, poked(SENT, {**EVEN_H, **second}), "",
+                 ["refused 68 Parity frame 10:00:00:00 packet 1", *told, f"{1 + len(told)} faults"])
+
+
+def of_ends() -> bytes:
+    """A page that stays open, and gets a wrong row 20 and later a wrong row 19; then a PES packet
+    whose PTS is no frame's."""
+    wrong = {19: 0x0B, 20: 0x0B, 21: 0x0D, 23: 0x8A, 24: 0x8A}
+    return sent_at((0, [HEADER, ROW]), (24, [poked(coded("15 8C"), {**wrong, 22: 0xC1})]),
+                   (30, [poked(coded("D0 C7"), {**wrong, 22: 0xC2})])
+                   ) + pes_packet(3_240_144_001, [CLOSING])
+
+
+ENDS = ["refused 77 Incomplete frame 10:00:00:00",
+        "refused 72 Content frame 10:00:00:24 row 20 column 17",
+        "refused 73 Gap frame 10:00:01:00", "ended 72 Content frame 10:00:01:04",
+        "refused 72 Content frame 10:00:01:05 row 19 column 17"]
+ALL_END = [f"ended {fault} frame 10:00:01:05"
+           for fault in ("72 Content", "73 Gap", "77 Incomplete")]
+LATE, LATE_END = "refused 74 Late frame 10:00:00:00", "refused 74 Late frame 10:00:01:05"
+
+
+def again(name: str, first: list[bytes], later: list[bytes], end: int, every: int,
+          *lines: str) -> Known:
+    """Packets at 10:00:00:00, others in each later frame before the end, and the page without a row
+    two seconds later where that is the end."""
+    frames = [(0, first), *((frame, later) for frame in range(1, end))]
+    if end == 50:
+        frames.append((end, PAGE))
+    return Known(f"sent again: {name}", HELLO, sent_at(*frames), f"--every {every}", list(lines))
 
 
 OF_FIVE = ["refused 57 Overlap block 2", "refused 50 Character block 2 at 3",
@@ -181,4 +265,62 @@ KNOWN = [
           ["refused 21 EmptyTime block 1", "refused 22 Sequence block 2", "2 faults"]),
     Known("a refused subtitle between two", refused_between(), SENT, "",
           ["refused 20 Time block 2", "refused 57 Overlap block 3", "2 faults"]),
+    after_eight("no more", b""),
+    after_eight("EBN", poked(NINTH, {3: 0xF0}), "refused 15 Extension block 9"),
+    after_eight("CS", poked(NINTH, {4: 1}), "refused 16 Cumulative block 9"),
+    after_eight("CF", poked(NINTH, {15: 2}), "refused 17 CommentFlag block 9"),
+    after_eight("JC", poked(NINTH, {14: 4}), "refused 18 Justify block 9"),
+    after_eight("VP", poked(NINTH, {13: 0}), "refused 19 Row block 9"),
+    after_eight("the hours of TCI", poked(NINTH, {5: 24}), "refused 20 Time block 9"),
+    after_eight("a TCO that is TCI", poked(NINTH, {11: 0}), "refused 21 EmptyTime block 9"),
+    after_eight("a first block", OPEN_NINTH, "refused 24 Unfinished block 9"),
+    after_eight("two first blocks", OPEN_NINTH + poked(OPEN_NINTH, {1: 9}),
+                "refused 22 Sequence block 10"),
+    after_eight("ten first blocks", OPEN_NINTH * 10, "refused 23 TooLong block 18"),
+    after_eight("comments up to the last block and after it", poked(NINTH, {15: 1}) * 99_992,
+                "refused 25 TooManyBlocks block 100000"),
+    after_even("another start code", {0: 1}, "refused 31 Start pes 1"),
+    after_even("another length", {5: 0xB1}, "refused 32 Length pes 1"),
+    after_even("other flags", {6: 0x44}, "refused 33 Flags pes 1", LATE),
+    after_even("no PTS", {7: 0}, "refused 34 NoTime pes 1", LATE),
+    after_even("another header length", {8: 0x25}, "refused 35 HeaderLength pes 1", LATE),
+    after_even("a marker bit of the PTS", {9: 0x26}, "refused 36 Time pes 1", LATE),
+    after_even("a PTS of no frame", {12: 0x73}, "refused 61 OffFrame pes 1", LATE),
+    after_even("another data_identifier", {45: 0x20}, "refused 37 DataId pes 1", LATE),
+    after_even("a unit's length", {47: 0x2D}, "refused 38 UnitLength pes 1", LATE),
+    after_even("another framing code", {49: 0xE5}, "refused 39 Framing pes 1", LATE),
+    after_even("two units on one line", {94: 0xE7}, "refused 40 LineOrder pes 1", LATE),
+    Known("an even byte in the first PES packet alone", HELLO, poked(SENT, EVEN_H)[:184], "",
+          ["refused 68 Parity frame 10:00:00:00 packet 1", LATE, "2 faults"]),
+    Known("each rule of packets after another", HELLO, of_every_rule(), "--complete",
+          ["refused 63 Early frame 10:00:00:01", "refused 65 HeaderCode frame 10:00:00:01 packet 0",
+           "refused 71 NoFirstHeader frame 10:00:00:01",
+           "refused 72 Content frame 10:00:00:01 row 22 column 16", "refused 62 Order pes 1",
+           "refused 65 HeaderCode frame 10:00:00:01 packet 0",
+           "refused 66 Mode frame 10:00:00:01 packet 0",
+           "refused 67 Control frame 10:00:00:01 packet 0",
+           "refused 64 Address frame 10:00:00:01 packet 1",
+           "refused 68 Parity frame 10:00:00:01 packet 1",
+           "refused 69 RowChanged frame 10:00:00:01 packet 2",
+           "refused 70 Enhancement frame 10:00:00:01 packet 3",
+           "ended 72 Content frame 10:00:00:01", "refused 77 Incomplete frame 10:00:00:01",
+           "ended 77 Incomplete frame 10:00:01:24", "13 faults"]),
+    Known("all that stands ends at the end", HELLO, of_ends()[:552], "--every 25 --complete",
+          [*ENDS, *ALL_END, LATE_END, "5 faults"]),
+    Known("all that stands ends before a part of a PES packet", HELLO, of_ends()[:553],
+          "--every 25 --complete", [*ENDS, *ALL_END, "refused 30 Truncated pes 3", "5 faults"]),
+    Known("all that stands ends after a PTS of no frame", HELLO, of_ends(), "--every 25 --complete",
+          [*ENDS, "refused 61 OffFrame pes 3", *ALL_END, LATE_END, "6 faults"]),
+    again("whole", WHOLE, WHOLE, 50, 1, "accepted 51 frames 51 transmissions"),
+    again("twice in a frame", [HEADER, ROW] * 2, [HEADER, ROW] * 2, 50, 1,
+          "accepted 51 frames 101 transmissions"),
+    again("without a header", WHOLE, [CLOSING], 50, 25, trusted("00:00", "00:24"),
+          "refused 73 Gap frame 10:00:01:00", "ended 73 Gap frame 10:00:01:24", LAST, "1 faults"),
+    again("another row before the header", [OTHER_ROW, HEADER, ROW], [OTHER_ROW, HEADER, ROW], 50,
+          1, trusted("00:00", "00:00"),
+          *(f"refused 69 RowChanged frame 10:00:{frame // 25:02}:{frame % 25:02} packet 0"
+            for frame in range(1, 50)), LAST, "49 faults"),
+    again("open after the last TCO", [HEADER, ROW], [HEADER, ROW], 61, 1,
+          trusted("00:00", "01:24"), "refused 72 Content frame 10:00:02:00 row 22 column 16",
+          "ended 72 Content frame 10:00:02:10", "1 faults"),
 ]
