@@ -3,7 +3,7 @@ use crate::asserting::{assert_same, assert_same_in};
 use bitflags::Flags;
 use fixtures::{HEADER, packet_of};
 use std::process::Abort;
-use ttx_packet::{Control, Header, Packet, PageId, SentPacket, ham, is_word, mirrored};
+use ttx_packet::{Control, Header, Packet, PageId, SentPacket, ham, is_odd, is_word, mirrored};
 
 #[test]
 fn makes_and_reads_a_header(rt: HostRuntime) {
@@ -85,9 +85,35 @@ fn makes_and_reads_a_row(rt: HostRuntime) {
     let sent = packet.bytes();
     assert!(rt; sent[0] == 0x15 && sent[1] == 0x9B && sent[2] == 0xC1 && sent[41] == 0xC1);
     assert_same(&rt, &packet.first_even(), &None);
-    let mut bytes = [0x20; 42]; // even bytes in the address are none of the text
-    bytes[41] = 0xA0;
-    assert_same(&rt, &Packet::new(bytes).first_even(), &Some(39));
+}
+
+// The plain form of `first_even`, byte by byte.
+fn plain_first_even(packet: &Packet) -> Option<u8> {
+    for column in 0..40u8 {
+        if !is_odd(packet.data()[column as usize]) {
+            return Some(column);
+        }
+    }
+    None
+}
+
+#[test]
+fn finds_the_only_even_byte_at_each_place(rt: HostRuntime) {
+    for column in 0..40u8 {
+        let mut bytes = [0x20; 42];
+        bytes[column as usize + 2] = 0xA0;
+        let packet = Packet::new(bytes);
+        assert_same(&rt, &packet.first_even(), &Some(column));
+        assert_same_in(
+            &rt,
+            &packet.first_even(),
+            &plain_first_even(&packet),
+            &column,
+        );
+    }
+    // Even bytes in the address are none of the text.
+    let packet = Packet::new([0x20; 42]);
+    assert_same(&rt, &packet.first_even(), &plain_first_even(&packet));
 }
 
 #[test]
