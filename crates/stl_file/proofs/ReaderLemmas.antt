@@ -149,13 +149,5 @@ takes_passed from to old new l =
     (let o = l.outcome [] (λ _. refl) in grind (arith, append-nil)) in
     grind (arith, nat_tests, outcome_sound, append-nil, length-concat, no_group)
 
--- ---- one answer is no other: for `next_into`
-
-pub true_for_false : {P : Type 0} → (λ (r : Result Bool StlFault). r ≡ Ok false) (Ok true) → P
-true_for_false e = absurd cc
-
-pub false_for_true : {P : Type 0} → (λ (r : Result Bool StlFault). r ≡ Ok true) (Ok false) → P
-false_for_true e = absurd cc
-
-pub err_for_ok : {X E P : Type 0} {fault : E} {x : X} → Err fault ≡ Ok x → P
-err_for_ok e = absurd cc
+-- What bytes that lead to an answer say of it. For `next_into`.
+pub ruleset led = (answers, takes_subtitle, takes_passed, refuses)

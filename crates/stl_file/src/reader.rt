@@ -181,6 +181,7 @@ impl StlReader {
     /// # Errors
     ///
     /// Those of `next`.
+    #[tactic(auto, using(crate::proofs::ReaderLemmas::led))]
     pub fn next_into<S: Source>(
         &mut self,
         source: &mut S,

@@ -1,13 +1,11 @@
--- Where the source fails, and what was told before; main lemmas: fails-next,
--- fails-opening.
-use Rattle.std.proofs.Common.{◌≡◌, ℕ, ◌+◌, ◌*◌, ◌/◌, ◌<◌, List, ◌∷◌, ◌++◌, length, Option, [], Some}
+-- Where the source fails, and what was told before; main lemma: fails-next.
+use Rattle.std.proofs.Common.{◌≡◌, ℕ, ◌+◌, ◌*◌, ◌/◌, List, ◌∷◌, ◌++◌, length, Option, [], Some}
 use Rattle.std.proofs.Common.{Result, true, refl, arith, length-append}
 use Rattle.std.specs.Prelude.{is_ok}
 use Rattle.std.specs.Io.KnownBytes.{Consumes}
 use Rattle.std.specs.List.{All, filter}
 use Rattle.std.proofs.KnownBytes.{Consumes-trans}
 use Rattle.std.proofs.lemmas.Bool.Decides.{nat_tests}
-use Rattle.std.proofs.lemmas.Bool.{lt-ltb}
 use Rattle.sub_io.specs.Telling.{Tells}
 use Rattle.sub_io.proofs.TellingLemmas.{Tells-none}
 use Rattle.stl_file.specs.declared.fault.StlFault.{StlFault}
@@ -86,19 +84,7 @@ fails-next {start = start} {old} {new} reader {block} taken early_told told goes
     }
 
 -- While the GSI block is read: nothing was told.
-reads-nothing : (national : National) (file : List ℕ)
+pub reads-nothing : (national : National) (file : List ℕ)
     {D : Type 0} {IsTold : D → LoadFault → D → Type 0} (told : D)
     → Tells IsTold told told (filter (is_told_before 0) (faults national file))
 reads-nothing national file told = grind (arith, nat_tests, none_before-0, Tells-none)
-
--- It failed within that block.
-pub fails-opening : {national : National} {old new : Option (List ℕ)} {D : Type 0}
-    {IsTold : D → LoadFault → D → Type 0} (told : D)
-    → (bytes : List ℕ) × (length bytes < 1024) × Consumes old new bytes
-    → FailsTelling national old new IsTold told told 0
-fails-opening {national} told (bytes, short, consumed) = record {
-  bytes = bytes;
-  consumed = consumed;
-  block_is = rw (lt-ltb (length bytes) 1024 short) refl;
-  told = λ all is. reads-nothing national all told;
-}

@@ -40,7 +40,7 @@ use Rattle.stl_rows.specs.EveryFault.{is_told_before, is_of_file, is_unfinished,
 use Rattle.stl_rows.specs.Loading.{EndsRecord, load_fault, loaded, loaded_behind}
 use Rattle.stl_rows.specs.Programme.{IsProgramme, follow_faults, order_faults, row_faults}
 use Rattle.stl_rows.specs.Programme.{times_before, times_of}
-use Rattle.stl_rows.proofs.ProgrammeLemmas.{IsProgramme-none, IsProgramme-push, last_of-push}
+use Rattle.stl_rows.proofs.ProgrammeLemmas.{IsProgramme-push, last_of-push}
 use Rattle.stl_rows.specs.TextCode.{first_of}
 
 -- What reading a file gives, by what opening it gives.
@@ -127,20 +127,6 @@ order_alone : (before : Option Times) (t : Times)
     → first_alone (first_of (order_faults before t)) ≡ order_faults before t
 order_alone before t = grind (arith, nat_tests)
 
--- Both were told, one after the other.
-pub tells-follow : (national : National) (before : Option Times) (t : SubtitleValue) (block : ℕ)
-    {D : Type 0} {IsTold : D → LoadFault → D → Type 0} (old mid new : D)
-    (order row : Option LoadFaultKind)
-    → order ≡ first_of (order_faults before (times_of t))
-    → first_alone row ≡ row_faults (drawn national t)
-    → Tells IsTold old mid (map (load_fault block) (first_alone order))
-    → Tells IsTold mid new (map (load_fault block) (first_alone row))
-    → Tells IsTold old new (map (load_fault block) (follow_faults national before t))
-tells-follow national before t block old mid new order row is_order is_row p q =
-    let first : first_alone order ≡ order_faults before (times_of t) =
-    rw is_order (order_alone before (times_of t)) in
-    rw (← first, ← is_row, map-append) (Tells-trans old mid new _ _ p q)
-
 stops-whole : {D : Type 0} {IsTold : D → LoadFault → D → Type 0} {old new : D}
     {items : List LoadFault}
     → 0 < length items
@@ -181,17 +167,6 @@ pub record AreKept (national : National) (before : Option Times) (early : List L
   pub before_is : before ≡ times_before records
   pub none : early ≡ []
   pub programme : IsProgramme national records
-
--- At the start none is kept.
-pub are_kept-start : (national : National) (records : List SubtitleValue)
-    → Some [] ≡ Some records
-    → AreKept national None [] records
-are_kept-start national [] is = record {
-  before_is = refl;
-  none = refl;
-  programme = IsProgramme-none national;
-}
-are_kept-start national (t ∷ ts) is = absurd cc
 
 -- No faults are the first where there is none.
 none-first : {A : Type 0} (xs : List A) → is_none (first_of xs) ≡ true → xs ≡ []

@@ -1,8 +1,7 @@
 -- From base to base: sendings-step splits off the sendings of a stretch, steps-more the first of
 -- them.
-use Rattle.std.proofs.Common.{◌≡◌, ℕ, zero, suc, ◌+◌, ◌-◌, ◌%◌, ◌<◌, ◌≤◌, ◌==◌, Bool, false, true}
-use Rattle.std.proofs.Common.{List, ◌∷◌, ◌++◌, refl, sym, ap, ◌∙◌, arith, filter, eq-eqb, ne_eqb}
-use Rattle.std.proofs.Common.{[], inl, inr}
+use Rattle.std.proofs.Common.{◌≡◌, ℕ, zero, suc, ◌+◌, ◌-◌, ◌%◌, ◌<◌, ◌≤◌, ◌==◌, Bool, false, []}
+use Rattle.std.proofs.Common.{List, ◌∷◌, ◌++◌, refl, ap, ◌∙◌, arith, filter, eq-eqb, ne_eqb}
 use Rattle.std.proofs.lemmas.Bool.Decides.{nat_tests}
 use Rattle.std.proofs.Math.Nat.{add-mod_right, mod-eq_of_lt}
 use Rattle.std.proofs.lemmas.List.Elements.{filter-append}
@@ -11,7 +10,7 @@ use Rattle.ttx_page.specs.Page.{Rows}
 use Rattle.sub_plan.specs.Laws.{IsBase, IsLastBase}
 use Rattle.sub_plan.specs.Schedule.{is_sending, sendings_from}
 use Rattle.sub_plan.specs.Steps.{steps}
-use Rattle.sub_plan.proofs.ScheduleBases.{aligned-start, base-last, range_split, sends-last}
+use Rattle.sub_plan.proofs.ScheduleBases.{base-last, range_split}
 
 -- ---- ranges
 
@@ -22,7 +21,7 @@ filter_same p q a zero h = refl
 filter_same p q a (suc n) h =
     let tail : filter p (range_with_len (a + 1) n) ≡ filter q (range_with_len (a + 1) n) =
     filter_same p q (a + 1) n (λ j b c. h j (omega arith) (omega arith)) in
-    rw (h a (omega arith) (omega arith), tail) refl
+    grind (arith, nat_tests)
 
 -- Numbers that fail the test are left out.
 filter_skip : (p : ℕ → Bool) (k a n : ℕ) → ((j : ℕ) → a ≤ j → j < a + k → p j ≡ false)
@@ -62,10 +61,7 @@ steps-more every from end some inside =
     (λ j a c.
     let further : j - from ≡ j - (from + every) + every = omega arith in
     rw (further, add-mod_right (j - (from + every)) every) refl) in
-    let here : ((from - from) % every == 0) ≡ true = eq-eqb ((from - from) % every) 0
-    (aligned-start from every some) in
-    let behind : from + 1 + (every - 1) ≡ from + every = omega arith in
-    rw (e, here) (ap (λ (xs : List ℕ). from ∷ xs) ((rw (behind, g) at skip) ∙ same))
+    grind (arith, nat_tests)
 
 -- ---- from base to base
 
@@ -80,17 +76,7 @@ pub record IsStretch (due : ℕ → Rows) (first b end last : ℕ) : Type 0 wher
 -- In a stretch the last base is its first frame.
 last_base-in : (due : ℕ → Rows) (first b end last f : ℕ) → IsStretch due first b end last → b ≤ f
     → f < end → IsLastBase due first f b
-last_base-in due first b end last f s low high = record {
-  low = s.low;
-  high = low;
-  is_base = s.starts;
-  none_after = λ k after before is.
-      elim is [
-        | inl start ↦ omega (arith, start, s.low)
-        | inr changes ↦ changes (s.same k (omega arith) (omega arith)
-            ∙ sym (s.same (k - 1) (omega arith) (omega arith)))
-      ];
-}
+last_base-in due first b end last f s low high = grind (arith, nat_tests)
 
 -- In a stretch the sendings are the steps.
 is_sending-in : (due : ℕ → Rows) (every first b end last f : ℕ) → IsStretch due first b end last
@@ -118,7 +104,5 @@ sendings-step due every first b end last s =
 -- From the last frame on there is one sending.
 pub sendings-last : (due : ℕ → Rows) (every first last : ℕ)
     → sendings_from due every first last last ≡ last ∷ []
-unfolding sendings_from
-sendings-last due every first last =
-    let one : last + 1 - last ≡ 1 = omega arith in
-    rw (one, sends-last due every first last) refl
+unfolding sendings_from is_sending
+sendings-last due every first last = grind (arith, nat_tests, eq-eqb)

@@ -32,12 +32,8 @@ near_bytes (s ∷ sent) [] = false
 near_bytes (s ∷ sent) (g ∷ got) = is_near s g && near_bytes sent got
 
 bytes_tested : (sent got : List ℕ) → near_bytes sent got ≡ true → AreNear sent got
-bytes_tested [] [] e = tt
-bytes_tested [] (g ∷ got) e = absurd cc
-bytes_tested (s ∷ sent) [] e = absurd cc
-bytes_tested (s ∷ sent) (g ∷ got) e =
-    let both = and_parts (is_near s g) (near_bytes sent got) e in
-    (near_from_test s g both.0, bytes_tested sent got both.1)
+bytes_tested [] got e = grind (arith, nat_tests)
+bytes_tested (s ∷ sent) y e = grind (arith, nat_tests, and_parts, near_from_test, bytes_tested sent)
 
 -- The packets are near.
 abbrev pub near_packets : List (List ℕ) → List (List ℕ) → Bool
@@ -48,12 +44,9 @@ near_packets (s ∷ sent) (g ∷ got) = near_bytes s g && near_packets sent got
 
 pub packets_tested :
     (sent got : List (List ℕ)) → near_packets sent got ≡ true → AllZip AreNear sent got
-packets_tested [] [] e = tt
-packets_tested [] (g ∷ got) e = absurd cc
-packets_tested (s ∷ sent) [] e = absurd cc
-packets_tested (s ∷ sent) (g ∷ got) e =
-    let both = and_parts (near_bytes s g) (near_packets sent got) e in
-    (bytes_tested s g both.0, packets_tested sent got both.1)
+packets_tested [] got e = grind (arith, nat_tests)
+packets_tested (s ∷ sent) got e =
+    grind (arith, nat_tests, and_parts, bytes_tested, packets_tested sent)
 
 -- ---- a receiver that keeps the cells of even bytes
 
@@ -110,7 +103,7 @@ stepped : (k : PacketKind) (packet : List ℕ) (old : State)
 stepped (ThisPage h) packet old = refl
 stepped EndsPage packet old = refl
 stepped (Row y) packet old = elim (cases_Bool old.is_open) [
-  | inl up ↦ rw up (refl, refl, row_is_stored packet y old.page)
+  | inl up ↦ rw up (grind arith, grind arith, row_is_stored packet y old.page)
   | inr shut ↦ rw shut refl
 ]
 stepped Other packet old = refl
@@ -119,5 +112,4 @@ pub heard_so : (w : PageIdValue) (old : State) (packets : List (List ℕ))
     → Hears w old packets (state_after w old packets)
 heard_so w old [] = refl
 heard_so w old (packet ∷ packets) =
-    let mid = state_at (kind w packet) packet old in
-    (mid, stepped (kind w packet) packet old, heard_so w mid packets)
+    grind (arith, nat_tests, stepped, heard_so w (state_at (kind w packet) packet old) packets)

@@ -1,7 +1,7 @@
 -- The canonical packet is a packet of its value, and what is made of a frame is it. Main lemmas:
 -- canonical_is_packet, spelled.
-use Rattle.std.proofs.Common.{List, Some, [], append_assoc, arith, length, lit<, refl, suc, sym}
-use Rattle.std.proofs.Common.{take, zero, ℕ, ◌*◌, ◌∙◌, ◌++◌, ◌+◌, ◌-◌, ◌/◌, ◌∷◌, ◌≡◌, ◌≤◌, ◌<◌}
+use Rattle.std.proofs.Common.{List, Some, [], append_assoc, arith, length, lit<, refl, suc, take}
+use Rattle.std.proofs.Common.{zero, ℕ, ◌*◌, ◌++◌, ◌+◌, ◌-◌, ◌/◌, ◌∷◌, ◌≡◌, ◌≤◌, ◌<◌}
 use Rattle.std.proofs.lemmas.Bool.Decides.{nat_tests}
 use Rattle.std.specs.Prelude.{replicate}
 use Rattle.std.proofs.lemmas.List.{append-nil, take_all}
@@ -38,7 +38,8 @@ written_units (u ∷ us) n h =
       refl,
       append_assoc (teletext_unit u) (flat_map teletext_unit us) (repeated n stuffing_unit),
     ) in
-    let more : suc (length us + n) ≡ suc (length us) + n = omega arith in rw (← more) one
+    let more : suc (length us + n) ≡ suc (length us) + n = omega arith in
+    grind (arith, nat_tests)
 
 -- The canonical packet is a packet of its value: the law.
 pub canonical_is_packet : LawOfCanonicalPacket
@@ -72,7 +73,7 @@ pub stuffed_more : (count i : ℕ) (out all : List ℕ)
     → (out ++ stuffing_unit) ++ repeated (count - (i + 1)) stuffing_unit ≡ all
 stuffed_more count i out all lt e =
     let next : count - i ≡ suc (count - (i + 1)) = omega arith in
-    append_assoc out stuffing_unit (repeated (count - (i + 1)) stuffing_unit) ∙ (rw next at e)
+    grind (arith, nat_tests, append_assoc)
 
 -- What packet_of has made is the canonical packet.
 pub spelled : (v : PesValue) (us : List UnitValue) (pts : ℕ) (out base head : List ℕ) (n i j : ℕ)
@@ -87,14 +88,7 @@ pub spelled : (v : PesValue) (us : List UnitValue) (pts : ℕ) (out base head : 
     → out ≡ canonical_packet v
 unfolding canonical_packet payloads_for
 spelled v us pts out base head n i j same pts-same e f le h k done =
-    let none : n - j ≡ 0 = omega arith in
-    let whole : out ≡ base ++ repeated n stuffing_unit = sym (append-nil out) ∙ (rw none at e) in
-    let units : List ℕ = flat_map teletext_unit us in
-    let left : ℕ = 4 * (length us / 4 + 1) - 1 - length us in
-    rw (← same, ← pts-same)
-    (whole
-    ∙ rw (f, take_all i us le, h, k)
-    (append_assoc (pes_packet_header (length us / 4 + 1) pts) units (repeated left stuffing_unit)))
+    grind (arith, nat_tests, take_all, append-nil, append_assoc)
 
 -- ---- the value of a packet
 

@@ -1,7 +1,7 @@
 -- Each return of the loop over blocks, and one block more.
 use Rattle.std.proofs.Common.{rules, refl, arith}
 use Rattle.std.proofs.lemmas.Bool.Decides.{nat_tests}
-use Rattle.std.proofs.lemmas.Bool.{false≢true, ne_eqb}
+use Rattle.std.proofs.lemmas.Bool.{ne_eqb}
 use Rattle.stl_file.proofs.FindingsLemmas.{findings_end}
 use Rattle.stl_file.proofs.ReadBlocksLemmas.{leads_end, leads_too_many, leads_truncated}
 use Rattle.stl_file.proofs.ReadBlocksLemmas.{fails_finding, leads_given, leads_refused, reads_on}
@@ -68,18 +68,3 @@ loop-got-preserved g c = record {
   few = let f = c.loop-got.invariant.few in let n = c.if-block-eq99999.false in omega arith;
   count = search rules;
 }
-
-pub returns-then-count-eq0-clause-failed : goal.returns-then-count-eq0-clause-failed
-returns-then-count-eq0-clause-failed g c = λ read. absurd (false≢true read)
-
-pub returns-else-count-eq0-clause-failed : goal.returns-else-count-eq0-clause-failed
-returns-else-count-eq0-clause-failed g c = λ read. absurd (false≢true read)
-
-pub returns-then-block-eq99999-clause-failed : goal.returns-then-block-eq99999-clause-failed
-returns-then-block-eq99999-clause-failed g c = λ read. absurd (false≢true read)
-
-pub returns-then-got-lt128-clause-failed : goal.returns-then-got-lt128-clause-failed
-returns-then-got-lt128-clause-failed g c = λ read. absurd (false≢true read)
-
-pub returns-in-Ok-true-clause-failed : goal.returns-in-Ok-true-clause-failed
-returns-in-Ok-true-clause-failed g c = λ read. absurd (false≢true read)

@@ -3,21 +3,23 @@
 use Rattle.std.proofs.Common.{◌≡◌, ◌++◌, None, Ok, refl, rules, [], ◌∷◌, sym, map, arith}
 use Rattle.std.proofs.Common.{drop, length-append}
 use Rattle.std.proofs.lemmas.Bool.Decides.{nat_tests}
-use Rattle.sub_io.specs.Telling.{Tells}
+use Rattle.std.proofs.lemmas.Bool.{lt-ltb}
+use Rattle.std.specs.Prelude.{◌≢◌}
 use Rattle.sub_io.proofs.TellingLemmas.{Tells-none, Tells-trans}
+use Rattle.stl_file.specs.declared.fault.StlFault.TheVariants.{Ended}
 use Rattle.stl_file.specs.Reader.{outcome_of}
 use Rattle.stl_rows.specs.declared.fault.LoadFaultKind.TheVariants.{File}
 use Rattle.stl_rows.specs.Loading.{load_fault, loaded}
-use Rattle.stl_rows.specs.Programme.{IsProgramme, follow_faults}
+use Rattle.stl_rows.specs.Programme.{follow_faults}
 use Rattle.std.proofs.lemmas.List.Elements.{All-nil, All-weaker}
-use Rattle.stl_rows.proofs.FailedReadLemmas.{fails-next, fails-opening, has_taken-next}
-use Rattle.stl_rows.proofs.LoadingLemmas.{are_kept-next, are_kept-start, ends-here}
-use Rattle.stl_rows.proofs.LoadingLemmas.{goes_on-next, goes_on-start}
+use Rattle.stl_rows.proofs.FailedReadLemmas.{fails-next, has_taken-next, reads-nothing}
+use Rattle.stl_rows.proofs.LoadingLemmas.{are_kept-next, ends-here, goes_on-next, goes_on-start}
 use Rattle.stl_rows.proofs.LoadingLemmas.{if_kept, of_file-end, of_file-stopped, findings_of-opened}
 use Rattle.stl_rows.proofs.LoadingLemmas.{IsToldBy, some-next, some_items, tells-end, told-none}
 use Rattle.stl_rows.proofs.LoadingLemmas.{first_kind, goes_on-refused, left-then, tells-none}
 use Rattle.stl_rows.proofs.LoadingLemmas.{tells-refused, tells-stop, told-next, told-of_file}
 use Rattle.stl_rows.proofs.LoadingLemmas.{told-refused}
+use Rattle.stl_rows.proofs.ProgrammeLemmas.{IsProgramme-none}
 use Rattle.stl_rows.proofs.every_fault.load_all_in.Goals as goal
 
 pub subtitles-init : goal.subtitles-init
@@ -25,7 +27,7 @@ subtitles-init g c = rw c.new.ensures.items (record {
   early = [];
   told = Tells-none _;
   early_told = All-nil (IsToldBy c.after_gsi-reader.result.block);
-  are_kept = are_kept-start c.args.national;
+  are_kept = grind (arith, nat_tests, IsProgramme-none);
   some = λ h. absurd cc;
   listens = c.requires.listens;
   reading = search rules;
@@ -49,8 +51,7 @@ subtitles-preserved g c =
     let is_clean = c.in-Ok-tell_faults.ensures.clean in
     rw (c.in_default-keep.ensures.all, c.of.ensures.value) (record {
       early = i.early ++ map (load_fault here) (follow_faults c.args.national c.subtitles.before t);
-      told = Tells-trans _ _ _ i.early _ i.told
-          (rw c.block-block.ensures.value at c.in-Ok-tell_faults.ensures.told);
+      told = grind (arith, nat_tests, Tells-trans);
       early_told = told-next c.args.national c.subtitles.before t c.subtitles.reader.block here
           i.early (let b = l.block in omega arith) i.early_told;
       are_kept = are_kept-next t here is_clean i.are_kept c.of.ensures.subtitle;
@@ -120,19 +121,7 @@ returns-in-Ok-tell_end-clause-told g c = λ bytes e none.
     (findings_of-opened bytes _ opened) c.in-Ok-tell_end.ensures.told
 
 pub returns-in-Err-tell_end-clause-read : goal.returns-in-Err-tell_end-clause-read
-returns-in-Err-tell_end-clause-read g c = λ is.
-    let failed = c.in-Err-tell_end.ensures.read in
-    rw (failed.1, failed.2) (fails-opening _ (c.in-Err.ensures.failed (rw failed.0 refl)))
-
-pub returns-in-Ok-tell_end-clause-some : goal.returns-in-Ok-tell_end-clause-some
-returns-in-Ok-tell_end-clause-some g c = λ none.
-    of_file-end [] c.in-Err.fault (All-nil (IsToldBy 0)) c.in-Ok-tell_end.ensures.file
-    c.in-Err.ensures.never (Tells-none _) c.in-Ok-tell_end.ensures.told
-
-pub returns-in-Err-tell_end-clause-some_before : goal.returns-in-Err-tell_end-clause-some_before
-returns-in-Err-tell_end-clause-some_before g c =
-    let failed = c.in-Err-tell_end.ensures.read in
-    rw failed.2 (record { items = []; told = Tells-none _ })
+returns-in-Err-tell_end-clause-read g c = grind (arith, nat_tests, lt-ltb, reads-nothing)
 
 pub returns-in-Ok-tell_end-2-clause-told : goal.returns-in-Ok-tell_end-2-clause-told
 returns-in-Ok-tell_end-2-clause-told g c = λ bytes e none.
@@ -146,8 +135,9 @@ returns-in-Ok-tell_end-2-clause-told g c = λ bytes e none.
 pub returns-in-Ok-tell_end-2-clause-some : goal.returns-in-Ok-tell_end-2-clause-some
 returns-in-Ok-tell_end-2-clause-some g c = λ none.
     let i = c.subtitles.invariant in
-    of_file-end i.early c.in-Err-next_into.fault i.early_told c.in-Ok-tell_end-2.ensures.file
-    c.in-Err-next_into.ensures.never i.told c.in-Ok-tell_end-2.ensures.told
+    let ended : c.in-Err-next_into.fault ≢ Ended = grind (arith, nat_tests) in
+    of_file-end i.early c.in-Err-next_into.fault i.early_told c.in-Ok-tell_end-2.ensures.file ended
+    i.told c.in-Ok-tell_end-2.ensures.told
 
 pub returns-in-Err-tell_end-2-clause-read : goal.returns-in-Err-tell_end-2-clause-read
 returns-in-Err-tell_end-2-clause-read g c = λ is.
@@ -156,12 +146,6 @@ returns-in-Err-tell_end-2-clause-read g c = λ is.
     rw (failed.1, failed.2, c.block.ensures.value)
     (fails-next c.subtitles.reader i.taken i.early_told i.told i.goes_on
     (c.in-Err-next_into.ensures.failed (rw failed.0 refl)))
-
-pub returns-in-Err-tell_end-2-clause-some_before : goal.returns-in-Err-tell_end-2-clause-some_before
-returns-in-Err-tell_end-2-clause-some_before g c =
-    let i = c.subtitles.invariant in
-    let failed = c.in-Err-tell_end-2.ensures.read in
-    rw failed.2 (record { items = i.early; told = i.told })
 
 pub returns-in_default-clause-told : goal.returns-in_default-clause-told
 returns-in_default-clause-told g c = λ bytes e none.
@@ -236,19 +220,6 @@ returns-in-Ok-End-clause-exact g c = λ bytes e.
     (λ records. loaded c.args.national (outcome_of bytes)
     ≡ Ok (record { national = c.args.national; records = records }))
     c.subtitles.kept (λ records h. sym (on.loads records h))
-
-pub returns-in-Ok-End-clause-programme : goal.returns-in-Ok-End-clause-programme
-returns-in-Ok-End-clause-programme g c =
-    let i = c.subtitles.invariant in
-    if_kept (λ v. v.items) (IsProgramme c.args.national) c.subtitles.kept
-    (λ records h. (i.are_kept records h).programme)
-
-pub returns-in-Ok-End-clause-none : goal.returns-in-Ok-End-clause-none
-returns-in-Ok-End-clause-none g c =
-    let i = c.subtitles.invariant in
-    if_kept (λ v. v.items)
-    (λ _. Tells g.D.Audience.is_told c.args.audience.now c.subtitles.audience []) c.subtitles.kept
-    (λ records h. rw (i.are_kept records h).none at i.told)
 
 pub returns-in-Ok-End-clause-told : goal.returns-in-Ok-End-clause-told
 returns-in-Ok-End-clause-told g c = λ bytes e none.

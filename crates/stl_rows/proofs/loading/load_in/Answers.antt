@@ -1,6 +1,7 @@
 -- The first fault that is told is what comes of the file: tells-first; and where the source failed
 -- there is none before: none-told.
-use Rattle.std.proofs.Common.{ap, ◌∙◌, sym}
+use Rattle.std.proofs.Common.{arith, ap, ◌∙◌, rules, sym}
+use Rattle.std.proofs.lemmas.Bool.Decides.{nat_tests}
 use Rattle.std.specs.Prelude.{Ok}
 use Rattle.stl_rows.proofs.EveryFaultLemmas.{first-not_read, first-of_file, none-told, tells-first}
 use Rattle.stl_rows.proofs.loading.load_in.Goals as goal
@@ -10,10 +11,7 @@ returns-in-Ok-Some-clause-exact g c = λ bytes e.
     rw c.in-Ok-Some.field-0-is at (c.in-Ok-Some.ensures.exact bytes e)
 
 pub unreachable-requires : goal.unreachable-requires
-unreachable-requires g c =
-    let of_file = c.in-Ok-None.ensures.some (ap Ok c.in-Ok-None.field-0-is) in
-    let found = first-of_file _ (rw c.new-first.ensures at of_file) in
-    let is = found.1 in cc
+unreachable-requires g c = grind (arith, nat_tests, first-of_file)
 
 pub returns-in-Some : goal.returns-in-Some
 returns-in-Some g c =
@@ -22,18 +20,16 @@ returns-in-Some g c =
     let of_file = c.in-Ok-None.ensures.some none in
     let own = first-not_read _ _ c.in-Some.fault c.new-first.ensures first of_file in
     record {
-      exact = λ bytes e. tt;
+      exact = search rules;
       fault = λ bytes e.
           tells-first c.args.national bytes c.in-Some.fault _
           (rw (c.new-first.ensures, first) at (c.in-Ok-None.ensures.told bytes e none))
           (rw (c.new-first.ensures, first) at of_file);
       never = own.0;
-      programme = tt;
+      programme = search rules;
       read = λ is. absurd cc;
       count = rw own.1 c.in-Ok-None.ensures.count;
     }
 
 pub returns-in-Err-clause-read : goal.returns-in-Err-clause-read
-returns-in-Err-clause-read g c = λ is.
-    let failed = rw c.new-first.ensures at (c.in-Err.ensures.read is) in
-    none-told _ _ _ _ _ (λ some. let e = c.in-Err.ensures.stopped some in cc) failed
+returns-in-Err-clause-read g c = grind (arith, nat_tests, none-told)

@@ -13,15 +13,8 @@ returns-in_err-count-clause-bytes g c =
     let i = c.loop-frame.invariant in
     let p = c.args.programme.now in
     let o = c.args.options.now in
-    let n = c.next_change-end.ensures in
     let s : IsStretch (due_in p) c.args.first c.loop-frame.frame c.next_change-end.result.0
-    c.args.last = record {
-      low = i.low;
-      some = n.after;
-      high = n.within;
-      starts = i.starts c.loop-frame-test.true;
-      same = n.same;
-    } in
+    c.args.last = search rules in
     let packets : c.packets.result.now ≡ sending o.page p.national c.args.serial
     (due_in p c.loop-frame.frame) = search rules in
     let e = err_from_is_err_and c.from_residual.result c.from_residual.ensures.1 in
@@ -37,13 +30,7 @@ loop-frame-preserved g c =
     let o = c.args.options.now in
     let n = c.next_change-end.ensures in
     let s : IsStretch (due_in p) c.args.first c.loop-frame.frame c.next_change-end.result.0
-    c.args.last = record {
-      low = i.low;
-      some = n.after;
-      high = n.within;
-      starts = i.starts c.loop-frame-test.true;
-      same = n.same;
-    } in
+    c.args.last = search rules in
     let packets : c.packets.result.now ≡ sending o.page p.national c.args.serial
     (due_in p c.loop-frame.frame) = search rules in
     let e = c.in_ok-count.ensures in

@@ -1,6 +1,5 @@
 -- What is told of the packet that was passed over: passed_again.
 use Rattle.std.proofs.Common.{rules}
-use Rattle.std.proofs.lemmas.Bool.{false≢true}
 use Rattle.sub_io.proofs.CallLemmas.{PullsSome-more, PullsSome-none}
 use Rattle.ttx_pes.proofs.SentAgainLemmas.{passed_again}
 use Rattle.ttx_pes.proofs.kept_frame.passes_again.Goals as goal
@@ -22,21 +21,3 @@ returns-clause-taken g c = λ _.
 pub returns-clause-pulls : goal.returns-clause-pulls
 returns-clause-pulls g c =
     PullsSome-more _ _ _ _ _ (PullsSome-none c.args.source.now) (c.pass.ensures.call (search rules))
-
-pub returns-then-not-repeats-clause-tells : goal.returns-then-not-repeats-clause-tells
-returns-then-not-repeats-clause-tells g c = λ e. absurd (false≢true e)
-
-pub returns-then-not-repeats-clause-taken : goal.returns-then-not-repeats-clause-taken
-returns-then-not-repeats-clause-taken g c = λ e. absurd (false≢true e)
-
-pub returns-in_default-clause-tells : goal.returns-in_default-clause-tells
-returns-in_default-clause-tells g c = λ e. absurd (false≢true e)
-
-pub returns-in_default-clause-taken : goal.returns-in_default-clause-taken
-returns-in_default-clause-taken g c = λ e. absurd (false≢true e)
-
-pub returns-then-not-pass-clause-tells : goal.returns-then-not-pass-clause-tells
-returns-then-not-pass-clause-tells g c = λ e. absurd (false≢true e)
-
-pub returns-then-not-pass-clause-taken : goal.returns-then-not-pass-clause-taken
-returns-then-not-pass-clause-taken g c = λ e. absurd (false≢true e)

@@ -1,4 +1,4 @@
--- What was taken and told; where no packet was passed over, all is as the call left it.
+-- The data field of what was taken.
 use Rattle.std.proofs.Common.{◌≡◌, ap, sym, rules}
 use Rattle.ttx_pes.specs.Taking.{HeldValue, kept_room}
 use Rattle.ttx_pes.proofs.kept_frame.KeptFrame.read_next.Goals as goal
@@ -21,43 +21,3 @@ pub returns-else-self-clause-taken : goal.returns-else-self-clause-taken
 returns-else-self-clause-taken g c = λ e.
     let same = c.passes_again.ensures.none (search rules) in
     rw (← same.0) (c.read_compared-else-self.ensures.taken e)
-
-pub returns-then-self-clause-tells : goal.returns-then-self-clause-tells
-returns-then-self-clause-tells g c =
-    let same = c.passes_again.ensures.none (search rules) in
-    rw (← same.0) c.read_compared.ensures.tells
-
-pub returns-then-self-clause-piece : goal.returns-then-self-clause-piece
-returns-then-self-clause-piece g c =
-    let same = c.passes_again.ensures.none (search rules) in
-    rw (← same.0) c.read_compared.ensures.piece
-
-pub returns-then-self-clause-pulls : goal.returns-then-self-clause-pulls
-returns-then-self-clause-pulls g c =
-    let same = c.passes_again.ensures.none (search rules) in
-    rw (← same.0) c.read_compared.ensures.pulls
-
-pub returns-then-self-clause-count : goal.returns-then-self-clause-count
-returns-then-self-clause-count g c =
-    let same = c.passes_again.ensures.none (search rules) in
-    rw (← same.0) c.read_compared.ensures.count
-
-pub returns-else-self-clause-tells : goal.returns-else-self-clause-tells
-returns-else-self-clause-tells g c =
-    let same = c.passes_again.ensures.none (search rules) in
-    rw (← same.0) c.read_compared-else-self.ensures.tells
-
-pub returns-else-self-clause-piece : goal.returns-else-self-clause-piece
-returns-else-self-clause-piece g c =
-    let same = c.passes_again.ensures.none (search rules) in
-    rw (← same.0) c.read_compared-else-self.ensures.piece
-
-pub returns-else-self-clause-pulls : goal.returns-else-self-clause-pulls
-returns-else-self-clause-pulls g c =
-    let same = c.passes_again.ensures.none (search rules) in
-    rw (← same.0) c.read_compared-else-self.ensures.pulls
-
-pub returns-else-self-clause-count : goal.returns-else-self-clause-count
-returns-else-self-clause-count g c =
-    let same = c.passes_again.ensures.none (search rules) in
-    rw (← same.0) c.read_compared-else-self.ensures.count
