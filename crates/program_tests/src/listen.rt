@@ -5,7 +5,6 @@ use fixtures::{
 };
 use std::alloc::Global;
 use std::process::Abort;
-use std::test::Fail;
 use sub_io::{FailAt, MemSink, MemSource};
 
 // What is shown of `Hi`, and where its first letter is hit.
@@ -44,22 +43,6 @@ fn assert_hears<'x>(
     assert_prints_of(rt, words, pes, &[], want.as_bytes());
 }
 
-// Asserts what a receiver prints of `Hi` with a sending every 25 frames.
-fn assert_hears_by<'x>(
-    rt: &(impl Abort + Alloc<A = Global>),
-    receiver: &'x str,
-    at: &'x str,
-    options: &[&'x str],
-    want: &str,
-) {
-    let mut words = ["a"; 16];
-    assert!(rt; options.len() <= 9);
-    words[..7].copy_from_slice(&["subttx", "listen", "a", "--at", at, "--receiver", receiver]);
-    words[7..7 + options.len()].copy_from_slice(options);
-    let words = &words[..7 + options.len()];
-    assert_prints_of(rt, words, &every_second(), &[], want.as_bytes());
-}
-
 // Asserts what both receivers print of `Hi` with a sending every 25 frames.
 fn assert_both_hear<'x>(
     rt: &(impl Abort + Alloc<A = Global>),
@@ -67,8 +50,14 @@ fn assert_both_hear<'x>(
     options: &[&'x str],
     want: &str,
 ) {
-    assert_hears_by(rt, "keep", at, options, want);
-    assert_hears_by(rt, "blank", at, options, want);
+    let mut words = ["a"; 16];
+    assert!(rt; options.len() <= 9);
+    words[..7].copy_from_slice(&["subttx", "listen", "a", "--at", at, "--receiver", "keep"]);
+    words[7..7 + options.len()].copy_from_slice(options);
+    let pes = every_second();
+    assert_prints_of(rt, &words[..7 + options.len()], &pes, &[], want.as_bytes());
+    words[6] = "blank";
+    assert_prints_of(rt, &words[..7 + options.len()], &pes, &[], want.as_bytes());
 }
 
 #[test]
@@ -81,10 +70,7 @@ fn shows_what_a_receiver_got(rt: HostRuntime) {
     assert_both_hear(&rt, "10:00:00:10", &["--flip", "1:21:1"], HIT);
     assert_both_hear(&rt, "10:00:01:00", &["--flip", "1:21:1"], HI); // it comes again
     assert_both_hear(&rt, "10:00:00:10", &["--flip", HEADER_FLIPS], HI); // corrected
-}
-
-#[test]
-fn shows_what_a_receiver_got_where_packets_were_lost(rt: HostRuntime) {
+    // packets that are lost
     assert_both_hear(&rt, "10:00:00:10", &["--lose", "1"], BLANK);
     assert_both_hear(&rt, "10:00:01:00", &["--lose", "1"], HI);
     assert_both_hear(&rt, "10:00:00:10", &["--skip", "1", "--lose", "0"], NOTHING);
@@ -146,54 +132,6 @@ fn does_not_show_a_row_that_is_hit(rt: HostRuntime) {
     assert_hears(&rt, &pes, "10:00:00:10", &["--receiver", "drop"], HI);
 }
 
-// Asserts what both receivers show of the first sending with one flip: the cell is the due one, or
-// a space where its byte was hit.
-fn assert_shows_hit(
-    rt: &(impl Abort + Alloc<A = Global>),
-    packet: u8,
-    byte: u8,
-    bit: u8,
-) -> Result<(), Fail> {
-    let flip = format!(in rt.alloc(); "{packet}:{byte}:{bit}")?;
-    let mut want = *b"heard yes\nopen no\nrow 22 |                ...Hi..                 |\n";
-    if packet == 1 && byte >= 2 {
-        assert!(rt; byte < 42);
-        want[byte as usize + 24] = b' ';
-    }
-    assert_shows(rt, "keep", flip.as_str(), &want);
-    assert_shows(rt, "blank", flip.as_str(), &want);
-    Ok(())
-}
-
-// Asserts what a receiver shows of the first sending with these flips.
-fn assert_shows(rt: &(impl Abort + Alloc<A = Global>), receiver: &str, flips: &str, want: &[u8]) {
-    let at = "10:00:00:10";
-    let words = [
-        "subttx",
-        "listen",
-        "a",
-        "--at",
-        at,
-        "--receiver",
-        receiver,
-        "--flip",
-        flips,
-    ];
-    assert_prints_of(rt, &words, &schedule_of_hi(), &[], want);
-}
-
-#[test]
-fn shows_a_space_where_a_byte_was_hit(rt: HostRuntime) -> Result<(), Fail> {
-    for packet in 0..3u8 {
-        for byte in 0..42u8 {
-            for bit in 1..9u8 {
-                assert_shows_hit(&rt, packet, byte, bit)?;
-            }
-        }
-    }
-    Ok(())
-}
-
 // A row comes twice, and a bit of its second packet is received wrong: the cell is as it was, or a
 // space.
 #[test]
@@ -233,21 +171,12 @@ fn tells_faults_of_a_file_as_far_as_it_is_read(rt: HostRuntime) {
     assert_hears(&rt, b"RIFF....", "10:00:00:10", &[], start);
     assert_hears(&rt, &[], "10:00:00:10", &[], NOTHING);
     let off = "refused 61 OffFrame pes 0\n";
-    assert_hears(&rt, &every_second(), "10:00:00:10", &["--origin", "1"], off);
-}
-
-// Asserts what is heard of the file with this many bytes.
-fn assert_hears_cut(rt: &(impl Abort + Alloc<A = Global>), len: usize, at: &str, want: &str) {
     let pes = every_second();
-    assert!(rt; len <= 552);
-    assert_hears(rt, &pes[..len], at, &[], want);
-}
-
-#[test]
-fn tells_a_cut_after_the_time(rt: HostRuntime) {
-    // the PES packet after the time, and not read so far
-    assert_hears_cut(&rt, 194, "10:00:00:10", "refused 30 Truncated pes 1\n");
-    assert_hears_cut(&rt, 194, "09:00:00:00", NOTHING);
+    assert_hears(&rt, &pes, "10:00:00:10", &["--origin", "1"], off);
+    // the PES packet after the time, cut, and not read so far
+    let (cut, _) = pes.split_at(194);
+    assert_hears(&rt, cut, "10:00:00:10", &[], "refused 30 Truncated pes 1\n");
+    assert_hears(&rt, cut, "09:00:00:00", &[], NOTHING);
 }
 
 #[test]

@@ -45,17 +45,13 @@ fn assert_refuses(rt: &(impl Abort + Alloc<A = Global>), place: usize, value: u8
 }
 
 #[test]
-fn refuses_a_gsi_block(rt: HostRuntime) {
+fn refuses_a_block_at_its_first_fault(rt: HostRuntime) {
     assert_refuses(&rt, 6, b'3', b"refused 11 Format block 0\n"); // DFC is STL35.01
     assert_refuses(&rt, 11, b'0', b"refused 13 Display block 0\n"); // DSC
     assert_refuses(&rt, 13, b'1', b"refused 14 Alphabet block 0\n"); // CCT
     let mut rate = commented();
     rate[3..11].copy_from_slice(b"STL30.01");
     assert_prints_of(&rt, &NORMAL, &rate, &[], b"refused 12 Rate block 0\n");
-}
-
-#[test]
-fn refuses_a_block_at_its_first_fault(rt: HostRuntime) {
     assert_refuses(&rt, 1283, 0xF0, b"refused 15 Extension block 3\n"); // EBN
     assert_refuses(&rt, 1284, 1, b"refused 16 Cumulative block 3\n"); // CS
     assert_refuses(&rt, 1295, 2, b"refused 17 CommentFlag block 3\n"); // CF

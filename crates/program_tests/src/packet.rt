@@ -2,8 +2,6 @@
 use crate::answers::{assert_fills, assert_prints_of};
 use std::alloc::Global;
 use std::process::Abort;
-use std::test::Fail;
-use ttx_packet::ham;
 
 // Asserts the text of a packet of these digits, also where there is less room for it.
 fn assert_shows(rt: &(impl Abort + Alloc<A = Global>), digits: &str, text: &str) {
@@ -44,7 +42,7 @@ fn shows_headers(rt: HostRuntime) {
 
 #[rattlefmt::skip]
 #[test]
-fn shows_rows_and_packets_above_them(rt: HostRuntime) {
+fn shows_rows_and_packets_above_them_and_refuses_wrong_bits(rt: HostRuntime) {
     // row 22 of magazine 8: double height, start box twice, Hi, end box twice
     assert_shows(&rt,
         "159b202020202020202020202020202020200d0b0bc8e98a8a2020202020202020202020202020202020",
@@ -61,12 +59,7 @@ fn shows_rows_and_packets_above_them(rt: HostRuntime) {
     assert_shows(&rt,
         "15b620202020202020202020202020202020202020202020202020202020202020202020202020202020",
         "magazine 8 packet 26\n");
-}
-
-#[rattlefmt::skip]
-#[test]
-fn refuses_two_wrong_bits(rt: HostRuntime) {
-    // in the first address byte, in the second, in the page units
+    // two wrong bits: in the first address byte, in the second, in the page units
     assert_shows(&rt,
         "1615d0d015d015d002152020202020202020202020202020202020202020202020202020202020202020",
         "refused 3 BadAddress\n");
@@ -76,35 +69,4 @@ fn refuses_two_wrong_bits(rt: HostRuntime) {
     assert_shows(&rt,
         "151516d015d015d002152020202020202020202020202020202020202020202020202020202020202020",
         "refused 4 BadHeader\n");
-}
-
-// Asserts what is shown of the packet of this number and magazine of which each byte is an A.
-fn assert_shows_number(
-    rt: &(impl Abort + Alloc<A = Global>),
-    number: u8,
-    magazine: u8,
-) -> Result<(), Fail> {
-    assert!(rt; number < 32 && magazine < 8);
-    let address = magazine + 8 * number;
-    let (first, second) = (ham(address % 16), ham(address / 16));
-    let shown = if magazine == 0 { 8 } else { magazine };
-    let text = if number <= 24 {
-        "text |AAAAAAAAAAAAAAAAAAAAAAAAAAAAAAAAAAAAAAAA|\n"
-    } else {
-        ""
-    };
-    let want = format!(in rt.alloc(); "magazine {shown} packet {number}\n{text}")?;
-    let codes = "c1c1c1c1c1c1c1c1c1c1c1c1c1c1c1c1c1c1c1c1c1c1c1c1c1c1c1c1c1c1c1c1c1c1c1c1c1c1c1c1";
-    let digits = format!(in rt.alloc(); "{first:02x}{second:02x}{codes}")?;
-    let words = ["subttx", "packet", digits.as_str()];
-    assert_prints_of(rt, &words, &[], &[], want.as_bytes());
-    Ok(())
-}
-
-#[test]
-fn shows_each_packet_number(rt: HostRuntime) -> Result<(), Fail> {
-    for number in 1..32u8 {
-        assert_shows_number(&rt, number, number % 8)?;
-    }
-    Ok(())
 }

@@ -1,5 +1,4 @@
 //! The requests that words are read as.
-use crate::asserting::assert_same;
 use crate::normal::NORMAL;
 use answer_fixtures::SCHEDULE;
 use fixtures::options;
@@ -10,14 +9,6 @@ use stl_rows::National;
 use sub_plan::Options;
 use sub_request::{FileNames, Flip, Listening, ReceiverKind, Request};
 use sub_words::ParseWords;
-
-#[test]
-fn reads_the_words_of_files(rt: HostRuntime) {
-    match Request::parse(rt.alloc(), &NORMAL) {
-        Ok(Request::Normal { input, output }) => assert!(rt; input == "a" && output == "b"),
-        _ => panic!(rt; "no normal form"),
-    }
-}
 
 // Asserts that words ask for the schedule of files a and b with these options.
 fn assert_schedules<'a>(
@@ -161,25 +152,12 @@ const FLIPS: [Flip; 2] = [
     Flip { packet: 2, byte: 0, bit: 8 },
 ];
 
-#[test]
-fn reads_the_words_of_a_receiver_by_default(rt: HostRuntime) -> Result<(), Fail> {
-    let words = ["subttx", "listen", "a", "--at", "10:00:00:10"];
-    let defaults = options("888", 250, 0)?;
-    assert_listens(
-        &rt,
-        &words,
-        &defaults,
-        (900_010, 0),
-        &[],
-        &[],
-        ReceiverKind::Blank,
-    );
-    Ok(())
-}
-
 #[rattlefmt::skip]
 #[test]
 fn reads_the_words_of_a_receiver(rt: HostRuntime) -> Result<(), Fail> {
+    let words = ["subttx", "listen", "a", "--at", "10:00:00:10"];
+    let defaults = options("888", 250, 0)?;
+    assert_listens(&rt, &words, &defaults, (900_010, 0), &[], &[], ReceiverKind::Blank);
     let words = [
         "subttx", "listen", "a", "--page", "100", "--origin", "1", "--at", "23:59:59:24",
         "--skip", "07", "--flip", "1:21:1,02:0:8", "--lose", "3,4", "--receiver", "keep",
@@ -191,13 +169,12 @@ fn reads_the_words_of_a_receiver(rt: HostRuntime) -> Result<(), Fail> {
 
 #[test]
 fn names_what_is_read_and_what_is_written(rt: HostRuntime) {
-    let normal = Request::Normal {
-        input: "a",
-        output: "b",
-    };
-    assert_writes(&rt, &normal);
+    match Request::parse(rt.alloc(), &NORMAL) {
+        Ok(request) => assert_writes(&rt, &request),
+        Err(_) => panic!(rt; "no normal form"),
+    }
     match (Request::Show { stl: "a" }).files() {
-        FileNames::ReadStl(input) => assert_same(&rt, &input.name(), &"a"),
+        FileNames::ReadStl(input) => assert!(rt; input.name() == "a"),
         _ => panic!(rt; "no file is read"),
     }
 }

@@ -136,10 +136,7 @@ fn refuses_files(rt: HostRuntime) {
     open[1155] = 0x00; // EBN
     assert_refuses(&rt, &open, "refused 24 Unfinished block 2\n");
     assert_tells(&rt, &SCHEDULE, &gsi(), &[], "refused 82 NoSubtitles\n");
-}
-
-#[test]
-fn refuses_times(rt: HostRuntime) {
+    // times
     let mut overlap = hi_and(&rt, &HI);
     overlap[1036] = 1; // TCO is 10:00:02:01
     assert_refuses(&rt, &overlap, "refused 57 Overlap block 2\n");
@@ -154,11 +151,7 @@ fn refuses_times(rt: HostRuntime) {
     let control = block(&HEAD, &[0x0E]);
     let refused = "refused 51 Control block 1 at 0\n";
     assert_refuses(&rt, &file_of_two(&control, &early), refused);
-}
-
-#[test]
-fn refuses_texts(rt: HostRuntime) {
-    let hi = block(&HEAD, &HI);
+    // texts
     let character = block(&HEAD, &[0xC2, 0x65]);
     let refused = "refused 50 Character block 1 at 0\n";
     assert_refuses(&rt, &file_of_two(&character, &hi), refused);

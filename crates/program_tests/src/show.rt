@@ -13,22 +13,13 @@ fn assert_shows(rt: &(impl Abort + Alloc<A = Global>), file: &[u8], text: &[u8])
     assert_fills(rt, &SHOW, (file, &[]), &[], text);
 }
 
-// Asserts what is printed of the first bytes of a file.
-fn assert_shows_cut(rt: &(impl Abort + Alloc<A = Global>), len: usize, text: &[u8]) {
-    let file = file_of_hi();
-    assert!(rt; len <= 1152);
-    assert_shows(rt, &file[..len], text);
-}
-
-#[test]
-fn shows_no_subtitle_of_a_file_that_is_cut_before_it(rt: HostRuntime) {
-    assert_shows_cut(&rt, 1023, b"refused 10 Truncated block 0\n");
-    assert_shows_cut(&rt, 1024, b"0 subtitles\n");
-}
-
 #[test]
 fn shows_subtitles(rt: HostRuntime) {
     let good = file_of_hi();
+    let (cut, _) = good.split_at(1023);
+    assert_shows(&rt, cut, b"refused 10 Truncated block 0\n");
+    let (none, _) = good.split_at(1024);
+    assert_shows(&rt, none, b"0 subtitles\n");
     let line = b"00001 10:00:00:00 10:00:02:00 vp 22 jc 2 text 0d0b0b48690a0a\n1 subtitles\n";
     assert_shows(&rt, &good, line);
     let no_text = file_of(&block(&HEAD, &[]));

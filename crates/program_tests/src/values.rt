@@ -1,5 +1,5 @@
 //! Numbers, flips and lists of both, times and receivers, as people write them.
-use crate::asserting::{assert_same, assert_same_in};
+use crate::asserting::assert_same_in;
 use std::alloc::{AllocError, Global};
 use std::process::Abort;
 use sub_request::{Flip, ReceiverKind};
@@ -7,9 +7,14 @@ use sub_words::{parse_list, parse_number, parse_receiver, parse_time};
 
 #[test]
 fn reads_numbers(rt: HostRuntime) {
-    assert_same(&rt, &parse_number("0"), &Some(0));
-    assert_same(&rt, &parse_number("0000000007"), &Some(7)); // ten digits
-    assert_same(&rt, &parse_number("9999999999"), &Some(9_999_999_999));
+    assert_same_in(&rt, &parse_number("0"), &Some(0), &"zero");
+    assert_same_in(&rt, &parse_number("0000000007"), &Some(7), &"ten digits");
+    assert_same_in(
+        &rt,
+        &parse_number("9999999999"),
+        &Some(9_999_999_999),
+        &"ten nines",
+    );
     // eleven digits, none, and what is no digit
     for text in ["00000000007", "10000000000", "", "+1", "-1", "1 ", "1x"] {
         assert_same_in(&rt, &parse_number(text), &None, &text);
@@ -38,14 +43,10 @@ const MORE_NUMBERS: &str =
 #[test]
 fn reads_lists_of_numbers(rt: HostRuntime) {
     let alloc = rt.alloc();
-    assert_same(&rt, &numbers_in(alloc, "7"), &Ok(Some((1, 7))));
-    let three = "01,2,9999999999";
-    assert_same(
-        &rt,
-        &numbers_in(alloc, three),
-        &Ok(Some((3, 9_999_999_999))),
-    );
-    assert_same(&rt, &numbers_in(alloc, NUMBERS), &Ok(Some((64, 63))));
+    assert_same_in(&rt, &numbers_in(alloc, "7"), &Ok(Some((1, 7))), &"one");
+    let three = numbers_in(alloc, "01,2,9999999999");
+    assert_same_in(&rt, &three, &Ok(Some((3, 9_999_999_999))), &"three");
+    assert_same_in(&rt, &numbers_in(alloc, NUMBERS), &Ok(Some((64, 63))), &"64");
     // twice by value, and other texts that are no list
     for text in [
         "1,01",
@@ -110,17 +111,13 @@ const MORE_FLIPS: &str =
     55:13:8,56:14:1,57:15:2,58:16:3,59:17:4,60:18:5,61:19:6,62:20:7,63:21:8,64:0:1";
 
 #[test]
-fn reads_flips(rt: HostRuntime) {
+fn reads_lists_of_flips(rt: HostRuntime) {
     assert_flips(&rt, "1:21:1", 1, (1, 21, 1));
     assert_flips(&rt, "0000000001:0000000041:0000000008", 1, (1, 41, 8));
     assert_flips(&rt, "9999999999:0:1,0:0:2", 2, (0, 0, 2));
     assert_flips(&rt, "1:21:1,1:22:1", 2, (1, 22, 1)); // two bytes of one packet
     assert_flips(&rt, "1:21:1,2:21:1", 2, (2, 21, 1)); // one byte of two
     assert_flips(&rt, FLIPS, 64, (63, 21, 8));
-}
-
-#[test]
-fn refuses_flips(rt: HostRuntime) {
     for text in [
         "1:21:1,1:21:2", // one byte
         "1:21:1,01:021:1",
@@ -140,10 +137,20 @@ fn refuses_flips(rt: HostRuntime) {
 }
 
 #[test]
-fn reads_times(rt: HostRuntime) {
-    assert_same(&rt, &parse_time("00:00:00:00"), &Some(0));
-    assert_same(&rt, &parse_time("10:00:00:10"), &Some(900_010));
-    assert_same(&rt, &parse_time("23:59:59:24"), &Some(2_159_999));
+fn reads_times_and_receivers(rt: HostRuntime) {
+    assert_same_in(&rt, &parse_time("00:00:00:00"), &Some(0), &"00:00:00:00");
+    assert_same_in(
+        &rt,
+        &parse_time("10:00:00:10"),
+        &Some(900_010),
+        &"10:00:00:10",
+    );
+    assert_same_in(
+        &rt,
+        &parse_time("23:59:59:24"),
+        &Some(2_159_999),
+        &"23:59:59:24",
+    );
     for text in [
         "24:00:00:00",
         "10:60:00:00",
@@ -158,13 +165,20 @@ fn reads_times(rt: HostRuntime) {
     ] {
         assert_same_in(&rt, &parse_time(text), &None, &text);
     }
-}
-
-#[test]
-fn reads_receivers(rt: HostRuntime) {
-    assert_same(&rt, &parse_receiver("blank"), &Some(ReceiverKind::Blank));
-    assert_same(&rt, &parse_receiver("keep"), &Some(ReceiverKind::Keep));
-    assert_same(&rt, &parse_receiver("drop"), &Some(ReceiverKind::DropRow));
+    let blank = Some(ReceiverKind::Blank);
+    assert_same_in(&rt, &parse_receiver("blank"), &blank, &"blank");
+    assert_same_in(
+        &rt,
+        &parse_receiver("keep"),
+        &Some(ReceiverKind::Keep),
+        &"keep",
+    );
+    assert_same_in(
+        &rt,
+        &parse_receiver("drop"),
+        &Some(ReceiverKind::DropRow),
+        &"drop",
+    );
     for text in ["Drop", "all", "Keep"] {
         assert_same_in(&rt, &parse_receiver(text), &None, &text);
     }

@@ -2,13 +2,6 @@
 use crate::answers::{assert_fills, assert_tells};
 use std::alloc::Global;
 use std::process::Abort;
-use sub_request::Request;
-use sub_words::ParseWords;
-
-// Asserts the line of words that are refused.
-fn assert_refuses<'a>(rt: &(impl Abort + Alloc<A = Global>), words: &'a [&'a str], want: &str) {
-    assert_tells(rt, words, &[], &[], want);
-}
 
 #[test]
 fn prints_the_line_of_refused_words_into_any_output(rt: HostRuntime) {
@@ -27,7 +20,7 @@ fn prints_the_line_of_refused_words_into_any_output(rt: HostRuntime) {
 
 // Words that are no command.
 #[rattlefmt::skip]
-const NO_WORDS: [&[&str]; 34] = [
+const NO_WORDS: [&[&str]; 40] = [
     &[], // not even the program's name
     &["subttx"],
     &["subttx", "--help"],
@@ -63,12 +56,19 @@ const NO_WORDS: [&[&str]; 34] = [
     &["subttx", "check", "a", "b", "--all", "--all"],
     &["subttx", "schedule", "a", "b", "--all"],
     &["subttx", "listen", "a", "--at", "10:00:00:10", "--all"],
+    // words that begin with a dash, and options that are repeated
+    &["subttx", "check", "-a", "b"],
+    &["subttx", "check", "a", "b", "--every", "-1"],
+    &["subttx", "check", "a", "b", "--", "--page", "888"],
+    &["subttx", "--", "check", "a", "b"],
+    &["subttx", "check", "a", "b", "--page", "888", "--page", "888"],
+    &["subttx", "schedule", "a", "b", "--serial", "--serial"],
 ];
 
 #[test]
 fn refuses_words_that_are_no_command(rt: HostRuntime) {
     for words in &NO_WORDS {
-        assert_refuses(&rt, *words, "usage 0 Words\n");
+        assert_tells(&rt, *words, &[], &[], "usage 0 Words\n");
     }
 }
 
@@ -88,7 +88,13 @@ fn refuses_digits_that_are_no_packet(rt: HostRuntime) {
         "g515d0d015d015d002152020202020202020202020202020202020202020202020202020202020202020",
     ];
     for hex in digits {
-        assert_refuses(&rt, &["subttx", "packet", hex], "usage 2 BadHex\n");
+        assert_tells(
+            &rt,
+            &["subttx", "packet", hex],
+            &[],
+            &[],
+            "usage 2 BadHex\n",
+        );
     }
 }
 
@@ -121,12 +127,12 @@ fn assert_refuses_row(rt: &(impl Abort + Alloc<A = Global>), row: &[&str; 5]) {
         "subttx", "schedule", "a", "b", "--page", row[0], "--every", row[1], "--origin", row[2],
         "--option", row[3],
     ];
-    assert_refuses(rt, &words, row[4]);
+    assert_tells(rt, &words, &[], &[], row[4]);
     let words = [
         "subttx", "check", "--option", row[3], "--origin", row[2], "--every", row[1], "--page",
         row[0], "a", "b",
     ];
-    assert_refuses(rt, &words, row[4]);
+    assert_tells(rt, &words, &[], &[], row[4]);
 }
 
 #[rattlefmt::skip]
@@ -140,13 +146,13 @@ fn tells_the_first_fault_of_a_schedule(rt: HostRuntime) {
         "subttx", "schedule", "a", "a", "--page", "8FF", "--every", "0", "--origin", "x",
         "--option", "french",
     ];
-    assert_refuses(&rt, &options, "usage 7 SameFile\n");
+    assert_tells(&rt, &options, &[], &[], "usage 7 SameFile\n");
     let options = [
         "subttx", "check", "--option", "french", "--origin", "x", "--every", "0", "--page", "8FF",
         "a", "a",
     ];
-    assert_refuses(&rt, &options, "usage 1 BadPage\n");
-    assert_refuses(&rt, &["subttx", "normal", "a", "a"], "usage 7 SameFile\n");
+    assert_tells(&rt, &options, &[], &[], "usage 1 BadPage\n");
+    assert_tells(&rt, &["subttx", "normal", "a", "a"], &[], &[], "usage 7 SameFile\n");
 }
 
 // The arguments of a receiver in the order in which their faults are told, and the line.
@@ -176,7 +182,7 @@ fn assert_refuses_receiver(rt: &(impl Abort + Alloc<A = Global>), row: &[&str; 8
         "subttx", "listen", "a", "--page", row[0], "--origin", row[1], "--at", row[2], "--skip",
         row[3], "--flip", row[4], "--lose", row[5], "--receiver", row[6],
     ];
-    assert_refuses(rt, &words, row[7]);
+    assert_tells(rt, &words, &[], &[], row[7]);
 }
 
 #[test]
@@ -184,45 +190,4 @@ fn tells_the_first_fault_of_a_receiver(rt: HostRuntime) {
     for row in &RECEIVERS {
         assert_refuses_receiver(&rt, row);
     }
-}
-
-// Asserts that words ask for a check of the files `-a` and `-`.
-fn assert_checks_dashes<'a>(rt: &(impl Abort + Alloc<A = Global>), words: &'a [&'a str]) {
-    match Request::parse(rt.alloc(), words) {
-        Ok(Request::Check { stl, pes, .. }) => assert!(rt; stl == "-a" && pes == "-", "{words:?}"),
-        _ => panic!(rt; "{words:?} is no check"),
-    }
-}
-
-// What `clap` makes of words that begin with a dash, and of options that are repeated.
-#[rattlefmt::skip]
-#[test]
-fn refuses_dashes_as_clap_does(rt: HostRuntime) {
-    let no_words = "usage 0 Words\n";
-    assert_refuses(&rt, &["subttx", "check", "-a", "b"], no_words);
-    assert_refuses(&rt, &["subttx", "check", "a", "b", "--every", "-1"], no_words);
-    assert_refuses(&rt, &["subttx", "check", "a", "b", "--", "--page", "888"], no_words);
-    assert_refuses(&rt, &["subttx", "--", "check", "a", "b"], no_words);
-    let twice = ["subttx", "check", "a", "b", "--page", "888", "--page", "888"];
-    assert_refuses(&rt, &twice, no_words);
-    let twice = ["subttx", "schedule", "a", "b", "--serial", "--serial"];
-    assert_refuses(&rt, &twice, no_words);
-    assert_refuses(&rt, &["subttx", "check", "a", "b", "--every=-1"], "usage 80 Every\n");
-}
-
-#[test]
-fn takes_files_after_two_dashes(rt: HostRuntime) {
-    assert_checks_dashes(&rt, &["subttx", "check", "--", "-a", "-"]);
-    assert_checks_dashes(&rt, &["subttx", "check", "--page", "888", "--", "-a", "-"]);
-    assert_checks_dashes(&rt, &["subttx", "check", "--page=888", "--", "-a", "-"]);
-    let options = [
-        "subttx",
-        "check",
-        "--every=250",
-        "--option=english",
-        "--",
-        "-a",
-        "-",
-    ];
-    assert_checks_dashes(&rt, &options);
 }
