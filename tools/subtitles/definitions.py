@@ -11,6 +11,7 @@ import os
 import re
 from typing import Iterable, Iterator, NamedTuple, Union
 
+from .crates import read_lines
 from .words import Stop
 
 BEGINS = ("abbrev ", "unfoldable ", "pub record ", "pub data ", "record ", "data ")
@@ -114,9 +115,7 @@ class Library:
     def __init__(self, top: str) -> None:
         self.top = top
         self.files: dict[str, File] = {}
-        with open(os.path.join(top, "crates.txt"), encoding="utf-8") as file:
-            self.crates = [line.split(":")[0].split()[0] for line in file if ":" in line
-                           and not line.startswith("#")]
+        self.crates = list(read_lines(os.path.join(top, "crates.txt")))
         for crate in self.crates:
             for path, module in self.paths(crate, "specs", ".antt"):
                 if not path.endswith("/Lib.antt"):

@@ -11,10 +11,9 @@ import re
 from collections import Counter
 from typing import NamedTuple
 
+from .crates import CRATES
 from .words import Stop
 
-TOP = os.path.realpath(os.path.join(os.path.dirname(__file__), "..", ".."))
-CRATES = os.path.join(TOP, "crates")
 TRIED_BY_GATE = "must-fail"
 TRIED_BEFORE_RELEASE = "release-edits"
 NAME = re.compile(r"[A-Za-z0-9_-]+\.edit")

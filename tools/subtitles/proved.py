@@ -4,7 +4,7 @@
     program SUM             the program's SHA-256
     toolchain LINE          what `rt version` printed
     crate NAME SUM LINE     for each crate, lowest first: the line of `tools/sources --crates` and
-                            the prover's line, logic=proved .., of the run of rt ci that proved it
+                            the prover's line, logic=proved .., of the run that proved it
 
 out/ holds the program that was proved and built here, dist/ that of the repository. A crate that
 rt ci takes from what it keeps has no line in that run; so lines are noted in out/lines, each beside
@@ -102,11 +102,11 @@ def lines_in(log: str) -> dict[str, str]:
     return found
 
 
-def note(log: str, sums: dict[str, str]) -> None:
-    """Notes what a log says of the crates; `sums` are those of the sources that were proved."""
+def note(lines: dict[str, str], sums: dict[str, str]) -> None:
+    """Notes the prover's lines of crates; `sums` are those of the sources that were proved."""
     version, notes = toolchain(), parsed(read(NOTES))
     crates = notes.crates if notes.toolchain == version else {}
-    crates |= {name: (sums[name], line) for name, line in lines_in(log).items() if name in sums}
+    crates |= {name: (sums[name], line) for name, line in lines.items() if name in sums}
     write(NOTES, text_of(Proved(None, None, version, crates)))
 
 

@@ -68,10 +68,14 @@ class Clone:
         with open(self.path(name), "a", encoding="utf-8") as file:
             file.write(text)
 
+    def give(self, name: str, text: str) -> None:
+        """Puts a script beside rt."""
+        self.write(os.path.join("bin", name), text)
+        os.chmod(self.path("bin", name), 0o755)
+
     def give_toolchain(self, text: str = TOOLCHAIN) -> str:
         """Puts an rt into the clone; the PATH that finds it."""
-        self.write("bin/rt", text)
-        os.chmod(self.path("bin", "rt"), 0o755)
+        self.give("rt", text)
         return os.pathsep.join([self.path("bin"), path_without_rt()])
 
     def call(self, command: list[str], path: str, user: int | None = None) -> Done:
