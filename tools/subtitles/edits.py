@@ -16,6 +16,7 @@ from .words import Stop
 
 TRIED_BY_GATE = "must-fail"
 TRIED_BEFORE_RELEASE = "release-edits"
+FOLDERS = (TRIED_BY_GATE, TRIED_BEFORE_RELEASE)
 NAME = re.compile(r"[A-Za-z0-9_-]+\.edit")
 PARTS = ("src/", "specs/", "proofs/")  # of a crate, in which an edit may change a file
 # A test with its body, which ends where a brace begins a line.
