@@ -78,6 +78,8 @@ impl<'a, K: Sink> Printer<'a, K> {
             (K.failure_count self.old.out.now) result (K.failure_count self.new.out.now) }
         ensures failed { OnOk result (self.new.failed ≡ self.old.failed) }
         ensures stopped { OnErr result (self.new.failed ≡ true) }
+        // Else a live list would keep its lines until the sink is full.
+        ensures waits { self.new.waiting ≡ true }
     {
         self.waiting = true;
         match put_all(self.out, lines) {
@@ -100,6 +102,7 @@ impl<'a, K: Sink> Printer<'a, K> {
             (printer_value (K.contents self.new.out.now) (K.failure_count self.new.out.now)
             self.new.refused self.new.failed) }
         ensures stopped { self.new.failed ≡ is_err result }
+        ensures waits { self.new.waiting ≡ true }
     {
         let mut line = Line::new();
         push_event(&mut line, event);
