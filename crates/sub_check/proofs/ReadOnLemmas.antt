@@ -11,12 +11,9 @@ use Rattle.sub_plan.specs.Options.{OptionsValue}
 use Rattle.sub_rules.specs.Events.{events, events_of_first, first_told, frame_events, unread_fault}
 use Rattle.sub_rules.specs.FrameRules.{Task, Unread, task_of}
 use Rattle.sub_rules.specs.PesReading.{PesFileValue, ReadsAs, pes_file_of}
-use Rattle.sub_rules.specs.PieceEvents.{at_pes, events_of_pieces, run_at, told_of_each}
-use Rattle.sub_rules.specs.PieceEvents.{told_of_frame, told_of_passed}
 use Rattle.sub_rules.specs.Pieces.{Piece, frames_of, piece_file_of, read_until_passed}
 use Rattle.sub_rules.specs.Pieces.Piece.{Passed, Sent}
 use Rattle.sub_rules.specs.Transmission.{Transmission}
-use Rattle.sub_rules.specs.Trusted.{frame_before}
 use Rattle.sub_rules.specs.declared.event.Event.{Event}
 use Rattle.sub_rules.specs.declared.event.Event.TheVariants.{Told}
 use Rattle.sub_rules.specs.declared.fault.CheckFault.{CheckFault}
@@ -31,6 +28,10 @@ use Rattle.sub_checker.specs.PieceTelling.{IsReadOn}
 use Rattle.sub_checker.specs.Telling.{IsRead}
 use Rattle.sub_checker.specs.declared.telling.Accepted.{Accepted}
 use Rattle.sub_check.specs.CheckedFiles.{all_events_of, events_of, events_of_first_pieces}
+use Rattle.sub_rules.specs.Trusted.{at_pes}
+use Rattle.sub_rules.proofs.RunLemmas.{events_are, frame_before, run_at, told_of_each}
+use Rattle.sub_rules.proofs.RunLemmas.{told_of_frame}
+use Rattle.sub_rules.proofs.RunLemmas.{told_of_passed}
 
 -- Where a file is read to its end, none of its pieces is passed over.
 all_sent : (pieces : List Piece) (unread : Option Unread)
@@ -173,7 +174,6 @@ pub are_sent : (programme : ProgrammeValue) (options : OptionsValue) (bytes : Li
     → n ≤ length (piece_file_of options.origin bytes).pieces
     → first_told (events_of_first_pieces programme options bytes n) ≡ None
     → AreSent programme options bytes n
-unfolding events_of_pieces
 are_sent programme options bytes n l none =
     let file = piece_file_of options.origin bytes in
     let stop = pes_file_of options.origin bytes in
@@ -183,7 +183,9 @@ are_sent programme options bytes n l none =
     let g = task_of programme options file.unread in
     let h = task_of programme options stop.unread in
     let quiet = none_passed g (frames_of file.pieces) 0 n None done (omega (arith, long))
-    (sym (announced_first (told_of_each g (frames_of file.pieces) 0 0 None done)) ∙ none) in
+    (sym (announced_first (told_of_each g (frames_of file.pieces) 0 0 None done))
+    ∙ ap first_told (sym (events_are g (frames_of file.pieces) done))
+    ∙ none) in
     let parts = sym (take-append-drop n file.pieces) in
     let all : frames_of file.pieces ≡ frames_of done ++ frames_of more =
     ap frames_of parts ∙ frames_of-append done more in

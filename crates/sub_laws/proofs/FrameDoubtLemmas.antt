@@ -15,7 +15,7 @@ use Rattle.sub_rules.specs.Events.{rules_told, standing_at, standing_before}
 use Rattle.sub_rules.specs.FrameRules.{Task, frame_at, packets_before, packets_of_frame}
 use Rattle.sub_rules.specs.PacketTests.{breaks, broken_rules, packet_rules}
 use Rattle.sub_rules.specs.Transmission.{Transmission}
-use Rattle.sub_rules.specs.Trusted.{doubted, frame_before, own_events, stands_none}
+use Rattle.sub_rules.specs.Trusted.{doubted, stands_none}
 use Rattle.sub_rules.specs.declared.end_rule.EndRule.{EndRule}
 use Rattle.sub_rules.specs.declared.event.Event.{Event}
 use Rattle.sub_rules.specs.declared.event.Event.TheVariants.{Told}
@@ -26,6 +26,8 @@ use Rattle.sub_rules.proofs.EndLemmas.{standing_before_is}
 use Rattle.sub_laws.specs.CleanStretch.{is_needed}
 use Rattle.sub_laws.proofs.BrokenRuleLemmas.{each_rule, of_each_rule}
 use Rattle.sub_laws.proofs.DoubtLemmas.{doubt-append, first_doubt, or_none}
+use Rattle.sub_rules.proofs.RunLemmas.{frame_before}
+use Rattle.sub_rules.specs.PieceEvents.{own_events}
 
 -- ---- lists by which one frame is quiet no more
 

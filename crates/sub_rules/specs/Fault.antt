@@ -94,6 +94,13 @@ frame_of_place last _ = None
 abbrev pub doubted_frame : ℕ → FaultRow → Option ℕ
 doubted_frame last row = if row.doubts then frame_of_place last row.place else None
 
+-- A refusal that names a PES packet names this one.
+abbrev pub fault_at_pes : ℕ → CheckFault → CheckFault
+fault_at_pes pes (fault.Order index) = fault.Order pes
+fault_at_pes pes (fault.Pes index f) = fault.Pes pes f
+fault_at_pes pes (fault.OffFrame index) = fault.OffFrame pes
+fault_at_pes pes refusal = refusal
+
 -- ---- what it comes of
 
 -- The source of the PES file failed.

@@ -125,7 +125,7 @@ pub enum CheckFault {
 }
 
 impl CheckFault {
-    ghost use Rattle.sub_rules.specs.Fault.{check_code, place_of};
+    ghost use Rattle.sub_rules.specs.Fault.{check_code, fault_at_pes, place_of};
 
     /// Its row.
     pub fn row(self) -> FaultRow
@@ -179,6 +179,18 @@ impl CheckFault {
         ensures { result ≡ place_of self }
     {
         self.row().place
+    }
+
+    /// The same of this PES packet, where it names one.
+    pub fn at_pes(self, pes: u32) -> CheckFault
+        ensures { result ≡ fault_at_pes pes self }
+    {
+        match self {
+            CheckFault::Order { .. } => CheckFault::Order { pes },
+            CheckFault::Pes { fault, .. } => CheckFault::Pes { pes, fault },
+            CheckFault::OffFrame { .. } => CheckFault::OffFrame { pes },
+            _ => self,
+        }
     }
 }
 
