@@ -23,7 +23,7 @@ use Rattle.sub_rules.specs.declared.trust.Trust.{Trust}
 -- The frame that is quiet no more where this event is told, after a PES packet of frame `last`: a
 -- refusal may end one, nothing else.
 unfoldable pub doubted : ℕ → Event → Option ℕ
-doubted last (Told refusal) = doubted_frame last (fault_row refusal)
+doubted last (Told f) = doubted_frame last (fault_row f).doubts (fault_row f).place
 doubted last event = None
 
 -- It tells that the frames do not rise.
@@ -110,14 +110,8 @@ after_mark (Closes are_left more) t = record t { run = None }
 
 -- Before the first mark.
 abbrev pub no_trust : Trust
-no_trust = record {
-  pes = 0;
-  run = None;
-  last = 0;
-  rises = true;
-  is_clean = true;
-  told = false;
-}
+no_trust =
+    record { pes = 0; run = None; last = 0; rises = true; is_clean = true; told = false }
 
 -- What is told with marks, one after another, and what is kept after them.
 unfoldable pub told_by : Trust → List Mark → List Event

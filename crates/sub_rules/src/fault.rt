@@ -203,10 +203,7 @@ fn load_row(fault: LoadFault) -> FaultRow
         LoadFaultKind::Row(row) => FaultPlace::Text { block, at: row.at },
         _ => FaultPlace::Block { block },
     };
-    FaultRow {
-        is_rule: false,
-        ..coded_row(fault.kind.code(), place, false)
-    }
+    coded_row(fault.kind.code(), place, false)
 }
 
 // The row of a fault of a PES packet.
@@ -215,12 +212,11 @@ fn pes_row(pes: u32, fault: PesFault) -> FaultRow
 {
     FaultRow {
         is_passed: fault.is_of_piece(),
-        is_rule: fault != PesFault::Read && fault != PesFault::Write,
         ..coded_row(fault.code(), FaultPlace::Pes { pes }, true)
     }
 }
 
-// The row of a fault that a rule tells, by whether receivers depend on that rule.
+// The row of a fault for which no PES packet is passed over.
 fn coded_row(code: FaultCode, place: FaultPlace, doubts: bool) -> FaultRow
     ensures { result ≡ coded_row code place doubts }
 {
@@ -229,7 +225,6 @@ fn coded_row(code: FaultCode, place: FaultPlace, doubts: bool) -> FaultRow
         place,
         doubts,
         is_passed: false,
-        is_rule: true,
     }
 }
 
