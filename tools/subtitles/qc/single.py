@@ -4,7 +4,6 @@ from __future__ import annotations
 import argparse
 import io
 import itertools
-import json
 import os
 import tempfile
 import time
@@ -18,6 +17,7 @@ from .asked import Asked, asked_of
 from .faults import faults_of
 from .made_with import program_at
 from .names import Names
+from .objects import found
 from .pair import Pair
 from .progress import Progress
 from .severity import Severity
@@ -43,19 +43,21 @@ def judge(words: argparse.Namespace, called: str) -> int:
     typed = Typed(called, words.program)
     verdict = Verdict(asked, Severity(asked.severity), now())
     name = words.name or os.path.splitext(os.path.basename(asked.stl))[0]
-    has_files = words.out or words.json or words.csv or words.summary
+    has_files = words.out or words.json or words.csv
     with tempfile.TemporaryDirectory(prefix="subttx-qc-") as folder:
         names = Names(name, folder, out)
         files = Files(words, verdict, typed, names)
         files.prepare()
         began = time.monotonic()
+        verdict.found = found(asked)
         try:
             Pair(verdict, typed, names, speech, bool(has_files)).judge()
         except (Unclear, Stop, OSError) as reason:
             verdict.to_type = reason.to_type if isinstance(reason, Unclear) else ()
             verdict.reason = reason.reason if isinstance(reason, Unclear) else line_of(reason)
         verdict.commands = speech.commands
-        files.write(time.monotonic() - began)
+        verdict.seconds = round(time.monotonic() - began, 3)
+        files.write()
     end(verdict, speech)
     return verdict.status
 
@@ -106,24 +108,21 @@ class Files:
             if one and is_there and os.path.samefile(path, one):
                 raise Stop(f"{path} is an input too")
 
-    def write(self, seconds: float) -> None:
-        """Writes what is asked for."""
+    def write(self) -> None:
+        """Writes what is asked for; the object in the folder comes last, when all else is there."""
         words, verdict = self.words, self.verdict
-        objects = [path for path in (words.json, self.names.machine) if path]
-        if objects or words.summary:
-            program = program_at(self.typed.program_path)
-            for path in objects:
-                self.put(path, machine.object_of(verdict, program, self.typed))
-            if words.summary:
-                summary = {**machine.head_of(verdict, program), "seconds": seconds,
-                           "lines": self.lines()}
-                self.put(words.summary, iter([json.dumps(summary)]))
         if words.csv:
             self.put(words.csv, self.table_lines())
         if words.junit:
             case = junit.TestCase(name_of(verdict.asked), verdict.word, verdict.status,
-                                  verdict.line or verdict.reason or "", self.lines(), seconds)
+                                  verdict.line or verdict.reason or "", self.lines(),
+                                  verdict.seconds)
             self.put(words.junit, iter([junit.text_of([case], verdict.date).decode()]))
+        objects = [path for path in (words.json, self.names.machine) if path]
+        if objects:
+            program = program_at(self.typed.program_path)
+            for path in objects:
+                self.put(path, machine.object_of(verdict, program, self.typed))
 
     def lines(self) -> list[str]:
         """The first lines of the lists of all parts."""
@@ -133,10 +132,10 @@ class Files:
 
     def table_lines(self) -> Iterator[str]:
         """The lines of the CSV file, with the names of the columns."""
-        text = io.StringIO()
+        text, asked = io.StringIO(), self.verdict.asked
         table.write_head(text)
         for fault in faults_of(self.verdict, self.typed):
-            table.write_row(text, self.verdict, fault)
+            table.write_row(text, asked.stl, asked.recording, fault)
             yield text.getvalue()
             text.seek(0)
             text.truncate()

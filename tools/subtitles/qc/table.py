@@ -2,10 +2,10 @@
 from __future__ import annotations
 
 import csv
-from typing import IO
+import io
+from typing import IO, Any, Iterable, Iterator
 
 from .faults import Cell, Fault
-from .verdict import Verdict
 
 COLUMNS = ["stl", "recording", "part", "number", "name", "severity", "file", "block", "subtitle",
            "begin", "end", "byte", "character", "pes", "pes_time", "packet", "frame", "time",
@@ -19,11 +19,11 @@ def cell_words(cell: Cell | None) -> str:
     return f"{cell['code']} {cell['character']}" if cell["character"] else cell["code"]
 
 
-def row_of(verdict: Verdict, fault: Fault) -> list[object]:
+def row_of(stl: str | None, recording: str | None, fault: Fault) -> list[object]:
     """The columns of a fault; empty where one does not apply."""
     subtitle = fault["subtitle"]
     known: dict[str, object] = {
-        **fault, "stl": verdict.asked.stl, "recording": verdict.asked.recording,
+        **fault, "stl": stl, "recording": recording,
         "subtitle": subtitle and subtitle["number"], "begin": subtitle and subtitle["begin"],
         "end": subtitle and subtitle["end"], "due": cell_words(fault["due"]),
         "held": cell_words(fault["held"]),
@@ -36,6 +36,20 @@ def write_head(file: IO[str]) -> None:
     csv.writer(file, lineterminator="\n").writerow(COLUMNS)
 
 
-def write_row(file: IO[str], verdict: Verdict, fault: Fault) -> None:
+def write_row(file: IO[str], stl: str | None, recording: str | None, fault: Fault) -> None:
     """Writes the line of a fault."""
-    csv.writer(file, lineterminator="\n").writerow(row_of(verdict, fault))
+    csv.writer(file, lineterminator="\n").writerow(row_of(stl, recording, fault))
+
+
+def text_of(objects: Iterable[dict[str, Any]]) -> Iterator[bytes]:
+    """The lines of the faults of many pairs, by their objects, under one head."""
+    text = io.StringIO()
+    write_head(text)
+    for known in objects:
+        asked = known.get("asked") or {}
+        for fault in known.get("faults") or []:
+            write_row(text, asked.get("stl"), asked.get("recording"), fault)
+        yield text.getvalue().encode("utf-8", "replace")
+        text.seek(0)
+        text.truncate()
+    yield text.getvalue().encode("utf-8", "replace")

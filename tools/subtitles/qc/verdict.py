@@ -58,7 +58,8 @@ class Gap:
 
 @dataclasses.dataclass
 class Verdict:
-    """All there is to say of a pair."""
+    """All there is to say of a pair. `found` is what its files were like when judging began,
+    `seconds` how long it took."""
 
     asked: Asked
     severity: Severity
@@ -70,6 +71,8 @@ class Verdict:
     recording: File | None = None
     reason: str | None = None
     to_type: tuple[str, ...] = ()
+    found: dict[str, object] = dataclasses.field(default_factory=dict)
+    seconds: float = 0.0
 
     @property
     def is_lost(self) -> bool:
