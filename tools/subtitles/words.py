@@ -16,6 +16,8 @@ HIDDEN = re.compile("[\x00-\x1f\x7f-\x9f\u061c\u200e\u200f\u2028-\u202e\u2066-\u
                     "\ud800-\udfff]")
 INSTALLED = "subttx-"  # before the names of tools that are installed
 MOST_EVERY = 1500  # frames of a repeat bound
+MOST_DIGITS = 3  # of a number of breaks, or of a run
+TCP_WORD = "tcp"  # for the time code that the GSI block has
 NO_PID = 0x1FFF  # of the packets of a transport stream that hold nothing
 HOME = os.path.dirname(os.path.dirname(os.path.dirname(os.path.realpath(__file__))))
 
@@ -90,6 +92,33 @@ def every_word(text: str) -> int:
     if not is_number or not 1 <= int(digits or "0") <= MOST_EVERY:
         raise argparse.ArgumentTypeError(f"{text} is no repeat bound: 1 to {MOST_EVERY} frames")
     return int(digits)
+
+
+def number_word(text: str, least: int, thing: str) -> int:
+    """A number of a few digits."""
+    if not (text.isascii() and text.isdecimal() and len(text) <= MOST_DIGITS
+            and int(text) >= least):
+        raise argparse.ArgumentTypeError(f"{text} is no {thing}: {least} to "
+                                         f"{10 ** MOST_DIGITS - 1}")
+    return int(text)
+
+
+def breaks_word(text: str) -> int:
+    """How many breaks a programme has."""
+    return number_word(text, 0, "number of breaks")
+
+
+def run_word(text: str) -> int:
+    """Which run of a programme, from 1."""
+    return number_word(text, 1, "run of the programme")
+
+
+def start_word(text: str) -> str:
+    """The time code of the first picture, or `tcp`."""
+    if text != TCP_WORD and frame_of(text) is None:
+        raise argparse.ArgumentTypeError(
+            f"{text} is no start: HH:MM:SS:FF, 25 frames a second, or {TCP_WORD}")
+    return text
 
 
 def pid_word(text: str) -> int:

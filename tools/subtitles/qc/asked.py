@@ -7,12 +7,16 @@ from typing import Sequence
 
 from ..files import as_file
 from ..teletext import page_name
-from ..words import Stop, Words, add_page, every_word, origin_word, pid_word
+from ..words import (
+    Stop, Words, add_page, breaks_word, every_word, origin_word, pid_word, run_word, start_word)
 
 
 @dataclasses.dataclass
 class Asked:
-    """A pair and its options; `page` is the magazine, 0 for 8, and the number."""
+    """A pair and its options; `page` is the magazine, 0 for 8, and the number.
+
+    `start` is the time code of the recording's first picture, or `tcp`: the GSI block has it.
+    """
 
     stl: str
     recording: str | None
@@ -24,6 +28,9 @@ class Asked:
     pid: int | None
     is_loss_allowed: bool
     severity: str | None
+    breaks: int
+    run: int | None
+    start: str | None
 
     @property
     def page_name(self) -> str:
@@ -39,6 +46,11 @@ class Asked:
 
     def every_words(self) -> list[str]:
         return [] if self.every == 250 else ["--every", str(self.every)]
+
+    def clock_words(self) -> list[str]:
+        """What tools/origin is told of the clock, as options."""
+        return [*(["--breaks", str(self.breaks)] if self.breaks else []),
+                *(["--run", str(self.run)] if self.run is not None else [])]
 
     def check_words(self) -> list[str]:
         """The options of `check` that a person would type, but for the origin."""
@@ -63,6 +75,13 @@ def add_pair_options(parser: Words) -> None:
                         help="accept a recording of which TS packets are lost")
     parser.add_argument("--severity", metavar="FILE",
                         help="lines `NUMBER error` and `NUMBER warning`")
+    parser.add_argument("--breaks", type=breaks_word, default=0, metavar="N",
+                        help="the breaks of the programme, none where it is left out")
+    parser.add_argument("--run", type=run_word, metavar="N",
+                        help="which one, where the programme is in the recording more than once")
+    parser.add_argument("--start", type=start_word, metavar="TIME|tcp",
+                        help="the time code of the recording's first picture; tcp: the one of the "
+                             "GSI block")
 
 
 def pair_options() -> list[str]:
@@ -78,6 +97,8 @@ def asked_of(words: argparse.Namespace) -> Asked:
 def asked_with(stl: str, recording: str | None, options: argparse.Namespace) -> Asked:
     """A pair, and options that are read."""
     named = recording and (recording if recording == "-" else as_file(recording))
+    if options.origin is not None and options.start is not None:
+        raise Stop("--start tells the origin: --origin is too many")
     return Asked(as_file(stl), named, **{name: getattr(options, name) for name in pair_options()})
 
 
@@ -87,7 +108,12 @@ def asked_of_line(line: Sequence[str], defaults: argparse.Namespace) -> Asked:
     parser.add_argument("stl")
     parser.add_argument("recording")
     add_pair_options(parser)
-    parser.set_defaults(**{name: getattr(defaults, name) for name in pair_options()})
+    known = {name: getattr(defaults, name) for name in pair_options()}
+    given = {word.partition("=")[0] for word in line}
+    for one, other in (("origin", "start"), ("start", "origin")):
+        if f"--{one}" in given:
+            known[other] = None  # a line that tells its origin takes none of the call
+    parser.set_defaults(**known)
     asked = asked_of(parser.parse_args(line))
     if asked.recording == "-":
         raise Stop("- is no recording of a list: give a file")

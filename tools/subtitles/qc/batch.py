@@ -97,6 +97,8 @@ def words_of(asked: Asked) -> list[str]:
     """A pair as the words of a call."""
     words = ["--page", asked.page_name, "--every", str(asked.every), "--option", asked.option]
     words += ["--origin", str(asked.origin)] if asked.origin is not None else []
+    words += asked.clock_words()
+    words += ["--start", asked.start] if asked.start is not None else []
     words += ["--pid", str(asked.pid)] if asked.pid is not None else []
     words += ["--severity", asked.severity] if asked.severity is not None else []
     words += ["--complete"] if asked.is_complete else []

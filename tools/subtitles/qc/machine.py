@@ -24,7 +24,8 @@ def asked_words(asked: Asked) -> dict[str, Value]:
     """What was asked; `origin` and `pid` are `None` where they were to be found."""
     return {"page": asked.page_name, "every": asked.every, "option": asked.option,
             "origin": asked.origin, "complete": asked.is_complete, "pid": asked.pid,
-            "allow_lost": asked.is_loss_allowed, "severity": asked.severity}
+            "allow_lost": asked.is_loss_allowed, "severity": asked.severity,
+            "breaks": asked.breaks, "run": asked.run, "start": asked.start}
 
 
 def part_words(part: Part) -> dict[str, Value]:
@@ -32,7 +33,8 @@ def part_words(part: Part) -> dict[str, Value]:
     return {"part": part.number, "stl": part.stl, "origin": part.origin, "from": begin, "to": end,
             "verdict": answer.verdict, "line": answer.line,
             "frames": answer.frames, "transmissions": answer.transmissions,
-            "faults": answer.count, "pes": file_words(part.judged)}
+            "faults": answer.count, "pes": file_words(part.judged),
+            "clock": part.clock and part.clock._asdict()}
 
 
 def gap_words(gap: Gap) -> dict[str, Value]:

@@ -9,6 +9,7 @@ from ..times import CLOCK, FRAMES_OF_A_DAY, TICKS, time_of
 from ..words import counted
 from .carriers import Carrier, Kept
 from .checking import Answer
+from .clock import GIVEN, RECORDING, Clock
 from .feed import Feed, Finder
 from .kinds import is_recording
 from .live import Live
@@ -23,6 +24,8 @@ from .typed import Typed
 from .unclear import Unclear
 from .verdict import Gap, Part, Verdict
 
+NO_CLOCK = Clock(0, RECORDING)  # stands for one that is not found yet
+
 
 class Pair:
     """A pair that is judged step by step; what is known so far stands in the verdict."""
@@ -33,7 +36,8 @@ class Pair:
         self.typed, self.names, self.speech = typed, names, speech
         self.is_summed = is_summed
         self.steps = Steps(self.asked, typed, names, speech)
-        self.whole = Found(0, 0, 0)  # the first and the last frame of the subtitle file
+        # The first and the last frame of the subtitle file, and the clock where it was given.
+        self.whole = Found(0, 0, NO_CLOCK)
 
     def judge(self) -> None:
         """Judges the pair; `Unclear` where a step is not clear."""
@@ -77,7 +81,8 @@ class Pair:
         times = steps.times(asked.stl)
         if not times:
             raise Unclear(f"{asked.stl} has no subtitle")
-        self.whole = Found(times[0][0], times[-1][1], asked.origin or 0)
+        given = self.given()
+        self.whole = Found(times[0][0], times[-1][1], given or NO_CLOCK)
         recording = Recording(asked, self.typed, self.names, self.speech)
         finder = Finder([*self.typed.call("origin"), *asked.page_words(), *asked.option_words(),
                          "--", asked.stl])
@@ -86,25 +91,30 @@ class Pair:
         if recording.live:
             answer = recording.live.end()
             self.speech.end_list(answer.last)
-            self.end_part(1, self.all_of(recording.live.origin), answer, recording.places())
+            clock = given or Clock(recording.live.origin, RECORDING)
+            self.end_part(1, self.all_of(clock), answer, recording.places())
         else:
-            found = [self.whole] if asked.origin is not None else \
-                steps.origins(recording, self.whole)
+            found = [self.whole] if given else steps.origins(recording, self.whole)
             stretches = self.stretches(found, len(times))
             for number, one in enumerate(stretches, 1):
                 steps.cut(recording, one)
                 self.end_part(number, one, steps.check(one), recording.places())
         self.note_gaps(recording.places())
 
-    def all_of(self, origin: int) -> Stretch:
-        """All subtitles, with one origin."""
+    def given(self) -> Clock | None:
+        """The clock that was given, `None` where it is to be found."""
+        origin = self.asked.origin
+        return None if origin is None else Clock(origin, GIVEN)
+
+    def all_of(self, clock: Clock) -> Stretch:
+        """All subtitles, with one clock."""
         stl = self.asked.stl
-        return Stretch(stl, stl, self.names, self.whole.begin, self.whole.end, origin)
+        return Stretch(stl, stl, self.names, self.whole.begin, self.whole.end, clock)
 
     def stretches(self, found: list[Found], count: int) -> list[Stretch]:
         """What is judged, one after another; each of the subtitles has to be in one."""
         if len(found) == 1:
-            return [self.all_of(found[0].origin)]
+            return [self.all_of(found[0].clock)]
         stretches = [self.steps.part(number, one) for number, one in enumerate(found, 1)]
         left = count - sum(len(self.steps.times(one.stl_path)) for one in stretches)
         if left:
@@ -117,7 +127,7 @@ class Pair:
         cut = one.names.cut_path
         judged = file_of(cut, one.names.cut) if self.is_summed else None
         part = Part(number, one.stl, one.stl_path, cut, one.origin, one.begin, one.end, judged,
-                    answer)
+                    answer, one.clock)
         self.verdict.parts.append(part)
         lost = [gap_of(place, one.origin, True).line() for place in places if is_in(place, part)]
         if len(lost) > TOLD:
@@ -137,7 +147,8 @@ class Pair:
                             "-", "|", self.typed.program_word, "check", asked.stl, "/dev/stdin",
                             *words)
         return Live([self.typed.program_path, "check", *words, "--", asked.stl, "/dev/stdin"],
-                    self.whole._replace(origin=origin), asked.page, self.names, self.speech)
+                    self.whole._replace(clock=Clock(origin, RECORDING)), asked.page, self.names,
+                    self.speech)
 
     # What is missing.
 

@@ -7,6 +7,7 @@ from ..joining import Place
 from ..times import time_of
 from .asked import Asked
 from .checking import ACCEPTED_WORD, NOT_JUDGED, REFUSED_WORD, Answer
+from .clock import Clock
 from .severity import Severity
 from .sums import File
 
@@ -30,6 +31,7 @@ class Part:
     end: int | None
     judged: File | None
     answer: Answer
+    clock: Clock | None = None
 
     def times(self) -> tuple[str | None, str | None]:
         """Those frames as times."""
