@@ -125,8 +125,8 @@ class Listing:
         if pid == PAT and section[0] == 0:
             for at in range(8, len(section) - 4, 4):
                 if section[at:at + 2] != b"\0\0":  # programme 0 is the network's own table
-                    programme = int.from_bytes(section[at + 2:at + 4], "big") & 0x1FFF
-                    self.tables.setdefault(programme, Tables(programme))
+                    table = int.from_bytes(section[at + 2:at + 4], "big") & 0x1FFF
+                    self.tables.setdefault(table, Tables(table))
         elif section[0] == PMT and len(section) > 12:
             programme = programme_of(section)
             self.programmes.append(programme)

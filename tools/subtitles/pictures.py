@@ -152,6 +152,17 @@ class Videos:
         return len(pids) == 1 and all(pid in self.by_pid and self.by_pid[pid].is_over
                                       for pid in pids)
 
+    def is_hopeless(self, teletext: int, patience: int) -> bool:
+        """Whether the PMT tells already that there will be none, or so many PES packets of video
+        have come without the flag."""
+        programmes = self.listing.programmes_of(teletext)
+        pids = video_pids(programmes)
+        if not programmes:
+            return False
+        return len(pids) != 1 or not NAMES.keys() & pids.values() or any(
+            not self.by_pid[pid].count and self.by_pid[pid].passed > patience
+            for pid in pids if pid in self.by_pid)
+
     def first_of(self, teletext: int) -> First:
         """The first picture of the programme whose PMT names a Teletext PID."""
         programmes = self.listing.programmes_of(teletext)
