@@ -71,6 +71,8 @@ def end(verdict: Verdict, speech: Speech) -> None:
     if verdict.is_lost and not verdict.asked.is_loss_allowed:
         speech.tell("nobody saw what was sent there; --allow-lost accepts the recording "
                     "without it")
+    for warned in verdict.warnings:
+        speech.tell(f"warning: {warned.line}")
     if verdict.line is not None:
         speech.end(verdict.line)
     for line in (verdict.reason or "").splitlines():

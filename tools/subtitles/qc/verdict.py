@@ -10,6 +10,7 @@ from .checking import ACCEPTED_WORD, NOT_JUDGED, REFUSED_WORD, Answer
 from .clock import Clock
 from .severity import Severity
 from .sums import File
+from .warned import Warned
 
 LOST = "lost"  # the verdict where all that was seen is accepted, and TS packets are lost
 
@@ -65,6 +66,7 @@ class Verdict:
     date: str
     parts: list[Part] = dataclasses.field(default_factory=list)
     gaps: list[Gap] = dataclasses.field(default_factory=list)
+    warnings: list[Warned] = dataclasses.field(default_factory=list)
     commands: list[str] = dataclasses.field(default_factory=list)
     stl: File | None = None
     recording: File | None = None
