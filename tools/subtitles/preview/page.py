@@ -32,6 +32,7 @@ SAYS = ("The verdict and the faults are lines that <code>subttx check --all</cod
         "nothing else on this page accepts or refuses. The pictures are drawn by a script that is "
         "not proved; they show one receiver, tuned in before the first packet.")
 LOST = "TS packets of the recording are lost: nobody saw what was sent there"
+WARNED = "Strange of the recording; the verdict says nothing of it"
 ACCEPTED = ("Frames are counted from the first PES packet's to the last one's, transmissions by "
             "the headers of the page.")
 
@@ -128,19 +129,21 @@ def verdict_box(report: Report) -> str:
         parts.append(f"<p>{ACCEPTED}</p>")
     kind, shape = ("refused", BAD) if verdict.status else ("accepted", GOOD)
     if report.asked.lost:
-        parts.append(lost_places(report.asked.lost))
+        parts.append(listed(LOST, "lost", report.asked.lost))
         kind, shape = (kind, shape) if verdict.status else ("unseen", UNSEEN)
+    if report.asked.warned:
+        parts.append(listed(WARNED, "warned", report.asked.warned))
     return (f'<div class="verdict {kind}">{shape}<div><p class="line" id="verdict">'
             f'{shown(verdict.line)}</p>{"".join(parts)}</div></div>')
 
 
-def lost_places(places: list[str]) -> str:
-    """That TS packets are lost, and where."""
+def listed(what: str, kind: str, places: list[str]) -> str:
+    """What is lost or strange, and where."""
     told = "".join(f"<li>{shown(words)}</li>" for words in places)
-    listed = f'<ul class="lost">{told}</ul>'
+    lines = f'<ul class="{kind}">{told}</ul>'
     if len(places) > MOST_LOST:
-        listed = f"<details><summary>where</summary>{listed}</details>"
-    return f'<p class="count bad">{LOST}</p>{listed}'
+        lines = f"<details><summary>where</summary>{lines}</details>"
+    return f'<p class="count{" bad" * (kind == "lost")}">{what}</p>{lines}'
 
 
 def navigation(report: Report) -> str:

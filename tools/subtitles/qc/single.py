@@ -14,6 +14,7 @@ from ..files import OWN_OUTPUT, as_file, refuse_name, whole_file
 from ..words import Stop, counted, line_of
 from . import junit, machine, table
 from .asked import Asked, asked_of
+from .cause_words import count_line
 from .faults import faults_of
 from .made_with import program_at
 from .names import Names
@@ -64,6 +65,9 @@ def judge(words: argparse.Namespace, called: str) -> int:
 
 def end(verdict: Verdict, speech: Speech) -> None:
     """Says the verdict, after what was lost and what is not clear."""
+    causes = [part.causes for part in verdict.parts if part.causes]
+    if causes:
+        speech.say(count_line(causes))
     for line in verdict.lines():
         speech.say(line)
     for gap in verdict.gaps[:TOLD]:
@@ -73,6 +77,8 @@ def end(verdict: Verdict, speech: Speech) -> None:
     if verdict.is_lost and not verdict.asked.is_loss_allowed:
         speech.tell("nobody saw what was sent there; --allow-lost accepts the recording "
                     "without it")
+    for warned in verdict.warnings:
+        speech.tell(f"warning: {warned.line}")
     if verdict.line is not None:
         speech.end(verdict.line)
     for line in (verdict.reason or "").splitlines():
@@ -131,15 +137,16 @@ class Files:
         return list(itertools.islice(lines, SUMMED))
 
     def table_lines(self) -> Iterator[str]:
-        """The lines of the CSV file, with the names of the columns."""
-        text, asked = io.StringIO(), self.verdict.asked
+        """The lines of the CSV file: the names of the columns, the pair, its faults."""
+        text = io.StringIO()
         table.write_head(text)
+        table.write_row(text, table.of_pair(self.verdict))
+        yield text.getvalue()
         for fault in faults_of(self.verdict, self.typed):
-            table.write_row(text, asked.stl, asked.recording, fault)
-            yield text.getvalue()
             text.seek(0)
             text.truncate()
-        yield text.getvalue()
+            table.write_row(text, table.of_fault(self.verdict, fault))
+            yield text.getvalue()
 
     def put(self, path: str, pieces: Iterator[str]) -> None:
         """Writes a file whole, or not at all."""
