@@ -107,12 +107,20 @@ def names_one_version(case: Case) -> None:
     case.test("the change log", log and log[1].rstrip(",") == version, log)
 
 
-def makes_an_archive(case: Case) -> None:
-    """The archive's sums are right, and what is in it runs; twice the same bytes."""
+def proved_here(case: Case) -> str | None:
+    """The file PROVED beside the program; none where the gate has not proved that."""
     program, _ = chosen(TOP)
     proved = os.path.join(os.path.dirname(program), "PROVED")
-    if not program or lacking(parsed(read(proved))):
-        case.bench.over.append("tools/dist, since the gate has not proved the program here")
+    if program and not lacking(parsed(read(proved))):
+        return proved
+    case.bench.over.append("tools/dist, since the gate has not proved the program here")
+    return None
+
+
+def makes_an_archive(case: Case) -> None:
+    """The archive's sums are right, and what is in it runs; twice the same bytes."""
+    proved = proved_here(case)
+    if not proved:
         return
     done = case.tool("dist")
     path = case.path(done.out.decode().strip())
@@ -129,4 +137,36 @@ def makes_an_archive(case: Case) -> None:
     runs_the_whole_way(case, folder)
 
 
-CASES = [installs, refuses_a_dash, completes, names_one_version, makes_an_archive]
+def makes_a_package(case: Case) -> None:
+    """A package of Debian: twice the same bytes, unpacked it judges, and lintian finds no error."""
+    proved = proved_here(case)
+    if not proved:
+        return
+    if not shutil.which("dpkg-deb"):
+        case.bench.over.append("tools/dist --deb, since there is no dpkg-deb")
+        return
+    done = case.tool("dist", "--deb")
+    path = case.path(done.out.decode().strip())
+    case.test("status", done.status == 0, done)
+    before = case.read(path)
+    case.tool("dist", "--deb")
+    case.test("the same bytes again", case.read(path) == before)
+    done = case.call(["dpkg-deb", "-f", path, "Version", "Depends"])
+    case.test("version, and what it needs", done.out.decode().splitlines() == [
+        f"Version: {(read(os.path.join(TOP, 'VERSION')) or '').strip()}",
+        "Depends: libc6 (>= 2.34), python3"], done)
+    done = case.call(["dpkg-deb", "-x", path, "empty"])
+    case.test("unpacked", done.status == 0, done)
+    runs_the_whole_way(case, case.path("empty/usr"))
+    documents = case.path("empty/usr/share/doc/subttx")
+    case.test("the manual", os.path.isfile(os.path.join(documents, "manual", "qc.md")))
+    case.test("what was proved", read(os.path.join(documents, "PROVED")) == read(proved))
+    if shutil.which("lintian"):
+        done = case.call(["lintian", "--allow-root", "--fail-on", "error", path])
+        case.test("lintian", done.status == 0, done)
+    else:
+        case.bench.over.append("the package by lintian, which is not there")
+
+
+CASES = [installs, refuses_a_dash, completes, names_one_version, makes_an_archive,
+         makes_a_package]
