@@ -66,6 +66,7 @@ def head_of(verdict: Verdict, program: Program) -> dict[str, Value]:
         "asked": asked_words(verdict.asked),
         "parts": [part_words(part) for part in parts],
         "lost": [gap_words(gap) for gap in verdict.gaps],
+        "notes": verdict.said(),
         "inputs": {"stl": file_words(verdict.stl), "recording": file_words(verdict.recording)},
         "program": program._asdict(),
         "commands": verdict.commands,

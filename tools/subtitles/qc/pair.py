@@ -132,7 +132,8 @@ class Pair:
         lost = [gap_of(place, one.origin, True).line() for place in places if is_in(place, part)]
         if len(lost) > TOLD:
             lost = [*lost[:TOLD], f"and at {counted(len(lost) - TOLD, 'more place')}"]
-        self.steps.draw(one.names, [one.stl_path, cut], [one.stl, one.names.cut], one.origin, lost)
+        self.steps.draw(one.names, [one.stl_path, cut], [one.stl, one.names.cut], one.origin, lost,
+                        self.verdict.notes, self.verdict.is_fitted)
 
     # A feed.
 
