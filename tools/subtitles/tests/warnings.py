@@ -38,8 +38,8 @@ def warnings(case: Case, name: str, done: Done, kinds: list[str]) -> list[Any]:
             if line.startswith("qc: warning: ")]
     case.test(f"{name}: said", said == lines, done.told)
     report = case.read("out/story.html").decode()
-    case.test(f"{name}: in the report", all(f"<li>{line}</li>" in report for line in lines)
-              and ("Strange of the recording" in report) == bool(lines), lines)
+    case.test(f"{name}: in the report", all(
+        f'<p class="note">warning: {line}</p>' in report for line in lines), lines)
     return found
 
 
