@@ -5,13 +5,15 @@ import json
 from typing import Iterable, Iterator, Mapping
 
 from .asked import Asked
+from .cause_words import Wording
 from .faults import faults_of
 from .made_with import Program
+from .naming import counts_of
 from .sums import File
 from .typed import Typed
 from .verdict import Gap, Part, Verdict
 
-FORMAT = 1
+FORMAT = 2
 
 Value = object
 
@@ -72,6 +74,7 @@ def head_of(verdict: Verdict, program: Program) -> dict[str, Value]:
         "program": program._asdict(),
         "commands": verdict.commands,
         "date": verdict.date,
+        "cause_counts": counts_of(part.causes for part in parts if part.causes),
     }
 
 
@@ -84,7 +87,18 @@ def object_of(verdict: Verdict, program: Program, typed: Typed) -> Iterator[str]
     yield from listed(trusted)
     yield '],\n "faults": ['
     yield from listed(faults_of(verdict, typed))
+    yield '],\n "causes": ['
+    yield from listed(causes_of(verdict))
     yield "]\n}\n"
+
+
+def causes_of(verdict: Verdict) -> Iterator[dict[str, Value]]:
+    """The causes of all parts, in the order of the subtitles."""
+    for part in verdict.parts:
+        if part.causes:
+            wording = Wording(part.causes, verdict.asked.option)
+            for cause in part.causes.all():
+                yield {"part": part.number, **wording.values(cause)}
 
 
 def listed(items: Iterable[Mapping[str, Value]]) -> Iterator[str]:

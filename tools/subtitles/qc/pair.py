@@ -14,6 +14,7 @@ from .feed import Feed, Finder
 from .kinds import is_recording
 from .live import Live
 from .names import Names
+from .naming import Causes
 from .recording import Recording
 from .source import STANDARD_INPUT
 from .speech import Speech
@@ -25,6 +26,7 @@ from .typed import Typed
 from .unclear import Unclear
 from .verdict import Gap, Part, Verdict
 from .warned import Warned, of_repeat, of_tables, of_timing
+from .why import Asking, Following, Telling
 
 NO_CLOCK = Clock(0, RECORDING)  # stands for one that is not found yet
 
@@ -95,10 +97,9 @@ class Pair:
         given = given or self.by_start(recording)
         if recording.live:
             answer = recording.live.end()
-            self.speech.end_list(answer.last)
             clock = given or Clock(recording.live.origin, RECORDING)
             self.warn(recording, clock.origin)
-            self.end_part(1, self.all_of(clock), answer, recording.places())
+            self.end_part(1, self.all_of(clock), answer, recording)
         else:
             found = [self.whole._replace(clock=given)] if given else \
                 steps.origins(recording, self.whole)
@@ -106,7 +107,7 @@ class Pair:
             stretches = self.stretches(found, len(times))
             for number, one in enumerate(stretches, 1):
                 steps.cut(recording, one)
-                self.end_part(number, one, steps.check(one), recording.places())
+                self.end_part(number, one, steps.check(one), recording)
         self.note_gaps(recording.places())
 
     def given(self) -> Clock | None:
@@ -146,22 +147,35 @@ class Pair:
                           "and nobody would look at it: mend its times")
         return stretches
 
-    def end_part(self, number: int, one: Stretch, answer: Answer, places: list[Place]) -> None:
+    def end_part(self, number: int, one: Stretch, answer: Answer, recording: Recording) -> None:
         """Takes what `check` said of a part, and draws its report, with what is missing there."""
         cut = one.names.cut_path
         judged = file_of(cut, one.names.cut) if self.is_summed else None
         part = Part(number, one.stl, one.stl_path, cut, one.origin, one.begin, one.end, judged,
                     answer, one.clock)
         self.verdict.parts.append(part)
+        part.causes = self.causes(part, recording)
         for warned in of_repeat(cut, self.asked, one.origin, self.times):
             if warned not in self.verdict.warnings:
                 self.verdict.warnings.append(warned)
-        lost = [gap_of(place, one.origin, True).line() for place in places if is_in(place, part)]
+        lost = [gap_of(place, one.origin, True).line() for place in recording.places()
+                if is_in(place, part)]
         if len(lost) > TOLD:
             lost = [*lost[:TOLD], f"and at {counted(len(lost) - TOLD, 'more place')}"]
         self.steps.draw(one.names, [one.stl_path, cut], [one.stl, one.names.cut], one.origin, lost,
                         [*self.verdict.notes, *map(Warned.said, self.verdict.warnings)],
                         self.verdict.is_fitted)
+
+    def causes(self, part: Part, recording: Recording) -> Causes | None:
+        """Why the content of a part is refused; it is said, as far as it was not said before."""
+        if recording.live:
+            return recording.live.following.causes
+        causes = Asking(self.asked, self.typed, recording.places).of(part)
+        if causes:
+            telling = Telling(self.speech, self.asked.option)
+            telling.tell(causes, causes.all())
+            telling.end()
+        return causes
 
     # A feed.
 
@@ -175,9 +189,12 @@ class Pair:
                             "--stl", asked.stl, *asked.page_words(), *origin_words(origin), "-o",
                             "-", "|", self.typed.program_word, "check", asked.stl, "/dev/stdin",
                             *words)
+        asking = Asking(asked, self.typed, kept.places if isinstance(kept, Carrier) else tuple)
+        following = Following(lambda: asking.begin(asked.stl, self.names.cut_path, origin),
+                              Telling(self.speech, asked.option))
         return Live([self.typed.program_path, "check", *words, "--", asked.stl, "/dev/stdin"],
                     self.whole._replace(clock=Clock(origin, RECORDING)), asked.page, self.names,
-                    self.speech)
+                    self.speech, following)
 
     # What is missing.
 

@@ -8,6 +8,7 @@ from ..times import time_of
 from .asked import Asked
 from .checking import ACCEPTED_WORD, NOT_JUDGED, REFUSED_WORD, Answer
 from .clock import FITTED, Clock
+from .naming import Causes
 from .severity import Severity
 from .sums import File
 from .warned import Warned
@@ -33,6 +34,7 @@ class Part:
     judged: File | None
     answer: Answer
     clock: Clock | None = None
+    causes: Causes | None = None
 
     def times(self) -> tuple[str | None, str | None]:
         """Those frames as times."""
