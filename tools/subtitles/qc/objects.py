@@ -74,11 +74,14 @@ def row_of(known: dict[str, Any], name: str) -> Row:
 
 
 def causes_in(known: dict[str, Any]) -> dict[str, int]:
-    """How many faults there are of which cause; of those without one, by number and name."""
+    """How many subtitles there are with which cause; of faults without one how many, by number and
+    name."""
     counts: collections.Counter[str] = collections.Counter()
     for fault in known.get("faults") or []:
-        counts[f"{fault['number']} {fault['name']}"] += 1
-    return dict(counts)
+        if not fault["cause"]:
+            counts[f"{fault['number']} {fault['name']}"] += 1
+    causes = {name: count for name, count in (known.get("cause_counts") or {}).items() if count}
+    return causes | dict(counts)
 
 
 def objects_in(folder: str) -> Iterator[tuple[str, dict[str, Any] | None]]:

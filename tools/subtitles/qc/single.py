@@ -43,7 +43,7 @@ def judge(words: argparse.Namespace, called: str) -> int:
     is_output_taken = any(path in OWN_OUTPUT for path in (words.json, words.csv, words.junit))
     speech = Speech(Progress(), is_output_taken)
     typed = Typed(called, words.program)
-    verdict = Verdict(asked, Severity(asked.severity), now())
+    verdict = Verdict(asked, Severity(asked.severity), now(), was_fitted=words.is_fitted)
     name = words.name or os.path.splitext(os.path.basename(asked.stl))[0]
     has_files = words.out or words.json or words.csv
     with tempfile.TemporaryDirectory(prefix="subttx-qc-") as folder:

@@ -1,6 +1,7 @@
 """tools/qc --channel: programmes one after another out of a feed that does not end."""
 from __future__ import annotations
 
+import json
 import os
 import signal
 import subprocess
@@ -75,6 +76,8 @@ def judges_three_programmes(case: Case) -> None:
     kept = set(os.listdir(case.path("out")))
     case.test("its files", {"index.html", "one.json", "one.html", "lost.json", "two.html",
                             "three.json"} <= kept, kept)
+    clock = json.loads(case.read("out/one.json"))["parts"][0]["clock"]
+    case.test("its clock", clock["source"] == "recording", clock)
     case.write("feed.pes", feed)
     stream = case.tool("pes2ts", "feed.pes", "0x101")
     done = case.tool("qc", "--channel", "list", "-", "--patience", "2", "-p", case.bench.program,
