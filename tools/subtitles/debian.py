@@ -69,7 +69,7 @@ def add_documents(root: str, version: str, proved: str, date: str) -> None:
     """The folder of documents: the manual, by links to where the tools read it, and what Debian
     asks of a package."""
     folder = os.path.join(root, "usr", "share", "doc", NAME)
-    for name in ("MANUAL.md", "manual"):
+    for name in sorted(os.listdir(os.path.join(root, "usr", "lib", NAME, "docs"))):
         link(os.path.join("..", "..", "..", "lib", NAME, "docs", name), os.path.join(folder, name))
     copy(proved, os.path.join(folder, "PROVED"))
     write(os.path.join(folder, "copyright"), COPYRIGHT.format(summary=SUMMARY))

@@ -130,6 +130,7 @@ def verdict_box(report: Report) -> str:
     if report.asked.lost:
         parts.append(lost_places(report.asked.lost))
         kind, shape = (kind, shape) if verdict.status else ("unseen", UNSEEN)
+    parts += [f'<p class="note">{shown(words)}</p>' for words in report.asked.notes]
     return (f'<div class="verdict {kind}">{shape}<div><p class="line" id="verdict">'
             f'{shown(verdict.line)}</p>{"".join(parts)}</div></div>')
 

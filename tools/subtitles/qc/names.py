@@ -61,6 +61,10 @@ def again(asked: Asked, typed: Typed, *more: str) -> str:
     options = [asked.page_words(), asked.every_words(), asked.option_words(),
                ["--complete"] if asked.is_complete else [],
                ["--pid", f"0x{asked.pid:X}"] if asked.pid is not None else [],
-               ["--origin", str(asked.origin)] if asked.origin is not None else []]
-    words += [word for option in options if option[:1] != list(more[:1]) for word in option]
+               ["--origin", str(asked.origin)] if asked.origin is not None else [],
+               ["--start", asked.start] if asked.start is not None else [],
+               ["--breaks", str(asked.breaks)] if asked.breaks else [],
+               ["--run", str(asked.run)] if asked.run is not None else []]
+    instead = {"--origin": ["--origin", "--start"]}.get(more[0], [more[0]]) if more else []
+    words += [word for option in options if not set(option[:1]) & set(instead) for word in option]
     return line_of(*words, *more)

@@ -4,7 +4,6 @@ from __future__ import annotations
 import argparse
 import io
 import itertools
-import json
 import os
 import tempfile
 import time
@@ -15,9 +14,12 @@ from ..files import OWN_OUTPUT, as_file, refuse_name, whole_file
 from ..words import Stop, counted, line_of
 from . import junit, machine, table
 from .asked import Asked, asked_of
+from .cause_words import count_line
+from .clock import FITTED
 from .faults import faults_of
 from .made_with import program_at
 from .names import Names
+from .objects import found
 from .pair import Pair
 from .progress import Progress
 from .severity import Severity
@@ -41,27 +43,32 @@ def judge(words: argparse.Namespace, called: str) -> int:
     is_output_taken = any(path in OWN_OUTPUT for path in (words.json, words.csv, words.junit))
     speech = Speech(Progress(), is_output_taken)
     typed = Typed(called, words.program)
-    verdict = Verdict(asked, Severity(asked.severity), now())
+    verdict = Verdict(asked, Severity(asked.severity), now(), was_fitted=words.is_fitted)
     name = words.name or os.path.splitext(os.path.basename(asked.stl))[0]
-    has_files = words.out or words.json or words.csv or words.summary
+    has_files = words.out or words.json or words.csv
     with tempfile.TemporaryDirectory(prefix="subttx-qc-") as folder:
         names = Names(name, folder, out)
         files = Files(words, verdict, typed, names)
         files.prepare()
         began = time.monotonic()
+        verdict.found = found(asked)
         try:
             Pair(verdict, typed, names, speech, bool(has_files)).judge()
         except (Unclear, Stop, OSError) as reason:
             verdict.to_type = reason.to_type if isinstance(reason, Unclear) else ()
             verdict.reason = reason.reason if isinstance(reason, Unclear) else line_of(reason)
         verdict.commands = speech.commands
-        files.write(time.monotonic() - began)
+        verdict.seconds = round(time.monotonic() - began, 3)
+        files.write()
     end(verdict, speech)
     return verdict.status
 
 
 def end(verdict: Verdict, speech: Speech) -> None:
     """Says the verdict, after what was lost and what is not clear."""
+    causes = [part.causes for part in verdict.parts if part.causes]
+    if causes:
+        speech.say(count_line(causes))
     for line in verdict.lines():
         speech.say(line)
     for gap in verdict.gaps[:TOLD]:
@@ -71,7 +78,13 @@ def end(verdict: Verdict, speech: Speech) -> None:
     if verdict.is_lost and not verdict.asked.is_loss_allowed:
         speech.tell("nobody saw what was sent there; --allow-lost accepts the recording "
                     "without it")
+    for line in verdict.notes:
+        speech.tell(line)
+    for warned in verdict.warnings:
+        speech.tell(warned.said())
     if verdict.line is not None:
+        if verdict.is_fitted:
+            speech.say(FITTED)
         speech.end(verdict.line)
     for line in (verdict.reason or "").splitlines():
         speech.tell(line)
@@ -106,24 +119,21 @@ class Files:
             if one and is_there and os.path.samefile(path, one):
                 raise Stop(f"{path} is an input too")
 
-    def write(self, seconds: float) -> None:
-        """Writes what is asked for."""
+    def write(self) -> None:
+        """Writes what is asked for; the object in the folder comes last, when all else is there."""
         words, verdict = self.words, self.verdict
-        objects = [path for path in (words.json, self.names.machine) if path]
-        if objects or words.summary:
-            program = program_at(self.typed.program_path)
-            for path in objects:
-                self.put(path, machine.object_of(verdict, program, self.typed))
-            if words.summary:
-                summary = {**machine.head_of(verdict, program), "seconds": seconds,
-                           "lines": self.lines()}
-                self.put(words.summary, iter([json.dumps(summary)]))
         if words.csv:
             self.put(words.csv, self.table_lines())
         if words.junit:
             case = junit.TestCase(name_of(verdict.asked), verdict.word, verdict.status,
-                                  verdict.line or verdict.reason or "", self.lines(), seconds)
+                                  verdict.line or verdict.reason or "", self.lines(),
+                                  verdict.seconds)
             self.put(words.junit, iter([junit.text_of([case], verdict.date).decode()]))
+        objects = [path for path in (words.json, self.names.machine) if path]
+        if objects:
+            program = program_at(self.typed.program_path)
+            for path in objects:
+                self.put(path, machine.object_of(verdict, program, self.typed))
 
     def lines(self) -> list[str]:
         """The first lines of the lists of all parts."""
@@ -132,15 +142,16 @@ class Files:
         return list(itertools.islice(lines, SUMMED))
 
     def table_lines(self) -> Iterator[str]:
-        """The lines of the CSV file, with the names of the columns."""
+        """The lines of the CSV file: the names of the columns, the pair, its faults."""
         text = io.StringIO()
         table.write_head(text)
+        table.write_row(text, table.of_pair(self.verdict))
+        yield text.getvalue()
         for fault in faults_of(self.verdict, self.typed):
-            table.write_row(text, self.verdict, fault)
-            yield text.getvalue()
             text.seek(0)
             text.truncate()
-        yield text.getvalue()
+            table.write_row(text, table.of_fault(self.verdict, fault))
+            yield text.getvalue()
 
     def put(self, path: str, pieces: Iterator[str]) -> None:
         """Writes a file whole, or not at all."""

@@ -9,6 +9,7 @@ from typing import NamedTuple, Sequence
 from ..times import frame_of, time_of
 from .asked import Asked
 from .checking import Answer, check
+from .clock import RECORDING, Clock
 from .names import Names, again
 from .recording import Recording
 from .speech import Speech
@@ -29,23 +30,31 @@ class Done(NamedTuple):
 
 
 class Found(NamedTuple):
-    """An origin, and the frames of the part that it is of."""
+    """The frames of a part, and its clock."""
 
     begin: int
     end: int
-    origin: int
+    clock: Clock
+
+    @property
+    def origin(self) -> int:
+        return self.clock.origin
 
 
 class Stretch(NamedTuple):
     """What is judged by itself: its subtitle file as it is typed and where it stands, the files
-    that are made of it, its first and its last frame, its origin."""
+    that are made of it, its first and its last frame, its clock."""
 
     stl: str
     stl_path: str
     names: Names
     begin: int
     end: int
-    origin: int
+    clock: Clock
+
+    @property
+    def origin(self) -> int:
+        return self.clock.origin
 
 
 class Steps:
@@ -101,8 +110,10 @@ class Steps:
         if done.status or not found or len(found) < len(done.printed):
             raise Unclear(f"the origin is not clear: {'; '.join(done.told)}",
                           self.again("--origin", "T"), self.again("--page", "P"))
-        return [whole._replace(origin=int(one[3])) if one[1] is None else
-                Found(frame_of(one[1]) or 0, frame_of(one[2]) or 0, int(one[3])) for one in found]
+        clocks = [Clock(int(one[3]), RECORDING) for one in found]
+        return [whole._replace(clock=clock) if one[1] is None else
+                Found(frame_of(one[1]) or 0, frame_of(one[2]) or 0, clock)
+                for one, clock in zip(found, clocks)]
 
     def part(self, number: int, found: Found) -> Stretch:
         """Cuts the subtitles of a part out of the subtitle file."""
@@ -133,12 +144,15 @@ class Steps:
         return answer
 
     def draw(self, names: Names, given: list[str], typed: list[str], origin: int,
-             lost: list[str]) -> None:
-        """Draws the report of some files, and of what is lost, where there is a folder for it."""
+             lost: list[str], notes: Sequence[str] = (), is_fitted: bool = False) -> None:
+        """Draws the report of some files, of what is lost and what else is said, where there is a
+        folder for it."""
         if names.out is None:
             return
         words = [*self.asked.check_words(), *origin_words(origin),
-                 *(word for words in lost for word in ("--lost", words))]
+                 *(word for words in lost for word in ("--lost", words)),
+                 *(word for words in notes for word in ("--note", words)),
+                 *["--fitted"] * is_fitted]
         done = self.tool(
             "preview", [*given, *words, "-p", self.typed.program_path, "-o", names.report],
             [*typed, *words, *self.typed.program_words, "-o", names.report])

@@ -7,8 +7,11 @@ from ..joining import Place
 from ..times import time_of
 from .asked import Asked
 from .checking import ACCEPTED_WORD, NOT_JUDGED, REFUSED_WORD, Answer
+from .clock import FITTED, Clock
+from .naming import Causes
 from .severity import Severity
 from .sums import File
+from .warned import Warned
 
 LOST = "lost"  # the verdict where all that was seen is accepted, and TS packets are lost
 
@@ -30,6 +33,8 @@ class Part:
     end: int | None
     judged: File | None
     answer: Answer
+    clock: Clock | None = None
+    causes: Causes | None = None
 
     def times(self) -> tuple[str | None, str | None]:
         """Those frames as times."""
@@ -56,23 +61,40 @@ class Gap:
 
 @dataclasses.dataclass
 class Verdict:
-    """All there is to say of a pair."""
+    """All there is to say of a pair; `notes` are what else was seen, a line each. `found` is what
+    its files were like when judging began, `seconds` how long it took. `was_fitted`: the origin
+    that is given was found in the recording, by who calls this tool."""
 
     asked: Asked
     severity: Severity
     date: str
     parts: list[Part] = dataclasses.field(default_factory=list)
     gaps: list[Gap] = dataclasses.field(default_factory=list)
+    warnings: list[Warned] = dataclasses.field(default_factory=list)
+    notes: list[str] = dataclasses.field(default_factory=list)
     commands: list[str] = dataclasses.field(default_factory=list)
     stl: File | None = None
     recording: File | None = None
     reason: str | None = None
     to_type: tuple[str, ...] = ()
+    found: dict[str, object] = dataclasses.field(default_factory=dict)
+    seconds: float = 0.0
+    was_fitted: bool = False
 
     @property
     def is_lost(self) -> bool:
         """Whether the verdict speaks of frames of which TS packets are lost."""
         return any(gap.is_judged for gap in self.gaps)
+
+    def said(self) -> list[str]:
+        """What the report and the object say beside the verdict."""
+        return [*self.notes, FITTED] if self.is_fitted else self.notes
+
+    @property
+    def is_fitted(self) -> bool:
+        """Whether the clock of the first part was found in the recording."""
+        clock = self.parts[0].clock if self.parts else None
+        return clock is not None and clock.is_fitted
 
     @property
     def word(self) -> str:
