@@ -12,7 +12,7 @@ import time
 from typing import Any, Callable, Iterator, NamedTuple
 
 from ..files import refuse_name, whole_file
-from ..words import counted, line_of
+from ..words import counted, line_of, shown
 from . import junit, table
 from .asked import Asked
 from .checking import ACCEPTED_WORD, NOT_JUDGED
@@ -62,7 +62,7 @@ class Batch:
         if words.csv:
             files += ["--csv", self.path(number, "csv")]
         if words.out:
-            files += ["-o", words.out]
+            files += ["-o", words.out, *["--keep"] * words.is_kept]
         command = [*self.typed.call("qc"), *files, "-p",
                    self.typed.program_path, *words_of(item.asked)]
         try:
@@ -124,7 +124,7 @@ def judge(words: argparse.Namespace, called: str) -> int:
                              (words.junit, lambda: testcases(results, date))):
             put(path, pieces)
     for line in table_of(results):
-        print(line)
+        print(shown(line))
     return status
 
 

@@ -22,6 +22,8 @@ def parser_of(text: str) -> Words:
                         help="the recording, - for standard input")
     add_pair_options(parser)
     parser.add_argument("-o", dest="out", metavar="DIR", help="the folder for report and list")
+    parser.add_argument("--keep", dest="is_kept", action="store_true",
+                        help="keep in DIR what was judged, NAME.cut.pes")
     parser.add_argument("--json", metavar="FILE", help="the verdict as an object")
     parser.add_argument("--csv", metavar="FILE", help="a line for each fault")
     parser.add_argument("--junit", metavar="FILE", help="the verdict for a CI")
@@ -39,6 +41,8 @@ def parser_of(text: str) -> Words:
 def main(text: str, called: str, line: list[str]) -> int:
     """Does what the words ask; answers the status."""
     words = parser_of(text).parse_args(line)
+    if words.is_kept and words.out is None:
+        raise Stop("--keep goes with -o DIR, where it keeps what was judged")
     if words.batch is not None:
         if words.stl is not None:
             raise Stop(f"{words.stl} stands beside --batch, which takes its pairs from "

@@ -4,6 +4,7 @@ from __future__ import annotations
 import csv
 from typing import IO
 
+from ..words import shown
 from .faults import Cell, Fault
 from .verdict import Verdict
 
@@ -55,4 +56,9 @@ def write_head(file: IO[str]) -> None:
 def write_row(file: IO[str], known: Known) -> None:
     """Writes a line; a column is empty where it does not apply."""
     row = [known.get(name) for name in COLUMNS]
-    csv.writer(file, lineterminator="\n").writerow(["" if one is None else one for one in row])
+    csv.writer(file, lineterminator="\n").writerow(["" if one is None else said(one) for one in row])
+
+
+def said(value: object) -> object:
+    """A value without what a terminal would obey; a reason may have several lines."""
+    return "\n".join(map(shown, value.split("\n"))) if isinstance(value, str) else value
