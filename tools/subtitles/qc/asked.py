@@ -7,7 +7,7 @@ import dataclasses
 import os
 from typing import Sequence
 
-from ..files import as_file
+from ..files import plain_name
 from ..teletext import page_name
 from ..words import (
     Stop, Words, add_page, breaks_word, every_word, origin_word, pid_word, run_word, start_word)
@@ -102,10 +102,11 @@ def asked_of(words: argparse.Namespace) -> Asked:
 
 def asked_with(stl: str, recording: str | None, options: argparse.Namespace) -> Asked:
     """A pair, and options that are read."""
-    named = recording and (recording if recording == "-" else as_file(recording))
+    named = recording and (recording if recording == "-" else plain_name(recording))
     if options.origin is not None and options.start is not None:
         raise Stop("--start tells the origin: --origin is too many")
-    asked = Asked(as_file(stl), named, **{name: getattr(options, name) for name in pair_options()})
+    asked = Asked(plain_name(stl), named,
+                  **{name: getattr(options, name) for name in pair_options()})
     if asked.option == AUTO:
         asked.option = option_named_in(asked.stl)
     return asked

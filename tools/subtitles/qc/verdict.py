@@ -75,6 +75,7 @@ class Verdict:
     commands: list[str] = dataclasses.field(default_factory=list)
     stl: File | None = None
     recording: File | None = None
+    is_kept: bool = False  # what was judged stays in the folder
     reason: str | None = None
     to_type: tuple[str, ...] = ()
     found: dict[str, object] = dataclasses.field(default_factory=dict)
