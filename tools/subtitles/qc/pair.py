@@ -63,6 +63,10 @@ class Pair:
             self.judge_alone(answer, is_refused)
         else:
             self.judge_transmission()
+        if asked.recording is not None and not self.verdict.has_errors() and \
+                not all(part.is_read() for part in self.verdict.parts):
+            raise Unclear("nothing of the recording was read, and --severity leaves no fault an "
+                          "error")
 
     def judge_alone(self, answer: Answer, is_refused: bool) -> None:
         """Ends with the subtitle file, which is refused or is all that there is."""
