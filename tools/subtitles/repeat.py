@@ -2,7 +2,7 @@
 from __future__ import annotations
 
 import bisect
-import statistics
+import itertools
 from typing import Iterable, Iterator, Sequence
 
 from .files import Damaged, Source
@@ -38,14 +38,19 @@ def sendings(file: Source, page: Page) -> Iterator[int]:
 
 
 def measured(frames: Iterable[int], edges: Sequence[int]) -> int | None:
-    """The median of the frames from one repeat to the next, `None` where there are too few.
+    """The frames from one repeat to the next at most times, `None` where there are too few.
 
     A repeat is a sending since whose forerunner nothing became due: `edges` are the frames, rising,
-    at which that is so. The first repeat after an edge tells nothing: it may come at once.
+    at which that is so. The first repeat after an edge tells nothing: it may come at once. Where
+    each is sent twice in a row, most of the time lies between two pairs of them.
     """
     known = sorted(set(frames))
     found = []
     for before, first, second in zip(known, known[1:], known[2:]):
         if bisect.bisect_right(edges, before) == bisect.bisect_right(edges, second):
             found.append(second - first)
-    return round(statistics.median(found)) if len(found) >= FEWEST else None
+    if len(found) < FEWEST:
+        return None
+    found.sort()
+    up_to = itertools.accumulate(found)
+    return next(frames for frames, total in zip(found, up_to) if 2 * total >= sum(found))

@@ -1,6 +1,7 @@
 """How far the PTS of a PID are ahead of the PCR of its programme, looked at once a second."""
 from __future__ import annotations
 
+import bisect
 import statistics
 from typing import NamedTuple
 
@@ -46,10 +47,12 @@ class Timing:
     def take(self, piece: Piece, before: int | None) -> None:
         """Hears a piece of the file, before which a PTS was the last one of the PID."""
         self.piece = piece
-        is_due = not self.samples or before is None \
-            or (before - self.samples[-1].pts) % CLOCK >= SECOND
-        if is_due and self.finds_clock():
+        if (before is None or self.is_due(before)) and self.finds_clock():
             self.look(piece)
+
+    def is_due(self, pts: int) -> bool:
+        """Whether a PTS is a second from the last one that was looked at."""
+        return not self.samples or (pts - self.samples[-1].pts) % CLOCK >= SECOND
 
     def finds_clock(self) -> bool:
         """Whether the PID of the PCR is known."""
@@ -62,17 +65,17 @@ class Timing:
         return self.clock is not None
 
     def look(self, piece: Piece) -> None:
-        """Takes the first PTS of a piece that stands behind a PCR."""
+        """Takes a PTS of each second of a piece, where it stands behind a PCR."""
         assert self.clock
         clocks = list(places(piece, self.clock.marks(piece) & flagged(piece, PCR)))
         for at in places(piece, self.stream.marks(piece) & beginning(piece)):
             header = header_at(piece.data, at)
-            earlier = [place for place in clocks if place < at]
-            pcr = pcr_at(piece.data, earlier[-1]) if earlier else self.pcr
-            if pcr is not None and has_pts(header):
-                pts = pts_in(header)
-                self.samples.append(Sample(pts, signed(pts - pcr)))
-                break
+            if not has_pts(header) or not self.is_due(pts_in(header)):
+                continue
+            before = bisect.bisect_left(clocks, at)
+            pcr = pcr_at(piece.data, clocks[before - 1]) if before else self.pcr
+            if pcr is not None:
+                self.samples.append(Sample(pts_in(header), signed(pts_in(header) - pcr)))
         if clocks:
             self.pcr = pcr_at(piece.data, clocks[-1])
 

@@ -32,7 +32,6 @@ SAYS = ("The verdict and the faults are lines that <code>subttx check --all</cod
         "nothing else on this page accepts or refuses. The pictures are drawn by a script that is "
         "not proved; they show one receiver, tuned in before the first packet.")
 LOST = "TS packets of the recording are lost: nobody saw what was sent there"
-WARNED = "Strange of the recording; the verdict says nothing of it"
 ACCEPTED = ("Frames are counted from the first PES packet's to the last one's, transmissions by "
             "the headers of the page.")
 
@@ -129,21 +128,20 @@ def verdict_box(report: Report) -> str:
         parts.append(f"<p>{ACCEPTED}</p>")
     kind, shape = ("refused", BAD) if verdict.status else ("accepted", GOOD)
     if report.asked.lost:
-        parts.append(listed(LOST, "lost", report.asked.lost))
+        parts.append(lost_places(report.asked.lost))
         kind, shape = (kind, shape) if verdict.status else ("unseen", UNSEEN)
-    if report.asked.warned:
-        parts.append(listed(WARNED, "warned", report.asked.warned))
+    parts += [f'<p class="note">{shown(words)}</p>' for words in report.asked.notes]
     return (f'<div class="verdict {kind}">{shape}<div><p class="line" id="verdict">'
             f'{shown(verdict.line)}</p>{"".join(parts)}</div></div>')
 
 
-def listed(what: str, kind: str, places: list[str]) -> str:
-    """What is lost or strange, and where."""
+def lost_places(places: list[str]) -> str:
+    """That TS packets are lost, and where."""
     told = "".join(f"<li>{shown(words)}</li>" for words in places)
-    lines = f'<ul class="{kind}">{told}</ul>'
+    listed = f'<ul class="lost">{told}</ul>'
     if len(places) > MOST_LOST:
-        lines = f"<details><summary>where</summary>{lines}</details>"
-    return f'<p class="count{" bad" * (kind == "lost")}">{what}</p>{lines}'
+        listed = f"<details><summary>where</summary>{listed}</details>"
+    return f'<p class="count bad">{LOST}</p>{listed}'
 
 
 def navigation(report: Report) -> str:

@@ -34,8 +34,8 @@ class Asked(NamedTuple):
     """What is asked for: files and the program as they were typed, and the options of `check`.
 
     `words` are those of the command line. `pes` is `None` where there is none. `window` are the
-    first and the last frame of which subtitles get pictures. `lost` tells what is missing, `warned`
-    what is strange of the recording.
+    first and the last frame of which subtitles get pictures. `lost` tells what is missing, `notes`
+    what else stands beside the verdict.
     """
 
     words: list[str]
@@ -50,7 +50,7 @@ class Asked(NamedTuple):
     is_complete: bool
     window: tuple[int, int]
     lost: list[str]
-    warned: list[str]
+    notes: list[str]
 
     def options(self) -> str:
         """All options as they hold."""

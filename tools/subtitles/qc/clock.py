@@ -4,6 +4,8 @@ from __future__ import annotations
 from typing import NamedTuple
 
 RECORDING, GIVEN, START, TCP = "recording", "given", "start", "tcp"
+FITTED = "the clock was fitted to the recording: a delay that all subtitles share is not seen; " \
+    "give --origin or --start"
 
 
 class Clock(NamedTuple):

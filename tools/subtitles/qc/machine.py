@@ -69,6 +69,7 @@ def head_of(verdict: Verdict, program: Program) -> dict[str, Value]:
         "parts": [part_words(part) for part in parts],
         "lost": [gap_words(gap) for gap in verdict.gaps],
         "warnings": [warned._asdict() for warned in verdict.warnings],
+        "notes": verdict.said(),
         "inputs": {"stl": file_words(verdict.stl), "recording": file_words(verdict.recording)},
         "program": program._asdict(),
         "commands": verdict.commands,

@@ -25,7 +25,7 @@ from .told import EMPTY
 from .typed import Typed
 from .unclear import Unclear
 from .verdict import Gap, Part, Verdict
-from .warned import of_repeat, of_tables, of_timing
+from .warned import Warned, of_repeat, of_tables, of_timing
 from .why import Asking, Following, Telling
 
 NO_CLOCK = Clock(0, RECORDING)  # stands for one that is not found yet
@@ -83,7 +83,7 @@ class Pair:
         stl = self.asked.stl
         self.verdict.parts.append(Part(1, stl, stl, None, None, None, None, None, answer))
         if is_refused:
-            self.steps.draw(self.names, [stl], [stl], 0, [], [])
+            self.steps.draw(self.names, [stl], [stl], 0, [])
 
     def judge_transmission(self) -> None:
         """Judges what was recorded, part by part."""
@@ -167,7 +167,8 @@ class Pair:
         if len(lost) > TOLD:
             lost = [*lost[:TOLD], f"and at {counted(len(lost) - TOLD, 'more place')}"]
         self.steps.draw(one.names, [one.stl_path, cut], [one.stl, one.names.cut], one.origin, lost,
-                        [warned.line for warned in self.verdict.warnings])
+                        [*self.verdict.notes, *map(Warned.said, self.verdict.warnings)],
+                        self.verdict.is_fitted)
 
     def causes(self, part: Part, recording: Recording) -> Causes | None:
         """Why the content of a part is refused; it is said, as far as it was not said before."""

@@ -16,6 +16,7 @@ from ..words import Stop, counted, line_of
 from . import junit, machine, table
 from .asked import Asked, asked_of
 from .cause_words import count_line
+from .clock import FITTED
 from .faults import faults_of
 from .made_with import program_at
 from .names import Names
@@ -75,9 +76,13 @@ def end(verdict: Verdict, speech: Speech) -> None:
     if verdict.is_lost and not verdict.asked.is_loss_allowed:
         would = "; --allow-lost accepts the recording without it" if verdict.word == LOST else ""
         speech.tell(f"nobody saw what was sent there{would}")
+    for line in verdict.notes:
+        speech.tell(line)
     for warned in verdict.warnings:
-        speech.tell(f"warning: {warned.line}")
+        speech.tell(warned.said())
     if verdict.line is not None:
+        if verdict.is_fitted:
+            speech.say(FITTED)
         speech.end(verdict.line)
     for line in (verdict.reason or "").splitlines():
         speech.tell(line)

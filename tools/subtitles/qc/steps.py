@@ -144,14 +144,15 @@ class Steps:
         return answer
 
     def draw(self, names: Names, given: list[str], typed: list[str], origin: int,
-             lost: list[str], warned: list[str]) -> None:
-        """Draws the report of some files, with what is lost and what is strange, where there is a
+             lost: list[str], notes: Sequence[str] = (), is_fitted: bool = False) -> None:
+        """Draws the report of some files, of what is lost and what else is said, where there is a
         folder for it."""
         if names.out is None:
             return
         words = [*self.asked.check_words(), *origin_words(origin),
                  *(word for words in lost for word in ("--lost", words)),
-                 *(word for words in warned for word in ("--warned", words))]
+                 *(word for words in notes for word in ("--note", words)),
+                 *["--fitted"] * is_fitted]
         done = self.tool(
             "preview", [*given, *words, "-p", self.typed.program_path, "-o", names.report],
             [*typed, *words, *self.typed.program_words, "-o", names.report])

@@ -9,7 +9,7 @@ from ..times import time_of
 from .asked import Asked
 from .cells import passed_over
 from .checking import ACCEPTED_WORD, NOT_JUDGED, REFUSED_WORD, Answer
-from .clock import Clock
+from .clock import FITTED, Clock
 from .naming import Causes
 from .severity import Severity
 from .sums import File
@@ -75,7 +75,7 @@ class Gap:
 
 @dataclasses.dataclass
 class Verdict:
-    """All there is to say of a pair."""
+    """All there is to say of a pair; `notes` are what else was seen, a line each."""
 
     asked: Asked
     severity: Severity
@@ -83,6 +83,7 @@ class Verdict:
     parts: list[Part] = dataclasses.field(default_factory=list)
     gaps: list[Gap] = dataclasses.field(default_factory=list)
     warnings: list[Warned] = dataclasses.field(default_factory=list)
+    notes: list[str] = dataclasses.field(default_factory=list)
     commands: list[str] = dataclasses.field(default_factory=list)
     stl: File | None = None
     recording: File | None = None
@@ -93,6 +94,16 @@ class Verdict:
     def is_lost(self) -> bool:
         """Whether the verdict speaks of frames of which TS packets are lost."""
         return any(gap.is_judged for gap in self.gaps)
+
+    def said(self) -> list[str]:
+        """What the report and the object say beside the verdict."""
+        return [*self.notes, FITTED] if self.is_fitted else self.notes
+
+    @property
+    def is_fitted(self) -> bool:
+        """Whether the clock of the first part was found in the recording."""
+        clock = self.parts[0].clock if self.parts else None
+        return clock is not None and clock.is_fitted
 
     @property
     def word(self) -> str:

@@ -25,6 +25,10 @@ class Warned(NamedTuple):
     line: str
     time: str | None = None
 
+    def said(self) -> str:
+        """The line as it is said."""
+        return f"warning: {self.line}"
+
 
 def of_timing(timing: Timing, origin: int) -> Iterator[Warned]:
     """Where PTS and PCR do not go together."""

@@ -14,6 +14,8 @@ from .bench import Case, Done, example, example_bytes, moved, packets, random_su
 
 STORY, RECORDING = example("story.stl"), example("recording.ts")
 ACCEPTED = "accepted 226 frames 5 transmissions"
+FITTED = "the clock was fitted to the recording: a delay that all subtitles share is not seen; " \
+    "give --origin or --start"
 TS = 188  # bytes of a packet
 
 
@@ -49,6 +51,8 @@ def judges_a_recording(case: Case) -> None:
     for line in lines:
         if line.startswith("+ "):
             answer = said.setdefault(line[2:], [])
+        elif line == FITTED:
+            break
         elif line:
             answer.append(line.removeprefix("ts2pes: "))
     for command in commands:
@@ -217,9 +221,9 @@ def judges_part_by_part(case: Case) -> None:
     words = [stl, case.write("two.ts", stream(case, "two", data))]
     done = qc(case, *words, "-o", "out", "--json", "two.json")
     lines = lines_of(done)
-    case.test("accepted", (done.status, lines[-3:]) == (0, [
+    case.test("accepted", (done.status, lines[-4:]) == (0, [
         "part 1, from 10:00:00:00 to 10:00:38:10: accepted 961 frames 49 transmissions",
-        "part 2, from 10:00:40:00 to 10:01:18:10: accepted 961 frames 49 transmissions",
+        "part 2, from 10:00:40:00 to 10:01:18:10: accepted 961 frames 49 transmissions", FITTED,
         "accepted 1922 frames 98 transmissions in 2 parts"]), done)
     kept = sorted(os.listdir(case.path("out")))
     case.test("its files", kept == sorted(
@@ -235,8 +239,8 @@ def judges_part_by_part(case: Case) -> None:
     second[117] ^= 0xFF  # another letter, also of odd parity
     broken = b"".join([*packets(data)[:49], bytes(second), *packets(data)[50:]])
     done = qc(case, stl, case.write("broken.pes", broken), "-o", "out")
-    case.test("a broken one", done.status == 1 and "part 1, " in lines_of(done)[-3]
-              and "accepted" in lines_of(done)[-3] and lines_of(done)[-1].startswith("refused "),
+    case.test("a broken one", done.status == 1 and "part 1, " in lines_of(done)[-4]
+              and "accepted" in lines_of(done)[-4] and lines_of(done)[-1].startswith("refused "),
               done)
     done = qc(case, stl, case.write("one.pes", data[:len(data) // 2]))
     case.test("one part is missing", done.status == 1, done)
