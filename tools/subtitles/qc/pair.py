@@ -197,7 +197,8 @@ class Pair:
                             "--stl", asked.stl, *asked.page_words(), *origin_words(origin), "-o",
                             "-", "|", self.typed.program_word, "check", asked.stl, "/dev/stdin",
                             *words)
-        asking = Asking(asked, self.typed, kept.places if isinstance(kept, Carrier) else tuple)
+        asking = Asking(asked, self.typed,
+                        lambda: kept.places() if isinstance(kept, Carrier) else [])
         following = Following(lambda: asking.begin(asked.stl, self.names.cut_path, origin),
                               Telling(self.speech, asked.option))
         return Live([self.typed.program_path, "check", *words, "--", asked.stl, "/dev/stdin"],

@@ -101,10 +101,10 @@ def promises_no_more_than_it_accepts(case: Case) -> None:
 def asks_for_complete_pages(case: Case) -> None:
     """Decoders show no page that no header ends; --no-complete takes that back."""
     words = [HELLO, example("no-end.pes")]
-    for more, status in (([], 1), (["--complete"], 1), (["--no-complete"], 0)):
-        done = qc(case, *words, *more)
+    for more, status in (("", 1), ("--complete", 1), ("--no-complete", 0)):
+        done = qc(case, *words, *more.split())
         checked = [line for line in lines_of(done) if " check " in line]
-        case.test(" ".join(more), done.status == status
+        case.test(more, done.status == status
                   and (" --complete" in checked[0]) == (status == 1), done)
     text = f"{' '.join(words)}\n{' '.join(words)} --no-complete\n"
     done = qc(case, "--batch", case.write("list", text.encode()))
