@@ -20,6 +20,7 @@ from .clock import FITTED
 from .faults import faults_of
 from .made_with import program_at
 from .names import Names
+from .overview import overview
 from .pair import Pair
 from .progress import Progress
 from .severity import Severity
@@ -125,6 +126,9 @@ class Files:
             program = program_at(self.typed.program_path)
             for path in objects:
                 self.put(path, machine.object_of(verdict, program, self.typed))
+            if self.names.out and len(verdict.parts) > 1:
+                self.put(self.names.report, iter([overview(verdict, program, self.names,
+                                                       self.typed)]))
             if words.summary:
                 summary = {**machine.head_of(verdict, program), "seconds": seconds,
                            "lines": self.lines()}
