@@ -63,4 +63,4 @@ _subttx_tool() {
 
 complete -F _subttx subttx
 complete -F _subttx_tool subttx-cut subttx-origin subttx-part subttx-pes2ts subttx-preview \
-    subttx-qc subttx-text subttx-ts2pes
+    subttx-poke subttx-qc subttx-text subttx-ts2pes

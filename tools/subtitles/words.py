@@ -11,6 +11,9 @@ from typing import IO, Callable, NoReturn
 from .teletext import page_of
 from .times import CLOCK, frame_of
 
+# Control characters, marks of the direction of writing, ends of lines, halves of characters.
+HIDDEN = re.compile("[\x00-\x1f\x7f-\x9f\u061c\u200e\u200f\u2028-\u202e\u2066-\u2069"
+                    "\ud800-\udfff]")
 INSTALLED = "subttx-"  # before the names of tools that are installed
 MOST_EVERY = 1500  # frames of a repeat bound
 MOST_DIGITS = 3  # of a number of breaks, or of a run
@@ -155,6 +158,19 @@ def add_verbose(parser: Words) -> None:
 def counted(count: int, thing: str) -> str:
     """`1 fault`, `2 faults`."""
     return f"{count} {thing}" if count == 1 else f"{count} {thing}s"
+
+
+def shown(text: str) -> str:
+    """A text without what a terminal would obey or a file of text can't hold: control characters,
+    what turns the direction of writing, and bytes of a name that are not UTF-8, as \\x1b."""
+    return HIDDEN.sub(lambda found: escaped(found[0]), text)
+
+
+def escaped(letter: str) -> str:
+    """A character as its number; of a byte that is not UTF-8, that of the byte."""
+    code = ord(letter)
+    code = code - 0xDC00 if 0xDC80 <= code <= 0xDCFF else code
+    return f"\\x{code:02x}" if code < 0x100 else f"\\u{code:04x}"
 
 
 def tell(line: str) -> None:

@@ -3,6 +3,7 @@ from __future__ import annotations
 
 import argparse
 import concurrent.futures
+import io
 import json
 import os
 import subprocess
@@ -210,11 +211,20 @@ def contents(path: str) -> list[bytes]:
 
 
 def rows(batch: Batch, results: list[Result]) -> Iterator[bytes]:
-    """The lines of all pairs under one head."""
+    """The lines of all pairs under one head; one for what is no pair, too."""
     yield (",".join(table.COLUMNS) + "\n").encode()
-    for number in range(len(results)):
-        for text in contents(batch.path(number, "csv")):
-            yield text.partition(b"\n")[2]
+    for number, result in enumerate(results):
+        yield from [text.partition(b"\n")[2] for text in contents(batch.path(number, "csv"))] \
+            or [unjudged_row(result)]
+
+
+def unjudged_row(result: Result) -> bytes:
+    """The line of what is no pair, or of a call that did not end by itself."""
+    text, asked = io.StringIO(), result.item.asked
+    table.write_row(text, {
+        "stl": asked.stl if asked else result.item.name, "recording": asked and asked.recording,
+        "verdict": NOT_JUDGED, "status": 2, "reason": result.line})
+    return text.getvalue().encode("utf-8", "replace")
 
 
 def testcases(results: list[Result], date: str) -> Iterator[bytes]:

@@ -6,8 +6,9 @@ import subprocess
 import time
 from typing import Callable, Iterator
 
-from .carriers import Kept
+from .carriers import Carrier, Kept
 from .live import Live
+from .start import Starting
 
 ORIGIN = re.compile(r"--origin (\d+)\n")  # of all that has come
 AGREE = re.compile(r"(\d+) of (\d+) edges? agree")
@@ -50,9 +51,10 @@ class Feed:
     end. Ends early, and without a judgement, where a second PID carries the page too.
     """
 
-    def __init__(self, origin: int | None, finder: Finder,
-                 start: Callable[[Kept, int], Live]) -> None:
+    def __init__(self, origin: int | None, finder: Finder, start: Callable[[Kept, int], Live],
+                 starting: Starting | None) -> None:
         self.origin, self.finder, self.start = origin, finder, start
+        self.starting = starting  # waits for the first picture
         self.carrier: Kept | None = None
         self.live: Live | None = None
         self.has_break = False
@@ -78,7 +80,10 @@ class Feed:
             self.live.put(data)
             return
         origin = self.origin
-        if origin is None and not self.has_break and self.finder.is_due():
+        if self.starting:
+            began = self.starting.look(kept.pid, kept.grid) if isinstance(kept, Carrier) else None
+            origin = began and began.clock.origin
+        elif origin is None and not self.has_break and self.finder.is_due():
             origin = self.finder.look(kept)
         if origin is not None:
             kept.flush()
@@ -87,7 +92,7 @@ class Feed:
 
     def is_all(self, kept: Kept) -> bool:
         """Whether the origin is that of all that has come; else nothing more is judged by it."""
-        if self.origin is not None or not self.live or \
+        if self.origin is not None or self.starting or not self.live or \
                 self.finder.look(kept) == self.live.origin:
             return True
         self.has_break = True

@@ -13,6 +13,7 @@ from ..words import counted
 from .checking import Answer
 from .names import Names
 from .speech import Speech
+from .why import Following
 
 if TYPE_CHECKING:
     from .steps import Found
@@ -23,11 +24,12 @@ class Live:
     heard beside that."""
 
     def __init__(self, command: list[str], found: Found, page: Page, names: Names,
-                 speech: Speech) -> None:
+                 speech: Speech, following: Following) -> None:
         self.cut, self.speech = Cut(found.begin, found.end, page, found.origin), speech
         self.origin, self.answer = found.origin, Answer(names.list_path)
         self.kept: BinaryIO = open(names.cut_path, "wb")
         self.has_ended = False  # the program, before all was handed on
+        self.following = following
         self.process = subprocess.Popen(command, stdin=subprocess.PIPE, stdout=subprocess.PIPE)
         self.listener = threading.Thread(target=self.listen, daemon=True)
         self.listener.start()
@@ -39,6 +41,7 @@ class Live:
             line = data.decode("utf-8", "replace").rstrip("\n")
             self.answer.take(line)
             self.speech.of_list(line)
+            self.following.hear(line)
 
     def put_all(self, path: str) -> None:
         """Hands on what has come before."""
@@ -56,6 +59,9 @@ class Live:
                 self.process.stdin.flush()
             except BrokenPipeError:
                 self.has_ended = True  # what it said tells why
+        if self.following.is_due():
+            self.kept.flush()
+            self.following.follow()
         if self.speech.progress.is_due():
             self.show()
 
@@ -80,6 +86,8 @@ class Live:
         status = self.process.wait()
         self.listener.join()
         self.answer.end(status)
+        self.speech.end_list(self.answer.last)
+        self.following.follow(is_over=True)
         return self.answer
 
     def stop(self) -> None:

@@ -65,5 +65,6 @@ def again(asked: Asked, typed: Typed, *more: str) -> str:
                ["--start", asked.start] if asked.start is not None else [],
                ["--breaks", str(asked.breaks)] if asked.breaks else [],
                ["--run", str(asked.run)] if asked.run is not None else []]
-    words += [word for option in options if option[:1] != list(more[:1]) for word in option]
+    instead = {"--origin": ["--origin", "--start"]}.get(more[0], [more[0]]) if more else []
+    words += [word for option in options if not set(option[:1]) & set(instead) for word in option]
     return line_of(*words, *more)

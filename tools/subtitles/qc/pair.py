@@ -9,20 +9,24 @@ from ..times import CLOCK, FRAMES_OF_A_DAY, TICKS, time_of
 from ..words import counted
 from .carriers import Carrier, Kept
 from .checking import Answer
-from .clock import GIVEN, RECORDING, Clock
+from .clock import GIVEN, RECORDING, TCP, Clock
 from .feed import Feed, Finder
 from .kinds import is_recording
 from .live import Live
 from .names import Names
+from .naming import Causes
 from .recording import Recording
 from .source import STANDARD_INPUT
 from .speech import Speech
+from .start import Starting, refuse_outside
 from .steps import Found, Steps, Stretch, origin_words
 from .sums import file_of
 from .told import EMPTY
 from .typed import Typed
 from .unclear import Unclear
 from .verdict import Gap, Part, Verdict
+from .warned import Warned, of_repeat, of_tables, of_timing
+from .why import Asking, Following, Telling
 
 NO_CLOCK = Clock(0, RECORDING)  # stands for one that is not found yet
 
@@ -38,6 +42,8 @@ class Pair:
         self.steps = Steps(self.asked, typed, names, speech)
         # The first and the last frame of the subtitle file, and the clock where it was given.
         self.whole = Found(0, 0, NO_CLOCK)
+        self.times: list[tuple[int, int]] = []  # at which each subtitle comes and goes
+        self.starting = Starting(self.asked, speech) if self.asked.start else None
 
     def judge(self) -> None:
         """Judges the pair; `Unclear` where a step is not clear."""
@@ -78,7 +84,7 @@ class Pair:
     def judge_transmission(self) -> None:
         """Judges what was recorded, part by part."""
         asked, steps = self.asked, self.steps
-        times = steps.times(asked.stl)
+        times = self.times = steps.times(asked.stl)
         if not times:
             raise Unclear(f"{asked.stl} has no subtitle")
         given = self.given()
@@ -86,25 +92,44 @@ class Pair:
         recording = Recording(asked, self.typed, self.names, self.speech)
         finder = Finder([*self.typed.call("origin"), *asked.page_words(), *asked.option_words(),
                          "--", asked.stl])
-        recording.read(self.is_summed, Feed(asked.origin, finder, self.start))
+        recording.read(self.is_summed, Feed(asked.origin, finder, self.start, self.starting))
         self.verdict.recording = recording.file
+        given = given or self.by_start(recording)
         if recording.live:
             answer = recording.live.end()
-            self.speech.end_list(answer.last)
             clock = given or Clock(recording.live.origin, RECORDING)
-            self.end_part(1, self.all_of(clock), answer, recording.places())
+            self.warn(recording, clock.origin)
+            self.end_part(1, self.all_of(clock), answer, recording)
         else:
-            found = [self.whole] if given else steps.origins(recording, self.whole)
+            found = [self.whole._replace(clock=given)] if given else \
+                steps.origins(recording, self.whole)
+            self.warn(recording, found[0].origin)
             stretches = self.stretches(found, len(times))
             for number, one in enumerate(stretches, 1):
                 steps.cut(recording, one)
-                self.end_part(number, one, steps.check(one), recording.places())
+                self.end_part(number, one, steps.check(one), recording)
         self.note_gaps(recording.places())
 
     def given(self) -> Clock | None:
         """The clock that was given, `None` where it is to be found."""
         origin = self.asked.origin
         return None if origin is None else Clock(origin, GIVEN)
+
+    def by_start(self, recording: Recording) -> Clock | None:
+        """The clock that the first picture tells, where it is asked."""
+        if self.starting is None:
+            return None
+        began = self.starting.began or recording.began(self.starting)
+        if began.clock.source == TCP:
+            refuse_outside(self.asked, began, self.whole.begin, self.whole.end, recording.last())
+        return began.clock
+
+    def warn(self, recording: Recording, origin: int) -> None:
+        """Takes what is strange of a transport stream."""
+        carrier, carriers = recording.carrier, recording.carriers
+        if carrier and carriers:
+            self.verdict.warnings += [*of_timing(carrier.timing, origin),
+                                      *of_tables(carriers.listing, carrier.pid, self.asked)]
 
     def all_of(self, clock: Clock) -> Stretch:
         """All subtitles, with one clock."""
@@ -122,18 +147,35 @@ class Pair:
                           "and nobody would look at it: mend its times")
         return stretches
 
-    def end_part(self, number: int, one: Stretch, answer: Answer, places: list[Place]) -> None:
+    def end_part(self, number: int, one: Stretch, answer: Answer, recording: Recording) -> None:
         """Takes what `check` said of a part, and draws its report, with what is missing there."""
         cut = one.names.cut_path
         judged = file_of(cut, one.names.cut) if self.is_summed else None
         part = Part(number, one.stl, one.stl_path, cut, one.origin, one.begin, one.end, judged,
                     answer, one.clock)
         self.verdict.parts.append(part)
-        lost = [gap_of(place, one.origin, True).line() for place in places if is_in(place, part)]
+        part.causes = self.causes(part, recording)
+        for warned in of_repeat(cut, self.asked, one.origin, self.times):
+            if warned not in self.verdict.warnings:
+                self.verdict.warnings.append(warned)
+        lost = [gap_of(place, one.origin, True).line() for place in recording.places()
+                if is_in(place, part)]
         if len(lost) > TOLD:
             lost = [*lost[:TOLD], f"and at {counted(len(lost) - TOLD, 'more place')}"]
         self.steps.draw(one.names, [one.stl_path, cut], [one.stl, one.names.cut], one.origin, lost,
-                        self.verdict.notes, self.verdict.is_fitted)
+                        [*self.verdict.notes, *map(Warned.said, self.verdict.warnings)],
+                        self.verdict.is_fitted)
+
+    def causes(self, part: Part, recording: Recording) -> Causes | None:
+        """Why the content of a part is refused; it is said, as far as it was not said before."""
+        if recording.live:
+            return recording.live.following.causes
+        causes = Asking(self.asked, self.typed, recording.places).of(part)
+        if causes:
+            telling = Telling(self.speech, self.asked.option)
+            telling.tell(causes, causes.all())
+            telling.end()
+        return causes
 
     # A feed.
 
@@ -147,9 +189,12 @@ class Pair:
                             "--stl", asked.stl, *asked.page_words(), *origin_words(origin), "-o",
                             "-", "|", self.typed.program_word, "check", asked.stl, "/dev/stdin",
                             *words)
+        asking = Asking(asked, self.typed, kept.places if isinstance(kept, Carrier) else tuple)
+        following = Following(lambda: asking.begin(asked.stl, self.names.cut_path, origin),
+                              Telling(self.speech, asked.option))
         return Live([self.typed.program_path, "check", *words, "--", asked.stl, "/dev/stdin"],
                     self.whole._replace(clock=Clock(origin, RECORDING)), asked.page, self.names,
-                    self.speech)
+                    self.speech, following)
 
     # What is missing.
 

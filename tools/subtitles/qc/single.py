@@ -15,6 +15,7 @@ from ..files import OWN_OUTPUT, as_file, refuse_name, whole_file
 from ..words import Stop, counted, line_of
 from . import junit, machine, table
 from .asked import Asked, asked_of
+from .cause_words import count_line
 from .clock import FITTED
 from .faults import faults_of
 from .made_with import program_at
@@ -63,6 +64,9 @@ def judge(words: argparse.Namespace, called: str) -> int:
 
 def end(verdict: Verdict, speech: Speech) -> None:
     """Says the verdict, after what was lost and what is not clear."""
+    causes = [part.causes for part in verdict.parts if part.causes]
+    if causes:
+        speech.say(count_line(causes))
     for line in verdict.lines():
         speech.say(line)
     for gap in verdict.gaps[:TOLD]:
@@ -74,6 +78,8 @@ def end(verdict: Verdict, speech: Speech) -> None:
                     "without it")
     for line in verdict.notes:
         speech.tell(line)
+    for warned in verdict.warnings:
+        speech.tell(warned.said())
     if verdict.line is not None:
         if verdict.is_fitted:
             speech.say(FITTED)
@@ -137,15 +143,16 @@ class Files:
         return list(itertools.islice(lines, SUMMED))
 
     def table_lines(self) -> Iterator[str]:
-        """The lines of the CSV file, with the names of the columns."""
+        """The lines of the CSV file: the names of the columns, the pair, its faults."""
         text = io.StringIO()
         table.write_head(text)
+        table.write_row(text, table.of_pair(self.verdict))
+        yield text.getvalue()
         for fault in faults_of(self.verdict, self.typed):
-            table.write_row(text, self.verdict, fault)
-            yield text.getvalue()
             text.seek(0)
             text.truncate()
-        yield text.getvalue()
+            table.write_row(text, table.of_fault(self.verdict, fault))
+            yield text.getvalue()
 
     def put(self, path: str, pieces: Iterator[str]) -> None:
         """Writes a file whole, or not at all."""

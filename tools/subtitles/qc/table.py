@@ -1,4 +1,4 @@
-"""Faults as lines of CSV, one a fault."""
+"""Pairs and their faults as lines of CSV: one for each pair, then one for each of its faults."""
 from __future__ import annotations
 
 import csv
@@ -7,9 +7,14 @@ from typing import IO
 from .faults import Cell, Fault
 from .verdict import Verdict
 
-COLUMNS = ["stl", "recording", "part", "number", "name", "severity", "file", "block", "subtitle",
-           "begin", "end", "byte", "character", "pes", "pes_time", "packet", "frame", "time",
-           "row", "column", "due", "held", "until", "until_pes", "line", "means", "do"]
+OF_FAULT = ["part", "number", "name", "severity", "file", "block", "subtitle", "begin", "end",
+            "byte", "character", "pes", "pes_time", "packet", "frame", "time", "row", "column",
+            "due", "held", "until", "until_pes", "line", "means", "do"]
+OF_CAUSE = ["cause", "cause_frames", "cause_subtitle", "cause_text", "cause_sent", "cause_words"]
+OF_PAIR = ["verdict", "status", "reason"]
+COLUMNS = ["stl", "recording", *OF_FAULT, *OF_PAIR, *OF_CAUSE]
+
+Known = dict[str, object]  # the columns that there is something to say of
 
 
 def cell_words(cell: Cell | None) -> str:
@@ -19,16 +24,27 @@ def cell_words(cell: Cell | None) -> str:
     return f"{cell['code']} {cell['character']}" if cell["character"] else cell["code"]
 
 
-def row_of(verdict: Verdict, fault: Fault) -> list[object]:
-    """The columns of a fault; empty where one does not apply."""
-    subtitle = fault["subtitle"]
-    known: dict[str, object] = {
-        **fault, "stl": verdict.asked.stl, "recording": verdict.asked.recording,
+def of_pair(verdict: Verdict) -> Known:
+    """The columns of a pair, which its faults have too; `line` is that of the verdict."""
+    return {"stl": verdict.asked.stl, "recording": verdict.asked.recording,
+            "verdict": verdict.word, "status": verdict.status, "reason": verdict.reason,
+            "line": verdict.line}
+
+
+def of_fault(verdict: Verdict, fault: Fault) -> Known:
+    """The columns of a fault."""
+    subtitle, cause = fault["subtitle"], fault["cause"]
+    known: Known = {
+        **of_pair(verdict), **fault,
         "subtitle": subtitle and subtitle["number"], "begin": subtitle and subtitle["begin"],
         "end": subtitle and subtitle["end"], "due": cell_words(fault["due"]),
-        "held": cell_words(fault["held"]),
+        "held": cell_words(fault["held"]), "cause": cause and cause["cause"],
     }
-    return ["" if known[name] is None else known[name] for name in COLUMNS]
+    if cause:
+        known |= {"cause_frames": cause["frames"], "cause_subtitle": cause["subtitle"]["number"],
+                  "cause_text": cause["text"], "cause_sent": cause["sent"],
+                  "cause_words": cause["words"]}
+    return known
 
 
 def write_head(file: IO[str]) -> None:
@@ -36,6 +52,7 @@ def write_head(file: IO[str]) -> None:
     csv.writer(file, lineterminator="\n").writerow(COLUMNS)
 
 
-def write_row(file: IO[str], verdict: Verdict, fault: Fault) -> None:
-    """Writes the line of a fault."""
-    csv.writer(file, lineterminator="\n").writerow(row_of(verdict, fault))
+def write_row(file: IO[str], known: Known) -> None:
+    """Writes a line; a column is empty where it does not apply."""
+    row = [known.get(name) for name in COLUMNS]
+    csv.writer(file, lineterminator="\n").writerow(["" if one is None else one for one in row])

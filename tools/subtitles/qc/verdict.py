@@ -8,8 +8,10 @@ from ..times import time_of
 from .asked import Asked
 from .checking import ACCEPTED_WORD, NOT_JUDGED, REFUSED_WORD, Answer
 from .clock import FITTED, Clock
+from .naming import Causes
 from .severity import Severity
 from .sums import File
+from .warned import Warned
 
 LOST = "lost"  # the verdict where all that was seen is accepted, and TS packets are lost
 
@@ -32,6 +34,7 @@ class Part:
     judged: File | None
     answer: Answer
     clock: Clock | None = None
+    causes: Causes | None = None
 
     def times(self) -> tuple[str | None, str | None]:
         """Those frames as times."""
@@ -65,6 +68,7 @@ class Verdict:
     date: str
     parts: list[Part] = dataclasses.field(default_factory=list)
     gaps: list[Gap] = dataclasses.field(default_factory=list)
+    warnings: list[Warned] = dataclasses.field(default_factory=list)
     notes: list[str] = dataclasses.field(default_factory=list)
     commands: list[str] = dataclasses.field(default_factory=list)
     stl: File | None = None
