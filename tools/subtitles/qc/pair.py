@@ -113,7 +113,8 @@ class Pair:
     def given(self) -> Clock | None:
         """The clock that was given, `None` where it is to be found."""
         origin = self.asked.origin
-        return None if origin is None else Clock(origin, GIVEN)
+        source = RECORDING if self.verdict.was_fitted else GIVEN
+        return None if origin is None else Clock(origin, source)
 
     def by_start(self, recording: Recording) -> Clock | None:
         """The clock that the first picture tells, where it is asked."""

@@ -4,7 +4,6 @@ from __future__ import annotations
 import argparse
 import io
 import itertools
-import json
 import os
 import re
 import tempfile
@@ -22,6 +21,7 @@ from .clock import FITTED
 from .faults import faults_of
 from .made_with import program_at
 from .names import Names
+from .objects import found
 from .pair import Pair
 from .progress import Progress
 from .severity import Severity
@@ -46,7 +46,7 @@ def judge(words: argparse.Namespace, called: str) -> int:
     is_output_taken = any(path in OWN_OUTPUT for path in (words.json, words.csv, words.junit))
     speech = Speech(Progress(), is_output_taken)
     typed = Typed(called, words.program)
-    verdict = Verdict(asked, Severity(asked.severity), now())
+    verdict = Verdict(asked, Severity(asked.severity), now(), was_fitted=words.is_fitted)
     verdict.is_kept = words.is_kept
     name = shown(words.name or os.path.splitext(os.path.basename(asked.stl))[0])
     with tempfile.TemporaryDirectory(prefix="subttx-qc-") as folder, claimed(out, name):
@@ -54,6 +54,7 @@ def judge(words: argparse.Namespace, called: str) -> int:
         names.give(asked.stl)
         files = Files(words, verdict, typed, names)
         files.prepare()
+        verdict.found = found(asked)
         try:
             judge_pair(Pair(verdict, typed, names, speech, files.are_any()), files)
         finally:
@@ -71,7 +72,8 @@ def judge_pair(pair: Pair, files: Files) -> None:
         verdict.to_type = reason.to_type if isinstance(reason, Unclear) else ()
         verdict.reason = reason.reason if isinstance(reason, Unclear) else line_of(reason)
     verdict.commands = pair.speech.commands
-    failed = files.write(time.monotonic() - began)
+    verdict.seconds = round(time.monotonic() - began, 3)
+    failed = files.write()
     if failed:
         verdict.reason = "\n".join([*([verdict.reason] if verdict.reason else []), *failed])
 
@@ -115,7 +117,7 @@ class Files:
     def are_any(self) -> bool:
         """Whether something is written that has the sums of the inputs."""
         words = self.words
-        return bool(words.out or words.json or words.csv or words.summary)
+        return bool(words.out or words.json or words.csv)
 
     def prepare(self) -> None:
         """Takes away what an earlier call left of this pair in the folder."""
@@ -134,36 +136,34 @@ class Files:
             if one and is_there and os.path.samefile(path, one):
                 raise Stop(f"{path} is an input too")
 
-    def write(self, seconds: float) -> list[str]:
-        """Writes what is asked for; answers why a file could not be written."""
+    def write(self) -> list[str]:
+        """Writes what is asked for; the object in the folder comes last, when all else is there.
+        Answers why a file could not be written."""
         words, verdict = self.words, self.verdict
         wanted: list[tuple[str, Callable[[], Iterator[str]]]] = []
-        objects = [path for path in (words.json, self.names.machine) if path]
-        if objects or words.summary:
-            program = program_at(self.typed.program_path)
-            wanted += [(path, lambda: machine.object_of(verdict, program, self.typed))
-                       for path in objects]
         if words.csv:
             wanted.append((words.csv, self.table_lines))
         if words.junit:
-            wanted.append((words.junit, lambda: self.testcase(seconds)))
+            wanted.append((words.junit, self.testcase))
+        objects = [path for path in (words.json, self.names.machine) if path]
+        if objects:
+            program = program_at(self.typed.program_path)
+            wanted += [(path, lambda: machine.object_of(verdict, program, self.typed))
+                       for path in objects]
         failed = []
         for path, pieces in wanted:
             try:
                 self.put(path, pieces())
             except (Stop, OSError) as reason:
                 failed.append(line_of(reason))
-        if words.summary:
-            summary = {**machine.head_of(verdict, program), "seconds": seconds,
-                       "lines": self.lines()}
-            self.put(words.summary, iter([json.dumps(summary)]))
         return failed
 
-    def testcase(self, seconds: float) -> Iterator[str]:
+    def testcase(self) -> Iterator[str]:
         """The file for a CI."""
         verdict = self.verdict
         case = junit.TestCase(name_of(verdict.asked), verdict.word, verdict.status,
-                              verdict.line or verdict.reason or "", self.lines(), seconds)
+                              verdict.line or verdict.reason or "", self.lines(),
+                              verdict.seconds)
         yield junit.text_of([case], verdict.date).decode()
 
     def leave(self) -> None:
