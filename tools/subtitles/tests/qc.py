@@ -263,7 +263,7 @@ def waits_for_the_end_where_there_is_a_break(case: Case) -> None:
             if select.select([process.stdout], [], [], 1.0)[0]:
                 break
     first = process.stdout.readline().decode()
-    case.test("it was found", "/dev/stdin --origin 1000 --all" in first, first)
+    case.test("it was found", "/dev/stdin --complete --origin 1000 --all" in first, first)
     for one in sent:
         process.stdin.write(one)
     process.stdin.close()
