@@ -2,7 +2,7 @@
 from __future__ import annotations
 
 import os
-from typing import Sequence
+from typing import Iterator, Sequence
 
 from ..gsi import titles_in
 from ..preview.counts import heads
@@ -21,8 +21,8 @@ from .verdict import LOST, Part, Verdict
 COLUMNS = ("From", "To", "Verdict", "Faults", "Causes", "Clock")
 
 
-def overview(verdict: Verdict, program: Program, names: Names, typed: Typed) -> str:
-    """The page, as text."""
+def overview(verdict: Verdict, program: Program, names: Names, typed: Typed) -> Iterator[str]:
+    """The page."""
     asked = verdict.asked
     line = verdict.line or f"not judged: {verdict.reason}"
     title = " and ".join(os.path.basename(name) for name in (asked.stl, asked.recording) if name)
@@ -32,7 +32,7 @@ def overview(verdict: Verdict, program: Program, names: Names, typed: Typed) -> 
     size = os.path.getsize(typed.program_path)
     files.append(("Program", File(typed.program_word, size, program.sha256)))
     words = [("Commands", "\n".join(verdict.commands))]
-    return document(line, title, [
+    yield document(line, title, [
         box(verdict, line), scope(verdict), f'<h2 id="parts">{len(verdict.parts)} parts</h2>',
         table(verdict, names), between(verdict.parts),
         made_from(files, verdict.date, program, words)])

@@ -79,18 +79,18 @@ class Pair:
                 self.speech.of_list(line)
             self.speech.end_list(answer.last)
         else:
-            count = len(self.steps.times(self.asked.stl))
+            count = len(self.steps.times(self.names.given))
             answer.accept(f"{counted(count, 'subtitle')}, nothing is wrong with "
                           f"{'it' if count == 1 else 'them'}")
-        stl = self.asked.stl
-        self.verdict.parts.append(Part(1, stl, stl, None, None, None, None, None, answer))
+        stl, given = self.asked.stl, self.names.given
+        self.verdict.parts.append(Part(1, stl, given, None, None, None, None, None, answer))
         if is_refused:
-            self.steps.draw(self.names, [stl], [stl], 0, [])
+            self.steps.draw(self.names, [given], [stl], 0, [])
 
     def judge_transmission(self) -> None:
         """Judges what was recorded, part by part."""
         asked, steps = self.asked, self.steps
-        times = self.times = steps.times(asked.stl)
+        times = self.times = steps.times(self.names.given)
         if not times:
             raise Unclear(f"{asked.stl} has no subtitle")
         given = self.given()
@@ -122,7 +122,8 @@ class Pair:
     def given(self) -> Clock | None:
         """The clock that was given, `None` where it is to be found."""
         origin = self.asked.origin
-        return None if origin is None else Clock(origin, GIVEN)
+        source = RECORDING if self.verdict.was_fitted else GIVEN
+        return None if origin is None else Clock(origin, source)
 
     def by_start(self, recording: Recording) -> Clock | None:
         """The clock that the first picture tells, where it is asked."""
@@ -143,8 +144,8 @@ class Pair:
 
     def all_of(self, clock: Clock) -> Stretch:
         """All subtitles, with one clock."""
-        stl = self.asked.stl
-        return Stretch(stl, stl, self.names, self.whole.begin, self.whole.end, clock)
+        stl, given = self.asked.stl, self.names.given
+        return Stretch(stl, given, self.names, self.whole.begin, self.whole.end, clock)
 
     def stretches(self, found: list[Found], count: int) -> list[Stretch]:
         """What is judged, one after another; each of the subtitles has to be in one."""
@@ -202,9 +203,10 @@ class Pair:
                             *words)
         asking = Asking(asked, self.typed,
                         lambda: kept.places() if isinstance(kept, Carrier) else [])
-        following = Following(lambda: asking.begin(asked.stl, self.names.cut_path, origin),
+        following = Following(lambda: asking.begin(self.names.given, self.names.cut_path, origin),
                               Telling(self.speech, asked.option))
-        return Live([self.typed.program_path, "check", *words, "--", asked.stl, "/dev/stdin"],
+        return Live([self.typed.program_path, "check", *words, "--", self.names.given,
+                     "/dev/stdin"],
                     self.whole._replace(clock=Clock(origin, RECORDING)), asked.page, self.names,
                     self.speech, following)
 

@@ -82,7 +82,8 @@ class Steps:
 
     def check_alone(self) -> Answer:
         """What is wrong with the subtitle file; nothing is said of it yet."""
-        words = ["check", "--option", self.asked.option, "--all", "--", self.asked.stl, NO_PES]
+        words = ["check", "--option", self.asked.option, "--all", "--", self.names.given,
+                 NO_PES]
         return check([self.typed.program_path, *words], self.names.temporary("alone.txt"),
                      lambda line: None)
 
@@ -129,8 +130,11 @@ class Steps:
     def cut(self, recording: Recording, one: Stretch) -> None:
         """Cuts the PES packets of the time of the subtitles out of the recording."""
         more = [*self.asked.page_words(), *origin_words(one.origin)]
-        self.tool("cut", [recording.path, "--stl", one.stl_path, *more, "-o", one.names.cut_path],
-                  [recording.shown, "--stl", one.stl, *more, "-o", one.names.cut])
+        done = self.tool(
+            "cut", [recording.path, "--stl", one.stl_path, *more, "-o", one.names.cut_path],
+            [recording.shown, "--stl", one.stl, *more, "-o", one.names.cut])
+        if done.status == 2:
+            raise Unclear(f"the recording was not cut: {'; '.join(done.told)}")
         if not os.path.exists(one.names.cut_path):
             raise Unclear("nothing of the page is in the recording at the time of the subtitles",
                           self.again("--origin", "T"), self.again("--page", "P"))
