@@ -71,8 +71,10 @@ def add_pair_options(parser: Words) -> None:
     parser.add_argument("--option", default="english", choices=("english", "german", AUTO),
                         help="the national option, english where it is left out; auto: the one "
                              "of the language that the subtitle file names")
-    parser.add_argument("--complete", dest="is_complete", action="store_true",
-                        help="ask for complete pages")
+    parser.add_argument("--complete", dest="is_complete", action="store_true", default=True,
+                        help="ask for complete pages, as is done where it is left out")
+    parser.add_argument("--no-complete", dest="is_complete", action="store_false",
+                        help="ask for none")
     parser.add_argument("--origin", type=origin_word, metavar="T",
                         help="the PTS of 00:00:00:00; it is found where it is left out")
     parser.add_argument("--pid", type=pid_word, metavar="PID",

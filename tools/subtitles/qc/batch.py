@@ -82,7 +82,7 @@ def words_of(asked: Asked) -> list[str]:
     words += ["--start", asked.start] if asked.start is not None else []
     words += ["--pid", str(asked.pid)] if asked.pid is not None else []
     words += ["--severity", asked.severity] if asked.severity is not None else []
-    words += ["--complete"] if asked.is_complete else []
+    words += ["--complete" if asked.is_complete else "--no-complete"]
     words += ["--allow-lost"] if asked.is_loss_allowed else []
     return [*words, "--", asked.stl, *([asked.recording] if asked.recording else [])]
 

@@ -75,7 +75,7 @@ def again(asked: Asked, typed: Typed, *more: str) -> str:
     """The call of this tool for the pair, with more words, or with others of an option."""
     words = [typed.tool("qc"), asked.stl, *([asked.recording] if asked.recording else [])]
     options = [asked.page_words(), asked.every_words(), asked.option_words(),
-               ["--complete"] if asked.is_complete else [],
+               [] if asked.is_complete else ["--no-complete"],
                ["--pid", f"0x{asked.pid:X}"] if asked.pid is not None else [],
                ["--origin", str(asked.origin)] if asked.origin is not None else [],
                ["--start", asked.start] if asked.start is not None else [],

@@ -22,13 +22,14 @@ from .faults import faults_of
 from .made_with import program_at
 from .names import Names
 from .objects import found
+from .overview import overview
 from .pair import Pair
 from .progress import Progress
 from .severity import Severity
 from .speech import Speech
 from .typed import Typed
 from .unclear import Unclear
-from .verdict import Verdict
+from .verdict import LOST, Verdict
 
 ESCAPED = re.compile("[\ud800-\udfff]")  # bytes of a name that is not UTF-8
 SUMMED = 100  # lines of a list in a summary, and in a file for a CI
@@ -90,8 +91,8 @@ def end(verdict: Verdict, speech: Speech) -> None:
     if len(verdict.gaps) > TOLD:
         speech.tell(f"and at {counted(len(verdict.gaps) - TOLD, 'more place')}")
     if verdict.is_lost and not verdict.asked.is_loss_allowed:
-        speech.tell("nobody saw what was sent there; --allow-lost accepts the recording "
-                    "without it")
+        would = "; --allow-lost accepts the recording without it" if verdict.word == LOST else ""
+        speech.tell(f"nobody saw what was sent there{would}")
     for line in verdict.notes:
         speech.tell(line)
     for warned in verdict.warnings:

@@ -263,7 +263,7 @@ def waits_for_the_end_where_there_is_a_break(case: Case) -> None:
             if select.select([process.stdout], [], [], 1.0)[0]:
                 break
     first = process.stdout.readline().decode()
-    case.test("it was found", "/dev/stdin --origin 1000 --all" in first, first)
+    case.test("it was found", "/dev/stdin --complete --origin 1000 --all" in first, first)
     for one in sent:
         process.stdin.write(one)
     process.stdin.close()
@@ -273,7 +273,8 @@ def waits_for_the_end_where_there_is_a_break(case: Case) -> None:
 
 def keeps_what_was_judged_where_it_is_asked(case: Case) -> None:
     """With --keep; without, its sum stays in the object, and there is no name."""
-    for words, name in (["--keep"], "out/story.cut.pes"), ([], None):
+    cases: list[tuple[list[str], str | None]] = [(["--keep"], "out/story.cut.pes"), ([], None)]
+    for words, name in cases:
         done = qc(case, STORY, example("story.pes"), "-o", "out", *words)
         pes = json.loads(case.read("out/story.json"))["parts"][0]["pes"]
         case.test(f"{words}: its sum", pes == {
