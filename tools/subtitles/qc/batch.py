@@ -42,7 +42,7 @@ class Calls:
         if item.asked is None:
             return self.leave(item, item.reason or "")
         kept = ["-o", self.out, *["--keep"] * self.is_kept] if self.out else ["--json", path]
-        command = [*self.typed.call("qc"), "--name", item.name, *kept, "-p",
+        command = [*self.typed.call("qc"), f"--name={item.name}", *kept, "-p",
                    self.typed.program_path, *words_of(item.asked)]
         if os.path.lexists(path):
             os.unlink(path)
