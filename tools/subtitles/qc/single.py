@@ -149,6 +149,9 @@ class Files:
         objects = [path for path in (words.json, self.names.machine) if path]
         if objects:
             program = program_at(self.typed.program_path)
+            if self.names.out and len(verdict.parts) > 1:
+                wanted.append((self.names.report, lambda: overview(verdict, program, self.names,
+                                                                   self.typed)))
             wanted += [(path, lambda: machine.object_of(verdict, program, self.typed))
                        for path in objects]
         failed = []
