@@ -22,7 +22,8 @@ use Rattle.sub_rules.specs.PacketRules.{packets_of_units}
 use Rattle.sub_rules.specs.PesReading.{ReadsAs}
 use Rattle.sub_rules.specs.Transmission.{Transmission}
 use Rattle.sub_rules.specs.declared.fault.CheckFault.{CheckFault}
-use Rattle.sub_rules.proofs.PesReadingLemmas.{ReadsNext, reads-below, reads_end, reads_next}
+use Rattle.sub_rules.proofs.PesReadingLemmas.{ReadsNext, reads_end, reads_next}
+use Rattle.sub_rules.proofs.PieceFileLemmas.{reads-below}
 use Rattle.sub_rules.proofs.FrameLists.{joined_more}
 use Rattle.sub_listen.specs.Run.{AreHeard, EndsAfter, FailsListening, HearsFile, IsHeard}
 use Rattle.sub_listen.specs.Run.{RefusesAfter, least_frame}
