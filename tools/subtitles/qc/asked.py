@@ -7,7 +7,7 @@ import dataclasses
 import os
 from typing import Sequence
 
-from ..files import as_file
+from ..files import plain_name
 from ..teletext import page_name
 from ..words import (
     Stop, Words, add_page, breaks_word, every_word, origin_word, pid_word, run_word, start_word)
@@ -71,8 +71,10 @@ def add_pair_options(parser: Words) -> None:
     parser.add_argument("--option", default="english", choices=("english", "german", AUTO),
                         help="the national option, english where it is left out; auto: the one "
                              "of the language that the subtitle file names")
-    parser.add_argument("--complete", dest="is_complete", action="store_true",
-                        help="ask for complete pages")
+    parser.add_argument("--complete", dest="is_complete", action="store_true", default=True,
+                        help="ask for complete pages, as is done where it is left out")
+    parser.add_argument("--no-complete", dest="is_complete", action="store_false",
+                        help="ask for none")
     parser.add_argument("--origin", type=origin_word, metavar="T",
                         help="the PTS of 00:00:00:00; it is found where it is left out")
     parser.add_argument("--pid", type=pid_word, metavar="PID",
@@ -102,10 +104,11 @@ def asked_of(words: argparse.Namespace) -> Asked:
 
 def asked_with(stl: str, recording: str | None, options: argparse.Namespace) -> Asked:
     """A pair, and options that are read."""
-    named = recording and (recording if recording == "-" else as_file(recording))
+    named = recording and (recording if recording == "-" else plain_name(recording))
     if options.origin is not None and options.start is not None:
         raise Stop("--start tells the origin: --origin is too many")
-    asked = Asked(as_file(stl), named, **{name: getattr(options, name) for name in pair_options()})
+    asked = Asked(plain_name(stl), named,
+                  **{name: getattr(options, name) for name in pair_options()})
     if asked.option == AUTO:
         asked.option = option_named_in(asked.stl)
     return asked

@@ -5,7 +5,7 @@ import os
 from typing import BinaryIO, Iterator
 
 from ..extracting import Extractor, NoTeletext
-from ..files import Damaged
+from ..files import Damaged, naming
 from ..joining import Place
 from ..listing import Listing
 from ..pes import data_field, has_pts, pes_packets, pts_in, teletext_packets
@@ -30,7 +30,11 @@ class Kept:
 
     def keep(self, data: bytes) -> bytes:
         """Keeps a PES packet."""
-        self.file.write(data)
+        try:
+            self.file.write(data)
+        except OSError as error:
+            error.filename = self.path
+            raise
         self.count += 1
         if self.count <= Grid.MOST and has_pts(data):
             self.grid.take(pts_in(data))
@@ -40,10 +44,12 @@ class Kept:
 
     def flush(self) -> None:
         """What was kept can be read from the file then."""
-        self.file.flush()
+        with naming(self.path):
+            self.file.flush()
 
     def close(self) -> None:
-        self.file.close()
+        with naming(self.path):
+            self.file.close()
 
 
 class Carrier(Kept):

@@ -140,7 +140,8 @@ class Namer:
         end = one.end if came is None or came <= one.begin else min(came, one.end)
         found = [number for number in self.held.numbers(one.begin, end)
                  if self.is_of_its_time(number, place) and self.is_strange(number, place)]
-        return max(found, default=None, key=lambda number: self.length(number, one.begin, end))
+        lengths = [self.length(number, one.begin, end) for number in found]
+        return found[lengths.index(max(lengths))] if found else None
 
     def is_of_its_time(self, number: int, place: int) -> bool:
         """Whether a page came after the TCO of the subtitle before."""
@@ -275,4 +276,4 @@ class Namer:
 
 def nearest(frames: list[int], wanted: int) -> int | None:
     """Which of some frames is the nearest to one."""
-    return min(frames, key=lambda frame: abs(frame - wanted), default=None)
+    return min(frames, key=lambda frame: abs(frame - wanted)) if frames else None

@@ -269,7 +269,7 @@ class Channel:
         if os.path.lexists(path):
             os.unlink(path)
         files = ["-o", self.words.out] if self.words.out else ["--json", path]
-        command = [*self.typed.call("qc"), "--name", programme.name, *files, "--fitted", "-p",
+        command = [*self.typed.call("qc"), f"--name={programme.name}", *files, "--fitted", "-p",
                    self.typed.program_path, *words_of(asked)]
         self.running = Running(programme, command, self.folder, midnight + TICKS * awaited.last)
         self.after = 0

@@ -5,6 +5,7 @@ import shutil
 import subprocess
 from typing import BinaryIO, Callable, Iterator
 
+from ..files import naming
 from .told import ACCEPTED, COUNT, TRUSTED, Told, told_of
 from .unclear import Unclear
 
@@ -28,7 +29,8 @@ class Answer:
 
     def take(self, line: str) -> None:
         """Takes a line as it comes."""
-        self.file.write(line.encode() + b"\n")
+        with naming(self.path):
+            self.file.write(line.encode() + b"\n")
         self.last = line
         if line.startswith("refused "):
             self.count += 1
@@ -39,7 +41,8 @@ class Answer:
 
     def end(self, status: int) -> None:
         """Takes the status; what is no answer is `Unclear`."""
-        self.file.close()
+        with naming(self.path):
+            self.file.close()
         self.status = status
         counted = COUNT.fullmatch(self.last)
         is_answer = self.frames is not None if status == 0 else \
@@ -50,7 +53,8 @@ class Answer:
 
     def move(self, path: str) -> None:
         """Moves the file of its lines."""
-        shutil.move(self.path, path)
+        with naming(path):
+            shutil.move(self.path, path)
         self.path = path
 
     def accept(self, line: str) -> None:

@@ -8,7 +8,7 @@ import sys
 from typing import Callable, Iterator, Sequence
 
 from ..files import OWN_OUTPUT, refuse_name, whole_file
-from ..words import Stop, counted, tell
+from ..words import Stop, counted, shown, tell
 from . import index_page, junit, table
 from .checking import ACCEPTED_WORD
 from .machine import FORMAT
@@ -48,7 +48,7 @@ def end(words: argparse.Namespace, rows: Sequence[Row], paths: Sequence[str]) ->
         put(path, pieces)
     is_output_taken = any(path in OWN_OUTPUT for path in (words.json, words.csv, words.junit))
     for line in table_of(rows):
-        print(line, file=sys.stderr if is_output_taken else sys.stdout)
+        print(shown(line), file=sys.stderr if is_output_taken else sys.stdout)
     return status
 
 

@@ -6,6 +6,7 @@ import threading
 from typing import TYPE_CHECKING, BinaryIO
 
 from ..cutting import Cut
+from ..files import naming
 from ..pes import pes_packets
 from ..teletext import Page
 from ..times import time_of
@@ -27,7 +28,8 @@ class Live:
                  speech: Speech, following: Following) -> None:
         self.cut, self.speech = Cut(found.begin, found.end, page, found.origin), speech
         self.origin, self.answer = found.origin, Answer(names.list_path)
-        self.kept: BinaryIO = open(names.cut_path, "wb")
+        self.path = names.cut_path
+        self.kept: BinaryIO = open(self.path, "wb")
         self.has_ended = False  # the program, before all was handed on
         self.following = following
         self.process = subprocess.Popen(command, stdin=subprocess.PIPE, stdout=subprocess.PIPE)
@@ -53,7 +55,8 @@ class Live:
         """Hands on a PES packet, where it is to be judged."""
         for one in self.cut.taken([data]):
             assert self.process.stdin
-            self.kept.write(one)
+            with naming(self.path):
+                self.kept.write(one)
             try:
                 self.process.stdin.write(one)
                 self.process.stdin.flush()
@@ -77,7 +80,8 @@ class Live:
 
     def end(self) -> Answer:
         """The answer, once all has been handed on."""
-        self.kept.close()
+        with naming(self.path):
+            self.kept.close()
         try:
             assert self.process.stdin
             self.process.stdin.close()

@@ -31,12 +31,13 @@ def asked_words(asked: Asked) -> dict[str, Value]:
             "breaks": asked.breaks, "run": asked.run, "start": asked.start}
 
 
-def part_words(part: Part) -> dict[str, Value]:
+def part_words(part: Part, is_kept: bool) -> dict[str, Value]:
+    """A part; what was judged of it has a name where it is kept."""
     answer, (begin, end) = part.answer, part.times()
     return {"part": part.number, "stl": part.stl, "origin": part.origin, "from": begin, "to": end,
             "verdict": answer.verdict, "line": answer.line,
             "frames": answer.frames, "transmissions": answer.transmissions,
-            "faults": answer.count, "pes": file_words(part.judged),
+            "faults": answer.count, "pes": part.judged and {**part.judged._asdict(), **({} if is_kept else {"name": None})},
             "clock": part.clock and part.clock._asdict()}
 
 
@@ -68,7 +69,7 @@ def head_of(verdict: Verdict, program: Program) -> dict[str, Value]:
         "fault_count": verdict.faults,
         "asked": asked_words(verdict.asked),
         "found": verdict.found,
-        "parts": [part_words(part) for part in parts],
+        "parts": [part_words(part, verdict.is_kept) for part in parts],
         "lost": [gap_words(gap) for gap in verdict.gaps],
         "warnings": [warned._asdict() for warned in verdict.warnings],
         "notes": verdict.said(),

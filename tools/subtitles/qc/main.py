@@ -39,6 +39,8 @@ def parser_of(text: str) -> Words:
                         help="the recording, - for standard input")
     add_pair_options(parser)
     parser.add_argument("-o", dest="out", metavar="DIR", help="the folder for report and list")
+    parser.add_argument("--keep", dest="is_kept", action="store_true",
+                        help="keep in DIR what was judged, NAME.cut.pes")
     parser.add_argument("--json", metavar="FILE", help="the verdict as an object")
     parser.add_argument("--csv", metavar="FILE", help="a line for each fault")
     parser.add_argument("--junit", metavar="FILE", help="the verdict for a CI")
@@ -105,11 +107,15 @@ def refuse_strangers(words: argparse.Namespace) -> None:
         raise Stop(f"{words.stl} stands beside {given[0]}, which takes its pairs from "
                    f"{modes[given[0]]}")
     mode = given[0] if given else None
+    if words.is_kept and words.out is None:
+        raise Stop("--keep goes with -o DIR, where it keeps what was judged")
     for name, value, goes_with in (("--resume", words.is_resumed or None, ("--batch",)),
                                    ("--jobs", words.jobs, ("--batch", "--watch")),
                                    ("--settled", words.settled, ("--watch",)),
                                    ("--patience", words.patience, ("--channel",))):
         if value is not None and mode not in goes_with:
             raise Stop(f"{name} goes with {' or '.join(goes_with)}")
+    if words.is_kept and words.out is None:
+        raise Stop("--keep goes with -o DIR, where it keeps what was judged")
     if mode in ("--watch", "--channel") and (words.json or words.csv or words.junit):
         raise Stop("--json, --csv and --junit go with --collect, once pairs are judged")

@@ -26,6 +26,7 @@ from .typed import Typed
 from .unclear import Unclear
 from .verdict import Gap, Part, Verdict
 from .warned import Warned, of_repeat, of_tables, of_timing
+from .whole import of_end, of_growth
 from .why import Asking, Following, Telling
 
 NO_CLOCK = Clock(0, RECORDING)  # stands for one that is not found yet
@@ -42,6 +43,7 @@ class Pair:
         self.steps = Steps(self.asked, typed, names, speech)
         # The first and the last frame of the subtitle file, and the clock where it was given.
         self.whole = Found(0, 0, NO_CLOCK)
+        self.count = 1  # of the parts
         self.times: list[tuple[int, int]] = []  # at which each subtitle comes and goes
         self.starting = Starting(self.asked, speech) if self.asked.start else None
 
@@ -63,6 +65,10 @@ class Pair:
             self.judge_alone(answer, is_refused)
         else:
             self.judge_transmission()
+        if asked.recording is not None and not self.verdict.has_errors() and \
+                not all(part.is_read() for part in self.verdict.parts):
+            raise Unclear("nothing of the recording was read, and --severity leaves no fault an "
+                          "error")
 
     def judge_alone(self, answer: Answer, is_refused: bool) -> None:
         """Ends with the subtitle file, which is refused or is all that there is."""
@@ -73,18 +79,18 @@ class Pair:
                 self.speech.of_list(line)
             self.speech.end_list(answer.last)
         else:
-            count = len(self.steps.times(self.asked.stl))
+            count = len(self.steps.times(self.names.given))
             answer.accept(f"{counted(count, 'subtitle')}, nothing is wrong with "
                           f"{'it' if count == 1 else 'them'}")
-        stl = self.asked.stl
-        self.verdict.parts.append(Part(1, stl, stl, None, None, None, None, None, answer))
+        stl, given = self.asked.stl, self.names.given
+        self.verdict.parts.append(Part(1, stl, given, None, None, None, None, None, answer))
         if is_refused:
-            self.steps.draw(self.names, [stl], [stl], 0, [])
+            self.steps.draw(self.names, [given], [stl], 0, [])
 
     def judge_transmission(self) -> None:
         """Judges what was recorded, part by part."""
         asked, steps = self.asked, self.steps
-        times = self.times = steps.times(asked.stl)
+        times = self.times = steps.times(self.names.given)
         if not times:
             raise Unclear(f"{asked.stl} has no subtitle")
         given = self.given()
@@ -105,9 +111,12 @@ class Pair:
                 steps.origins(recording, self.whole)
             self.warn(recording, found[0].origin)
             stretches = self.stretches(found, len(times))
+            self.count = len(stretches)
             for number, one in enumerate(stretches, 1):
                 steps.cut(recording, one)
                 self.end_part(number, one, steps.check(one), recording)
+        if not any(warned.kind == "grew" for warned in self.verdict.warnings):
+            self.verdict.warnings += of_growth(recording)
         self.note_gaps(recording.places())
 
     def given(self) -> Clock | None:
@@ -126,7 +135,8 @@ class Pair:
         return began.clock
 
     def warn(self, recording: Recording, origin: int) -> None:
-        """Takes what is strange of a transport stream."""
+        """Takes what is strange of a recording."""
+        self.verdict.warnings += [*of_growth(recording), *of_end(recording)]
         carrier, carriers = recording.carrier, recording.carriers
         if carrier and carriers:
             self.verdict.warnings += [*of_timing(carrier.timing, origin),
@@ -134,8 +144,8 @@ class Pair:
 
     def all_of(self, clock: Clock) -> Stretch:
         """All subtitles, with one clock."""
-        stl = self.asked.stl
-        return Stretch(stl, stl, self.names, self.whole.begin, self.whole.end, clock)
+        stl, given = self.asked.stl, self.names.given
+        return Stretch(stl, given, self.names, self.whole.begin, self.whole.end, clock)
 
     def stretches(self, found: list[Found], count: int) -> list[Stretch]:
         """What is judged, one after another; each of the subtitles has to be in one."""
@@ -165,7 +175,8 @@ class Pair:
             lost = [*lost[:TOLD], f"and at {counted(len(lost) - TOLD, 'more place')}"]
         self.steps.draw(one.names, [one.stl_path, cut], [one.stl, one.names.cut], one.origin, lost,
                         [*self.verdict.notes, *map(Warned.said, self.verdict.warnings)],
-                        self.verdict.is_fitted)
+                        self.verdict.is_fitted, self.verdict.recording,
+                        ["--part", str(number), str(self.count)] if self.count > 1 else [])
 
     def causes(self, part: Part, recording: Recording) -> Causes | None:
         """Why the content of a part is refused; it is said, as far as it was not said before."""
@@ -190,10 +201,12 @@ class Pair:
                             "--stl", asked.stl, *asked.page_words(), *origin_words(origin), "-o",
                             "-", "|", self.typed.program_word, "check", asked.stl, "/dev/stdin",
                             *words)
-        asking = Asking(asked, self.typed, kept.places if isinstance(kept, Carrier) else tuple)
-        following = Following(lambda: asking.begin(asked.stl, self.names.cut_path, origin),
+        asking = Asking(asked, self.typed,
+                        lambda: kept.places() if isinstance(kept, Carrier) else [])
+        following = Following(lambda: asking.begin(self.names.given, self.names.cut_path, origin),
                               Telling(self.speech, asked.option))
-        return Live([self.typed.program_path, "check", *words, "--", asked.stl, "/dev/stdin"],
+        return Live([self.typed.program_path, "check", *words, "--", self.names.given,
+                     "/dev/stdin"],
                     self.whole._replace(clock=Clock(origin, RECORDING)), asked.page, self.names,
                     self.speech, following)
 
@@ -219,7 +232,9 @@ def is_in(place: Place, part: Part) -> bool:
         return False
     first, last = (part.origin + TICKS * frame for frame in (part.begin, part.end))
     is_before = place.after is not None and ticks_between(first, place.after) <= 0
-    is_after = place.before is not None and ticks_between(last, place.before) >= 0
+    # One that is filled up has its time before it.
+    is_after = place.before is not None and \
+        ticks_between(last, place.before) >= (1 if place.filled else 0)
     return not is_before and not is_after
 
 

@@ -9,7 +9,7 @@ import stat
 from typing import Iterable, NamedTuple
 
 from ..files import refuse_device
-from ..words import Stop
+from ..words import Stop, shown
 from .asked import Asked, asked_of_line, asked_with
 
 SUBTITLES, RECORDINGS = ".stl", (".ts", ".pes")
@@ -30,7 +30,7 @@ def pairs_at(path: str, defaults: argparse.Namespace) -> list[Item]:
         raise Stop(f"{path} has no pair")
     counts: collections.Counter[str] = collections.Counter()
     named = []
-    for item in items:
+    for item in (item._replace(name=shown(item.name)) for item in items):
         counts[item.name] += 1
         number = counts[item.name]
         named.append(item if number == 1 else item._replace(name=f"{item.name}-{number}"))

@@ -22,6 +22,7 @@ from .start import Began, Starting
 from .sums import File
 from .typed import Typed
 from .unclear import Unclear
+from .whole import size_of
 
 MEGA = 1 << 20
 
@@ -42,6 +43,7 @@ class Recording:
         self.carriers: Carriers | None = None
         self.live: Live | None = None
         self.file: File | None = None
+        self.size = size_of(self.name)
 
     def read(self, is_summed: bool, feed: Feed) -> None:
         """Reads it: a file to its end, a feed up to the last subtitle at least."""

@@ -1,11 +1,10 @@
 """What a person reads: the commands, what they answer, the verdict."""
 from __future__ import annotations
 
-import io
 import sys
 import threading
 
-from ..words import tell
+from ..words import shown, tell
 from .progress import Progress
 from .typed import line_of
 
@@ -19,9 +18,6 @@ class Speech:
     def __init__(self, progress: Progress, is_output_taken: bool = False) -> None:
         self.progress = progress
         self.out = sys.stderr if is_output_taken else sys.stdout
-        if isinstance(self.out, io.TextIOWrapper):
-            # Names of files may be any bytes, and are said as they were typed.
-            self.out.reconfigure(errors="surrogateescape")
         self.commands: list[str] = []
         self.last, self.listed = "", 0
         self.lock = threading.RLock()  # a feed is heard beside the program that judges it
@@ -31,7 +27,7 @@ class Speech:
         with self.lock:
             self.progress.clear()
             self.last = line
-            print(line, file=self.out)
+            print(shown(line), file=self.out)
 
     def tell(self, line: str) -> None:
         """A line on standard error, under the name of the tool, after what was said before it."""

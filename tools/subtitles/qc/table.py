@@ -5,6 +5,7 @@ import csv
 import io
 from typing import IO, Any, Iterable, Iterator
 
+from ..words import shown
 from .faults import Cell, Fault
 from .verdict import Verdict
 
@@ -68,7 +69,12 @@ def write_head(file: IO[str]) -> None:
 def write_row(file: IO[str], known: Known) -> None:
     """Writes a line; a column is empty where it does not apply."""
     row = [known.get(name) for name in COLUMNS]
-    csv.writer(file, lineterminator="\n").writerow(["" if one is None else one for one in row])
+    csv.writer(file, lineterminator="\n").writerow(["" if one is None else said(one) for one in row])
+
+
+def said(value: object) -> object:
+    """A value without what a terminal would obey; a reason may have several lines."""
+    return "\n".join(map(shown, value.split("\n"))) if isinstance(value, str) else value
 
 
 def text_of(objects: Iterable[dict[str, Any]]) -> Iterator[bytes]:
@@ -80,7 +86,7 @@ def text_of(objects: Iterable[dict[str, Any]]) -> Iterator[bytes]:
         write_row(text, pair)
         for fault in known.get("faults") or []:
             write_row(text, with_fault(pair, fault))
-        yield text.getvalue().encode("utf-8", "replace")
+        yield text.getvalue().encode()
         text.seek(0)
         text.truncate()
-    yield text.getvalue().encode("utf-8", "replace")
+    yield text.getvalue().encode()

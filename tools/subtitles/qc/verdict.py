@@ -4,13 +4,16 @@ from __future__ import annotations
 import dataclasses
 
 from ..joining import Place
+from ..pes import pes_runs
 from ..times import time_of
 from .asked import Asked
+from .cells import passed_over
 from .checking import ACCEPTED_WORD, NOT_JUDGED, REFUSED_WORD, Answer
 from .clock import FITTED, Clock
 from .naming import Causes
 from .severity import Severity
 from .sums import File
+from .told import EMPTY, PASSED_OVER
 from .warned import Warned
 
 LOST = "lost"  # the verdict where all that was seen is accepted, and TS packets are lost
@@ -35,6 +38,17 @@ class Part:
     answer: Answer
     clock: Clock | None = None
     causes: Causes | None = None
+
+    def is_read(self) -> bool:
+        """Whether one of its PES packets at least could be read; the file has to be there still."""
+        if self.pes is None:
+            return False
+        if not self.answer.numbers or self.answer.numbers - PASSED_OVER - {EMPTY}:
+            return True
+        with open(self.pes, "rb") as file:
+            count = sum(len(begins) - 1 for _, begins in pes_runs(file))
+        passed = passed_over(self.answer.told())
+        return count > sum(last + 1 - first for first, last in passed)
 
     def times(self) -> tuple[str | None, str | None]:
         """Those frames as times."""
@@ -75,6 +89,7 @@ class Verdict:
     commands: list[str] = dataclasses.field(default_factory=list)
     stl: File | None = None
     recording: File | None = None
+    is_kept: bool = False  # what was judged stays in the folder
     reason: str | None = None
     to_type: tuple[str, ...] = ()
     found: dict[str, object] = dataclasses.field(default_factory=dict)

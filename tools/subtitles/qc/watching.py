@@ -47,7 +47,7 @@ class Watch:
 
     def __init__(self, words: argparse.Namespace, typed: Typed) -> None:
         self.words, self.folder, self.out = words, words.watch, words.out
-        self.calls = Calls(typed, words.out, words.out)
+        self.calls = Calls(typed, words.out, words.out, words.is_kept)
         self.program = program_at(typed.program_path)
         self.seen: dict[str, Seen] = {}
         self.tried: dict[str, object] = {}  # what was found of pairs that were judged here

@@ -95,7 +95,7 @@ def planted(kind: str | None, at: int, all_of: list[One], chance: random.Random)
                               {row: b" " + codes[:-1] for row, codes in rows.items()}])
     elif kind == "wrong colour or attribute":
         rows = {row: codes.replace(b"\7", bytes([ALPHA_YELLOW])) for row, codes in rows.items()}
-    sent = [(begin, rows), (end, {})]
+    sent: list[tuple[int, Rows]] = [(begin, rows), (end, {})]
     if kind == "never sent":
         sent = [(end, {})]
     elif kind == "not erased":
@@ -112,13 +112,14 @@ def sent_of(all_of: list[Planted]) -> bytes:
         for frame, rows in one.sent:
             if rows or frame not in pages:
                 pages[frame] = rows
-    data, last, on_air = b"", 0, {}
+    on_air: Rows = {}
+    data, last = b"", 0
     first, end = min(pages), max(pages)
     for frame in range(first, end + 1):
         if frame in pages or frame - last == EVERY:
             on_air, last = pages.get(frame, on_air), frame
-            rows = [packet(0, row, (), codes) for row, codes in sorted(on_air.items())]
-            data += pes_packet(pts_of(frame, 0), [HEADER, *rows, CLOSING])
+            units = [packet(0, row, (), codes) for row, codes in sorted(on_air.items())]
+            data += pes_packet(pts_of(frame, 0), [HEADER, *units, CLOSING])
     return data
 
 

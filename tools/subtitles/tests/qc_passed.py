@@ -136,7 +136,7 @@ def tells_each_number_up_to_where_it_goes(case: Case) -> None:
                                        for number, first, last in runs], faults)
     rows = [(row["number"], row["pes"], row["until_pes"]) for row in
             csv.DictReader(case.read("out.csv").decode().splitlines())
-            if int(row["number"]) in NAMES]
+            if row["number"] and int(row["number"]) in NAMES]
     case.test("the lines", rows == [(str(number), str(pes), str(until or ""))
                                     for number, pes, until in faults], rows)
     suite = tree.fromstring(case.read("out.xml"))
