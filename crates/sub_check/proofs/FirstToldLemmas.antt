@@ -132,7 +132,7 @@ module _ (programme : ProgrammeValue) (options : OptionsValue) (bytes : List ℕ
             → Named f
         go [] told e = cc
         go (x ∷ xs) told e =
-            grind (arith, nat_tests)
+            let (first, is, named) = told.at x refl in grind (arith, nat_tests)
 
     -- Where the page is refused at a cell. For `check`.
     pub wrong_of_first : (frame row column : ℕ)
@@ -147,7 +147,7 @@ module _ (programme : ProgrammeValue) (options : OptionsValue) (bytes : List ℕ
         → xs ≡ []
     none_told [] told e = refl
     none_told (x ∷ xs) told e =
-        let (first, is, named) = told.first x xs refl in let s = rw is at e in cc
+        let (first, is, named) = told.at x refl in let s = rw is at e in cc
 
     -- ---- the answer of `check` by all events
 

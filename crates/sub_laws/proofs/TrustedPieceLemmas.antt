@@ -15,10 +15,10 @@ use Rattle.sub_rules.specs.Transmission.{Transmission}
 use Rattle.sub_rules.specs.Trusted.{doubted, frame_before, tells_none, trust_end}
 use Rattle.sub_rules.specs.declared.event.Event.{Event}
 use Rattle.sub_rules.specs.declared.event.Event.TheVariants.{Told}
-use Rattle.sub_rules.proofs.TrustedLemmas.{own_frame, plain_closing}
+use Rattle.sub_rules.proofs.AnyToldLemmas.{own_closing, own_frame}
 use Rattle.std.proofs.lemmas.List.Elements.{All-append, All-cons, All-nil}
 use Rattle.sub_laws.proofs.DoubtLemmas.{EachTrusted, OnTrusted, each-announced, each-at, each-ended}
-use Rattle.sub_laws.proofs.DoubtLemmas.{each-plain, each-put, first_doubt, trusted_in_run}
+use Rattle.sub_laws.proofs.DoubtLemmas.{each-own, each-put, first_doubt, trusted_in_run}
 use Rattle.sub_laws.proofs.TrustedRunLemmas.{EndsQuiet, IsRun, Run, ended, run_next}
 
 -- A piece that is passed over makes the frame before it quiet no more.
@@ -86,7 +86,7 @@ module _ (g : Task) (frames : Transmission) where
       → EachTrusted StaysTo (told_of_passed frames pes n kept u)
   passed_stays n pes u kept within before =
       trusted_in_run StaysTo (frame_before frames n) kept (Told (unread_fault pes (Some u)) ∷ [])
-      (each-plain StaysTo (Told (unread_fault pes (Some u)) ∷ []) refl)
+      (All-cons (OnTrusted StaysTo) _ [] tt (All-nil (OnTrusted StaysTo)))
       (λ x from e run l.
       let at : x ≡ frame_before frames n =
       let here = passed_doubt (frame_before frames n) pes u in cc in
@@ -105,7 +105,7 @@ module _ (g : Task) (frames : Transmission) where
       All-append (OnTrusted StaysTo) (map (at_pes pes) (told_of_frame g frames n kept)) _
       (each-at StaysTo pes (told_of_frame g frames n kept)
       (trusted_in_run StaysTo (frame_before frames n) kept (frame_events g frames n)
-      (each-plain StaysTo _ (own_frame g frames n).plain)
+      (each-own StaysTo n _ (own_frame g frames n))
       (λ x from e run l. frame_stays n (omega arith) x from e (before from run) l)))
       (each_stays (suc pes) (suc n) (run_at g frames n kept) pieces (omega arith)
       (run_next g frames n kept (omega arith) before))
@@ -137,14 +137,16 @@ module _ (g : Task) (frames : Transmission) where
   last_stays kept any h1 = grind (arith, nat_tests, All-nil, each-put, end_low-trusted, run_stays)
 
   -- What is told after them.
-  plain_stays : (pes n : ℕ) → EachTrusted StaysTo (map (at_pes pes) (closing_events g frames n))
-  plain_stays pes n =
+  plain_stays : (pes n : ℕ) → length frames ≡ n
+      → EachTrusted StaysTo (map (at_pes pes) (closing_events g frames n))
+  plain_stays pes n all =
       each-at StaysTo pes (closing_events g frames n)
-      (each-plain StaysTo _ (plain_closing g frames n))
+      (each-own StaysTo n _ (own_closing g frames n all))
 
-  closing_stays : (pes n : ℕ) → EachTrusted StaysTo (closing_of_pieces g frames pes n)
+  closing_stays : (pes n : ℕ) → length frames ≡ n
+      → EachTrusted StaysTo (closing_of_pieces g frames pes n)
   unfolding closing_of_pieces
-  closing_stays pes n = grind (arith, nat_tests, All-nil, All-cons, plain_stays)
+  closing_stays pes n all = grind (arith, nat_tests, All-nil, All-cons, plain_stays)
 
 -- All that is told as trusted of pieces.
 pub all_stay : (g : Task) (pieces : List Piece)
@@ -164,7 +166,7 @@ all_stay g pieces =
     (All-append (OnTrusted P) each (last_of_run g frames kept any)
     (each_stays g frames 0 0 None pieces (omega arith) (λ from e. cc))
     (last_stays g frames kept any (kept_after g frames 0 None pieces (omega arith) (λ from e. cc))))
-    (closing_stays g frames (length pieces) (length frames))))
+    (closing_stays g frames (length pieces) (length frames) refl)))
     (each-ended P (passed_after_all no_run told))
 
 -- Where anything is told, something is told of a piece, or after the last one.
