@@ -42,7 +42,7 @@ class Calls:
         path = self.path(item)
         if item.asked is None:
             return self.leave(item, item.reason or "")
-        files = ["--name", item.name, *(["-o", self.out, *self.more] if self.out else ["--json", path])]
+        files = [f"--name={item.name}", *(["-o", self.out, *self.more] if self.out else ["--json", path])]
         command = [*self.typed.call("qc"), *files, "-p", self.typed.program_path,
                    *words_of(item.asked)]
         if os.path.lexists(path):
