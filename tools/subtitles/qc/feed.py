@@ -4,17 +4,25 @@ from __future__ import annotations
 import re
 import subprocess
 import time
-from typing import Callable, Iterator
+from typing import Callable, Iterator, NamedTuple
 
 from .carriers import Carrier, Kept
 from .live import Live
 from .start import Starting
 
-ORIGIN = re.compile(r"--origin (\d+)\n")  # of all that has come
+ORIGIN = re.compile(r"(?:--pes (\d+)-\d+ )?--origin (\d+)\n")  # of all that has come
+LAST = 10 ** 12 - 1  # stands for the number of a PES packet that is still to come
 AGREE = re.compile(r"(\d+) of (\d+) edges? agree")
 ENOUGH = 5  # edges that agree on an origin before anything is judged by it
 WAIT = 5.0  # seconds between two looks for the origin, at least
 AGAIN = 8  # times as long as a look takes, at least
+
+
+class At(NamedTuple):
+    """An origin, and the PES packets that it is of, where PTS went back before."""
+
+    origin: int
+    packets: tuple[int, int] | None = None
 
 
 class Finder:
@@ -28,7 +36,7 @@ class Finder:
         """Whether it is time for another look."""
         return time.monotonic() >= self.next
 
-    def look(self, kept: Kept) -> int | None:
+    def look(self, kept: Kept) -> At | None:
         """The origin, where all edges agree that were due so far, and these are enough."""
         began = time.monotonic()
         kept.flush()
@@ -40,24 +48,25 @@ class Finder:
         found = ORIGIN.fullmatch(done.stdout)
         is_clear = done.returncode == 0 and found and agree and agree[1] == agree[2] \
             and int(agree[1]) >= ENOUGH
-        return int(found[1]) if found and is_clear else None
+        if not found or not is_clear:
+            return None
+        return At(int(found[2]), (int(found[1]), LAST) if found[1] else None)
 
 
 class Feed:
     """Follows a feed to its end, or to that of the subtitles.
 
     `live` judges it, as soon as the origin is known: the one that was given, or one that was found.
-    Where a break of the programme shows that it is not that of all, nothing is judged before the
-    end. Ends early, and without a judgement, where a second PID carries the page too.
+    A programme with breaks is judged at the end. Ends early, and without a judgement, where a second PID carries the page too.
     """
 
-    def __init__(self, origin: int | None, finder: Finder, start: Callable[[Kept, int], Live],
-                 starting: Starting | None) -> None:
-        self.origin, self.finder, self.start = origin, finder, start
+    def __init__(self, origin: int | None, finder: Finder, start: Callable[[Kept, At], Live],
+                 starting: Starting | None, has_breaks: bool) -> None:
+        self.at = None if origin is None else At(origin)
+        self.finder, self.start, self.has_breaks = finder, start, has_breaks
         self.starting = starting  # waits for the first picture
         self.carrier: Kept | None = None
         self.live: Live | None = None
-        self.has_break = False
 
     def follow(self, packets: Iterator[tuple[Kept, bytes]], show: Callable[[], None]) -> None:
         """Takes the PES packets as they come; `show` tells how much is read where none is judged."""
@@ -71,7 +80,7 @@ class Feed:
                 self.take(kept, data)
             if not self.live:
                 show()
-            elif self.live.is_over() and self.is_all(kept):
+            elif self.live.is_over():
                 return
 
     def take(self, kept: Kept, data: bytes) -> None:
@@ -79,25 +88,16 @@ class Feed:
         if self.live:
             self.live.put(data)
             return
-        origin = self.origin
-        if self.starting:
+        at = self.at
+        if self.starting and not self.starting.began:
             began = self.starting.look(kept.pid, kept.grid) if isinstance(kept, Carrier) else None
-            origin = began and began.clock.origin
-        elif origin is None and not self.has_break and self.finder.is_due():
-            origin = self.finder.look(kept)
-        if origin is not None:
+            at = At(began.clock.origin) if began else None
+        elif at is None and not self.has_breaks and self.finder.is_due():
+            at = self.finder.look(kept)
+        if at is not None and not self.has_breaks:
             kept.flush()
-            self.live = self.start(kept, origin)
+            self.live = self.start(kept, at)
             self.live.put_all(kept.path)
-
-    def is_all(self, kept: Kept) -> bool:
-        """Whether the origin is that of all that has come; else nothing more is judged by it."""
-        if self.origin is not None or self.starting or not self.live or \
-                self.finder.look(kept) == self.live.origin:
-            return True
-        self.has_break = True
-        self.drop()
-        return False
 
     def drop(self) -> None:
         """Judges nothing more."""

@@ -16,16 +16,17 @@ from .speech import Speech
 from .why import Following
 
 if TYPE_CHECKING:
-    from .steps import Found
+    from .fitting import Found
 
 
 class Live:
     """A call of `check --all` that is handed the PES packets of the time of the subtitles; it is
     heard beside that."""
 
-    def __init__(self, command: list[str], found: Found, page: Page, names: Names,
+    def __init__(self, command: list[str], found: Found, page: Page, every: int, names: Names,
                  speech: Speech, following: Following) -> None:
-        self.cut, self.speech = Cut(found.begin, found.end, page, found.origin), speech
+        self.cut = Cut(found.begin, found.end, page, found.origin, every, found.packets)
+        self.speech = speech
         self.origin, self.answer = found.origin, Answer(names.list_path)
         self.kept: BinaryIO = open(names.cut_path, "wb")
         self.has_ended = False  # the program, before all was handed on

@@ -16,7 +16,6 @@ from ..words import Stop, counted, line_of
 from . import junit, machine, table
 from .asked import Asked, asked_of
 from .cause_words import count_line
-from .clock import FITTED
 from .faults import faults_of
 from .made_with import program_at
 from .names import Names
@@ -81,8 +80,8 @@ def end(verdict: Verdict, speech: Speech) -> None:
     for warned in verdict.warnings:
         speech.tell(warned.said())
     if verdict.line is not None:
-        if verdict.is_fitted:
-            speech.say(FITTED)
+        if verdict.fitted:
+            speech.say(verdict.fitted)
         speech.end(verdict.line)
     for line in (verdict.reason or "").splitlines():
         speech.tell(line)
