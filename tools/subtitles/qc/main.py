@@ -107,13 +107,13 @@ def refuse_strangers(words: argparse.Namespace) -> None:
         raise Stop(f"{words.stl} stands beside {given[0]}, which takes its pairs from "
                    f"{modes[given[0]]}")
     mode = given[0] if given else None
-    if words.is_kept and words.out is None:
-        raise Stop("--keep goes with -o DIR, where it keeps what was judged")
     for name, value, goes_with in (("--resume", words.is_resumed or None, ("--batch",)),
                                    ("--jobs", words.jobs, ("--batch", "--watch")),
                                    ("--settled", words.settled, ("--watch",)),
                                    ("--patience", words.patience, ("--channel",))):
         if value is not None and mode not in goes_with:
             raise Stop(f"{name} goes with {' or '.join(goes_with)}")
+    if words.is_kept and words.out is None:
+        raise Stop("--keep goes with -o DIR, where it keeps what was judged")
     if mode in ("--watch", "--channel") and (words.json or words.csv or words.junit):
         raise Stop("--json, --csv and --junit go with --collect, once pairs are judged")

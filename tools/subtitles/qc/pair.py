@@ -47,6 +47,7 @@ class Pair:
         self.steps = Steps(self.asked, typed, names, speech)
         # The first and the last frame of the subtitle file, and the clock where it was given.
         self.whole = Found(0, 0, NO_CLOCK)
+        self.count = 1  # of the parts
         self.times: list[tuple[int, int]] = []  # at which each subtitle comes and goes
         self.starting = Starting(self.asked, speech) if self.asked.start else None
 
@@ -129,6 +130,7 @@ class Pair:
             found = self.found(recording, given)
             self.warn(recording, found[0].origin)
             stretches = self.stretches(found, len(times))
+            self.count = len(stretches)
             for number, one in enumerate(stretches, 1):
                 steps.cut(recording, one)
                 self.end_part(number, one, steps.check(one), recording)
@@ -222,7 +224,8 @@ class Pair:
             lost = [*lost[:TOLD], f"and at {counted(len(lost) - TOLD, 'more place')}"]
         self.steps.draw(one.names, [one.stl_path, cut], [one.stl, one.names.cut], one.origin, lost,
                         [*self.verdict.notes, *map(Warned.said, self.verdict.warnings)],
-                        one.clock.is_fitted)
+                        one.clock.is_fitted, self.verdict.recording,
+                        ["--part", str(number), str(self.count)] if self.count > 1 else [])
 
     def causes(self, part: Part, recording: Recording) -> Causes | None:
         """Why the content of a part is refused; it is said, as far as it was not said before."""

@@ -23,6 +23,7 @@ from .faults import faults_of
 from .made_with import program_at
 from .names import Names
 from .objects import found
+from .overview import overview
 from .pair import Pair
 from .progress import Progress
 from .severity import Severity
@@ -149,8 +150,8 @@ class Files:
                 raise Stop(f"{path} is an input too")
 
     def write(self) -> list[str]:
-        """Writes what is asked for; the object in the folder comes last, when all else is there.
-        Answers why a file could not be written."""
+        """Writes what is asked for; answers why a file could not be written. The object in the
+        folder comes last, when all else is there."""
         words, verdict = self.words, self.verdict
         wanted: list[tuple[str, Callable[[], Iterator[str]]]] = []
         if words.csv:
@@ -160,6 +161,9 @@ class Files:
         objects = [path for path in (words.json, self.names.machine) if path]
         if objects:
             program = program_at(self.typed.program_path)
+            if self.names.out and len(verdict.parts) > 1:
+                wanted.append((self.names.report, lambda: overview(verdict, program, self.names,
+                                                                   self.typed)))
             wanted += [(path, lambda: machine.object_of(verdict, program, self.typed))
                        for path in objects]
         failed = []
@@ -174,8 +178,7 @@ class Files:
         """The file for a CI."""
         verdict = self.verdict
         case = junit.TestCase(name_of(verdict.asked), verdict.word, verdict.status,
-                              verdict.line or verdict.reason or "", self.lines(),
-                              verdict.seconds)
+                              verdict.line or verdict.reason or "", self.lines(), verdict.seconds)
         yield junit.text_of([case], verdict.date).decode()
 
     def leave(self) -> None:
