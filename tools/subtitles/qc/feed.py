@@ -99,7 +99,8 @@ class Feed:
         self.live: Live | None = None
 
     def follow(self, packets: Iterator[tuple[Kept, bytes]], show: Callable[[], None]) -> None:
-        """Takes the PES packets as they come; `show` tells how much is read where none is judged."""
+        """Takes the PES packets as they come; `show` tells how much is read where none is judged.
+        """
         for kept, data in packets:
             if kept is not self.carrier and kept.has_page:
                 if self.carrier:

@@ -1,5 +1,4 @@
-"""tools/qc on feeds that do not end: when the verdict comes, signals, a reader that leaves, a stall.
-"""
+"""tools/qc on feeds that do not end: when the verdict comes, signals, a reader that leaves."""
 from __future__ import annotations
 
 import json
@@ -17,7 +16,7 @@ from .bench import Case, example, example_bytes, moved, packets, tool_path
 from .muxed import PRIVATE, TELETEXT_PID, Maker, teletext_descriptor
 from .qc import STORY, qc, stream
 
-SOON = 60.0  # seconds after which a verdict has to be there, on a machine that does other things too
+SOON = 60.0  # seconds within which a verdict has to come, also on a machine that is busy
 BEGIN, EACH, SHOWN = 900_000, 75, 50  # frames: where subtitles come, one after another, how long
 COUNT, EVERY = 8, 25
 LAST = BEGIN + EACH * (COUNT - 1) + SHOWN  # the last TCO
