@@ -34,6 +34,12 @@ collecting    one table, and the files for machines, of many objects
 index_page    one page of many pairs
 watching      a folder into which pairs are written
 
+channel       the programmes of a channel, one after another
+planned       its list
+channel_feed  its feed
+ring          what of it came lately
+awaited       a programme that is waited for
+
 typed         commands as a person types them
 names         the files that the steps make
 speech        what a person reads

@@ -107,7 +107,8 @@ def asked_with(stl: str, recording: str | None, options: argparse.Namespace) -> 
     named = recording and (recording if recording == "-" else plain_name(recording))
     if options.origin is not None and options.start is not None:
         raise Stop("--start tells the origin: --origin is too many")
-    asked = Asked(plain_name(stl), named, **{name: getattr(options, name) for name in pair_options()})
+    asked = Asked(plain_name(stl), named,
+                  **{name: getattr(options, name) for name in pair_options()})
     if asked.option == AUTO:
         asked.option = option_named_in(asked.stl)
     return asked

@@ -8,7 +8,7 @@ import subprocess
 import tempfile
 import time
 
-from ..words import Stop, counted, line_of
+from ..words import Stop, counted, line_of, shown
 from . import collecting
 from .asked import Asked
 from .checking import NOT_JUDGED
@@ -27,24 +27,23 @@ class Calls:
     Objects stand in the folder `out`, with reports and lists, or in one that is temporary.
     """
 
-    def __init__(self, typed: Typed, folder: str, out: str | None, is_kept: bool = False) -> None:
-        self.typed, self.folder, self.out = typed, folder, out
-        self.more = ["--keep"] * is_kept
+    def __init__(self, typed: Typed, folder: str, out: str | None, is_kept: bool) -> None:
+        self.typed, self.folder, self.out, self.is_kept = typed, folder, out, is_kept
         self.running: set[subprocess.Popen[str]] = set()
         self.is_stopped = False
 
     def path(self, item: Item) -> str:
         """The file of a pair's object."""
-        return os.path.join(self.out or self.folder, item.name + ENDING)
+        return os.path.join(self.out or self.folder, shown(item.name) + ENDING)
 
     def judge(self, item: Item) -> Row:
         """Judges a pair by a call of this tool; its row."""
         path = self.path(item)
         if item.asked is None:
             return self.leave(item, item.reason or "")
-        files = ["--name", item.name, *(["-o", self.out, *self.more] if self.out else ["--json", path])]
-        command = [*self.typed.call("qc"), *files, "-p", self.typed.program_path,
-                   *words_of(item.asked)]
+        kept = ["-o", self.out, *["--keep"] * self.is_kept] if self.out else ["--json", path]
+        command = [*self.typed.call("qc"), f"--name={item.name}", *kept, "-p",
+                   self.typed.program_path, *words_of(item.asked)]
         if os.path.lexists(path):
             os.unlink(path)
         try:

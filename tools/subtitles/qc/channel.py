@@ -174,7 +174,8 @@ class Channel:
         if before is None or -BACK <= late <= GAP:
             return
         if late > ANEW or late < 0:
-            self.say(f"an encoder begins anew: PTS {pts} after {before}")
+            what = f"nothing came for {time_of(late // TICKS)}, or " if late > 0 else ""
+            self.say(f"{what}an encoder begins anew: PTS {pts} after {before}")
             self.begin_anew()
         else:
             self.say(f"nothing came for {time_of(late // TICKS)}, between PTS {before} and {pts}")
@@ -268,7 +269,7 @@ class Channel:
         if os.path.lexists(path):
             os.unlink(path)
         files = ["-o", self.words.out] if self.words.out else ["--json", path]
-        command = [*self.typed.call("qc"), "--name", programme.name, *files, "--fitted", "-p",
+        command = [*self.typed.call("qc"), f"--name={programme.name}", *files, "--fitted", "-p",
                    self.typed.program_path, *words_of(asked)]
         self.running = Running(programme, command, self.folder, midnight + TICKS * awaited.last)
         self.after = 0
@@ -373,7 +374,9 @@ def judge(words: argparse.Namespace, called: str) -> int:
         except Damaged as damage:
             channel.say(f"the feed can't be read on: {damage}")
         except KeyboardInterrupt:
-            reason = f"stopped at {time_of(channel.clock.now // TICKS % FRAMES_OF_A_DAY)} of the feed"
+            signal.signal(signal.SIGTERM, signal.SIG_IGN)  # it may come more than once
+            time_of_feed = time_of(channel.clock.now // TICKS % FRAMES_OF_A_DAY)
+            reason = f"stopped at {time_of_feed} of the feed"
             channel.is_stopped = True
         finally:
             source.close()

@@ -72,8 +72,8 @@ def line_of(folder: str, row: Row) -> str:
     causes = list(row.causes.items())
     told = [f"{count} &times; {shown(cause)}" for cause, count in causes[:MOST_CAUSES]]
     told += ["&hellip;"] if len(causes) > MOST_CAUSES else []
-    faults = (f"{row.faults}<br><small>{'<br>'.join(told)}</small>" if told else str(row.faults)) \
-        if row.is_judged else ""
+    count = counted(row.faults, "fault") if row.is_judged else ""
+    faults = f"{count}<br><small>{'<br>'.join(told)}</small>" if told else count
     title = f"{shown(row.name)}<br><small>{shown(row.title)}</small>"
     why = "" if row.verdict == ACCEPTED_WORD else \
         "<br>".join(map(shown, row.line.splitlines()[:3]))

@@ -115,5 +115,7 @@ def refuse_strangers(words: argparse.Namespace) -> None:
                                    ("--patience", words.patience, ("--channel",))):
         if value is not None and mode not in goes_with:
             raise Stop(f"{name} goes with {' or '.join(goes_with)}")
+    if words.is_kept and words.out is None:
+        raise Stop("--keep goes with -o DIR, where it keeps what was judged")
     if mode in ("--watch", "--channel") and (words.json or words.csv or words.junit):
         raise Stop("--json, --csv and --junit go with --collect, once pairs are judged")

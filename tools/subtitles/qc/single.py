@@ -138,8 +138,8 @@ class Files:
                 raise Stop(f"{path} is an input too")
 
     def write(self) -> list[str]:
-        """Writes what is asked for; the object in the folder comes last, when all else is there.
-        Answers why a file could not be written."""
+        """Writes what is asked for; answers why a file could not be written. The object in the
+        folder comes last, when all else is there."""
         words, verdict = self.words, self.verdict
         wanted: list[tuple[str, Callable[[], Iterator[str]]]] = []
         if words.csv:
@@ -166,8 +166,7 @@ class Files:
         """The file for a CI."""
         verdict = self.verdict
         case = junit.TestCase(name_of(verdict.asked), verdict.word, verdict.status,
-                              verdict.line or verdict.reason or "", self.lines(),
-                              verdict.seconds)
+                              verdict.line or verdict.reason or "", self.lines(), verdict.seconds)
         yield junit.text_of([case], verdict.date).decode()
 
     def leave(self) -> None:

@@ -86,7 +86,7 @@ def text_of(objects: Iterable[dict[str, Any]]) -> Iterator[bytes]:
         write_row(text, pair)
         for fault in known.get("faults") or []:
             write_row(text, with_fault(pair, fault))
-        yield text.getvalue().encode("utf-8", "replace")
+        yield text.getvalue().encode()
         text.seek(0)
         text.truncate()
-    yield text.getvalue().encode("utf-8", "replace")
+    yield text.getvalue().encode()

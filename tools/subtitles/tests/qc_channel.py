@@ -91,9 +91,10 @@ def goes_on_behind_another_clock(case: Case) -> None:
     parts = three(case)
     cut = b"".join(packets(parts[0])[:8])
     case.write("list", b"one.stl\nthree.stl\n")
-    later = make_programme(case, "three", 900_000, "Red Green Blue White", SECOND * 40_000)
+    anew = CLOCK - SECOND * 40_000  # earlier than the feed began
+    later = make_programme(case, "three", 900_000, "Red Green Blue White", anew)
     done = case.tool("qc", "--channel", "list", "-", "-p", case.bench.program,
-                     data=cut + later + blank(later, SECOND * 40_012, 20))
+                     data=cut + later + blank(later, anew + SECOND * 12, 20))
     lines = verdicts(done.out.decode().splitlines())
     case.test("lines", len(lines) == 3 and lines[0].startswith("an encoder begins anew: PTS ")
               and lines[1].startswith("one  refused 7") and lines[2] == f"three  {ACCEPTED}", done)

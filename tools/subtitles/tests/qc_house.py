@@ -12,11 +12,16 @@ import subprocess
 import time
 import xml.etree.ElementTree as tree
 from typing import Any, Callable
+from urllib.parse import unquote
 
 from ..built import TOP
 from .bench import Case, Done, example, example_bytes, tool_path
 
 SOON = 60.0  # seconds in which what is waited for has to come
+HOSTILE = [b"\xff\xfe", b"caf\xe9", "caf\u00e9".encode(), b"-o", b"--help", b"=1+2", b"\x1b[31mred",
+           b"two\nlines", b"tab\there", b" leading", b"trailing ", b"a  b", b"$(date)", b"`date`",
+           b"*", b"?", b"[a]", b"a;b", b"a|b&c", b"#one", b"100%", b"back\\slash", b"it's\"",
+           b"<b>&amp;"]
 
 
 def qc(case: Case, *words: str) -> Done:
@@ -197,6 +202,33 @@ def rows_of_what_is_no_pair(case: Case) -> None:
         words in table.get(name, "") for name, words in wanted.items()), done)
 
 
+def judges_hostile_names(case: Case) -> None:
+    """Names that a shell, a terminal, a page or a table would take for something else."""
+    os.mkdir(case.path("in"))
+    for name in HOSTILE:
+        for ending, data in ((b".stl", "hello.stl"), (b".pes", "hello.pes")):
+            path = os.path.join(os.fsencode(case.path("in")), name + ending)
+            with open(path, "wb") as file:
+                file.write(example_bytes(data))
+    done = qc(case, "--batch", "in", "-o", "out", "--csv", "all.csv", "--junit", "all.xml")
+    lines = done.out.decode().splitlines()
+    case.test("all are accepted", done.status == 0 and
+              lines[-1] == f"{len(HOSTILE)} pairs: {len(HOSTILE)} accepted", done)
+    case.test("a line each", len(lines) == len(HOSTILE) + 2, lines)
+    case.test("nothing that a terminal obeys", not re.search(
+        "[\x00-\x09\x0b-\x1f\x7f\x9b\u202e]", done.out.decode()), done.out)
+    case.test("an object each", len(objects_in(case, "out")) == len(HOSTILE))
+    page = case.read("out/index.html").decode()
+    links = [unquote(link) for link in re.findall(r'href="\./([^"]+)"', page)]
+    case.test("its links", len(links) == 3 * len(HOSTILE) and all(
+        os.path.exists(case.path(f"out/{link}")) for link in links), links)
+    case.test("no mark of a name is one of the page", "<b>" not in page, page)
+    case.test("files for machines", case.read("all.csv").decode() and
+              len(tree.fromstring(case.read("all.xml"))[0]) == len(HOSTILE))
+    done = qc(case, "--batch", "in", "-o", "out", "--resume")
+    case.test("again", done.status == 0, done)
+
+
 def watches_a_folder(case: Case) -> None:
     """A pair is judged when both files are whole, again when one changes, and not twice."""
     os.mkdir(case.path("in"))
@@ -276,4 +308,5 @@ def has_a_unit(case: Case) -> None:
 
 
 CASES = [goes_on_after_a_kill, writes_a_page_over_all, collects_objects,
-         takes_the_option_of_the_language, rows_of_what_is_no_pair, watches_a_folder, has_a_unit]
+         takes_the_option_of_the_language, rows_of_what_is_no_pair, judges_hostile_names,
+         watches_a_folder, has_a_unit]
