@@ -118,7 +118,7 @@ class Pair:
         self.recording = recording
         finder = Finder([*self.typed.call("origin"), *steps.fit_words(None), "--", asked.stl])
         recording.read(self.is_summed, Feed(asked.origin, finder, self.start, self.starting,
-                                             asked.breaks > 0))
+                                            asked.breaks, asked.every))
         self.verdict.recording = recording.file
         given = given or self.by_start(recording)
         if recording.live:

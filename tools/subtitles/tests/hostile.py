@@ -131,7 +131,8 @@ def says_that_a_disk_is_full(case: Case) -> None:
     words = [tool_path("qc"), STORY, RECORDING, "-o", "full", "-p", case.bench.program]
     os.mkdir(case.path("full"))
     for taken in ("64k", "60k", "56k", "48k"):
-        done = case.call(["unshare", "-rm", "sh", "-c", script, "sh", FULL, taken, *words]) if shutil.which("unshare") else Done(77, b"", [])
+        command = ["unshare", "-rm", "sh", "-c", script, "sh", FULL, taken, *words]
+        done = case.call(command) if shutil.which("unshare") else Done(77, b"", [])
         if done.status in (1, 77) and not any("qc: " in line for line in done.told):
             case.bench.over.append("a full disk, since no file system can be mounted here")
             return

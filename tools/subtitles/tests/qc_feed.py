@@ -1,5 +1,4 @@
-"""tools/qc on feeds that do not end: when the verdict comes, signals, a reader that leaves, a stall.
-"""
+"""tools/qc on feeds that do not end: when the verdict comes, signals, a reader that leaves."""
 from __future__ import annotations
 
 import json
@@ -17,7 +16,7 @@ from .bench import Case, example, example_bytes, moved, packets, tool_path
 from .muxed import PRIVATE, TELETEXT_PID, Maker, teletext_descriptor
 from .qc import STORY, qc, stream
 
-SOON = 60.0  # seconds after which a verdict has to be there, on a machine that does other things too
+SOON = 60.0  # seconds within which a verdict has to come, also on a machine that is busy
 BEGIN, EACH, SHOWN = 900_000, 75, 50  # frames: where subtitles come, one after another, how long
 COUNT, EVERY = 8, 25
 LAST = BEGIN + EACH * (COUNT - 1) + SHOWN  # the last TCO
@@ -170,6 +169,34 @@ def ends_where_nothing_is_sent_at_the_last_tco(case: Case) -> None:
     running.close()
 
 
+def ends_after_the_last_part(case: Case) -> None:
+    """A programme with a break, of a feed that goes on behind it."""
+    stl, pes = subtitles(case)
+    half = BEGIN + EACH * (COUNT // 2)
+    parted = [one if frame_of(one) < half else moved(one, lambda _, pts: pts + 1000 * TICKS)
+              for one in pes]
+    running = Running(case, stl, "-", "--every", str(EVERY), "--no-complete", "--breaks", "1")
+    for one in parted:
+        running.put(one)
+    time.sleep(7.0)  # the parts are looked for after five seconds
+    status = running.ends()
+    case.test("in two parts", status == 0 and running.lines[-1].endswith(" in 2 parts"),
+              (status, running.lines, running.told))
+    running.close()
+    running = Running(case, stl, "-", "--every", str(EVERY), "--no-complete", "--breaks", "1")
+    for number, one in enumerate([*parted[:-1], *(
+            moved(parted[-1], lambda _, pts: pts + number * TICKS) for number in range(5000))]):
+        try:
+            running.put(one)
+        except BrokenPipeError:
+            break  # it has its verdict
+        time.sleep(0.15 if number >= len(parted) else 0.0)
+    status = running.ends()
+    case.test("where others come", status in (0, 1) and " in 2 parts" in running.lines[-1]
+              or running.lines[-1].startswith("refused "), (status, running.lines))
+    running.close()
+
+
 def is_stopped_by_signals(case: Case) -> None:
     """What was told so far is written, and no temporary folder is left."""
     stl, pes = subtitles(case, 3)
@@ -245,5 +272,6 @@ def ends_where_later_pes_packets_come(case: Case) -> None:
     running.close()
 
 
-CASES = [ends_at_the_last_tco, ends_where_nothing_is_sent_at_the_last_tco, is_stopped_by_signals,
-         lets_a_reader_leave, tells_a_stall, ends_where_later_pes_packets_come]
+CASES = [ends_at_the_last_tco, ends_after_the_last_part,
+         ends_where_nothing_is_sent_at_the_last_tco, is_stopped_by_signals, lets_a_reader_leave,
+         tells_a_stall, ends_where_later_pes_packets_come]
