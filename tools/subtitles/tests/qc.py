@@ -245,10 +245,8 @@ def judges_part_by_part(case: Case) -> None:
               and "accepted" in lines_of(done)[-4] and lines_of(done)[-1].startswith("refused "),
               done)
     one = case.write("one.pes", data[:len(data) // 2])
-    missing: list[tuple[list[str], int]] = [([], 1), (["--breaks", "1"], 2)]
-    for words, status in missing:
-        done = qc(case, stl, one, *words)
-        case.test(f"one part is missing {words}", done.status == status, done)
+    case.test("one part is missing", qc(case, stl, one).status == 1)
+    case.test("and was said", qc(case, stl, one, "--breaks", "1").status == 2)
 
 
 def keeps_the_first_origin_of_a_feed(case: Case) -> None:
