@@ -52,13 +52,13 @@ def tell_lateness(origin: int, known: int | None) -> None:
 
 
 def as_good(part: Part, apart: Apart | None) -> list[Fit]:
-    """The origins that are as good as the best of a part, but for the one of beginnings or ends
-    that are late."""
+    """The origins that are as good as the best of a part, but where beginnings and ends are apart
+    the one of the ends, and those with which nothing is but erased."""
     best = part.best
     measures = [points] if best.agree >= IN_A_ROW else [points, points_of_few]
     return [fit for fit in part.others
             if any(measure(fit) >= measure(best) for measure in measures)
-            and not (apart and abs(fit.start - best.start) <= MOST_APART)]
+            and not (apart and (abs(fit.start - best.start) <= MOST_APART or not fit.texts))]
 
 
 def is_clear(part: Part) -> bool:
@@ -96,7 +96,7 @@ def tell_part(part: Part, count: int) -> None:
 def apart_words(apart: Apart) -> str:
     """That beginnings or ends are late."""
     names = ("beginnings", "ends") if apart.is_begin else ("ends", "beginnings")
-    which = "all" if apart.count == apart.of else f"{apart.count} of {apart.of}"
+    which = "all" if apart.agree == apart.of else f"{apart.agree} of {apart.of}"
     return f"{which} {names[0]} are {frames_words(TICKS * apart.late)} compared with the {names[1]}"
 
 

@@ -49,7 +49,7 @@ def parts_of(subtitles: Sequence[Shown], elections: Sequence[Election],
     if not fits[base]:
         return []
     own = elections[base]
-    best = own.fit(row[0].track.start) if row else fits[base][0]
+    best = own.fit(row[0].track.start) if row else own.by_beginnings(fits[base][0])
     others = [fit for fit in fits[base] if fit.start != best.start]
     begin, end = min(one.begin for one in subtitles), max(one.end for one in subtitles)
     return [Part(begin, end, own.edges, best, others, own, base, [])]

@@ -13,6 +13,7 @@ from .transport import (
 
 SECOND = 90_000  # ticks
 FIRST = 60 * SECOND  # from the first look on, of which the median is what is usual
+MOST_LATE = 60  # samples, of which the latest PTS tells how late others may be
 CHANGED = SECOND // 2  # more than that against what is usual
 
 
@@ -49,6 +50,8 @@ class Timing:
         self.piece = piece
         if (before is None or self.is_due(before)) and self.finds_clock():
             self.look(piece)
+        else:
+            self.pcr = None  # the last one of this piece is not known
 
     def is_due(self, pts: int) -> bool:
         """Whether a PTS is a second from the last one that was looked at."""
@@ -87,6 +90,10 @@ class Timing:
             if found:
                 self.pcr = pcr_at(self.piece.data, found[-1])
         return self.pcr
+
+    def late(self) -> int:
+        """By how many ticks PTS were behind the PCR, at most."""
+        return max([0, *(-one.ahead for one in self.samples[-MOST_LATE:])])
 
     def strange(self) -> list[Strange]:
         """What is wrong with the PTS."""

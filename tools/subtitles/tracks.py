@@ -86,8 +86,10 @@ def find_row(elections: Sequence[Election]) -> list[Stretch]:
     row agree with no origin."""
     for base, one in enumerate(elections):
         fits = one.fits()
-        if fits and fits[0].letters == len(one.edges) >= IN_A_ROW:
-            return [Stretch(Track(base, fits[0].start, one), 0, len(one.edges))]
+        best = one.by_beginnings(fits[0]) if fits else None
+        is_all = best and (best.letters == len(one.edges) or one.apart(best))
+        if best and is_all and len(one.edges) >= IN_A_ROW:
+            return [Stretch(Track(base, best.start, one), 0, len(one.edges))]
     tracks = tracks_of(elections, {(base, start) for base, one in enumerate(elections)
                                    for start in candidates(one)})
     if not tracks:

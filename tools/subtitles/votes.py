@@ -62,7 +62,7 @@ class Apart(NamedTuple):
 
     is_begin: bool
     late: int
-    count: int
+    agree: int
     of: int
 
 
@@ -172,18 +172,28 @@ class Election:
         Only edges at which the letters change to those that are due count here.
         """
         for is_begin in (True, False):
-            own = [(edge.frame - fit.start, edge.letters) for edge in self.edges
-                   if edge.is_begin == is_begin and 0 <= edge.frame - fit.start <= self.length]
-            agree = sum(self.letters_at(frames) == letters for frames, letters in own)
-            if len(own) < 2 or agree * 2 >= len(own):
+            now = self.late_by(fit, is_begin, 0)
+            if now.of and now.agree * 2 >= now.of:
                 continue
-            late, count = max(
-                ((shift, sum(self.letters_at(frames + shift) == letters for frames, letters in own))
-                 for shift in range(-MOST_APART, MOST_APART + 1)),
-                key=lambda found: (found[1], -abs(found[0])))
-            if late and count * 10 >= len(own) * 9:
-                return Apart(is_begin, late, count, len(own))
+            least = 1 if is_begin or fit.texts else 2  # one that is erased may be any
+            several = (self.late_by(fit, is_begin, shift)
+                       for shift in range(-MOST_APART, MOST_APART + 1))
+            best = max(several, key=lambda one: (one.agree, -abs(one.late)))
+            if best.agree >= least and best.agree * 10 >= best.of * 9:
+                return best
         return None
+
+    def late_by(self, fit: Fit, is_begin: bool, late: int) -> Apart:
+        """How many beginnings, or ends, are late by so many frames, of those that may be."""
+        own = [(edge.frame - fit.start + late, edge.letters) for edge in self.edges
+               if edge.is_begin == is_begin and 0 <= edge.frame - fit.start + late <= self.length]
+        agree = sum(self.letters_at(frames) == letters for frames, letters in own)
+        return Apart(is_begin, late, agree, len(own))
+
+    def by_beginnings(self, fit: Fit) -> Fit:
+        """An origin, or the one of the beginnings, where these are apart from the ends."""
+        apart = self.apart(fit)
+        return self.fit(fit.start - apart.late) if apart and apart.is_begin else fit
 
     def letters_at(self, frames: int) -> bytes | None:
         """The letters to which the page changes so many frames after the first PTS."""

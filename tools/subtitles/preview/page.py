@@ -168,10 +168,10 @@ def navigation(report: Report) -> str:
     links = []
     if report.looks:
         links.append(("timeline", "Timeline"))
-    if report.reasons:
-        links.append(("causes", "Why"))
     if report.faults.count:
         links += [("faults", "Faults"), ("place", "The broken place")]
+    if report.reasons:
+        links.append(("causes", "Why"))
     if report.looks:
         links.append(("subtitles", "Subtitles"))
     if report.pes:

@@ -118,7 +118,8 @@ class Report:
                                                   for entry in self.faults.entries)
         self.held = Heard(program.packets(path, self.passed, self.faults.ending()), self.frames,
                           asked.page, asked.origin, told, self.passed, self.hears_all)
-        self.reasons = Reasons(self, program.path) if self.faults.counts[CONTENT] else None
+        has_reasons = self.subtitles and self.faults.counts[CONTENT]
+        self.reasons = Reasons(self, program.path) if has_reasons else None
 
     def scope(self) -> Scope | None:
         """What the page speaks of; `None` where the subtitle file is refused."""

@@ -1,4 +1,4 @@
-"""What a report speaks of: a programme, a recording, from when to when; and what nobody looked at."""
+"""What a report speaks of: programme, recording, from when to when; what nobody looked at."""
 from __future__ import annotations
 
 from typing import NamedTuple, Sequence

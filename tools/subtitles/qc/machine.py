@@ -33,11 +33,12 @@ def asked_words(asked: Asked) -> dict[str, Value]:
 
 def part_words(part: Part, is_kept: bool) -> dict[str, Value]:
     """A part; what was judged of it has a name where it is kept."""
+    judged = part.judged and {**part.judged._asdict(), **({} if is_kept else {"name": None})}
     answer, (begin, end) = part.answer, part.times()
     return {"part": part.number, "stl": part.stl, "origin": part.origin, "from": begin, "to": end,
             "verdict": answer.verdict, "line": answer.line,
             "frames": answer.frames, "transmissions": answer.transmissions,
-            "faults": answer.count, "pes": part.judged and {**part.judged._asdict(), **({} if is_kept else {"name": None})},
+            "faults": answer.count, "pes": judged,
             "clock": part.clock and part.clock._asdict()}
 
 

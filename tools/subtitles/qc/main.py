@@ -107,8 +107,6 @@ def refuse_strangers(words: argparse.Namespace) -> None:
         raise Stop(f"{words.stl} stands beside {given[0]}, which takes its pairs from "
                    f"{modes[given[0]]}")
     mode = given[0] if given else None
-    if words.is_kept and words.out is None:
-        raise Stop("--keep goes with -o DIR, where it keeps what was judged")
     for name, value, goes_with in (("--resume", words.is_resumed or None, ("--batch",)),
                                    ("--jobs", words.jobs, ("--batch", "--watch")),
                                    ("--settled", words.settled, ("--watch",)),

@@ -68,8 +68,8 @@ def write_head(file: IO[str]) -> None:
 
 def write_row(file: IO[str], known: Known) -> None:
     """Writes a line; a column is empty where it does not apply."""
-    row = [known.get(name) for name in COLUMNS]
-    csv.writer(file, lineterminator="\n").writerow(["" if one is None else said(one) for one in row])
+    row = [said(known.get(name)) for name in COLUMNS]
+    csv.writer(file, lineterminator="\n").writerow(["" if one is None else one for one in row])
 
 
 def said(value: object) -> object:

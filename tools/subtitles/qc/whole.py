@@ -26,8 +26,8 @@ def of_growth(recording: Recording) -> Iterator[Warned]:
     before, now = recording.size, size_of(recording.name)
     if before is not None and now is not None and before != now:
         word = "grew" if now > before else "became shorter"
-        yield Warned("grew", f"{shown(recording.name)} {word} while it was read, from {before:,} bytes to "
-                     f"{now:,}: judge it again when it is complete")
+        yield Warned("grew", f"{shown(recording.name)} {word} while it was read, from "
+                     f"{before:,} bytes to {now:,}: judge it again when it is complete")
 
 
 def of_end(recording: Recording) -> Iterator[Warned]:
@@ -37,8 +37,8 @@ def of_end(recording: Recording) -> Iterator[Warned]:
         return
     if recording.carrier:
         if recording.carrier.extractor.joiner.data is not None:
-            yield Warned("cut", f"{shown(recording.name)} ends within a PES packet of the page's PID, "
-                         "which is left out")
+            yield Warned("cut", f"{shown(recording.name)} ends within a PES packet of the page's "
+                         "PID, which is left out")
         return
     with open(recording.path, "rb") as file:
         try:

@@ -1,4 +1,4 @@
-"""tools/qc accepts nothing that was not read: severities, lost packets, files that are not whole."""
+"""tools/qc accepts nothing that was not read: severities, lost packets, files that grow."""
 from __future__ import annotations
 
 import json
@@ -70,8 +70,9 @@ def promises_no_more_than_it_accepts(case: Case) -> None:
     """--allow-lost is named where it would accept; a lost beginning is told as a lost tail."""
     case.schedule(STORY, "every.pes", "--every", "25")
     own = packets(case.read("every.pes"))
-    last = pes_packet(pts_in(own[-1]), [HEADER] * 4 + [CLOSING])  # of two TS packets, as the first one
-    before, after = (pes_packet(pts_in(one) + ticks, [HEADER])
+    # Of two TS packets, as the first one.
+    last = pes_packet(pts_in(own[-1]), [HEADER] * 4 + [CLOSING])
+    before, after = (pes_packet(pts_in(one) + ticks, [HEADER, CLOSING])
                      for one, ticks in ((own[0], -90_000), (own[-1], 90_000)))
     whole = stream(case, "all", b"".join([before, *own[:-1], last, after]))
     of_pid = [at for at in range(0, len(whole), TS) if whole[at + 1] & 0x1F == 1
