@@ -1,4 +1,4 @@
-"""Language codes of GSI blocks (EBU Tech 3264, field LC) as those of PMTs (ISO 639-2, both sets)."""
+"""Language codes of GSI blocks (EBU Tech 3264, field LC) as PMTs have them (ISO 639-2)."""
 from __future__ import annotations
 
 CODES = {

@@ -170,8 +170,9 @@ class Videos:
             raise NoFirst(f"no PMT names {pid_name(teletext)}")
         pids = video_pids(programmes)
         if len(pids) != 1:
-            raise NoFirst(f"the PMT that names {pid_name(teletext)} has "
-                          f"{'several video PIDs' if pids else 'no video'}: {components(programmes)}")
+            what = "several video PIDs" if pids else "no video"
+            raise NoFirst(f"the PMT that names {pid_name(teletext)} has {what}: "
+                          f"{components(programmes)}")
         pid, kind = pids.popitem()
         if kind not in NAMES:
             raise NoFirst(f"pictures of {OTHERS[kind]} are not read: {components(programmes)}")

@@ -5,8 +5,9 @@ import argparse
 import contextlib
 import os
 import re
+import shlex
 import sys
-from typing import IO, Callable, NoReturn
+from typing import IO, Callable, NoReturn, TextIO
 
 from .teletext import page_of
 from .times import CLOCK, frame_of
@@ -169,15 +170,22 @@ def shown(text: str) -> str:
 def escaped(letter: str) -> str:
     """A character as its number; of a byte that is not UTF-8, that of the byte."""
     code = ord(letter)
-    code = code - 0xDC00 if 0xDC80 <= code <= 0xDCFF else code
-    return f"\\x{code:02x}" if code < 0x100 else f"\\u{code:04x}"
+    is_byte = 0xDC80 <= code <= 0xDCFF
+    return f"\\x{code & 0xFF:02x}" if is_byte or code < 0x80 else f"\\u{code:04x}"
+
+
+def quoted(word: str) -> str:
+    """A word as a shell takes it; one with characters that are not shown, as bash does."""
+    if not HIDDEN.search(word):
+        return shlex.quote(word)
+    return "$'" + shown(word.replace("\\", "\\\\").replace("'", "\\'")) + "'"
 
 
 def tell(line: str) -> None:
     """A line on standard error, after what was printed before it."""
     with contextlib.suppress(OSError, AttributeError):  # it is closed
         sys.stdout.flush()  # `run` tells where that fails
-    print(f"{os.path.basename(sys.argv[0])}: {line}", file=sys.stderr)
+    print(f"{os.path.basename(sys.argv[0])}: {shown(line)}", file=sys.stderr)
 
 
 def run(main: Callable[[list[str]], int]) -> NoReturn:
@@ -213,7 +221,7 @@ def line_of(reason: BaseException) -> str:
     return " ".join(str(reason).split())
 
 
-def silence() -> None:
+def silence(out: TextIO | None = None) -> None:
     """Python writes to standard output once more when it ends; nobody takes that any more."""
     with contextlib.suppress(OSError, AttributeError):
-        os.dup2(os.open(os.devnull, os.O_WRONLY), sys.stdout.fileno())
+        os.dup2(os.open(os.devnull, os.O_WRONLY), (out or sys.stdout).fileno())

@@ -12,16 +12,14 @@ use Rattle.stl_file.specs.declared.progress.Progress.TheVariants.{Reading}
 use Rattle.stl_file.specs.Tti.{is_kept, most_blocks}
 use Rattle.stl_file.specs.SubtitleBlocks.{IsBlock, AreBlocksOf}
 use Rattle.stl_file.specs.Reader.{Leads, LastIsKept, TakesSubtitle, given_subtitle, outcome_by}
-use Rattle.stl_file.specs.Reader.{TakesPassed, Refuses, FailsReading, EndsKept}
+use Rattle.stl_file.specs.Reader.{TakesPassed, Refuses, EndsKept}
 use Rattle.stl_file.specs.Reader.{ReaderValue, GivesNext, progress_after_answer, tells_end}
 use Rattle.stl_file.specs.Subtitle.{SubtitleValue}
-use Rattle.stl_file.specs.Reading.{Begun}
-use Rattle.stl_file.specs.Resuming.{FailsFinding, LeadsOn, findings_by, finds_end, found_of}
-use Rattle.stl_file.specs.Resuming.{stopped}
+use Rattle.stl_file.specs.Reading.{Begun, stopped}
+use Rattle.stl_file.specs.Resuming.{LeadsOn, findings_by, finds_end, found_of}
 use Rattle.stl_file.proofs.SubtitleBlocksLemmas.{length-concat}
-use Rattle.stl_file.proofs.FindingsLemmas.{names-stopped, stopped_is}
-use Rattle.stl_file.proofs.OutcomeLemmas.{outcome_end}
-use Rattle.stl_file.proofs.RestLemmas.{outcome_complete, outcome_sound, groups_of}
+use Rattle.stl_file.proofs.FindingsLemmas.{findings_end}
+use Rattle.stl_file.proofs.RestLemmas.{read_complete, read_sound, groups_of}
 
 -- ---- a reader that goes on after no fault
 
@@ -31,7 +29,7 @@ plain_by : (to : ℕ) (next : Option Begun) (more : List ℕ) (s : SubtitleValue
     → (r ≡ Ok true → next ≡ None)
     → stopped (findings_by to next more s (found_of false r))
     ≡ outcome_by to more (given_subtitle r s)
-plain_by to next more s r over = grind (arith, stopped_is (most_blocks - to) None more)
+plain_by to next more s r over = grind arith
 
 -- Whether it tells the end.
 plain_end : (s : SubtitleValue) (r : Result Bool StlFault)
@@ -49,24 +47,10 @@ plain_leads {from} {to} {next} {s = s} {r = r} over l = record {
   consumed = l.consumed;
   block = l.block;
   outcome = λ more cut.
-      sym (stopped_is (most_blocks - from) None (l.bytes ++ more))
-      ∙ ap stopped (l.findings more (λ e. cut (sym (plain_end s r) ∙ e)))
+      ap stopped (l.findings more (λ e. cut (sym (plain_end s r) ∙ e)))
       ∙ plain_by to next more s r over;
   ended = λ cut. l.ended (plain_end s r ∙ cut);
   kept = λ t is. l.kept (grind arith);
-}
-
--- So is the place where the source failed.
-pub plain_fails : {from to : ℕ} {old new : Option (List ℕ)}
-    → FailsFinding from to None old new
-    → FailsReading from to old new
-plain_fails {from} {to} f = record {
-  bytes = f.bytes;
-  consumed = f.consumed;
-  block = f.block;
-  none = λ more.
-      rw (stopped_is (most_blocks - from) None (f.bytes ++ more))
-      at (names-stopped to _ (f.none more));
 }
 
 -- ---- what an answer says
@@ -89,7 +73,7 @@ refuses from to old new x l = record {
   consumed = l.consumed;
   block = l.block;
   none = λ more cut bs ts r e.
-      let good = outcome_complete bs (most_blocks - from) ts r in
+      let good = read_complete bs (most_blocks - from) ts r in
       let bad = l.outcome more cut in
       grind arith;
 }
@@ -127,8 +111,8 @@ pub takes_subtitle : (from to : ℕ) (old new : Option (List ℕ)) (s : Subtitle
     → Leads from to old new (Ok (Some s))
     → TakesSubtitle from to old new s
 takes_subtitle from to old new s l =
-    let r = outcome_sound (most_blocks - from) None [] l.bytes (s ∷ []) refl
-    (let o = l.outcome [] (λ _. refl) in grind (arith, append-nil, outcome_end)) in
+    let r = read_sound (most_blocks - from) None [] l.bytes (s ∷ []) refl
+    (let o = l.outcome [] (λ _. refl) in grind (arith, append-nil, findings_end)) in
     let are_of : AreBlocksOf s (filter is_kept r.blocks) =
     rw r.kept (one_group s r.groups r.are_groups) in
     record {
@@ -145,9 +129,9 @@ pub takes_passed : (from to : ℕ) (old new : Option (List ℕ))
     → Leads from to old new (Ok None)
     → TakesPassed from to old new
 takes_passed from to old new l =
-    let r = outcome_sound (most_blocks - from) None [] l.bytes [] refl
+    let r = read_sound (most_blocks - from) None [] l.bytes [] refl
     (let o = l.outcome [] (λ _. refl) in grind (arith, append-nil)) in
-    grind (arith, nat_tests, outcome_sound, append-nil, length-concat, no_group)
+    grind (arith, nat_tests, read_sound, append-nil, length-concat, no_group)
 
 -- What bytes that lead to an answer say of it. For `next_into`.
 pub ruleset led = (answers, takes_subtitle, takes_passed, refuses)

@@ -13,8 +13,8 @@ ghost use Rattle.stl_file.specs.Gsi.{IsGsi};
 ghost use Rattle.stl_file.specs.Reader.{Leads, block_after, block_by, opened_at, FailsReading};
 ghost use Rattle.stl_file.specs.Reader.{HasPlace, GivesNext, Refuses, RefusesOpening, TakesPassed};
 ghost use Rattle.stl_file.specs.Reader.{TakesSubtitle, given_subtitle, progress_after_answer};
-ghost use Rattle.stl_file.specs.Reading.{begun_in};
-ghost use Rattle.stl_file.specs.Resuming.{FailsFinding, LeadsOn, found_of, refused_by};
+ghost use Rattle.stl_file.specs.Reading.{begun_in, refused_by};
+ghost use Rattle.stl_file.specs.Resuming.{LeadsOn, found_of};
 ghost use Rattle.stl_file.specs.Tti.{most_blocks};
 
 use crate::fault::StlFault;
@@ -150,7 +150,7 @@ impl StlReader {
             (S.remaining source.old) (S.remaining source.new) fault) }
         // A source that failed failed at this block.
         ensures failed { self.old.progress ≡ Reading → failed is_read result ≡ true →
-            FailsReading self.old.block self.new.block
+            FailsReading self.old.block self.new.block None
             (S.remaining source.old) (S.remaining source.new) }
 
         ensures progress { self.new.progress ≡ progress_after_answer self.old.progress result }
@@ -209,7 +209,7 @@ impl StlReader {
             (S.remaining source.old) (S.remaining source.new) fault) }
         // A source that failed failed at this block.
         ensures failed { self.old.progress ≡ Reading → failed is_read result ≡ true →
-            FailsReading self.old.block self.new.block
+            FailsReading self.old.block self.new.block None
             (S.remaining source.old) (S.remaining source.new) }
 
         ensures progress { self.new.progress ≡ progress_after_answer self.old.progress
@@ -260,7 +260,8 @@ fn read_subtitle<S: Source>(
         Leads block.old (block_by block.new (given_subtitle result subtitle.new))
         (S.remaining source.old) (S.remaining source.new) (given_subtitle result subtitle.new) }
     ensures failed { failed is_read result ≡ true →
-        FailsReading block.old (block.new + 1) (S.remaining source.old) (S.remaining source.new) }
+        FailsReading block.old (block.new + 1) None
+        (S.remaining source.old) (S.remaining source.new) }
     ensures never { IfErr result (λ fault. fault ≢ Ended) }
     ensures few { block.new ≤ most_blocks }
     ensures count { CountsIf S.failure_count source.old (failed is_read result) source.new }
@@ -286,7 +287,7 @@ pub(crate) fn read_blocks<S: Source>(
         (S.remaining source.old) (S.remaining source.new) subtitle.new
         (found_of (is_some (option_map refused_by refused.old)) result) }
     ensures failed { failed is_read result ≡ true →
-        FailsFinding block.old (block.new + 1) (option_map refused_by refused.old)
+        FailsReading block.old (block.new + 1) (option_map refused_by refused.old)
         (S.remaining source.old) (S.remaining source.new) }
     ensures never { IfErr result (λ fault. fault ≢ Ended) }
     ensures over { result ≡ Ok true → refused.new ≡ None }

@@ -5,16 +5,14 @@ use Rattle.std.proofs.Common.{List, [], ◌++◌, Bool, true, false, Option, Som
 use Rattle.std.proofs.Common.{Err, MatchResult, min, ◌∷◌}
 use Rattle.std.proofs.lemmas.Bool.{true≢false}
 use Rattle.std.proofs.lemmas.Bool.Decides.{nat_tests}
-use Rattle.std.specs.Prelude.{◌↔◌, IfErr, IsOk, is_none, ◌<◌}
+use Rattle.std.specs.Prelude.{◌↔◌, IfErr, is_none, ◌<◌}
 use Rattle.std.specs.Io.KnownBytes.{Appends}
 use Rattle.std.proofs.KnownBytes.{Appends-trans}
 use Rattle.sub_io.proofs.DeviceLemmas.{AppendsPrefix-first, AppendsPrefix-second}
 use Rattle.sub_io.specs.Device.{AppendsPrefix, RisesIf, failed}
-use Rattle.stl_file.specs.Reader.{outcome_of}
-use Rattle.stl_rows.specs.EveryFault.{faults}
-use Rattle.stl_rows.specs.Loading.{load_fault, loaded}
+use Rattle.stl_rows.specs.EveryFault.{faults, load_fault}
 use Rattle.stl_rows.specs.Programme.{ProgrammeValue}
-use Rattle.stl_rows.proofs.EveryFaultLemmas.{every_fault}
+use Rattle.stl_rows.proofs.LoadingLaw.{none_of_loaded}
 use Rattle.stl_rows.specs.declared.fault.LoadFaultKind.TheVariants as load
 use Rattle.stl_rows.specs.declared.national.National.{National}
 use Rattle.sub_plan.specs.Options.{OptionsValue}
@@ -132,13 +130,6 @@ memory-alone old new events answer block ended memory text =
     (event_lines es ++ line_of (load_told load.Memory block)))
     (can.alone refl refl) (rw memory at text)
 
--- A subtitle file that gives a programme has no fault.
-no-fault : (national : National) (file : List ℕ) (programme : ProgrammeValue)
-    → loaded national (outcome_of file) ≡ Ok programme
-    → faults national file ≡ []
-no-fault national file programme loads =
-    (every_fault national file).1.1 (subst IsOk (sym loads) refl)
-
 -- What is told first is a fault of a rule.
 first-of_rule : (programme : ProgrammeValue) (options : OptionsValue) (bytes : List ℕ)
     (a : Accepted) (f : CheckFault)
@@ -168,7 +159,7 @@ done-exactly national options file bytes pes events (Ok None) known runs ended a
   λ done. cc,
   λ is.
       let none : events ≡ [] =
-      are.0 ∙ ap subtitle_events (no-fault national file is.programme is.loads) in
+      are.0 ∙ ap subtitle_events (none_of_loaded national file is.programme is.loads) in
       let some : 0 < 0 = rw none at are.1 in
       absurd (omega (arith, some)),
 )

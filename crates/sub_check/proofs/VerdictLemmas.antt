@@ -8,7 +8,6 @@ use Rattle.std.proofs.Common.{refl, sym, ap, ◌∙◌, subst, arith, length, ap
 use Rattle.std.specs.List.{concat}
 use Rattle.std.specs.Prelude.{IfErr, IfSome}
 use Rattle.sub_io.specs.Device.{failed}
-use Rattle.stl_file.specs.Reader.{outcome_of}
 use Rattle.stl_file.specs.Subtitle.{SubtitleValue}
 use Rattle.stl_rows.specs.Loading.{LawOfLoading, TellsFault, loaded}
 use Rattle.stl_rows.specs.Programme.{IsProgramme, ProgrammeValue}
@@ -321,7 +320,7 @@ loads :
     (transmission : Transmission)
     → LawOfLoading
     → Mean national origin stl pes subtitles transmission
-    → loaded national (outcome_of stl) ≡ Ok (record { national = national; records = subtitles })
+    → loaded national stl ≡ Ok (record { national = national; records = subtitles })
 loads national origin stl pes subtitles transmission loading mean =
     (loading national stl subtitles).1
     (mean.gsi, mean.subtitle_file, mean.in_order, mean.drawable)
@@ -336,7 +335,7 @@ looked_at answer looked fine = grind (arith, nat_tests)
 
 module _ (national : National) (options : OptionsValue) (stl pes : List ℕ)
     (programme : ProgrammeValue) (loading : LawOfLoading)
-    (given : loaded national (outcome_of stl) ≡ Ok programme)
+    (given : loaded national stl ≡ Ok programme)
   where
     -- What both files mean: the PES file carries the transmission, and what holds of the programme
     -- that was loaded holds of the subtitles.
@@ -345,7 +344,7 @@ module _ (national : National) (options : OptionsValue) (stl pes : List ℕ)
       where
         programme_is : programme ≡ record { national = national; records = subtitles }
         programme_is =
-            same_programme programme _ (loaded national (outcome_of stl)) given
+            same_programme programme _ (loaded national stl) given
             (loads national options.origin stl pes subtitles transmission loading mean)
 
     -- Both files, where the subtitle file was loaded. For `check_files`.
@@ -383,9 +382,9 @@ module _ (national : National) (options : OptionsValue) (stl pes : List ℕ)
 own_fault :
     (national : National) (stl : List ℕ) (programme : ProgrammeValue) (block : ℕ)
     (kind : LoadFaultKind)
-    → TellsFault national (outcome_of stl) block kind
+    → TellsFault national stl block kind
     → is_failure_kind kind ≡ false
-    → loaded national (outcome_of stl) ≡ Ok programme
+    → loaded national stl ≡ Ok programme
     → ⊥
 own_fault national stl programme block kind told fine is = grind (arith, nat_tests)
 
@@ -393,7 +392,7 @@ own_fault national stl programme block kind told fine is = grind (arith, nat_tes
 pub files_refused :
     (national : National) (options : OptionsValue) (stl pes : List ℕ) (f : LoadFault)
     → LawOfLoading
-    → TellsFault national (outcome_of stl) f.block f.kind
+    → TellsFault national stl f.block f.kind
     → AreAccepted national options stl pes (Err (fault.Subtitles f))
 files_refused national options stl pes f loading told = record {
   accepted = λ fine. (

@@ -7,7 +7,6 @@ use Rattle.sub_io.specs.Device.{failed}
 use Rattle.sub_io.specs.Reading.{IfTold}
 use Rattle.ttx_pes.specs.declared.fault.PesFault.TheVariants.{Read}
 use Rattle.stl_file.specs.File.{IsFile}
-use Rattle.stl_file.specs.Reader.{outcome_of}
 use Rattle.stl_file.specs.Subtitle.{SubtitleValue}
 use Rattle.stl_rows.specs.DrawnPage.{drawn}
 use Rattle.stl_rows.specs.Loading.{loaded}
@@ -18,7 +17,6 @@ use Rattle.sub_plan.specs.Schedule.{plan}
 use Rattle.sub_io.specs.Telling.{Tells, TellsPrefix}
 use Rattle.std.specs.Prelude.{◌+◌, flat_map, ⊤}
 use Rattle.ttx_packet.specs.PageId.{PageIdValue}
-use Rattle.stl_file.specs.Reading.{Outcome}
 use Rattle.stl_rows.specs.Loading.{TellsFault}
 use Rattle.sub_rules.specs.Events.{events, events_of_first, first_told}
 use Rattle.sub_rules.specs.FrameRules.{task_of}
@@ -44,10 +42,9 @@ use Rattle.sub_rules.specs.declared.fault.CheckFault.TheVariants as fault
 -- ---- what an answer tells, and counts
 
 -- What is told of the subtitle file by an answer that refuses it.
-abbrev pub TellsSubtitles : National → Outcome → Result Accepted CheckFault → Type 0
-TellsSubtitles national outcome (Err (fault.Subtitles f)) =
-    TellsFault national outcome f.block f.kind
-TellsSubtitles national outcome _ = ⊤
+abbrev pub TellsSubtitles : National → List ℕ → Result Accepted CheckFault → Type 0
+TellsSubtitles national file (Err (fault.Subtitles f)) = TellsFault national file f.block f.kind
+TellsSubtitles national file _ = ⊤
 
 -- What is told of an accepted transmission: the frames of the day from the first to the last, and
 -- the headers of the page.
@@ -190,15 +187,15 @@ pub record AreChecked
     : Type 0 where
   -- A refusal of the subtitle file is its first fault, or else that its source failed or memory
   -- was refused.
-  pub subtitles : TellsSubtitles national (outcome_of file) answer
+  pub subtitles : TellsSubtitles national file answer
   -- A subtitle file that gives no programme is refused.
   pub refused :
-      ((programme : ProgrammeValue) → loaded national (outcome_of file) ≢ Ok programme)
+      ((programme : ProgrammeValue) → loaded national file ≢ Ok programme)
       → failed is_subtitle_fault answer ≡ true
   -- The PES file is checked against the programme that the subtitle file gives.
   pub checked :
       (programme : ProgrammeValue)
-      → loaded national (outcome_of file) ≡ Ok programme
+      → loaded national file ≡ Ok programme
       → IfTold pes (λ bytes. IsChecked programme options bytes answer)
 
 -- The answer of `check` by what is told first: these counts where it is nothing.

@@ -1,12 +1,10 @@
 -- What the device keeps that `check` tells all events to. Private functions alone cite this.
-use Rattle.std.specs.Prelude.{◌≡◌, ◌||◌, Bool, false, true, not, Option, Some, None}
+use Rattle.std.specs.Prelude.{◌≡◌, false, Option, Some, None}
 use Rattle.std.specs.Prelude.{if◌then◌else◌}
-use Rattle.ttx_pes.specs.Fault.{is_read, is_write}
-use Rattle.sub_rules.specs.Fault.{is_pes_read, is_pes_write, is_subtitle_fault}
+use Rattle.sub_rules.specs.Fault.{fault_row, is_pes_read, is_pes_write, is_subtitle_fault}
 use Rattle.sub_rules.specs.declared.event.Event.{Event}
 use Rattle.sub_rules.specs.declared.event.Event.TheVariants.{Ended, PassedUntil, Told, Trusted}
 use Rattle.sub_rules.specs.declared.fault.CheckFault.{CheckFault}
-use Rattle.sub_rules.specs.declared.fault.CheckFault.TheVariants as fault
 
 -- The fault is told by a rule: it is none of the subtitle file, and not that a PES source or sink
 -- failed.
@@ -15,15 +13,9 @@ pub record IsRuleFault (f : CheckFault) : Type 0 where
   pub no_write : is_pes_write f ≡ false
   pub no_subtitle : is_subtitle_fault f ≡ false
 
--- Whether a fault is told by a rule.
-abbrev pub is_of_rule : CheckFault → Bool
-is_of_rule (fault.Subtitles f) = false
-is_of_rule (fault.Pes index f) = not (is_read f || is_write f)
-is_of_rule _ = true
-
 -- The fault of an event that a rule tells.
 abbrev pub kept_of : Event → Option CheckFault
-kept_of (Told f) = if is_of_rule f then Some f else None
+kept_of (Told f) = if (fault_row f).is_rule then Some f else None
 kept_of (Ended rule frame) = None
 kept_of (PassedUntil f) = None
 kept_of (Trusted from to) = None

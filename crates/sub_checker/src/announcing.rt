@@ -1,14 +1,14 @@
 //! PES packets that are passed over one directly after the other: the first one is told, and up to
 //! which one they go.
-ghost use Rattle.std.specs.Prelude.{◌≡◌, ◌<◌, false, is_err};
+ghost use Rattle.std.specs.Prelude.{◌≡◌, false, is_err};
 ghost use Rattle.sub_io.specs.Telling.{TellsUntilStopped};
 ghost use Rattle.sub_rules.specs.PieceEvents.{announced, at_pes, ended_run, fault_at_pes};
-ghost use Rattle.sub_rules.specs.PieceEvents.{goes_on, goes_on_after, is_passed, joins, no_run};
-ghost use Rattle.sub_rules.specs.PieceEvents.{passed_after, pes_of};
+ghost use Rattle.sub_rules.specs.PieceEvents.{goes_on, goes_on_after, is_behind, joins, no_run};
+ghost use Rattle.sub_rules.specs.PieceEvents.{passed_after};
 ghost use Rattle.sub_checker.specs.Announcing.{Announces, as_run};
 
 use sub_io::{Audience, Stopped};
-use sub_rules::{CheckFault, Event};
+use sub_rules::{CheckFault, Event, FaultPlace};
 
 /// PES packets that were passed over last, one directly after the other, for faults of one number.
 #[derive(Clone, Copy)]
@@ -61,7 +61,11 @@ impl PassedRun {
     {
         match event {
             Event::Told(fault) => PassedRun {
-                last: if is_passed(fault) { Some(*fault) } else { None },
+                last: if (*fault).row().is_passed {
+                    Some(*fault)
+                } else {
+                    None
+                },
                 many: follows(&self.last, fault),
             },
             _ => PassedRun::new(),
@@ -187,29 +191,20 @@ fn follows(last: &Option<CheckFault>, fault: &CheckFault) -> bool
 fn goes_on(last: &CheckFault, fault: &CheckFault) -> bool
     ensures { result ≡ goes_on last.now fault.now }
 {
-    is_passed(fault)
-        && pes_of(fault) == pes_of(last) + 1
-        && (*fault).code().number() == (*last).code().number()
+    let (before, row) = ((*last).row(), (*fault).row());
+    row.is_passed
+        && is_behind(before.place, row.place)
+        && row.code.number() == before.code.number()
 }
 
-/// Whether a fault is that of a PES packet that can be passed over.
-pub(crate) fn is_passed(fault: &CheckFault) -> bool
-    ensures { result ≡ is_passed fault.now }
+// The one place is the PES packet directly after that of the other.
+fn is_behind(last: FaultPlace, place: FaultPlace) -> bool
+    ensures { result ≡ is_behind last place }
 {
-    match fault {
-        CheckFault::Pes { fault, .. } => fault.is_of_piece(),
-        CheckFault::OffFrame { .. } => true,
+    match (last, place) {
+        (FaultPlace::Pes { pes: last }, FaultPlace::Pes { pes }) => {
+            u64::from(pes) == u64::from(last) + 1
+        }
         _ => false,
-    }
-}
-
-// The PES packet that a fault names.
-fn pes_of(fault: &CheckFault) -> u64
-    ensures value { result ≡ pes_of fault.now }
-    ensures fits { result < 0x1_0000_0000 }
-{
-    match fault {
-        CheckFault::Pes { pes, .. } | CheckFault::OffFrame { pes } => u64::from(*pes),
-        _ => 0,
     }
 }

@@ -3,7 +3,7 @@ ghost use Rattle.std.specs.Prelude.{◌≡◌, ◌+◌, ◌<◌, ◌||◌, ◌++
 ghost use Rattle.std.specs.Prelude.{if◌then◌else◌};
 ghost use Rattle.stl_file.specs.TimeCode.{day};
 ghost use Rattle.sub_io.specs.Telling.{TellsUntilStopped};
-ghost use Rattle.sub_rules.specs.Trusted.{doubted, doubted_by, is_order, trusted, trusted_before};
+ghost use Rattle.sub_rules.specs.Trusted.{doubted, is_order, trusted, trusted_before};
 ghost use Rattle.sub_checker.specs.Trusting.{Passes, after_event, at_end, at_packets};
 
 use sub_io::{Audience, Stopped};
@@ -211,28 +211,8 @@ fn doubted(last: u32, event: &Event) -> Option<u32>
     ensures { result ≡ doubted last event.now }
 {
     match event {
-        Event::Told(fault) => doubted_by(last, fault),
+        Event::Told(fault) => (*fault).row().doubted(last),
         Event::Ended { .. } | Event::PassedUntil(_) | Event::Trusted { .. } => None,
-    }
-}
-
-// The frame that is quiet no more where this fault is told, if any, as `doubted`.
-fn doubted_by(last: u32, fault: &CheckFault) -> Option<u32>
-    ensures { result ≡ doubted_by last fault.now }
-{
-    match fault {
-        CheckFault::Order { .. } | CheckFault::Pes { .. } | CheckFault::OffFrame { .. } => {
-            Some(last)
-        }
-        CheckFault::Address { frame, .. }
-        | CheckFault::HeaderCode { frame, .. }
-        | CheckFault::Control { frame, .. }
-        | CheckFault::Parity { frame, .. }
-        | CheckFault::RowChanged { frame, .. }
-        | CheckFault::Content { frame, .. }
-        | CheckFault::Gap { frame }
-        | CheckFault::Incomplete { frame } => Some(*frame),
-        _ => None,
     }
 }
 

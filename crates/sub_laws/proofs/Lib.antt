@@ -1,5 +1,6 @@
 pub mod AllTrustedLemmas
 pub mod BrokenRuleLemmas
+pub mod CleanSpanLemmas
 pub mod CleanStretchLemmas
 pub mod ContentLemmas
 pub mod DoubtLemmas
@@ -17,10 +18,8 @@ pub mod ReadFileLemmas
 pub mod RisingEndLemmas
 pub mod RobustLemmas
 pub mod StandingLemmas
-pub mod StepByStepLemmas
 pub mod StretchLemmas
 pub mod TransmissionLemmas
 pub mod TrustedFrameLemmas
 pub mod TrustedPieceLemmas
 pub mod TrustedRunLemmas
-pub mod UntoldLemmas

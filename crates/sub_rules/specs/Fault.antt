@@ -1,6 +1,8 @@
--- The number and the name by which a fault of a pair of files is told (own), where it is, and which
--- faults are those of a device, of memory or of the one file.
-use Rattle.std.specs.Prelude.{ℕ, Bool, true, false, codes}
+-- The faults of a pair of files, a row each: the number and the name by which one is told (own),
+-- where it is, and what follows where it is told; and which of them are those of a device, of memory
+-- or of the one file.
+use Rattle.std.specs.Prelude.{ℕ, List, Bool, true, false, not, ◌||◌, Option, Some, None}
+use Rattle.std.specs.Prelude.{codes, if◌then◌else◌}
 use Rattle.sub_io.specs.FaultCode.{FaultCodeValue, fault_code}
 use Rattle.stl_file.specs.declared.fault.StlFault.TheVariants as stl
 use Rattle.stl_rows.specs.Fault as load
@@ -13,8 +15,9 @@ use Rattle.sub_rules.specs.declared.fault.CheckFault.{CheckFault}
 use Rattle.sub_rules.specs.declared.fault.CheckFault.TheVariants as fault
 use Rattle.sub_rules.specs.declared.fault_place.FaultPlace.{FaultPlace}
 use Rattle.sub_rules.specs.declared.fault_place.FaultPlace.TheVariants as place
+use Rattle.sub_rules.specs.declared.fault_row.FaultRow.{FaultRow}
 use Rattle.ttx_pes.specs.Fault as pes
-use Rattle.ttx_pes.specs.Fault.{pes_code}
+use Rattle.ttx_pes.specs.Fault.{is_of_piece, pes_code}
 use Rattle.ttx_pes.specs.declared.fault.PesFault.TheVariants.{Read}
 
 -- A rule of a frame's end.
@@ -23,52 +26,75 @@ rule_code end.Content = fault_code 72 (codes "Content")
 rule_code end.Gap = fault_code 73 (codes "Gap")
 rule_code end.Incomplete = fault_code 77 (codes "Incomplete")
 
--- A fault of a pair of files.
-abbrev pub check_code : CheckFault → FaultCodeValue
-check_code (fault.Subtitles f) = load_code f.kind
-check_code (fault.Pes index f) = pes_code f
-check_code fault.Empty = fault_code 60 (codes "Empty")
-check_code (fault.OffFrame pes) = fault_code 61 (codes "OffFrame")
-check_code (fault.Order pes) = fault_code 62 (codes "Order")
-check_code (fault.Early frame) = fault_code 63 (codes "Early")
-check_code (fault.Address frame packet) = fault_code 64 (codes "Address")
-check_code (fault.HeaderCode frame packet) = fault_code 65 (codes "HeaderCode")
-check_code (fault.Mode frame packet) = fault_code 66 (codes "Mode")
-check_code (fault.Control frame packet) = fault_code 67 (codes "Control")
-check_code (fault.Parity frame packet) = fault_code 68 (codes "Parity")
-check_code (fault.RowChanged frame packet) = fault_code 69 (codes "RowChanged")
-check_code (fault.Enhancement frame packet) = fault_code 70 (codes "Enhancement")
-check_code (fault.NoFirstHeader frame) = fault_code 71 (codes "NoFirstHeader")
-check_code (fault.Content frame row column) = rule_code end.Content
-check_code (fault.Gap frame) = rule_code end.Gap
-check_code (fault.Incomplete frame) = rule_code end.Incomplete
-check_code (fault.Late frame) = fault_code 74 (codes "Late")
-
 -- Where a fault of loading is: at a TTI block, and one of a text at its place in it too.
 abbrev pub load_place : LoadFaultKind → ℕ → FaultPlace
 load_place (Row f) block = place.Text block f.at
 load_place _ block = place.Block block
 
--- Where the fault is: as in the file that it is of, or at a frame, a packet or a cell.
+-- ---- a row for each fault
+
+-- The row of a fault that a rule tells, by whether receivers depend on that rule.
+abbrev pub coded_row : FaultCodeValue → FaultPlace → Bool → FaultRow
+coded_row code place doubts = record {
+  code = code;
+  place = place;
+  doubts = doubts;
+  is_passed = false;
+  is_rule = true;
+}
+
+abbrev pub rule_row : ℕ → List ℕ → FaultPlace → Bool → FaultRow
+rule_row number name place doubts = coded_row (fault_code number name) place doubts
+
+-- The row of a fault of a pair of files: its number and name, and its place; whether a frame is
+-- quiet no more where it is told; whether a PES packet is passed over for it; whether a rule tells
+-- it. Receivers depend neither on C11 nor on packets X/25 to X/28.
+abbrev pub fault_row : CheckFault → FaultRow
+fault_row (fault.Subtitles f) =
+    record (coded_row (load_code f.kind) (load_place f.kind f.block) false) { is_rule = false }
+fault_row (fault.Pes n f) = record (coded_row (pes_code f) (place.Pes n) true) {
+  is_passed = is_of_piece f;
+  is_rule = not (pes.is_read f || pes.is_write f);
+}
+fault_row fault.Empty = rule_row 60 (codes "Empty") place.Nowhere false
+fault_row (fault.OffFrame n) =
+    record (rule_row 61 (codes "OffFrame") (place.Pes n) true) { is_passed = true }
+fault_row (fault.Order n) = rule_row 62 (codes "Order") (place.Pes n) true
+fault_row (fault.Early f) = rule_row 63 (codes "Early") (place.Frame f) false
+fault_row (fault.Address f k) = rule_row 64 (codes "Address") (place.Packet f k) true
+fault_row (fault.HeaderCode f k) = rule_row 65 (codes "HeaderCode") (place.Packet f k) true
+fault_row (fault.Mode f k) = rule_row 66 (codes "Mode") (place.Packet f k) false
+fault_row (fault.Control f k) = rule_row 67 (codes "Control") (place.Packet f k) true
+fault_row (fault.Parity f k) = rule_row 68 (codes "Parity") (place.Packet f k) true
+fault_row (fault.RowChanged f k) = rule_row 69 (codes "RowChanged") (place.Packet f k) true
+fault_row (fault.Enhancement f k) = rule_row 70 (codes "Enhancement") (place.Packet f k) false
+fault_row (fault.NoFirstHeader f) = rule_row 71 (codes "NoFirstHeader") (place.Frame f) false
+fault_row (fault.Content f r c) = coded_row (rule_code end.Content) (place.Cell f r c) true
+fault_row (fault.Gap f) = coded_row (rule_code end.Gap) (place.Frame f) true
+fault_row (fault.Incomplete f) = coded_row (rule_code end.Incomplete) (place.Frame f) true
+fault_row (fault.Late f) = rule_row 74 (codes "Late") (place.Frame f) false
+
+-- Its number and name, and its place.
+abbrev pub check_code : CheckFault → FaultCodeValue
+check_code f = (fault_row f).code
+
 abbrev pub place_of : CheckFault → FaultPlace
-place_of (fault.Subtitles f) = load_place f.kind f.block
-place_of (fault.Pes index f) = place.Pes index
-place_of fault.Empty = place.Nowhere
-place_of (fault.OffFrame index) = place.Pes index
-place_of (fault.Order index) = place.Pes index
-place_of (fault.Early frame) = place.Frame frame
-place_of (fault.Address frame packet) = place.Packet frame packet
-place_of (fault.HeaderCode frame packet) = place.Packet frame packet
-place_of (fault.Mode frame packet) = place.Packet frame packet
-place_of (fault.Control frame packet) = place.Packet frame packet
-place_of (fault.Parity frame packet) = place.Packet frame packet
-place_of (fault.RowChanged frame packet) = place.Packet frame packet
-place_of (fault.Enhancement frame packet) = place.Packet frame packet
-place_of (fault.NoFirstHeader frame) = place.Frame frame
-place_of (fault.Content frame row column) = place.Cell frame row column
-place_of (fault.Gap frame) = place.Frame frame
-place_of (fault.Incomplete frame) = place.Frame frame
-place_of (fault.Late frame) = place.Frame frame
+place_of f = (fault_row f).place
+
+-- The frame of a place in a transmission, if it is one: of a PES packet that of the one before it,
+-- `last`, in which it may have been sent too.
+abbrev pub frame_of_place : ℕ → FaultPlace → Option ℕ
+frame_of_place last (place.Pes n) = Some last
+frame_of_place last (place.Frame f) = Some f
+frame_of_place last (place.Packet f k) = Some f
+frame_of_place last (place.Cell f r c) = Some f
+frame_of_place last _ = None
+
+-- The frame that is quiet no more where a fault with this row is told, if one is.
+abbrev pub doubted_frame : ℕ → FaultRow → Option ℕ
+doubted_frame last row = if row.doubts then frame_of_place last row.place else None
+
+-- ---- what it comes of
 
 -- The source of the PES file failed.
 abbrev pub is_pes_read : CheckFault → Bool

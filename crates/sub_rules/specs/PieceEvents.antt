@@ -6,9 +6,8 @@ use Rattle.std.specs.Prelude.{ℕ, zero, suc, ◌&&◌, ◌||◌, ◌==◌, ◌�
 use Rattle.std.specs.Prelude.{List, [], ◌∷◌, ◌++◌, length, map, Option, Some, None, if◌then◌else◌}
 use Rattle.ttx_page.specs.PacketKind.{kind}
 use Rattle.ttx_page.specs.Span.{holds_header}
-use Rattle.ttx_pes.specs.Fault.{is_of_piece}
 use Rattle.sub_rules.specs.Events.{closing_events, events, first_told, frame_events, unread_fault}
-use Rattle.sub_rules.specs.Fault.{check_code}
+use Rattle.sub_rules.specs.Fault.{check_code, fault_row, place_of}
 use Rattle.sub_rules.specs.FrameRules.{Task, Unread, end_frame, frame_at, packets_of_frame}
 use Rattle.sub_rules.specs.Pieces.{Piece, frames_of, read_until_passed}
 use Rattle.sub_rules.specs.Pieces.Piece.{Passed, Sent}
@@ -19,6 +18,8 @@ use Rattle.sub_rules.specs.declared.event.Event.{Event}
 use Rattle.sub_rules.specs.declared.event.Event.TheVariants.{PassedUntil, Told}
 use Rattle.sub_rules.specs.declared.fault.CheckFault.{CheckFault}
 use Rattle.sub_rules.specs.declared.fault.CheckFault.TheVariants as fault
+use Rattle.sub_rules.specs.declared.fault_place.FaultPlace.{FaultPlace}
+use Rattle.sub_rules.specs.declared.fault_place.FaultPlace.TheVariants as place
 
 -- ---- each piece by itself
 
@@ -89,23 +90,16 @@ last_of_run g frames run any =
 
 -- ---- pieces that are passed over one directly after the other
 
--- The number of a piece that is passed over is told.
-abbrev pub is_passed : CheckFault → Bool
-is_passed (fault.Pes pes f) = is_of_piece f
-is_passed (fault.OffFrame pes) = true
-is_passed refusal = false
-
--- The PES packet that a refusal names.
-abbrev pub pes_of : CheckFault → ℕ
-pes_of (fault.Pes pes f) = pes
-pes_of (fault.OffFrame pes) = pes
-pes_of refusal = 0
+-- The one place is the PES packet directly after that of the other.
+abbrev pub is_behind : FaultPlace → FaultPlace → Bool
+is_behind (place.Pes last) (place.Pes pes) = pes == suc last
+is_behind _ _ = false
 
 -- The refusal, of a piece that is passed over directly after another one, has its number.
 unfoldable pub goes_on : CheckFault → CheckFault → Bool
 goes_on last refusal =
-    is_passed refusal
-    && (pes_of refusal == suc (pes_of last))
+    (fault_row refusal).is_passed
+    && is_behind (place_of last) (place_of refusal)
     && ((check_code refusal).number == (check_code last).number)
 
 -- Pieces that are passed over one directly after the other with one number: the refusal of the last
@@ -132,7 +126,7 @@ joins run event = false
 -- over.
 abbrev pub run_with : CheckFault → Bool → PassedRun
 run_with refusal many = record {
-  last = if is_passed refusal then Some refusal else None;
+  last = if (fault_row refusal).is_passed then Some refusal else None;
   many = many;
 }
 

@@ -12,36 +12,20 @@ use Rattle.std.specs.List.{list_any}
 use Rattle.sub_rules.specs.Events.{Standing, events_at_end}
 use Rattle.sub_rules.specs.Events.{events_of_first, first_header_events}
 use Rattle.sub_rules.specs.Events.{packet_events, standing_at}
+use Rattle.sub_rules.specs.Fault.{doubted_frame, fault_row}
 use Rattle.sub_rules.specs.FrameRules.{Task, Unread, frame_at, packets_before}
 use Rattle.sub_rules.specs.FrameRules.{packets_of_frame}
 use Rattle.sub_rules.specs.Transmission.{Transmission}
 use Rattle.sub_rules.specs.declared.event.Event.{Event}
 use Rattle.sub_rules.specs.declared.event.Event.TheVariants.{Told, Trusted}
-use Rattle.sub_rules.specs.declared.fault.CheckFault.{CheckFault}
 use Rattle.sub_rules.specs.declared.fault.CheckFault.TheVariants as fault
 
 -- ---- what ends a run of quiet frames
 
--- The frame that is quiet no more where this is told, after a PES packet of frame `last`: the frame
--- of a packet or of an end at which a rule is broken on which a receiver depends; where the frames
--- do not rise that of the PES packet before.
-abbrev pub doubted_by : ℕ → CheckFault → Option ℕ
-doubted_by last (fault.Order pes) = Some last
-doubted_by last (fault.Pes pes f) = Some last
-doubted_by last (fault.OffFrame pes) = Some last
-doubted_by last (fault.Address frame packet) = Some frame
-doubted_by last (fault.HeaderCode frame packet) = Some frame
-doubted_by last (fault.Control frame packet) = Some frame
-doubted_by last (fault.Parity frame packet) = Some frame
-doubted_by last (fault.RowChanged frame packet) = Some frame
-doubted_by last (fault.Content frame row column) = Some frame
-doubted_by last (fault.Gap frame) = Some frame
-doubted_by last (fault.Incomplete frame) = Some frame
-doubted_by last refusal = None
-
--- The frame that is quiet no more where this event is told: a refusal may end one, nothing else.
+-- The frame that is quiet no more where this event is told, after a PES packet of frame `last`: a
+-- refusal may end one, nothing else.
 unfoldable pub doubted : ℕ → Event → Option ℕ
-doubted last (Told refusal) = doubted_by last refusal
+doubted last (Told refusal) = doubted_frame last (fault_row refusal)
 doubted last event = None
 
 -- It tells that the frames do not rise.

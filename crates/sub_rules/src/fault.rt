@@ -1,8 +1,11 @@
 //! Why a pair of files is refused, and where.
-ghost use Rattle.std.specs.Prelude.{◌≡◌};
+ghost use Rattle.std.specs.Prelude.{◌≡◌, ◌≤◌, false, length, true};
+ghost use Rattle.sub_rules.specs.Fault.{coded_row, fault_row, rule_code, rule_row};
+ghost use Rattle.sub_rules.specs.declared.fault_place.FaultPlace.TheVariants.{Frame, Packet};
 
 use crate::end_rule::EndRule;
 use crate::fault_place::FaultPlace;
+use crate::fault_row::FaultRow;
 use stl_rows::{LoadFault, LoadFaultKind};
 use sub_io::FaultCode;
 use ttx_pes::PesFault;
@@ -124,30 +127,50 @@ pub enum CheckFault {
 impl CheckFault {
     ghost use Rattle.sub_rules.specs.Fault.{check_code, place_of};
 
+    /// Its row.
+    pub fn row(self) -> FaultRow
+        ensures { result ≡ fault_row self }
+    {
+        match self {
+            CheckFault::Subtitles(load) => load_row(load),
+            CheckFault::Pes { pes, fault } => pes_row(pes, fault),
+            CheckFault::Empty => rule_row(60, "Empty", FaultPlace::Nowhere, false),
+            CheckFault::OffFrame { pes } => FaultRow {
+                is_passed: true,
+                ..rule_row(61, "OffFrame", FaultPlace::Pes { pes }, true)
+            },
+            CheckFault::Order { pes } => rule_row(62, "Order", FaultPlace::Pes { pes }, true),
+            CheckFault::Early { frame } => frame_row(63, "Early", frame),
+            CheckFault::Address { frame, packet } => packet_row(64, "Address", frame, packet, true),
+            CheckFault::HeaderCode { frame, packet } => {
+                packet_row(65, "HeaderCode", frame, packet, true)
+            }
+            CheckFault::Mode { frame, packet } => packet_row(66, "Mode", frame, packet, false),
+            CheckFault::Control { frame, packet } => packet_row(67, "Control", frame, packet, true),
+            CheckFault::Parity { frame, packet } => packet_row(68, "Parity", frame, packet, true),
+            CheckFault::RowChanged { frame, packet } => {
+                packet_row(69, "RowChanged", frame, packet, true)
+            }
+            CheckFault::Enhancement { frame, packet } => {
+                packet_row(70, "Enhancement", frame, packet, false)
+            }
+            CheckFault::NoFirstHeader { frame } => frame_row(71, "NoFirstHeader", frame),
+            CheckFault::Content { frame, row, column } => {
+                end_row(EndRule::Content, FaultPlace::Cell { frame, row, column })
+            }
+            CheckFault::Gap { frame } => end_row(EndRule::Gap, FaultPlace::Frame { frame }),
+            CheckFault::Incomplete { frame } => {
+                end_row(EndRule::Incomplete, FaultPlace::Frame { frame })
+            }
+            CheckFault::Late { frame } => frame_row(74, "Late", frame),
+        }
+    }
+
     /// The number and the name by which the fault is told (own).
     pub fn code(self) -> FaultCode
         ensures { result ≡ check_code self }
     {
-        match self {
-            CheckFault::Subtitles(fault) => fault.kind.code(),
-            CheckFault::Pes { fault, .. } => fault.code(),
-            CheckFault::Empty => FaultCode::new(60, "Empty"),
-            CheckFault::OffFrame { .. } => FaultCode::new(61, "OffFrame"),
-            CheckFault::Order { .. } => FaultCode::new(62, "Order"),
-            CheckFault::Early { .. } => FaultCode::new(63, "Early"),
-            CheckFault::Address { .. } => FaultCode::new(64, "Address"),
-            CheckFault::HeaderCode { .. } => FaultCode::new(65, "HeaderCode"),
-            CheckFault::Mode { .. } => FaultCode::new(66, "Mode"),
-            CheckFault::Control { .. } => FaultCode::new(67, "Control"),
-            CheckFault::Parity { .. } => FaultCode::new(68, "Parity"),
-            CheckFault::RowChanged { .. } => FaultCode::new(69, "RowChanged"),
-            CheckFault::Enhancement { .. } => FaultCode::new(70, "Enhancement"),
-            CheckFault::NoFirstHeader { .. } => FaultCode::new(71, "NoFirstHeader"),
-            CheckFault::Content { .. } => EndRule::Content.code(),
-            CheckFault::Gap { .. } => EndRule::Gap.code(),
-            CheckFault::Incomplete { .. } => EndRule::Incomplete.code(),
-            CheckFault::Late { .. } => FaultCode::new(74, "Late"),
-        }
+        self.row().code
     }
 
     /// Where the fault is: at the PES packet or the TTI block of the file that it is of, and one of
@@ -155,30 +178,73 @@ impl CheckFault {
     pub fn place(self) -> FaultPlace
         ensures { result ≡ place_of self }
     {
-        match self {
-            CheckFault::Subtitles(LoadFault { kind, block }) => match kind {
-                LoadFaultKind::Row(row) => FaultPlace::Text { block, at: row.at },
-                _ => FaultPlace::Block { block },
-            },
-            CheckFault::Empty => FaultPlace::Nowhere,
-            CheckFault::Pes { pes, .. }
-            | CheckFault::OffFrame { pes }
-            | CheckFault::Order { pes } => FaultPlace::Pes { pes },
-            CheckFault::Early { frame }
-            | CheckFault::NoFirstHeader { frame }
-            | CheckFault::Gap { frame }
-            | CheckFault::Incomplete { frame }
-            | CheckFault::Late { frame } => FaultPlace::Frame { frame },
-            CheckFault::Address { frame, packet }
-            | CheckFault::HeaderCode { frame, packet }
-            | CheckFault::Mode { frame, packet }
-            | CheckFault::Control { frame, packet }
-            | CheckFault::Parity { frame, packet }
-            | CheckFault::RowChanged { frame, packet }
-            | CheckFault::Enhancement { frame, packet } => FaultPlace::Packet { frame, packet },
-            CheckFault::Content { frame, row, column } => {
-                FaultPlace::Cell { frame, row, column }
-            }
-        }
+        self.row().place
     }
+}
+
+// The row of a fault of the subtitle file.
+fn load_row(fault: LoadFault) -> FaultRow
+    ensures { result ≡ fault_row (CheckFault.Subtitles fault) }
+{
+    let block = fault.block;
+    let place = match fault.kind {
+        LoadFaultKind::Row(row) => FaultPlace::Text { block, at: row.at },
+        _ => FaultPlace::Block { block },
+    };
+    FaultRow {
+        is_rule: false,
+        ..coded_row(fault.kind.code(), place, false)
+    }
+}
+
+// The row of a fault of a PES packet.
+fn pes_row(pes: u32, fault: PesFault) -> FaultRow
+    ensures { result ≡ fault_row (CheckFault.Pes pes fault) }
+{
+    FaultRow {
+        is_passed: fault.is_of_piece(),
+        is_rule: fault != PesFault::Read && fault != PesFault::Write,
+        ..coded_row(fault.code(), FaultPlace::Pes { pes }, true)
+    }
+}
+
+// The row of a fault that a rule tells, by whether receivers depend on that rule.
+fn coded_row(code: FaultCode, place: FaultPlace, doubts: bool) -> FaultRow
+    ensures { result ≡ coded_row code place doubts }
+{
+    FaultRow {
+        code,
+        place,
+        doubts,
+        is_passed: false,
+        is_rule: true,
+    }
+}
+
+fn rule_row(number: u8, name: &'static str, place: FaultPlace, doubts: bool) -> FaultRow
+    requires { length name.now ≤ 16 }
+    ensures { result ≡ rule_row number name.now place doubts }
+{
+    coded_row(FaultCode::new(number, name), place, doubts)
+}
+
+// One of a packet, of a frame, or of a frame's end.
+fn packet_row(number: u8, name: &'static str, frame: u32, packet: u32, doubts: bool) -> FaultRow
+    requires { length name.now ≤ 16 }
+    ensures { result ≡ rule_row number name.now (Packet frame packet) doubts }
+{
+    rule_row(number, name, FaultPlace::Packet { frame, packet }, doubts)
+}
+
+fn frame_row(number: u8, name: &'static str, frame: u32) -> FaultRow
+    requires { length name.now ≤ 16 }
+    ensures { result ≡ rule_row number name.now (Frame frame) false }
+{
+    rule_row(number, name, FaultPlace::Frame { frame }, false)
+}
+
+fn end_row(rule: EndRule, place: FaultPlace) -> FaultRow
+    ensures { result ≡ coded_row (rule_code rule) place true }
+{
+    coded_row(rule.code(), place, true)
 }

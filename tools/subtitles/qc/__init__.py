@@ -28,7 +28,17 @@ machine       a verdict as a JSON object
 table         faults as lines of CSV
 junit         pairs as testcases
 pairs         the pairs of a folder or a list
-batch         many pairs
+batch         many pairs, each judged by a call of its own
+objects       the objects of pairs that were judged, as rows
+collecting    one table, and the files for machines, of many objects
+index_page    one page of many pairs
+watching      a folder into which pairs are written
+
+channel       the programmes of a channel, one after another
+planned       its list
+channel_feed  its feed
+ring          what of it came lately
+awaited       a programme that is waited for
 
 typed         commands as a person types them
 names         the files that the steps make

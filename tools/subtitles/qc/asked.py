@@ -2,13 +2,18 @@
 from __future__ import annotations
 
 import argparse
+import contextlib
 import dataclasses
+import os
 from typing import Sequence
 
-from ..files import as_file
+from ..files import plain_name
 from ..teletext import page_name
 from ..words import (
     Stop, Words, add_page, breaks_word, every_word, origin_word, pid_word, run_word, start_word)
+
+AUTO = "auto"  # the national option is that of the language
+LC, GERMAN = slice(14, 16), b"08"  # the field in the GSI block, and a language in it
 
 
 @dataclasses.dataclass
@@ -63,8 +68,9 @@ def add_pair_options(parser: Words) -> None:
     add_page(parser)
     parser.add_argument("--every", type=every_word, default=250, metavar="N",
                         help="the repeat bound, 250 frames where it is left out")
-    parser.add_argument("--option", default="english", choices=("english", "german"),
-                        help="the national option, english where it is left out")
+    parser.add_argument("--option", default="english", choices=("english", "german", AUTO),
+                        help="the national option, english where it is left out; auto: the one "
+                             "of the language that the subtitle file names")
     parser.add_argument("--complete", dest="is_complete", action="store_true", default=True,
                         help="ask for complete pages, as is done where it is left out")
     parser.add_argument("--no-complete", dest="is_complete", action="store_false",
@@ -98,10 +104,23 @@ def asked_of(words: argparse.Namespace) -> Asked:
 
 def asked_with(stl: str, recording: str | None, options: argparse.Namespace) -> Asked:
     """A pair, and options that are read."""
-    named = recording and (recording if recording == "-" else as_file(recording))
+    named = recording and (recording if recording == "-" else plain_name(recording))
     if options.origin is not None and options.start is not None:
         raise Stop("--start tells the origin: --origin is too many")
-    return Asked(as_file(stl), named, **{name: getattr(options, name) for name in pair_options()})
+    asked = Asked(plain_name(stl), named,
+                  **{name: getattr(options, name) for name in pair_options()})
+    if asked.option == AUTO:
+        asked.option = option_named_in(asked.stl)
+    return asked
+
+
+def option_named_in(stl: str) -> str:
+    """The national option of a subtitle file, by its language (GSI block, field LC)."""
+    language = b""
+    if os.path.isfile(stl):
+        with contextlib.suppress(OSError), open(stl, "rb") as file:
+            language = file.read(LC.stop)[LC]
+    return "german" if language == GERMAN else "english"
 
 
 def asked_of_line(line: Sequence[str], defaults: argparse.Namespace) -> Asked:

@@ -58,7 +58,7 @@ class Wording:
         return (f'{LINE}subtitle {one.number} at {time_of(one.begin)}, '
                 f'"{text_of(one.rows, self.option)}": {self.said(cause)}')
 
-    def said(self, cause: Cause) -> str:
+    def said(self, cause: Cause, has_text: bool = True) -> str:
         """What a cause is, in words, with the text that is sent where that is another one."""
         one = self.subtitles[cause.place]
         words = cause.name
@@ -70,7 +70,7 @@ class Wording:
             words += " at its time"
         if cause.words:
             words += f": {cause.words}"
-        if cause.sent not in (None, one.rows):
+        if has_text and cause.sent not in (None, one.rows):
             sent = text_of(cause.sent or (), self.option)
             if sent != text_of(one.rows, self.option):
                 words += f', sent: "{sent}"'
@@ -80,7 +80,11 @@ class Wording:
 
 
 def count_line(several: list[Causes]) -> str:
+    """How many subtitles have a cause, and how many of each name there are."""
+    count = sum(len(one.named) for one in several)
+    return f"causes of {counted(count, 'subtitle')}: {names_line(several)}"
+
+
+def names_line(several: list[Causes]) -> str:
     """How many causes there are of each name."""
-    counts = counts_of(several)
-    names = ", ".join(f"{count} {name}" for name, count in counts.items() if count)
-    return f"causes of {counted(sum(counts.values()), 'subtitle')}: {names}"
+    return ", ".join(f"{count} {name}" for name, count in counts_of(several).items() if count)

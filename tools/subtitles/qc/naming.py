@@ -71,7 +71,7 @@ class Causes:
     def of(self, frame: int) -> Cause | None:
         """The cause of the 72 at a frame."""
         place = self.of_frame.get(frame)
-        return None if place is None else self.named.get(place)
+        return self.named.get(self.namer.owner(frame) if place is None else place)
 
     def all(self) -> list[Cause]:
         """All that are known, in the order of the subtitles."""

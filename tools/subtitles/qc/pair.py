@@ -19,6 +19,7 @@ from .naming import Causes
 from .recording import Recording
 from .source import STANDARD_INPUT
 from .speech import Speech
+from .stall import Stall
 from .start import Starting, refuse_outside
 from .steps import Steps, Stretch, origin_words, packets_words
 from .sums import file_of
@@ -41,9 +42,12 @@ class Pair:
         self.verdict, self.asked = verdict, verdict.asked
         self.typed, self.names, self.speech = typed, names, speech
         self.is_summed = is_summed
+        self.stalled_after = 10  # seconds
+        self.recording: Recording | None = None
         self.steps = Steps(self.asked, typed, names, speech)
         # The first and the last frame of the subtitle file, and the clock where it was given.
         self.whole = Found(0, 0, NO_CLOCK)
+        self.count = 1  # of the parts
         self.times: list[tuple[int, int]] = []  # at which each subtitle comes and goes
         self.starting = Starting(self.asked, speech) if self.asked.start else None
 
@@ -70,6 +74,20 @@ class Pair:
             raise Unclear("nothing of the recording was read, and --severity leaves no fault an "
                           "error")
 
+    def stop(self) -> str | None:
+        """Takes what was told of a feed before a signal came; the time up to which it was judged.
+        """
+        live = self.recording.live if self.recording else None
+        if live is None or live.cut.frame is None or self.verdict.parts:
+            return None
+        answer, frame = live.stop_early(), live.cut.frame
+        clock = self.starting.began.clock if self.starting and self.starting.began else \
+            self.given() or Clock(live.origin, RECORDING)
+        self.verdict.parts.append(Part(
+            1, self.asked.stl, self.names.given, self.names.cut_path, live.origin,
+            self.whole.begin, frame, None, answer, clock))
+        return time_of(min(frame, FRAMES_OF_A_DAY))
+
     def judge_alone(self, answer: Answer, is_refused: bool) -> None:
         """Ends with the subtitle file, which is refused or is all that there is."""
         self.steps.say_alone()
@@ -79,26 +97,28 @@ class Pair:
                 self.speech.of_list(line)
             self.speech.end_list(answer.last)
         else:
-            count = len(self.steps.times(self.asked.stl))
+            count = len(self.steps.times(self.names.given))
             answer.accept(f"{counted(count, 'subtitle')}, nothing is wrong with "
                           f"{'it' if count == 1 else 'them'}")
-        stl = self.asked.stl
-        self.verdict.parts.append(Part(1, stl, stl, None, None, None, None, None, answer))
+        stl, given = self.asked.stl, self.names.given
+        self.verdict.parts.append(Part(1, stl, given, None, None, None, None, None, answer))
         if is_refused:
-            self.steps.draw(self.names, [stl], [stl], 0, [])
+            self.steps.draw(self.names, [given], [stl], 0, [])
 
     def judge_transmission(self) -> None:
         """Judges what was recorded, part by part."""
         asked, steps = self.asked, self.steps
-        times = self.times = steps.times(asked.stl)
+        times = self.times = steps.times(self.names.given)
         if not times:
             raise Unclear(f"{asked.stl} has no subtitle")
         given = self.given()
         self.whole = Found(times[0][0], times[-1][1], given or NO_CLOCK)
-        recording = Recording(asked, self.typed, self.names, self.speech)
+        stall = Stall(self.stalled_after, self.speech.tell)
+        recording = Recording(asked, self.typed, self.names, self.speech, stall)
+        self.recording = recording
         finder = Finder([*self.typed.call("origin"), *steps.fit_words(None), "--", asked.stl])
         recording.read(self.is_summed, Feed(asked.origin, finder, self.start, self.starting,
-                                             asked.breaks > 0))
+                                            asked.breaks, asked.every))
         self.verdict.recording = recording.file
         given = given or self.by_start(recording)
         if recording.live:
@@ -110,6 +130,7 @@ class Pair:
             found = self.found(recording, given)
             self.warn(recording, found[0].origin)
             stretches = self.stretches(found, len(times))
+            self.count = len(stretches)
             for number, one in enumerate(stretches, 1):
                 steps.cut(recording, one)
                 self.end_part(number, one, steps.check(one), recording)
@@ -120,7 +141,8 @@ class Pair:
     def given(self) -> Clock | None:
         """The clock that was given, `None` where it is to be found."""
         origin = self.asked.origin
-        return None if origin is None else Clock(origin, GIVEN)
+        source = RECORDING if self.verdict.was_fitted else GIVEN
+        return None if origin is None else Clock(origin, source)
 
     def found(self, recording: Recording, given: Clock | None) -> list[Found]:
         """The parts with their clocks; the first one has the one that was given."""
@@ -171,7 +193,8 @@ class Pair:
     def all_of(self, found: Found) -> Stretch:
         """All subtitles, with one clock."""
         stl, whole = self.asked.stl, self.whole
-        return Stretch(stl, stl, self.names, whole.begin, whole.end, found.clock, found.packets)
+        return Stretch(stl, self.names.given, self.names, whole.begin, whole.end, found.clock,
+                       found.packets)
 
     def stretches(self, found: list[Found], count: int) -> list[Stretch]:
         """What is judged, one after another; each of the subtitles has to be in one."""
@@ -201,7 +224,8 @@ class Pair:
             lost = [*lost[:TOLD], f"and at {counted(len(lost) - TOLD, 'more place')}"]
         self.steps.draw(one.names, [one.stl_path, cut], [one.stl, one.names.cut], one.origin, lost,
                         [*self.verdict.notes, *map(Warned.said, self.verdict.warnings)],
-                        one.clock.is_fitted)
+                        one.clock.is_fitted, self.verdict.recording,
+                        ["--part", str(number), str(self.count)] if self.count > 1 else [])
 
     def causes(self, part: Part, recording: Recording) -> Causes | None:
         """Why the content of a part is refused; it is said, as far as it was not said before."""
@@ -228,9 +252,10 @@ class Pair:
                             self.typed.program_word, "check", asked.stl, "/dev/stdin", *words)
         asking = Asking(asked, self.typed,
                         lambda: kept.places() if isinstance(kept, Carrier) else [])
-        following = Following(lambda: asking.begin(asked.stl, self.names.cut_path, origin),
+        following = Following(lambda: asking.begin(self.names.given, self.names.cut_path, origin),
                               Telling(self.speech, asked.option))
-        return Live([self.typed.program_path, "check", *words, "--", asked.stl, "/dev/stdin"],
+        return Live([self.typed.program_path, "check", *words, "--", self.names.given,
+                     "/dev/stdin"],
                     self.whole._replace(clock=Clock(origin, RECORDING), packets=at.packets),
                     asked.page, asked.every, self.names, self.speech, following)
 

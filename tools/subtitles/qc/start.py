@@ -95,12 +95,12 @@ def refuse_outside(asked: Asked, one: Began, begin: int, end: int, last: int | N
     """Subtitles that lie outside of a recording which begins with the programme's first picture;
     `last` is its last PTS."""
     if begin < one.frame:
-        raise Unclear(f"the first subtitle of {asked.stl} comes at {time_of(begin)}, before its TCP "
-                      f"{time_of(one.frame)}, at which the recording would begin")
+        raise Unclear(f"the first subtitle of {asked.stl} comes at {time_of(begin)}, before its "
+                      f"TCP {time_of(one.frame)}, at which the recording would begin")
     over = None if last is None else (last - one.clock.origin) % CLOCK // TICKS
     if over is not None and end > over + FRAMES_NEAR:
-        raise Unclear(f"the last subtitle of {asked.stl} goes at {time_of(end)}, and by the TCP the "
-                      f"recording ends at {time_of(over)}")
+        raise Unclear(f"the last subtitle of {asked.stl} goes at {time_of(end)}, and by the TCP "
+                      f"the recording ends at {time_of(over)}")
 
 
 class Starting:

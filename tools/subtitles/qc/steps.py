@@ -14,6 +14,7 @@ from .fitting import Done, Found, Packets, breaks_in, found_in, refuse, runs_in
 from .names import Names, again
 from .recording import Recording
 from .speech import Speech
+from .sums import File
 from .typed import Typed
 from .unclear import Unclear
 
@@ -63,7 +64,8 @@ class Steps:
 
     def check_alone(self) -> Answer:
         """What is wrong with the subtitle file; nothing is said of it yet."""
-        words = ["check", "--option", self.asked.option, "--all", "--", self.asked.stl, NO_PES]
+        words = ["check", "--option", self.asked.option, "--all", "--", self.names.given,
+                 NO_PES]
         return check([self.typed.program_path, *words], self.names.temporary("alone.txt"),
                      lambda line: None)
 
@@ -129,8 +131,11 @@ class Steps:
         """Cuts the PES packets of the time of the subtitles out of the recording."""
         more = [*self.asked.page_words(), *self.asked.every_words(), *origin_words(one.origin),
                 *packets_words(one.packets)]
-        self.tool("cut", [recording.path, "--stl", one.stl_path, *more, "-o", one.names.cut_path],
-                  [recording.shown, "--stl", one.stl, *more, "-o", one.names.cut])
+        done = self.tool(
+            "cut", [recording.path, "--stl", one.stl_path, *more, "-o", one.names.cut_path],
+            [recording.shown, "--stl", one.stl, *more, "-o", one.names.cut])
+        if done.status == 2:
+            raise Unclear(f"the recording was not cut: {'; '.join(done.told)}")
         if not os.path.exists(one.names.cut_path):
             raise Unclear("nothing of the page is in the recording at the time of the subtitles",
                           self.again("--origin", "T"), self.again("--page", "P"))
@@ -145,18 +150,23 @@ class Steps:
         return answer
 
     def draw(self, names: Names, given: list[str], typed: list[str], origin: int,
-             lost: list[str], notes: Sequence[str] = (), is_fitted: bool = False) -> None:
-        """Draws the report of some files, of what is lost and what else is said, where there is a
-        folder for it."""
+             lost: list[str], notes: Sequence[str] = (), is_fitted: bool = False,
+             recording: File | None = None, part: Sequence[str] = ()) -> None:
+        """Draws the report of some files, of what is lost and what else is said, of a recording or
+        of a part of it, where there is a folder for it."""
         if names.out is None:
             return
         words = [*self.asked.check_words(), *origin_words(origin),
                  *(word for words in lost for word in ("--lost", words)),
                  *(word for words in notes for word in ("--note", words)),
-                 *["--fitted"] * is_fitted]
+                 *["--fitted"] * is_fitted, *part]
+        # What was read is not read once more; a person can do that, but not with a feed.
+        sums = ["--recording", recording.name, str(recording.size), recording.sha256] \
+            if recording else []
+        shown = sums[:2] if recording and os.path.isfile(recording.name) else sums
         done = self.tool(
-            "preview", [*given, *words, "-p", self.typed.program_path, "-o", names.report],
-            [*typed, *words, *self.typed.program_words, "-o", names.report])
+            "preview", [*given, *words, *sums, "-p", self.typed.program_path, "-o", names.report],
+            [*typed, *words, *shown, *self.typed.program_words, "-o", names.report])
         if done.status == 2:
             raise Unclear(f"no report was made: {'; '.join(done.told)}")
 

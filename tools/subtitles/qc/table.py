@@ -2,8 +2,10 @@
 from __future__ import annotations
 
 import csv
-from typing import IO
+import io
+from typing import IO, Any, Iterable, Iterator
 
+from ..words import shown
 from .faults import Cell, Fault
 from .verdict import Verdict
 
@@ -31,11 +33,23 @@ def of_pair(verdict: Verdict) -> Known:
             "line": verdict.line}
 
 
+def of_object(known: dict[str, Any]) -> Known:
+    """The same of a pair by its object; what is no pair has a name alone."""
+    asked = known.get("asked") or {"stl": known.get("name")}
+    return {"stl": asked.get("stl"), "recording": asked.get("recording"),
+            **{name: known.get(name) for name in (*OF_PAIR, "line")}}
+
+
 def of_fault(verdict: Verdict, fault: Fault) -> Known:
     """The columns of a fault."""
+    return with_fault(of_pair(verdict), fault)
+
+
+def with_fault(pair: Known, fault: Fault) -> Known:
+    """The columns of a fault of a pair."""
     subtitle, cause = fault["subtitle"], fault["cause"]
     known: Known = {
-        **of_pair(verdict), **fault,
+        **pair, **fault,
         "subtitle": subtitle and subtitle["number"], "begin": subtitle and subtitle["begin"],
         "end": subtitle and subtitle["end"], "due": cell_words(fault["due"]),
         "held": cell_words(fault["held"]), "cause": cause and cause["cause"],
@@ -54,5 +68,25 @@ def write_head(file: IO[str]) -> None:
 
 def write_row(file: IO[str], known: Known) -> None:
     """Writes a line; a column is empty where it does not apply."""
-    row = [known.get(name) for name in COLUMNS]
+    row = [said(known.get(name)) for name in COLUMNS]
     csv.writer(file, lineterminator="\n").writerow(["" if one is None else one for one in row])
+
+
+def said(value: object) -> object:
+    """A value without what a terminal would obey; a reason may have several lines."""
+    return "\n".join(map(shown, value.split("\n"))) if isinstance(value, str) else value
+
+
+def text_of(objects: Iterable[dict[str, Any]]) -> Iterator[bytes]:
+    """The lines of many pairs and of their faults, by their objects, under one head."""
+    text = io.StringIO()
+    write_head(text)
+    for known in objects:
+        pair = of_object(known)
+        write_row(text, pair)
+        for fault in known.get("faults") or []:
+            write_row(text, with_fault(pair, fault))
+        yield text.getvalue().encode()
+        text.seek(0)
+        text.truncate()
+    yield text.getvalue().encode()

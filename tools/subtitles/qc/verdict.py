@@ -75,7 +75,9 @@ class Gap:
 
 @dataclasses.dataclass
 class Verdict:
-    """All there is to say of a pair; `notes` are what else was seen, a line each."""
+    """All there is to say of a pair; `notes` are what else was seen, a line each. `found` is what
+    its files were like when judging began, `seconds` how long it took. `was_fitted`: the origin
+    that is given was found in the recording, by who calls this tool."""
 
     asked: Asked
     severity: Severity
@@ -87,8 +89,13 @@ class Verdict:
     commands: list[str] = dataclasses.field(default_factory=list)
     stl: File | None = None
     recording: File | None = None
+    is_kept: bool = False  # what was judged stays in the folder
+    is_stopped: bool = False  # by a signal
     reason: str | None = None
     to_type: tuple[str, ...] = ()
+    found: dict[str, object] = dataclasses.field(default_factory=dict)
+    seconds: float = 0.0
+    was_fitted: bool = False
 
     @property
     def is_lost(self) -> bool:

@@ -1,4 +1,4 @@
-"""What is strange of a recording and breaks no rule of `check`: it is said, and the status stays."""
+"""What is strange of a recording and breaks no rule of `check`: said, and the status stays."""
 from __future__ import annotations
 
 from typing import Iterator, NamedTuple

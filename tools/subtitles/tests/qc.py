@@ -1,6 +1,7 @@
 """tools/qc on a pair: from a recording to a verdict."""
 from __future__ import annotations
 
+import hashlib
 import json
 import os
 import select
@@ -46,7 +47,7 @@ def judges_a_recording(case: Case) -> None:
                                              os.path.basename(case.bench.program), "preview"],
               commands)
     kept = sorted(os.listdir(case.path("out")))
-    case.test("its files", kept == ["story.cut.pes", "story.html", "story.json", "story.txt"], kept)
+    case.test("its files", kept == ["story.html", "story.json", "story.txt"], kept)
     said: dict[str, list[str]] = {}
     for line in lines:
         if line.startswith("+ "):
@@ -84,7 +85,8 @@ def judges_a_feed(case: Case) -> None:
     words = lines_of(done)[0].split()
     case.test("one line of commands", words.count("|") == 2, words)
     wrong = stream(case, "five", example_bytes("five-faults.pes"))
-    done = qc(case, STORY, "-", "--origin", "0", "--every", "25", "-o", "out", data=wrong)
+    done = qc(case, STORY, "-", "--origin", "0", "--every", "25", "-o", "out", "--keep",
+              data=wrong)
     case.test("refused", done.status == 1 and lines_of(done)[-1] ==
               "refused 67 Control frame 20:15:01:00 packet 0" and "5 faults" in lines_of(done),
               done)
@@ -228,7 +230,7 @@ def judges_part_by_part(case: Case) -> None:
     kept = sorted(os.listdir(case.path("out")))
     case.test("its files", kept == sorted(
         ["two.json", *(f"two.{number}.{ending}" for number in (1, 2)
-                       for ending in ("stl", "cut.pes", "txt", "html"))]), kept)
+                       for ending in ("stl", "txt", "html"))]), kept)
     parts = json.loads(case.read("two.json"))["parts"]
     case.test("its object", [(part["from"], part["to"], part["origin"]) for part in parts] ==
               [("10:00:00:00", "10:00:38:10", 1000),
@@ -243,8 +245,10 @@ def judges_part_by_part(case: Case) -> None:
               and "accepted" in lines_of(done)[-4] and lines_of(done)[-1].startswith("refused "),
               done)
     one = case.write("one.pes", data[:len(data) // 2])
-    case.test("one part is missing", qc(case, stl, one).status == 1)
-    case.test("and was said", qc(case, stl, one, "--breaks", "1").status == 2)
+    missing: list[tuple[list[str], int]] = [([], 1), (["--breaks", "1"], 2)]
+    for words, status in missing:
+        done = qc(case, stl, one, *words)
+        case.test(f"one part is missing {words}", done.status == status, done)
 
 
 def keeps_the_first_origin_of_a_feed(case: Case) -> None:
@@ -269,6 +273,24 @@ def keeps_the_first_origin_of_a_feed(case: Case) -> None:
     lines = process.stdout.read().decode().splitlines()
     case.test("refused", process.wait() == 1 and lines[-1].startswith("refused ")
               and lines.count(lines[-1]) == 2 and not any("+ " in line for line in lines), lines)
+
+
+def keeps_what_was_judged_where_it_is_asked(case: Case) -> None:
+    """With --keep; without, its sum stays in the object, and there is no name."""
+    cases: list[tuple[list[str], str | None]] = [(["--keep"], "out/story.cut.pes"), ([], None)]
+    for words, name in cases:
+        done = qc(case, STORY, example("story.pes"), "-o", "out", *words)
+        pes = json.loads(case.read("out/story.json"))["parts"][0]["pes"]
+        case.test(f"{words}: its sum", pes == {
+            "name": name, "size": len(example_bytes("story.pes")),
+            "sha256": hashlib.sha256(example_bytes("story.pes")).hexdigest()}, pes)
+        case.test(f"{words}: the file", os.path.exists(case.path("out/story.cut.pes")) ==
+                  bool(words) and done.status == 0, done)
+    done = qc(case, STORY, RECORDING, "--keep")
+    case.test("without a folder", done.status == 2 and len(done.told) == 1, done)
+    case.write("list", f"{STORY} {RECORDING}\n".encode())
+    qc(case, "--batch", "list", "-o", "all", "--keep")
+    case.test("a batch", os.path.exists(case.path("all/story.cut.pes")))
 
 
 def leaves_inputs_alone(case: Case) -> None:
@@ -311,5 +333,6 @@ def uses_the_page_and_the_option(case: Case) -> None:
 
 CASES = [judges_a_recording, takes_pes_packets, judges_a_feed, ends_with_a_feed_that_goes_on,
          judges_a_subtitle_file, refuses_what_was_lost, judges_part_by_part,
-         keeps_the_first_origin_of_a_feed, guesses_nothing, leaves_inputs_alone,
+         keeps_the_first_origin_of_a_feed, guesses_nothing,
+         keeps_what_was_judged_where_it_is_asked, leaves_inputs_alone,
          heeds_severities, uses_the_page_and_the_option]

@@ -44,7 +44,8 @@ def finds_the_first_picture(case: Case) -> None:
     long = b"".join(b"TIME" + data[at:at + 188] for at in range(0, len(data), 188))
     done = judged(case, "192", long, "--start", STARTED)
     case.test("192 bytes", done.status == 0, done)
-    done = judged(case, "late", data, "--start", time_of(BEGIN - EARLIER - 2), "--json", "late.json")
+    done = judged(case, "late", data, "--start", time_of(BEGIN - EARLIER - 2), "--json",
+                  "late.json")
     clock = json.loads(case.read("late.json"))["parts"][0]["clock"]
     case.test("all is two frames late", done.status == 1 and clock["source"] == "start", done)
 

@@ -1,24 +1,35 @@
--- The rules of the span and of the repeats, packet by packet and frame by frame.
+-- Spans packet by packet: `clean_cuts`, `last_clean`.
 use Rattle.std.proofs.lemmas.Bool.Decides.{nat_tests}
-use Rattle.std.proofs.Common.{◌≡◌, ℕ, zero, suc, ◌+◌, ◌-◌, ◌<◌, ◌≤◌, inl, inr, Bool, true, false}
-use Rattle.std.proofs.Common.{not, ◌&&◌, cond, List, [], ◌∷◌, ◌++◌, length, take, slice_index_or}
-use Rattle.std.proofs.Common.{All, refl, sym, ap, ◌∙◌, subst, arith, add-one, le_refl}
-use Rattle.std.proofs.lemmas.Bool.{cases_lt, cond-true, cond-false, and_from}
-use Rattle.std.proofs.lemmas.List.{take_more, take_all, take-take, length-take, length_push}
+use Rattle.std.proofs.Common.{◌≡◌, ℕ, zero, suc, ◌<◌, inl, inr, Bool, true, false, not, ◌&&◌, cond}
+use Rattle.std.proofs.Common.{List, [], ◌∷◌, ◌++◌, length, take, slice_index_or, All, refl, sym, ap}
+use Rattle.std.proofs.Common.{IsTrue, IsFalse, ◌∙◌, subst, arith, add-one}
+use Rattle.std.proofs.lemmas.Bool.{cases_lt}
+use Rattle.std.proofs.lemmas.List.{take_more, take_all, length_push}
 use Rattle.std.proofs.lemmas.List.{get_or_append_left, get_or_at}
 use Rattle.std.proofs.lemmas.List.Elements.{All-nil, All-push}
-use Rattle.std.proofs.Math.Seq.{take-append_seam}
 use Rattle.ttx_packet.specs.PageId.{PageIdValue}
 use Rattle.ttx_page.specs.Noise.{IsOddRow, IsSameRow}
 use Rattle.ttx_page.specs.PacketKind.{kind, is_this_page, ends_page}
 use Rattle.ttx_page.specs.Span.{is_open_after, span}
 use Rattle.ttx_page.proofs.SpanPush.{span-push}
-use Rattle.sub_rules.specs.Transmission.{Transmission, IsRising, first_frame, last_frame}
-use Rattle.sub_rules.specs.Transmission.{packets_between, on_air_until}
-use Rattle.sub_rules.specs.Good.{IsEnhancement, IsCleanSpan, HasCleanSpans, Repeats}
-use Rattle.sub_laws.specs.StepByStep.{MayFollow, EachMayFollow, LawOfCleanSpans, LawOfSpansByPacket}
-use Rattle.sub_laws.specs.StepByStep.{IsNeverLate, LawOfRepeats}
-use Rattle.sub_laws.proofs.TransmissionLemmas.{packets_between-split, packets_between-void}
+use Rattle.sub_rules.specs.Good.{IsEnhancement, IsCleanSpan}
+
+-- A packet may follow a clean span.
+pub record MayFollow (page : PageIdValue) (packets : List (List ℕ)) (packet : List ℕ) : Type 0 where
+  pub odd : IsOddRow page packet
+  pub same : All (λ earlier. IsSameRow page earlier packet) packets
+  pub plain : IsEnhancement page packet → ⊥
+
+-- Each packet that comes while the page is open, and is no header that opens it again or ends it,
+-- may follow the span that it comes after.
+abbrev pub EachMayFollow : PageIdValue → List (List ℕ) → Type 0
+EachMayFollow page packets =
+    (i : ℕ) (d : List ℕ)
+    → i < length packets
+    → IsTrue (is_open_after (kind page) (take i packets))
+    → IsFalse (is_this_page (kind page (slice_index_or packets i d)))
+    → IsFalse (ends_page (kind page (slice_index_or packets i d)))
+    → MayFollow page (span (kind page) (take i packets)) (slice_index_or packets i d)
 
 -- ---- one packet more
 
@@ -63,12 +74,6 @@ last_clean page packets packet clean =
     }
 
 -- ---- a list, cut anywhere
-
--- A list cut twice is the list cut once.
-cut_twice :
-    {A : Type 0} (n m : ℕ) (xs : List A) → (k : ℕ) × (take n (take m xs) ≡ take k xs)
-cut_twice n m xs =
-    grind (arith, nat_tests, cases_lt n m, take-take n m xs, length-take, take_all n (take m xs))
 
 -- No packets are a clean span.
 clean_nil : (page : PageIdValue) → IsCleanSpan page []
@@ -121,81 +126,3 @@ clean_cuts page packets each (suc n) =
       | inr past ↦
           grind (arith, nat_tests, take_all)
     ]
-
--- Where the span of each cut is clean, each packet may follow: by the cut after it.
-each_follows :
-    (page : PageIdValue) (packets : List (List ℕ))
-    → ((n : ℕ) → IsCleanSpan page (span (kind page) (take n packets)))
-    → EachMayFollow page packets
-each_follows page packets clean i d within up other going =
-    let p : List ℕ = slice_index_or packets i d in
-    let more : take (i + 1) packets ≡ take i packets ++ p ∷ [] = take_more packets i d within in
-    let grown :
-    span (kind page) (take i packets ++ p ∷ []) ≡ span (kind page) (take i packets) ++ p ∷ [] =
-    grind (arith, nat_tests, span-push, cond-false, cond-true, and_from) in
-    last_clean page (span (kind page) (take i packets)) p
-    (subst (IsCleanSpan page) (ap (span (kind page)) more ∙ grown) (clean (i + 1)))
-
--- The spans of a list cut anywhere.
-pub law_of_clean_spans : LawOfCleanSpans
-law_of_clean_spans page packets = (each_follows page packets, clean_cuts page packets)
-
--- ---- a transmission, up to each of its frames
-
--- What is on air up to a frame is what is on air up to the last one, cut.
-on_air_until-cut :
-    (frames : Transmission) (f : ℕ)
-    → IsRising frames
-    → f ≤ last_frame frames
-    → (m : ℕ) × (on_air_until frames f ≡ take m (on_air_until frames (last_frame frames)))
-on_air_until-cut frames f rising l =
-    elim (cases_lt f (first_frame frames)) [
-      | inl before ↦
-          (0, packets_between-void frames (first_frame frames) (f + 1) (omega arith))
-      | inr after ↦
-          let so_far : List (List ℕ) = on_air_until frames f in
-          let rest : List (List ℕ) = packets_between frames (f + 1) (last_frame frames + 1) in
-          let split : on_air_until frames (last_frame frames) ≡ so_far ++ rest =
-          grind (arith, nat_tests, packets_between-split) in
-          (length so_far, sym (ap (take (length so_far)) split ∙ take-append_seam so_far rest))
-    ]
-
--- The rule of the spans by packet.
-pub law_of_spans_by_packet : LawOfSpansByPacket
-law_of_spans_by_packet page frames rising = (by_packet, by_frame)
-  where
-    whole : List (List ℕ)
-    whole = on_air_until frames (last_frame frames)
-
-    by_packet : HasCleanSpans page frames → EachMayFollow page whole
-    by_packet clean =
-        each_follows page whole (λ n. clean (last_frame frames) n (le_refl (last_frame frames)))
-
-    by_frame : EachMayFollow page whole → HasCleanSpans page frames
-    by_frame each f n l =
-        let cut = on_air_until-cut frames f rising l in
-        let twice = cut_twice n cut.0 whole in
-        grind (arith, nat_tests, clean_cuts page whole each twice.0)
-
--- ---- repeats
-
--- The rule of the repeats by frame.
-pub law_of_repeats : LawOfRepeats
-law_of_repeats page every frames some opens = (never_late, repeats)
-  where
-    F0 : ℕ
-    F0 = first_frame frames
-
-    never_late : Repeats page every frames → IsNeverLate page every frames
-    never_late repeats f l m =
-        elim (cases_lt f (F0 + every)) [
-          | inl early ↦ (F0, l, early, opens)
-          | inr late ↦
-              let found = repeats (f + 1 - every) (omega arith) (omega arith) in
-              (found.0, omega (arith, found.2), omega (arith, found.1), found.3)
-        ]
-
-    repeats : IsNeverLate page every frames → Repeats page every frames
-    repeats never_late start l m =
-        let found = never_late (start + every - 1) (omega arith) (omega arith) in
-        (found.0, omega (arith, found.2), omega (arith, found.1), found.3)
