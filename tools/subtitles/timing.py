@@ -13,6 +13,7 @@ from .transport import (
 
 SECOND = 90_000  # ticks
 FIRST = 60 * SECOND  # from the first look on, of which the median is what is usual
+MOST_LATE = 60  # samples, of which the latest PTS tells how late others may be
 CHANGED = SECOND // 2  # more than that against what is usual
 
 
@@ -87,6 +88,10 @@ class Timing:
             if found:
                 self.pcr = pcr_at(self.piece.data, found[-1])
         return self.pcr
+
+    def late(self) -> int:
+        """By how many ticks PTS were behind the PCR, at most."""
+        return max([0, *(-one.ahead for one in self.samples[-MOST_LATE:])])
 
     def strange(self) -> list[Strange]:
         """What is wrong with the PTS."""

@@ -7,7 +7,7 @@ import os
 import re
 import shlex
 import sys
-from typing import IO, Callable, NoReturn
+from typing import IO, Callable, NoReturn, TextIO
 
 from .teletext import page_of
 from .times import CLOCK, frame_of
@@ -221,7 +221,7 @@ def line_of(reason: BaseException) -> str:
     return " ".join(str(reason).split())
 
 
-def silence() -> None:
+def silence(out: TextIO | None = None) -> None:
     """Python writes to standard output once more when it ends; nobody takes that any more."""
     with contextlib.suppress(OSError, AttributeError):
-        os.dup2(os.open(os.devnull, os.O_WRONLY), sys.stdout.fileno())
+        os.dup2(os.open(os.devnull, os.O_WRONLY), (out or sys.stdout).fileno())

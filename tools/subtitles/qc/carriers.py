@@ -42,6 +42,14 @@ class Kept:
             self.has_page = has_header(data, self.page)
         return data
 
+    def pcr(self) -> int | None:
+        """The last PCR that has come, where there is one."""
+        return None
+
+    def late(self) -> int:
+        """By how many ticks PTS were behind the PCR, at most."""
+        return 0
+
     def flush(self) -> None:
         """What was kept can be read from the file then."""
         with naming(self.path):
@@ -65,6 +73,12 @@ class Carrier(Kept):
         self.timing.take(piece, self.extractor.joiner.before)
         found: list[bytes] = self.extractor.ended(piece)
         return found
+
+    def pcr(self) -> int | None:
+        return self.timing.last()
+
+    def late(self) -> int:
+        return self.timing.late()
 
     def last(self) -> int | None:
         """The last PTS, or the last PCR where that is later."""
@@ -122,7 +136,8 @@ class Carriers:
         self.by_pid[pid] = Carrier(pid, self.page, path, self.listing)
 
     def packets(self) -> Iterator[tuple[Carrier, bytes]]:
-        """The PES packets as they come, each with what carries it."""
+        """The PES packets as they come, each with what carries it; of a feed none, too, where time
+        goes on without them."""
         opening = Opening(self.source)
         reader = Reader(opening)
         for piece in reader:
@@ -133,6 +148,8 @@ class Carriers:
             pids = self.listing.streams.keys() | self.by_pid.keys()
             for pid in sorted(pids, key=lambda pid: pid == self.pid):  # the list hears it before
                 yield from self.packets_of(pid, piece)
+            if self.source.is_feed:
+                yield from [(carrier, b"") for carrier in self.by_pid.values()]
         self.skipped = reader.skipped
 
     def packets_of(self, pid: int, piece: Piece) -> Iterator[tuple[Carrier, bytes]]:

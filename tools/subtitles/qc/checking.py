@@ -51,6 +51,11 @@ class Answer:
             raise Unclear(f"check was not answered: {self.last or 'it printed nothing'}, status "
                           f"{status}")
 
+    def stop(self) -> None:
+        """Takes that nothing more is told: what was told so far is no answer."""
+        with naming(self.path):
+            self.file.close()
+
     def move(self, path: str) -> None:
         """Moves the file of its lines."""
         with naming(path):
@@ -66,7 +71,7 @@ class Answer:
 
     @property
     def verdict(self) -> str:
-        return ACCEPTED_WORD if self.status == 0 else REFUSED_WORD
+        return {0: ACCEPTED_WORD, 1: REFUSED_WORD}.get(self.status, NOT_JUDGED)
 
     @property
     def line(self) -> str:
@@ -100,8 +105,12 @@ def check(command: list[str], path: str, hear: Callable[[str], None]) -> Answer:
     with subprocess.Popen(command, stdin=subprocess.DEVNULL, stdout=subprocess.PIPE,
                           encoding="utf-8", errors="replace") as process:
         assert process.stdout
-        for line in process.stdout:
-            answer.take(line.rstrip("\n"))
-            hear(line.rstrip("\n"))
+        try:
+            for line in process.stdout:
+                answer.take(line.rstrip("\n"))
+                hear(line.rstrip("\n"))
+        except BaseException:
+            process.kill()
+            raise
     answer.end(process.returncode)
     return answer

@@ -11,7 +11,8 @@ from .live import Live
 from .start import Starting
 
 ORIGIN = re.compile(r"--origin (\d+)\n")  # of all that has come
-AGREE = re.compile(r"(\d+) of (\d+) edges? agree")
+AGREE = re.compile(r"(\d+) of (\d+) edges? agrees?, (\d+) with the letters that are due; "
+                   r"(?:the file|this part) has (\d+)")
 ENOUGH = 5  # edges that agree on an origin before anything is judged by it
 WAIT = 5.0  # seconds between two looks for the origin, at least
 AGAIN = 8  # times as long as a look takes, at least
@@ -22,15 +23,15 @@ class Finder:
 
     def __init__(self, command: list[str]) -> None:
         self.command = command
-        self.next = time.monotonic() + WAIT
+        self.next, self.count = time.monotonic() + WAIT, 0
 
-    def is_due(self) -> bool:
-        """Whether it is time for another look."""
-        return time.monotonic() >= self.next
+    def is_due(self, kept: Kept) -> bool:
+        """Whether it is time for another look, and there is something new."""
+        return time.monotonic() >= self.next and kept.count > self.count
 
     def look(self, kept: Kept) -> int | None:
-        """The origin, where all edges agree that were due so far, and these are enough."""
-        began = time.monotonic()
+        """The origin, where it is clear and enough edges agree; or all that there are."""
+        began, self.count = time.monotonic(), kept.count
         kept.flush()
         done = subprocess.run([*self.command, kept.path], stdin=subprocess.DEVNULL,
                               stdout=subprocess.PIPE, stderr=subprocess.PIPE, encoding="utf-8",
@@ -38,17 +39,23 @@ class Finder:
         self.next = time.monotonic() + max(WAIT, AGAIN * (time.monotonic() - began))
         agree = AGREE.search(done.stderr)
         found = ORIGIN.fullmatch(done.stdout)
-        is_clear = done.returncode == 0 and found and agree and agree[1] == agree[2] \
-            and int(agree[1]) >= ENOUGH
+        is_clear = done.returncode == 0 and agree and is_enough(*map(int, agree.groups()))
         return int(found[1]) if found and is_clear else None
+
+
+def is_enough(agree: int, among: int, letters: int, count: int) -> bool:
+    """Whether so many edges that agree are enough, of those that were due so far and of all that
+    there are: some others may not agree, where the letters are those that are due."""
+    if agree == among:
+        return agree >= ENOUGH or agree == count
+    return agree >= ENOUGH and letters * 2 >= agree
 
 
 class Feed:
     """Follows a feed to its end, or to that of the subtitles.
 
     `live` judges it, as soon as the origin is known: the one that was given, or one that was found.
-    Where a break of the programme shows that it is not that of all, nothing is judged before the
-    end. Ends early, and without a judgement, where a second PID carries the page too.
+    Ends early, and without a judgement, where a second PID carries the page too.
     """
 
     def __init__(self, origin: int | None, finder: Finder, start: Callable[[Kept, int], Live],
@@ -57,7 +64,6 @@ class Feed:
         self.starting = starting  # waits for the first picture
         self.carrier: Kept | None = None
         self.live: Live | None = None
-        self.has_break = False
 
     def follow(self, packets: Iterator[tuple[Kept, bytes]], show: Callable[[], None]) -> None:
         """Takes the PES packets as they come; `show` tells how much is read where none is judged."""
@@ -67,37 +73,39 @@ class Feed:
                     self.drop()
                     return
                 self.carrier = kept
-            if kept is self.carrier:
+            if kept is self.carrier and data:
                 self.take(kept, data)
             if not self.live:
                 show()
-            elif self.live.is_over() and self.is_all(kept):
+            elif self.live.is_over() or kept is self.carrier and \
+                    self.live.is_past(kept.pcr(), kept.late()):
                 return
+
+    def is_settled(self) -> bool:
+        """Whether nothing more is needed of a feed that stands still."""
+        if self.carrier and not self.live:
+            self.begin(self.carrier)
+        return self.live is not None and (self.live.is_over() or self.live.has_last())
 
     def take(self, kept: Kept, data: bytes) -> None:
         """Takes a PES packet of what carries the page."""
         if self.live:
             self.live.put(data)
-            return
+        else:
+            self.begin(kept)
+
+    def begin(self, kept: Kept) -> None:
+        """Begins to judge, once the origin is known."""
         origin = self.origin
         if self.starting:
             began = self.starting.look(kept.pid, kept.grid) if isinstance(kept, Carrier) else None
             origin = began and began.clock.origin
-        elif origin is None and not self.has_break and self.finder.is_due():
+        elif origin is None and self.finder.is_due(kept):
             origin = self.finder.look(kept)
         if origin is not None:
             kept.flush()
             self.live = self.start(kept, origin)
             self.live.put_all(kept.path)
-
-    def is_all(self, kept: Kept) -> bool:
-        """Whether the origin is that of all that has come; else nothing more is judged by it."""
-        if self.origin is not None or self.starting or not self.live or \
-                self.finder.look(kept) == self.live.origin:
-            return True
-        self.has_break = True
-        self.drop()
-        return False
 
     def drop(self) -> None:
         """Judges nothing more."""

@@ -9,7 +9,7 @@ from ..cutting import Cut
 from ..files import naming
 from ..pes import pes_packets
 from ..teletext import Page
-from ..times import time_of
+from ..times import CLOCK, FRAMES_OF_A_DAY, TICKS, time_of
 from ..words import counted
 from .checking import Answer
 from .names import Names
@@ -24,13 +24,15 @@ class Live:
     """A call of `check --all` that is handed the PES packets of the time of the subtitles; it is
     heard beside that."""
 
-    def __init__(self, command: list[str], found: Found, page: Page, names: Names,
+    def __init__(self, command: list[str], found: Found, page: Page, every: int, names: Names,
                  speech: Speech, following: Following) -> None:
-        self.cut, self.speech = Cut(found.begin, found.end, page, found.origin), speech
+        self.cut = Cut(found.begin, found.end, page, found.origin, every)
+        self.speech = speech
         self.origin, self.answer = found.origin, Answer(names.list_path)
         self.path = names.cut_path
         self.kept: BinaryIO = open(self.path, "wb")
         self.has_ended = False  # the program, before all was handed on
+        self.failed: OSError | None = None  # why a line could not be written
         self.following = following
         self.process = subprocess.Popen(command, stdin=subprocess.PIPE, stdout=subprocess.PIPE)
         self.listener = threading.Thread(target=self.listen, daemon=True)
@@ -41,8 +43,11 @@ class Live:
         assert self.process.stdout
         for data in self.process.stdout:
             line = data.decode("utf-8", "replace").rstrip("\n")
-            self.answer.take(line)
-            self.speech.of_list(line)
+            try:
+                self.answer.take(line)
+                self.speech.of_list(line)
+            except OSError as reason:
+                self.failed = self.failed or reason
             self.following.hear(line)
 
     def put_all(self, path: str) -> None:
@@ -53,6 +58,8 @@ class Live:
 
     def put(self, data: bytes) -> None:
         """Hands on a PES packet, where it is to be judged."""
+        if self.failed:
+            raise self.failed
         for one in self.cut.taken([data]):
             assert self.process.stdin
             with naming(self.path):
@@ -71,6 +78,18 @@ class Live:
     def is_over(self) -> bool:
         """Whether nothing more is to be judged."""
         return self.cut.is_over or self.has_ended
+
+    def has_last(self) -> bool:
+        """Whether the last sending has come: no more is needed where nothing else comes."""
+        return self.cut.was_in and self.cut.has_end
+
+    def is_past(self, pcr: int | None, late: int) -> bool:
+        """Whether by the PCR, behind which PTS are `late` ticks at most, all has come that is to be
+        judged."""
+        if pcr is None:
+            return False
+        frame = (pcr - late - self.cut.origin) % CLOCK // TICKS
+        return self.cut.high < frame < FRAMES_OF_A_DAY
 
     def show(self, still: float = 0.0) -> None:
         """The time of the last PES packet, the faults so far, and how long nothing has come."""
@@ -92,6 +111,14 @@ class Live:
         self.answer.end(status)
         self.speech.end_list(self.answer.last)
         self.following.follow(is_over=True)
+        if self.failed:
+            raise self.failed
+        return self.answer
+
+    def stop_early(self) -> Answer:
+        """What was told so far, where a signal ends it all."""
+        self.stop()
+        self.answer.stop()
         return self.answer
 
     def stop(self) -> None:

@@ -18,6 +18,7 @@ from .naming import Causes
 from .recording import Recording
 from .source import STANDARD_INPUT
 from .speech import Speech
+from .stall import Stall
 from .start import Starting, refuse_outside
 from .steps import Found, Steps, Stretch, origin_words
 from .sums import file_of
@@ -40,6 +41,8 @@ class Pair:
         self.verdict, self.asked = verdict, verdict.asked
         self.typed, self.names, self.speech = typed, names, speech
         self.is_summed = is_summed
+        self.stalled_after = 10  # seconds
+        self.recording: Recording | None = None
         self.steps = Steps(self.asked, typed, names, speech)
         # The first and the last frame of the subtitle file, and the clock where it was given.
         self.whole = Found(0, 0, NO_CLOCK)
@@ -70,6 +73,20 @@ class Pair:
             raise Unclear("nothing of the recording was read, and --severity leaves no fault an "
                           "error")
 
+    def stop(self) -> str | None:
+        """Takes what was told of a feed before a signal came; the time up to which it was judged.
+        """
+        live = self.recording.live if self.recording else None
+        if live is None or live.cut.frame is None or self.verdict.parts:
+            return None
+        answer, frame = live.stop_early(), live.cut.frame
+        clock = self.starting.began.clock if self.starting and self.starting.began else \
+            self.given() or Clock(live.origin, RECORDING)
+        self.verdict.parts.append(Part(
+            1, self.asked.stl, self.names.given, self.names.cut_path, live.origin,
+            self.whole.begin, frame, None, answer, clock))
+        return time_of(min(frame, FRAMES_OF_A_DAY))
+
     def judge_alone(self, answer: Answer, is_refused: bool) -> None:
         """Ends with the subtitle file, which is refused or is all that there is."""
         self.steps.say_alone()
@@ -95,7 +112,9 @@ class Pair:
             raise Unclear(f"{asked.stl} has no subtitle")
         given = self.given()
         self.whole = Found(times[0][0], times[-1][1], given or NO_CLOCK)
-        recording = Recording(asked, self.typed, self.names, self.speech)
+        stall = Stall(self.stalled_after, self.speech.tell)
+        recording = Recording(asked, self.typed, self.names, self.speech, stall)
+        self.recording = recording
         finder = Finder([*self.typed.call("origin"), *asked.page_words(), *asked.option_words(),
                          "--", asked.stl])
         recording.read(self.is_summed, Feed(asked.origin, finder, self.start, self.starting))
@@ -207,8 +226,8 @@ class Pair:
                               Telling(self.speech, asked.option))
         return Live([self.typed.program_path, "check", *words, "--", self.names.given,
                      "/dev/stdin"],
-                    self.whole._replace(clock=Clock(origin, RECORDING)), asked.page, self.names,
-                    self.speech, following)
+                    self.whole._replace(clock=Clock(origin, RECORDING)), asked.page, asked.every,
+                    self.names, self.speech, following)
 
     # What is missing.
 

@@ -18,6 +18,7 @@ from .live import Live
 from .names import Names, again
 from .source import STANDARD_INPUT, Source
 from .speech import Speech
+from .stall import Stall
 from .start import Began, Starting
 from .sums import File
 from .typed import Typed
@@ -34,8 +35,10 @@ class Recording:
     feed while it came, where there was one.
     """
 
-    def __init__(self, asked: Asked, typed: Typed, names: Names, speech: Speech) -> None:
+    def __init__(self, asked: Asked, typed: Typed, names: Names, speech: Speech,
+                 stall: Stall) -> None:
         self.asked, self.typed, self.names, self.speech = asked, typed, names, speech
+        self.stall = stall
         assert asked.recording is not None
         self.name = asked.recording
         self.path, self.shown = names.whole_path, names.whole
@@ -48,7 +51,8 @@ class Recording:
     def read(self, is_summed: bool, feed: Feed) -> None:
         """Reads it: a file to its end, a feed up to the last subtitle at least."""
         source = Source(self.name, is_summed)
-        source.wait = lambda seconds: self.show(source, feed, seconds)
+        source.wait = lambda seconds: self.wait(source, feed, seconds)
+        source.gone_on = self.stall.go_on
         try:
             if not is_pes_packets(source):
                 self.take_out(source, feed)
@@ -57,6 +61,9 @@ class Recording:
             else:
                 self.take(source)
             self.live, self.file = feed.live, source.summed()
+        except KeyboardInterrupt:
+            self.live = feed.live
+            raise
         except BaseException as reason:
             feed.drop()
             if isinstance(reason, Damaged):
@@ -133,6 +140,12 @@ class Recording:
         for other in carriers.by_pid.values():
             if other is not carrier:
                 os.unlink(other.path)
+
+    def wait(self, source: Source, feed: Feed, still: float) -> bool:
+        """Hears that nothing has come for some seconds; whether nothing more is needed."""
+        self.stall.wait(still)
+        self.show(source, feed, still)
+        return feed.is_settled()
 
     def show(self, source: Source, feed: Feed, still: float = 0.0) -> None:
         """How much of the recording is read, and how long nothing has come."""

@@ -6,6 +6,7 @@ import io
 import itertools
 import os
 import re
+import signal
 import tempfile
 import time
 from typing import Callable, Iterator
@@ -16,6 +17,7 @@ from ..words import Stop, counted, escaped, line_of, shown
 from . import junit, machine, table
 from .asked import Asked, asked_of
 from .cause_words import count_line
+from .checking import NOT_JUDGED
 from .claim import claimed
 from .clock import FITTED
 from .faults import faults_of
@@ -32,6 +34,7 @@ from .unclear import Unclear
 from .verdict import LOST, Verdict
 
 ESCAPED = re.compile("[\ud800-\udfff]")  # bytes of a name that is not UTF-8
+SIGNALS = (signal.SIGINT, signal.SIGTERM, signal.SIGHUP)
 SUMMED = 100  # lines of a list in a summary, and in a file for a CI
 
 
@@ -56,8 +59,10 @@ def judge(words: argparse.Namespace, called: str) -> int:
         files = Files(words, verdict, typed, names)
         files.prepare()
         verdict.found = found(asked)
+        pair = Pair(verdict, typed, names, speech, files.are_any())
+        pair.stalled_after = words.stall
         try:
-            judge_pair(Pair(verdict, typed, names, speech, files.are_any()), files)
+            judge_pair(pair, files)
         finally:
             files.leave()
     end(verdict, speech)
@@ -72,6 +77,11 @@ def judge_pair(pair: Pair, files: Files) -> None:
     except (Unclear, Stop, OSError) as reason:
         verdict.to_type = reason.to_type if isinstance(reason, Unclear) else ()
         verdict.reason = reason.reason if isinstance(reason, Unclear) else line_of(reason)
+    except KeyboardInterrupt:
+        for one in SIGNALS:
+            signal.signal(one, signal.SIG_IGN)  # what is known is written now
+        verdict.is_stopped = True
+        verdict.reason = f"stopped at {pair.stop() or now()}"
     verdict.commands = pair.speech.commands
     verdict.seconds = round(time.monotonic() - began, 3)
     failed = files.write()
@@ -101,8 +111,11 @@ def end(verdict: Verdict, speech: Speech) -> None:
         if verdict.is_fitted:
             speech.say(FITTED)
         speech.end(verdict.line)
+    if verdict.is_stopped:
+        speech.say(counted(verdict.faults, "fault") + " so far" if verdict.parts else
+                   "nothing was judged so far")
     for line in (verdict.reason or "").splitlines():
-        speech.tell(line)
+        speech.tell(f"{NOT_JUDGED}: {line}" if verdict.is_stopped else line)
     for at, line in enumerate(verdict.to_type):
         speech.tell(f"{'type' if at == 0 else 'or'} {line}")
 

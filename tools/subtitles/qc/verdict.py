@@ -90,6 +90,7 @@ class Verdict:
     stl: File | None = None
     recording: File | None = None
     is_kept: bool = False  # what was judged stays in the folder
+    is_stopped: bool = False  # by a signal
     reason: str | None = None
     to_type: tuple[str, ...] = ()
     found: dict[str, object] = dataclasses.field(default_factory=dict)
