@@ -96,7 +96,7 @@ def tell_part(part: Part, count: int) -> None:
 def apart_words(apart: Apart) -> str:
     """That beginnings or ends are late."""
     names = ("beginnings", "ends") if apart.is_begin else ("ends", "beginnings")
-    which = "all" if apart.count == apart.of else f"{apart.count} of {apart.of}"
+    which = "all" if apart.agree == apart.of else f"{apart.agree} of {apart.of}"
     return f"{which} {names[0]} are {frames_words(TICKS * apart.late)} compared with the {names[1]}"
 
 

@@ -62,7 +62,7 @@ class Apart(NamedTuple):
 
     is_begin: bool
     late: int
-    count: int
+    agree: int
     of: int
 
 

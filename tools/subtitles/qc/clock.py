@@ -6,6 +6,8 @@ from typing import NamedTuple
 RECORDING, GIVEN, START, TCP = "recording", "given", "start", "tcp"
 FITTED = "the clock was fitted to the recording: a delay that all subtitles share is not seen; " \
     "give --origin or --start"
+FITTED_LATER = "the clock after a break was fitted to the recording: a delay that all subtitles " \
+    "of that part share is not seen"
 
 
 class Clock(NamedTuple):

@@ -4,18 +4,26 @@ from __future__ import annotations
 import re
 import subprocess
 import time
-from typing import Callable, Iterator
+from typing import Callable, Iterator, NamedTuple
 
 from .carriers import Carrier, Kept
 from .live import Live
 from .start import Starting
 
-ORIGIN = re.compile(r"--origin (\d+)\n")  # of all that has come
+ORIGIN = re.compile(r"(?:--pes (\d+)-\d+ )?--origin (\d+)\n")  # of all that has come
+LAST = 10 ** 12 - 1  # stands for the number of a PES packet that is still to come
 AGREE = re.compile(r"(\d+) of (\d+) edges? agrees?, (\d+) with the letters that are due; "
                    r"(?:the file|this part) has (\d+)")
 ENOUGH = 5  # edges that agree on an origin before anything is judged by it
 WAIT = 5.0  # seconds between two looks for the origin, at least
 AGAIN = 8  # times as long as a look takes, at least
+
+
+class At(NamedTuple):
+    """An origin, and the PES packets that it is of, where PTS went back before."""
+
+    origin: int
+    packets: tuple[int, int] | None = None
 
 
 class Finder:
@@ -29,7 +37,7 @@ class Finder:
         """Whether it is time for another look, and there is something new."""
         return time.monotonic() >= self.next and kept.count > self.count
 
-    def look(self, kept: Kept) -> int | None:
+    def look(self, kept: Kept) -> At | None:
         """The origin, where it is clear and enough edges agree; or all that there are."""
         began, self.count = time.monotonic(), kept.count
         kept.flush()
@@ -40,7 +48,9 @@ class Finder:
         agree = AGREE.search(done.stderr)
         found = ORIGIN.fullmatch(done.stdout)
         is_clear = done.returncode == 0 and agree and is_enough(*map(int, agree.groups()))
-        return int(found[1]) if found and is_clear else None
+        if not found or not is_clear:
+            return None
+        return At(int(found[2]), (int(found[1]), LAST) if found[1] else None)
 
 
 def is_enough(agree: int, among: int, letters: int, count: int) -> bool:
@@ -55,12 +65,14 @@ class Feed:
     """Follows a feed to its end, or to that of the subtitles.
 
     `live` judges it, as soon as the origin is known: the one that was given, or one that was found.
-    Ends early, and without a judgement, where a second PID carries the page too.
+    A programme with breaks is judged at the end. Ends early, and without a judgement, where a
+    second PID carries the page too.
     """
 
-    def __init__(self, origin: int | None, finder: Finder, start: Callable[[Kept, int], Live],
-                 starting: Starting | None) -> None:
-        self.origin, self.finder, self.start = origin, finder, start
+    def __init__(self, origin: int | None, finder: Finder, start: Callable[[Kept, At], Live],
+                 starting: Starting | None, has_breaks: bool) -> None:
+        self.at = None if origin is None else At(origin)
+        self.finder, self.start, self.has_breaks = finder, start, has_breaks
         self.starting = starting  # waits for the first picture
         self.carrier: Kept | None = None
         self.live: Live | None = None
@@ -96,15 +108,15 @@ class Feed:
 
     def begin(self, kept: Kept) -> None:
         """Begins to judge, once the origin is known."""
-        origin = self.origin
-        if self.starting:
+        at = self.at
+        if self.starting and not self.starting.began:
             began = self.starting.look(kept.pid, kept.grid) if isinstance(kept, Carrier) else None
-            origin = began and began.clock.origin
-        elif origin is None and self.finder.is_due(kept):
-            origin = self.finder.look(kept)
-        if origin is not None:
+            at = At(began.clock.origin) if began else None
+        elif at is None and not self.has_breaks and self.finder.is_due(kept):
+            at = self.finder.look(kept)
+        if at is not None and not self.has_breaks:
             kept.flush()
-            self.live = self.start(kept, origin)
+            self.live = self.start(kept, at)
             self.live.put_all(kept.path)
 
     def drop(self) -> None:

@@ -17,7 +17,7 @@ from .speech import Speech
 from .why import Following
 
 if TYPE_CHECKING:
-    from .steps import Found
+    from .fitting import Found
 
 
 class Live:
@@ -26,7 +26,7 @@ class Live:
 
     def __init__(self, command: list[str], found: Found, page: Page, every: int, names: Names,
                  speech: Speech, following: Following) -> None:
-        self.cut = Cut(found.begin, found.end, page, found.origin, every)
+        self.cut = Cut(found.begin, found.end, page, found.origin, every, found.packets)
         self.speech = speech
         self.origin, self.answer = found.origin, Answer(names.list_path)
         self.path = names.cut_path

@@ -10,7 +10,8 @@ from ..words import counted
 from .carriers import Carrier, Kept
 from .checking import Answer
 from .clock import GIVEN, RECORDING, TCP, Clock
-from .feed import Feed, Finder
+from .feed import At, Feed, Finder
+from .fitting import Found, found_in, notes_of, runs_in, with_delay
 from .kinds import is_recording
 from .live import Live
 from .names import Names
@@ -20,7 +21,7 @@ from .source import STANDARD_INPUT
 from .speech import Speech
 from .stall import Stall
 from .start import Starting, refuse_outside
-from .steps import Found, Steps, Stretch, origin_words
+from .steps import Steps, Stretch, origin_words, packets_words
 from .sums import file_of
 from .told import EMPTY
 from .typed import Typed
@@ -115,19 +116,18 @@ class Pair:
         stall = Stall(self.stalled_after, self.speech.tell)
         recording = Recording(asked, self.typed, self.names, self.speech, stall)
         self.recording = recording
-        finder = Finder([*self.typed.call("origin"), *asked.page_words(), *asked.option_words(),
-                         "--", asked.stl])
-        recording.read(self.is_summed, Feed(asked.origin, finder, self.start, self.starting))
+        finder = Finder([*self.typed.call("origin"), *steps.fit_words(None), "--", asked.stl])
+        recording.read(self.is_summed, Feed(asked.origin, finder, self.start, self.starting,
+                                             asked.breaks > 0))
         self.verdict.recording = recording.file
         given = given or self.by_start(recording)
         if recording.live:
             answer = recording.live.end()
-            clock = given or Clock(recording.live.origin, RECORDING)
+            clock = self.clock_of_live(recording, recording.live.origin, given)
             self.warn(recording, clock.origin)
-            self.end_part(1, self.all_of(clock), answer, recording)
+            self.end_part(1, self.all_of(Found(0, 0, clock)), answer, recording)
         else:
-            found = [self.whole._replace(clock=given)] if given else \
-                steps.origins(recording, self.whole)
+            found = self.found(recording, given)
             self.warn(recording, found[0].origin)
             stretches = self.stretches(found, len(times))
             self.count = len(stretches)
@@ -143,6 +143,35 @@ class Pair:
         origin = self.asked.origin
         source = RECORDING if self.verdict.was_fitted else GIVEN
         return None if origin is None else Clock(origin, source)
+
+    def found(self, recording: Recording, given: Clock | None) -> list[Found]:
+        """The parts with their clocks; the first one has the one that was given."""
+        done = self.steps.fit(recording, given)
+        runs = runs_in(done)
+        if runs > 1 and self.asked.run is None and recording.is_feed:
+            self.verdict.notes.append(f"{done.told[0]}: of a feed the first run is judged")
+            done = self.steps.fit(recording, given, "--run", "1")
+        self.verdict.notes += notes_of(done)
+        is_other = runs > 1 and self.asked.run is None and not recording.is_feed
+        if given is None or self.asked.breaks or is_other:
+            found = self.steps.fitted(done, self.whole)
+        else:
+            found = found_in(done, self.whole) or [self.whole]
+        if given:
+            clock, notes = with_delay(given, done)
+            self.verdict.notes[:0] = notes
+            found[0] = found[0]._replace(clock=clock)
+        return found
+
+    def clock_of_live(self, recording: Recording, origin: int, given: Clock | None) -> Clock:
+        """The clock of a feed that was judged while it came, with what is seen of it at its end."""
+        done = self.steps.ask_origin(recording, given)
+        if runs_in(done) > 1 and self.asked.run is None:
+            self.verdict.notes.append(f"{done.told[0]}: of a feed the first run is judged")
+            done = self.steps.ask_origin(recording, given, "--run", "1")
+        clock, notes = with_delay(given, done) if given else (Clock(origin, RECORDING), [])
+        self.verdict.notes += [*notes, *notes_of(done)]
+        return clock
 
     def by_start(self, recording: Recording) -> Clock | None:
         """The clock that the first picture tells, where it is asked."""
@@ -161,15 +190,16 @@ class Pair:
             self.verdict.warnings += [*of_timing(carrier.timing, origin),
                                       *of_tables(carriers.listing, carrier.pid, self.asked)]
 
-    def all_of(self, clock: Clock) -> Stretch:
+    def all_of(self, found: Found) -> Stretch:
         """All subtitles, with one clock."""
-        stl, given = self.asked.stl, self.names.given
-        return Stretch(stl, given, self.names, self.whole.begin, self.whole.end, clock)
+        stl, whole = self.asked.stl, self.whole
+        return Stretch(stl, self.names.given, self.names, whole.begin, whole.end, found.clock,
+                       found.packets)
 
     def stretches(self, found: list[Found], count: int) -> list[Stretch]:
         """What is judged, one after another; each of the subtitles has to be in one."""
         if len(found) == 1:
-            return [self.all_of(found[0].clock)]
+            return [self.all_of(found[0])]
         stretches = [self.steps.part(number, one) for number, one in enumerate(found, 1)]
         left = count - sum(len(self.steps.times(one.stl_path)) for one in stretches)
         if left:
@@ -194,7 +224,7 @@ class Pair:
             lost = [*lost[:TOLD], f"and at {counted(len(lost) - TOLD, 'more place')}"]
         self.steps.draw(one.names, [one.stl_path, cut], [one.stl, one.names.cut], one.origin, lost,
                         [*self.verdict.notes, *map(Warned.said, self.verdict.warnings)],
-                        self.verdict.is_fitted, self.verdict.recording,
+                        one.clock.is_fitted, self.verdict.recording,
                         ["--part", str(number), str(self.count)] if self.count > 1 else [])
 
     def causes(self, part: Part, recording: Recording) -> Causes | None:
@@ -210,24 +240,24 @@ class Pair:
 
     # A feed.
 
-    def start(self, kept: Kept, origin: int) -> Live:
+    def start(self, kept: Kept, at: At) -> Live:
         """Begins to judge a feed."""
-        asked = self.asked
+        asked, origin = self.asked, at.origin
         words = [*asked.check_words(), *origin_words(origin), "--all"]
         taken = [self.typed.tool("ts2pes"), str(asked.recording), f"0x{kept.pid:X}", "|"] \
             if isinstance(kept, Carrier) else []
         self.speech.command(*taken, self.typed.tool("cut"), "-" if taken else str(asked.recording),
-                            "--stl", asked.stl, *asked.page_words(), *origin_words(origin), "-o",
-                            "-", "|", self.typed.program_word, "check", asked.stl, "/dev/stdin",
-                            *words)
+                            "--stl", asked.stl, *asked.page_words(), *asked.every_words(),
+                            *origin_words(origin), *packets_words(at.packets), "-o", "-", "|",
+                            self.typed.program_word, "check", asked.stl, "/dev/stdin", *words)
         asking = Asking(asked, self.typed,
                         lambda: kept.places() if isinstance(kept, Carrier) else [])
         following = Following(lambda: asking.begin(self.names.given, self.names.cut_path, origin),
                               Telling(self.speech, asked.option))
         return Live([self.typed.program_path, "check", *words, "--", self.names.given,
                      "/dev/stdin"],
-                    self.whole._replace(clock=Clock(origin, RECORDING)), asked.page, asked.every,
-                    self.names, self.speech, following)
+                    self.whole._replace(clock=Clock(origin, RECORDING), packets=at.packets),
+                    asked.page, asked.every, self.names, self.speech, following)
 
     # What is missing.
 

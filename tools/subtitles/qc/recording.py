@@ -47,10 +47,12 @@ class Recording:
         self.live: Live | None = None
         self.file: File | None = None
         self.size = size_of(self.name)
+        self.is_feed = False
 
     def read(self, is_summed: bool, feed: Feed) -> None:
         """Reads it: a file to its end, a feed up to the last subtitle at least."""
         source = Source(self.name, is_summed)
+        self.is_feed = source.is_feed
         source.wait = lambda seconds: self.wait(source, feed, seconds)
         source.gone_on = self.stall.go_on
         try:

@@ -19,7 +19,6 @@ from .asked import Asked, asked_of
 from .cause_words import count_line
 from .checking import NOT_JUDGED
 from .claim import claimed
-from .clock import FITTED
 from .faults import faults_of
 from .made_with import program_at
 from .names import Names
@@ -108,8 +107,8 @@ def end(verdict: Verdict, speech: Speech) -> None:
     for warned in verdict.warnings:
         speech.tell(warned.said())
     if verdict.line is not None:
-        if verdict.is_fitted:
-            speech.say(FITTED)
+        if verdict.fitted:
+            speech.say(verdict.fitted)
         speech.end(verdict.line)
     if verdict.is_stopped:
         speech.say(counted(verdict.faults, "fault") + " so far" if verdict.parts else

@@ -9,7 +9,7 @@ from ..times import time_of
 from .asked import Asked
 from .cells import passed_over
 from .checking import ACCEPTED_WORD, NOT_JUDGED, REFUSED_WORD, Answer
-from .clock import FITTED, Clock
+from .clock import FITTED, FITTED_LATER, Clock
 from .naming import Causes
 from .severity import Severity
 from .sums import File
@@ -104,13 +104,15 @@ class Verdict:
 
     def said(self) -> list[str]:
         """What the report and the object say beside the verdict."""
-        return [*self.notes, FITTED] if self.is_fitted else self.notes
+        return [*self.notes, *([self.fitted] if self.fitted else [])]
 
     @property
-    def is_fitted(self) -> bool:
-        """Whether the clock of the first part was found in the recording."""
-        clock = self.parts[0].clock if self.parts else None
-        return clock is not None and clock.is_fitted
+    def fitted(self) -> str | None:
+        """That the clock was found in the recording, or that of the parts after a break."""
+        are_fitted = [part.clock.is_fitted for part in self.parts if part.clock]
+        if not any(are_fitted):
+            return None
+        return FITTED if are_fitted[0] else FITTED_LATER
 
     @property
     def word(self) -> str:

@@ -220,7 +220,7 @@ def in_two_parts(case: Case) -> tuple[str, bytes]:
 def judges_part_by_part(case: Case) -> None:
     """A programme with a break: each part has an origin of its own."""
     stl, data = in_two_parts(case)
-    words = [stl, case.write("two.ts", stream(case, "two", data))]
+    words = [stl, case.write("two.ts", stream(case, "two", data)), "--breaks", "1"]
     done = qc(case, *words, "-o", "out", "--json", "two.json")
     lines = lines_of(done)
     case.test("accepted", (done.status, lines[-4:]) == (0, [
@@ -235,25 +235,27 @@ def judges_part_by_part(case: Case) -> None:
     case.test("its object", [(part["from"], part["to"], part["origin"]) for part in parts] ==
               [("10:00:00:00", "10:00:38:10", 1000),
                ("10:00:40:00", "10:01:18:10", 1000 + 4500 * TICKS)], parts)
-    done = qc(case, stl, "-", data=case.read("two.ts"))
+    done = qc(case, stl, "-", "--breaks", "1", data=case.read("two.ts"))
     case.test("a pipe", done.status == 0 and lines_of(done)[-1].endswith(" in 2 parts"), done)
     second = bytearray(packets(data)[49])
     second[117] ^= 0xFF  # another letter, also of odd parity
     broken = b"".join([*packets(data)[:49], bytes(second), *packets(data)[50:]])
-    done = qc(case, stl, case.write("broken.pes", broken), "-o", "out")
+    done = qc(case, stl, case.write("broken.pes", broken), "-o", "out", "--breaks", "1")
     case.test("a broken one", done.status == 1 and "part 1, " in lines_of(done)[-4]
               and "accepted" in lines_of(done)[-4] and lines_of(done)[-1].startswith("refused "),
               done)
-    done = qc(case, stl, case.write("one.pes", data[:len(data) // 2]))
-    case.test("one part is missing", done.status == 1, done)
+    one = case.write("one.pes", data[:len(data) // 2])
+    for words, status in (([], 1), (["--breaks", "1"], 2)):
+        done = qc(case, stl, one, *words)
+        case.test(f"one part is missing {words}", done.status == status, done)
 
 
-def waits_for_the_end_where_there_is_a_break(case: Case) -> None:
-    """The origin that is found in a feed is not that of all: it is judged part by part then."""
+def keeps_the_first_origin_of_a_feed(case: Case) -> None:
+    """What comes later than by the origin that is found is refused, and each line comes once."""
     stl, data = in_two_parts(case)
     process = subprocess.Popen([os.path.join(TOP, "tools", "qc"), stl, "-", "-p",
                                 case.bench.program], cwd=case.folder, stdin=subprocess.PIPE,
-                               stdout=subprocess.PIPE)
+                               stdout=subprocess.PIPE, stderr=subprocess.DEVNULL)
     assert process.stdin and process.stdout
     sent = iter(packets(data))
     for one in sent:
@@ -268,7 +270,8 @@ def waits_for_the_end_where_there_is_a_break(case: Case) -> None:
         process.stdin.write(one)
     process.stdin.close()
     lines = process.stdout.read().decode().splitlines()
-    case.test("in two parts", process.wait() == 0 and lines[-1].endswith(" in 2 parts"), lines)
+    case.test("refused", process.wait() == 1 and lines[-1].startswith("refused ")
+              and lines.count(lines[-1]) == 2 and not any("+ " in line for line in lines), lines)
 
 
 def keeps_what_was_judged_where_it_is_asked(case: Case) -> None:
@@ -329,6 +332,6 @@ def uses_the_page_and_the_option(case: Case) -> None:
 
 CASES = [judges_a_recording, takes_pes_packets, judges_a_feed, ends_with_a_feed_that_goes_on,
          judges_a_subtitle_file, refuses_what_was_lost, judges_part_by_part,
-         waits_for_the_end_where_there_is_a_break, guesses_nothing,
+         keeps_the_first_origin_of_a_feed, guesses_nothing,
          keeps_what_was_judged_where_it_is_asked, leaves_inputs_alone,
          heeds_severities, uses_the_page_and_the_option]
