@@ -69,11 +69,16 @@ class Live:
                 self.process.stdin.flush()
             except BrokenPipeError:
                 self.has_ended = True  # what it said tells why
-        if self.following.is_due():
-            self.kept.flush()
-            self.following.follow()
+        self.follow()
         if self.speech.progress.is_due():
             self.show()
+
+    def follow(self) -> None:
+        """Tells the causes that are known by now."""
+        if self.following.is_due():
+            with naming(self.path):
+                self.kept.flush()
+            self.following.follow()
 
     def is_over(self) -> bool:
         """Whether nothing more is to be judged."""
@@ -93,6 +98,7 @@ class Live:
 
     def show(self, still: float = 0.0) -> None:
         """The time of the last PES packet, the faults so far, and how long nothing has come."""
+        self.follow()
         if self.cut.frame is not None:
             line = f"{time_of(self.cut.frame)}  {counted(self.answer.count, 'fault')}"
             self.speech.show(line + (f"  nothing for {still:.0f} s" if still else ""))

@@ -64,6 +64,8 @@ class Telling:
             self.count += 1
             if self.count <= MOST_LINES:
                 self.speech.say(wording.line(cause))
+        if found:
+            self.speech.out.flush()
 
     def end(self) -> None:
         """Says how many were not said."""

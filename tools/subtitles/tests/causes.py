@@ -1,16 +1,21 @@
 """tools/qc names the cause of each subtitle that is not held as it is due."""
 from __future__ import annotations
 
+import csv
+import hashlib
 import json
+import os
 import random
+import subprocess
 from typing import NamedTuple
+from xml.etree import ElementTree
 
 from ..pes import data_field, pes_packet, pts_in, teletext_packets
 from ..stl import boxed, gsi_block, subtitle_blocks
 from ..teletext import ERASE, address_of, has_bit, header_of, packet
 from ..times import TICKS, pts_of
-from .bench import Case, packets
-from .qc import lines_of, qc
+from .bench import Case, moved, packets, tool_path
+from .qc import STORY, lines_of, qc
 
 COUNT, EACH = 100, 10
 EVERY = 25
@@ -20,6 +25,11 @@ HEADER = packet(0, 0, [8, 8, 0, 8, 0, 8, 1, 0], b" " * 32)
 CLOSING = packet(0, 0, [15, 15, 15, 7, 15, 3, 0, 0], b" " * 32)
 ALPHA_YELLOW = 3
 LETTERS = b"ab", b"cde", b"f ", b"gh", b"ij"
+
+LATE_AT = 1_822_675  # 20:15:07:00
+LATE_TEXT = "It costs £5, or $7."
+LATE_CAUSE = f'cause: subtitle 3 at 20:15:07:00, "{LATE_TEXT}": late by 8 frames'
+COUNTED = "causes of 1 subtitle: 1 late"
 
 Rows = dict[int, bytes]  # of a page: the codes of each row that is sent
 
@@ -163,4 +173,82 @@ def names_each_cause(case: Case) -> None:
                       (told, one.name, one.frames))
 
 
-CASES = [names_each_cause]
+def late_story(case: Case) -> str:
+    """The example's transmission, repeated each second; its third subtitle is 8 frames late."""
+    case.schedule(STORY, "story.pes", "--every", "25")
+    data = moved(case.read("story.pes"),
+                 lambda _, pts: pts + 8 * TICKS * (pts == LATE_AT * TICKS))
+    return case.write("late.pes", data)
+
+
+def tells_the_cause_of_a_feed(case: Case) -> None:
+    """As soon as it is known, while the feed goes on; the verdict stays the last line."""
+    pes = packets(case.read(os.path.basename(late_story(case))))
+    process = subprocess.Popen([tool_path("qc"), STORY, "-", "--origin", "0", "-p",
+                                case.bench.program], cwd=case.folder, stdin=subprocess.PIPE,
+                               stdout=subprocess.PIPE, stderr=subprocess.DEVNULL)
+    assert process.stdin and process.stdout
+    for one in pes[:-1]:
+        process.stdin.write(one)
+        process.stdin.flush()
+    said = []
+    for line in process.stdout:
+        said.append(line.decode().rstrip("\n"))
+        if said[-1].startswith("cause: "):
+            break
+    case.test("told while it goes on", said[-1:] == [LATE_CAUSE], said)
+    process.stdin.write(pes[-1])
+    process.stdin.close()
+    lines = process.stdout.read().decode().splitlines()
+    process.wait()
+    case.test("how many", COUNTED in lines, lines)
+    case.test("told once", not any(line.startswith("cause: ") for line in lines), lines)
+    case.test("the last line", lines[-1].startswith("refused 72 Content frame 20:15:07:00 "), lines)
+
+
+def shows_the_cause(case: Case) -> None:
+    """In the printed list, the report, the object and the table, whose lines stay."""
+    done = qc(case, STORY, late_story(case), "--origin", "0", "-o", "out", "--csv", "late.csv")
+    lines = lines_of(done)
+    at = lines.index(LATE_CAUSE)
+    case.test("after the list", lines[at - 1].endswith(" faults") and COUNTED in lines[at:], lines)
+    case.test("the verdict", lines[-1].startswith("refused 72 Content frame 20:15:07:00 "), lines)
+    case.test("the list", all(line.split()[0] in ("refused", "ended", "trusted") or
+                              line.endswith(" faults")
+                              for line in case.read("out/story.txt").decode().splitlines()))
+    page = ElementTree.fromstring(case.read("out/story.html"))
+    text = " ".join("".join(page.itertext()).split())
+    for words in ("Late by 8 frames; due", "Why the content is refused, 1 subtitle: 1 late",
+                  "Causes of 1 subtitle: 1 late.", "Preview of story.stl and late.pes",
+                  "Programme", "Judged20:15:00:00 to 20:15:09:00, 3 subtitles",
+                  "Not checkedrow 0, which the page's header has"):
+        case.test(f"the report: {words}", words in text, text[:3000])
+    file = case.read("late.pes")
+    case.test("the recording", f"{len(file):,} bytes, SHA-256 {hashlib.sha256(file).hexdigest()}"
+              in text, text[:3000])
+    rows = list(csv.DictReader(case.read("late.csv").decode().splitlines()))
+    known = [(row["cause"], row["cause_frames"], row["cause_subtitle"], row["cause_sent"])
+             for row in rows if row["number"] == "72"]
+    case.test("the table", known and set(known) == {("late", "8", "3", LATE_TEXT)}, known)
+    done = qc(case, STORY, case.path("story.pes"), "-o", "out")
+    page = ElementTree.fromstring(case.read("out/story.html"))
+    text = " ".join("".join(page.itertext()).split())
+    case.test("a fitted clock", "Not checkeda delay that all subtitles share: the clock was "
+              "fitted to the recording; row 0" in text and "Why the" not in text, text[:3000])
+
+
+def is_no_judge_of_what_nobody_saw(case: Case) -> None:
+    """Where a sending can't be read, nothing is said of what was sent."""
+    pes = packets(case.read(os.path.basename(case.schedule(STORY, "every.pes", "--every", "25"))))
+    at = [pts_in(one) // TICKS for one in pes].index(LATE_AT)
+    broken = pes[at][:45] + b"\x20" + pes[at][46:]
+    data = case.write("broken.pes", b"".join([*pes[:at], broken, *pes[at + 1:]]))
+    done = qc(case, STORY, data, "--origin", "0", "--json", "one.json")
+    known = json.loads(case.read("one.json"))
+    case.test("unknown", done.status == 1 and [one["cause"] for one in known["causes"]] ==
+              ["unknown"], known["causes"])
+    case.test("why", "not all that was sent then can be read" in "".join(lines_of(done)), done)
+
+
+CASES = [names_each_cause, tells_the_cause_of_a_feed, shows_the_cause,
+         is_no_judge_of_what_nobody_saw]

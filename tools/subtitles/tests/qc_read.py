@@ -71,7 +71,7 @@ def promises_no_more_than_it_accepts(case: Case) -> None:
     case.schedule(STORY, "every.pes", "--every", "25")
     own = packets(case.read("every.pes"))
     last = pes_packet(pts_in(own[-1]), [HEADER] * 4 + [CLOSING])  # of two TS packets, as the first one
-    before, after = (pes_packet(pts_in(one) + ticks, [HEADER])
+    before, after = (pes_packet(pts_in(one) + ticks, [HEADER, CLOSING])
                      for one, ticks in ((own[0], -90_000), (own[-1], 90_000)))
     whole = stream(case, "all", b"".join([before, *own[:-1], last, after]))
     of_pid = [at for at in range(0, len(whole), TS) if whole[at + 1] & 0x1F == 1
