@@ -59,7 +59,7 @@ def scope(verdict: Verdict) -> str:
     recording = verdict.recording
     one = Scope(titles_in(verdict.asked.stl), recording and Recorded(*recording),
                 frame_of(min(begins)) or 0, frame_of(max(ends)) or 0,
-                sum(subtitles_of(part) for part in verdict.parts), None, verdict.is_fitted, True)
+                sum(subtitles_of(part) for part in verdict.parts), None, verdict.fitted is not None, True)
     return one.box()
 
 

@@ -245,7 +245,7 @@ def judges_part_by_part(case: Case) -> None:
               and "accepted" in lines_of(done)[-4] and lines_of(done)[-1].startswith("refused "),
               done)
     one = case.write("one.pes", data[:len(data) // 2])
-    for words, status in (([], 1), (["--breaks", "1"], 2)):
+    for words, status in (list[str](), 1), (["--breaks", "1"], 2):
         done = qc(case, stl, one, *words)
         case.test(f"one part is missing {words}", done.status == status, done)
 
