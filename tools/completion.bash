@@ -17,7 +17,7 @@ _subttx_value() {
     case $1 in
         --option) _subttx_words 'english german' "$2" ;;
         --receiver) _subttx_words 'blank drop keep' "$2" ;;
-        --page | --every | --origin | --at | --skip | --flip | --lose | --from | --to | --pid | --jobs) COMPREPLY=() ;;
+        --page | --every | --origin | --at | --skip | --flip | --lose | --from | --to | --pid | --part | --jobs | --settled | --patience | --stall | --breaks | --run | --start) COMPREPLY=() ;;
         *) return 1 ;;
     esac
 }
@@ -63,4 +63,4 @@ _subttx_tool() {
 
 complete -F _subttx subttx
 complete -F _subttx_tool subttx-cut subttx-origin subttx-part subttx-pes2ts subttx-preview \
-    subttx-qc subttx-text subttx-ts2pes
+    subttx-poke subttx-qc subttx-text subttx-ts2pes

@@ -4,23 +4,71 @@ from __future__ import annotations
 from typing import Iterable
 
 from .pes import has_pts, pts_in
-from .teletext import Page
-from .times import CLOCK, TICKS
+from .sent import Sent
+from .teletext import ERASE, Page, has_bit
+from .times import CLOCK, FRAMES_OF_A_DAY, TICKS
 from .units import Units
 
 AFTER = 2  # PES packets in a row after the last frame, with which reading ends
 
+Range = tuple[int, int]  # the numbers of the first and the last PES packet
+
+
+class Before:
+    """The PES packets before the first frame, from the last one on after which the page is blank.
+
+    So what comes too early or too late is heard against a blank page.
+    """
+
+    def __init__(self, page: Page) -> None:
+        self.page, self.sent = page, Sent(page)
+        self.kept: list[bytes] = []
+        self.is_known = False  # what the page holds
+
+    def take(self, data: bytes) -> None:
+        """Hears a PES packet that comes before the first frame."""
+        headers = [header for header in Units(data).headers() if header[:2] == self.page]
+        self.sent.take(data, 0)
+        self.is_known = self.is_known or any(has_bit(header[2], ERASE) for header in headers)
+        if headers and self.is_known and self.is_blank():
+            self.kept = [data]
+        elif self.kept:
+            self.kept.append(data)
+
+    def is_blank(self) -> bool:
+        return not any(row.strip(b" ") for row in self.sent.rows.values())
+
+    def taken(self, data: bytes, is_first: bool) -> list[bytes]:
+        """What is taken before a PES packet: nothing where that one is of the first frame and
+        changes one text to another, as what stood until then was due before."""
+        if is_first and not self.is_blank():
+            before = self.sent.before
+            self.sent.take(data, 0)
+            self.kept = self.kept if self.sent.before == before else []
+        return self.kept
+
 
 class Cut:
     """Takes the PES packets of frames from `begin` to `end`, from the first header of a page on.
+
+    With `every` it takes more: from the last sending on that comes at most so many frames before
+    `begin` and leaves the page blank, where there is one; and up to the first sending at `end` or
+    at most so many frames later. With `packets` it takes none but those of these numbers.
 
     A PES packet without a PTS goes with the one before. `read` counts all of them and `kept` those
     that were taken, `first` and `last` are the frames of these. `is_over` once two in a row were
     after the last frame: one alone may have a wrong PTS.
     """
 
-    def __init__(self, begin: int, end: int, page: Page, origin: int) -> None:
+    def __init__(self, begin: int, end: int, page: Page, origin: int, every: int | None = None,
+                 packets: Range | None = None) -> None:
         self.begin, self.end, self.page, self.origin = begin, end, page, origin
+        self.low, self.high = max(begin - (every or 0), 0), end
+        self.before = Before(page)
+        self.has_end = every is None  # the last sending
+        if every is not None:
+            self.high = min(end + every, FRAMES_OF_A_DAY - 1)
+        self.packets = packets
         self.read = self.kept = 0
         self.first: int | None = None
         self.last: int | None = None
@@ -33,23 +81,53 @@ class Cut:
         found: list[bytes] = []
         for data in packets:
             self.read += 1
+            if not self.is_of_range():
+                if self.is_over:
+                    break
+                continue
             if has_pts(data):
                 self.turn_to((pts_in(data) - self.origin) % CLOCK // TICKS)
                 if self.is_over:
                     break
-            if self.is_in and (self.kept or found or self.has_header(data)):
-                self.first = self.frame if self.first is None else self.first
-                self.last = self.frame
-                found.append(data)
+            if self.is_in:
+                found += self.take(data, bool(found))
         self.kept += len(found)
         return found
 
+    def is_of_range(self) -> bool:
+        """Whether the PES packet that is read has one of the numbers."""
+        if self.packets is None:
+            return True
+        self.is_over = self.read - 1 > self.packets[1]
+        return self.packets[0] < self.read and not self.is_over
+
     def turn_to(self, frame: int) -> None:
         """Goes on to the frame of a PES packet."""
-        self.frame, self.is_in = frame, self.begin <= frame <= self.end
+        self.frame, self.is_in = frame, self.low <= frame <= self.high
         self.was_in = self.was_in or self.is_in
-        self.after = self.after + 1 if frame > self.end and self.was_in else 0
+        self.after = self.after + 1 if frame > self.high and self.was_in else 0
         self.is_over = self.after == AFTER
+
+    def take(self, data: bytes, has_begun: bool) -> list[bytes]:
+        """What is taken with a PES packet of these frames."""
+        assert self.frame is not None
+        if self.frame < self.begin and not self.kept and not has_begun:
+            self.before.take(data)
+            return []
+        found = [data]
+        if not self.kept and not has_begun:
+            found = [*self.before.taken(data, self.frame == self.begin), data]
+            if len(found) == 1 and not self.has_header(data):
+                return []
+            self.first = self.frame if len(found) == 1 else self.frame_of(found[0])
+        if not self.has_end and self.frame >= self.end and self.has_header(data):
+            self.high, self.has_end = self.frame, True
+        self.last = self.frame
+        return found
+
+    def frame_of(self, data: bytes) -> int:
+        """The frame of a PES packet."""
+        return (pts_in(data) - self.origin) % CLOCK // TICKS
 
     def has_header(self, data: bytes) -> bool:
         """Whether a PES packet holds a header of the page."""

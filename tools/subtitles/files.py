@@ -14,6 +14,7 @@ from .words import Stop
 
 STANDARD = "-"  # standard input or output, as the name of a file
 PIECE = 1 << 20  # bytes that are read at once, at most
+SPECIAL = ("-", "=", "+", "@")  # with which a name begins that is taken for something else
 OWN_OUTPUT = {STANDARD, "/dev/stdout", "/dev/fd/1", "/proc/self/fd/1"}
 
 
@@ -65,12 +66,25 @@ def naming(name: str) -> Iterator[None]:
 
 
 def as_file(name: str) -> str:
-    """A name that no tool takes for an option; it has to be UTF-8, as the program asks."""
+    """A name that nothing takes for something else; it has to be UTF-8, as the program asks."""
+    if not is_utf_8(name):
+        raise Stop(f"{name}: a name of a file has to be UTF-8")
+    return plain_name(name)
+
+
+def plain_name(name: str) -> str:
+    """A name that no tool takes for an option, no shell for a command, and no table for a formula.
+    """
+    return os.path.join(".", name) if name.startswith(SPECIAL) else name
+
+
+def is_utf_8(name: str) -> bool:
+    """Whether a name is UTF-8; it may be any bytes."""
     try:
         name.encode()
     except UnicodeEncodeError:
-        raise Stop(f"{name}: a name of a file has to be UTF-8") from None
-    return os.path.join(".", name) if name.startswith("-") else name
+        return False
+    return True
 
 
 def refuse_name(name: str) -> None:

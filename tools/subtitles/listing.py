@@ -5,15 +5,14 @@ from typing import Iterator
 
 from .joining import Joiner
 from .pes import START
+from .programmes import Programme, programme_of
 from .teletext import Page, page_name
 from .transport import ADAPTED, PACKET, Piece, Stream, beginnings, crc
 from .units import Units
 from .words import pid_name
 
 PAT, PMT = 0, 2  # tables; the first is also its PID
-TELETEXT, VBI_TELETEXT = 0x56, 0x46  # descriptors
-KINDS = {1: "initial page", 2: "subtitles", 3: "additional information", 4: "programme schedule",
-         5: "subtitles for the hard of hearing"}
+VIDEO = range(0xE0, 0xF0)  # stream_id
 IDENTIFIERS = range(0x10, 0x20)  # data_identifier of EBU data
 SUBTITLE = 8  # C6, in the sixth number of a header
 SHOWN = 12  # pages of a line
@@ -95,10 +94,13 @@ class Teletext:
 
 
 class Listing:
-    """The PIDs with Teletext of a file that is read in pieces, in `streams`; `others` have none."""
+    """The PIDs with Teletext of a file that is read in pieces, in `streams`; `others` have none,
+    `videos` among these have PES packets of video. `programmes` are those that PMTs announce."""
 
     def __init__(self) -> None:
         self.tables = {PAT: Tables(PAT)}
+        self.programmes: list[Programme] = []
+        self.videos: list[int] = []
         self.streams: dict[int, Teletext] = {}
         self.others: dict[int, Stream] = {}
 
@@ -123,18 +125,15 @@ class Listing:
         if pid == PAT and section[0] == 0:
             for at in range(8, len(section) - 4, 4):
                 if section[at:at + 2] != b"\0\0":  # programme 0 is the network's own table
-                    programme = int.from_bytes(section[at + 2:at + 4], "big") & 0x1FFF
-                    self.tables.setdefault(programme, Tables(programme))
+                    table = int.from_bytes(section[at + 2:at + 4], "big") & 0x1FFF
+                    self.tables.setdefault(table, Tables(table))
         elif section[0] == PMT and len(section) > 12:
-            programme = int.from_bytes(section[3:5], "big")
-            at = 12 + (section[10] << 8 & 0xF00 | section[11])
-            while at + 5 <= len(section) - 4:
-                stream = int.from_bytes(section[at + 1:at + 3], "big") & 0x1FFF
-                end = at + 5 + (section[at + 3] << 8 & 0xF00 | section[at + 4])
-                for page in announced_pages(section[at + 5:end]):
-                    known = self.streams.setdefault(stream, Teletext(stream))
-                    known.announced.append(f"{page} in programme {programme}")
-                at = end
+            programme = programme_of(section)
+            self.programmes.append(programme)
+            for stream, pages in programme.pages.items():
+                known = self.streams.setdefault(stream, Teletext(stream))
+                known.announced += [f"{page.line()} in programme {programme.number}"
+                                    for page in pages]
 
     def find_unannounced(self, piece: Piece) -> None:
         """PIDs whose PES packets are those of Teletext, whatever is announced."""
@@ -151,21 +150,13 @@ class Listing:
                 self.streams[pid] = Teletext(pid)
             elif data.startswith(START[:3]):
                 self.others[pid] = Stream(pid)  # another kind of PES packets
+                if data[3:4] and data[3] in VIDEO:
+                    self.videos.append(pid)
 
     def lines(self) -> list[str]:
         """A line for each PID with Teletext."""
         return [self.streams[pid].line() for pid in sorted(self.streams)]
 
-
-def announced_pages(data: bytes) -> Iterator[str]:
-    """The pages of the Teletext descriptors among some descriptors, each as words."""
-    at = 0
-    while at + 2 <= len(data):
-        tag, end = data[at], min(at + 2 + data[at + 1], len(data))
-        if tag in (TELETEXT, VBI_TELETEXT):
-            for entry in range(at + 2, end - 4, 5):
-                language = data[entry:entry + 3].decode("latin-1")
-                kind, magazine = divmod(data[entry + 3], 8)
-                name = page_name(magazine, data[entry + 4])
-                yield f"{name} {language} {KINDS.get(kind, 'of an unknown kind')}"
-        at = end
+    def programmes_of(self, pid: int) -> list[Programme]:
+        """The programmes whose PMT names a PID."""
+        return [one for one in self.programmes if pid in one.kinds]

@@ -1,10 +1,13 @@
 """What is sent of a page: the PTS at which its text changes, and its letters then."""
 from __future__ import annotations
 
+import bisect
 import collections
+import dataclasses
 import itertools
 from typing import NamedTuple, Sequence
 
+from .bases import Bases, is_back
 from .batch import with_headers
 from .pes import data_field, has_pts, pts_in
 from .teletext import ERASE, SERIAL, SUBTITLE, Page, address_of, has_bit, is_odd
@@ -18,14 +21,35 @@ NO_LETTERS = bytes(range(0x21))
 
 
 class Change(NamedTuple):
-    """A PES packet after which the page holds another text: its PTS, and the letters."""
+    """A PES packet after which the page holds another text: its PTS, the letters, its number."""
 
     pts: int
     letters: bytes
+    number: int
+
+
+@dataclasses.dataclass
+class Headers:
+    """PES packets with headers of the page, whose PTS go on: the PTS of the first one and of the
+    last, and the number of the first."""
+
+    first: int
+    last: int
+    number: int
+
+
+class SentInBase(NamedTuple):
+    """What is sent in a time base: the PTS of the first and the last header of the page, the
+    changes of its text, and the numbers of the first and the last PES packet."""
+
+    first: int
+    last: int
+    changes: list[Change]
+    packets: tuple[int, int]
 
 
 class Sent:
-    """Hears PES packets: the changes of a page's text, and the PTS of its first and last header.
+    """Hears PES packets: the changes of a page's text, its headers, and where PTS go back.
 
     `others` counts the headers with the subtitle bit of other pages.
     """
@@ -37,22 +61,23 @@ class Sent:
         self.field = b""
         self.is_open = self.has_header = self.is_new = False
         self.changes: list[Change] = []
-        self.first: int | None = None
-        self.last: int | None = None
+        self.headers: list[Headers] = []
+        self.bases, self.number = Bases(), 0
         self.others: collections.Counter[Page] = collections.Counter()
 
     def take_all(self, packets: Sequence[bytes]) -> None:
         """Hears PES packets. While the page is not open nothing but its header is of interest, or
         one that is counted."""
-        at = 0
+        at, first = 0, self.bases.count
+        self.bases.take(packets)
         for number in itertools.chain(with_headers(packets, self.is_wanted), [len(packets)]):
             while self.is_open and at < number:
-                self.take(packets[at])
+                self.take(packets[at], first + at)
                 at += 1
             if any(map(has_pts, packets[at:number])):
                 self.field, self.has_header = b"", False
             if number < len(packets):
-                self.take(packets[number])
+                self.take(packets[number], first + number)
             at = number + 1
 
     def is_wanted(self, coded: bytes) -> bool:
@@ -60,10 +85,11 @@ class Sent:
         header = header_in(coded)
         return header is not None and (header[:2] == self.page or has_bit(header[2], SUBTITLE))
 
-    def take(self, data: bytes) -> None:
-        """Hears a PES packet; one without a PTS has no time, and is passed over."""
+    def take(self, data: bytes, number: int) -> None:
+        """Hears a PES packet by its number; one without a PTS has no time, and is passed over."""
         if not has_pts(data):
             return
+        self.number = number
         field = data_field(data)
         if field != self.field:  # the same field again changes nothing
             self.field, self.has_header = field, False
@@ -71,8 +97,7 @@ class Sent:
             if self.is_new:
                 self.note(pts_in(data))
         if self.has_header:
-            self.last = pts_in(data)
-            self.first = self.last if self.first is None else self.first
+            self.note_header(pts_in(data))
 
     def hear(self, units: Units) -> None:
         """The steps of a receiver (EN 300 706)."""
@@ -111,4 +136,24 @@ class Sent:
         if rows != self.before:
             self.before = rows
             letters = b"".join(rows[number] for number in sorted(rows))
-            self.changes.append(Change(pts, letters.translate(None, NO_LETTERS)))
+            self.changes.append(Change(pts, letters.translate(None, NO_LETTERS), self.number))
+
+    def note_header(self, pts: int) -> None:
+        """Notes a header of the page."""
+        if self.headers and not is_back(self.headers[-1].last, pts):
+            self.headers[-1].last = pts
+        else:
+            self.headers.append(Headers(pts, pts, self.number))
+
+    def in_bases(self) -> list[SentInBase]:
+        """What was sent in each time base in which there is something of the page."""
+        ranges = self.bases.ranges()
+        begins = [begin for begin, _ in ranges]
+        changes: list[list[Change]] = [[] for _ in ranges]
+        headers: list[list[Headers]] = [[] for _ in ranges]
+        for change in self.changes:
+            changes[bisect.bisect_right(begins, change.number) - 1].append(change)
+        for one in self.headers:
+            headers[bisect.bisect_right(begins, one.number) - 1].append(one)
+        return [SentInBase(some[0].first, some[-1].last, own, packets)
+                for own, some, packets in zip(changes, headers, ranges) if own and some]

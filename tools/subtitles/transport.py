@@ -5,6 +5,7 @@ in one step, so that all others cost next to nothing.
 """
 from __future__ import annotations
 
+import functools
 from typing import Iterable, Iterator, NamedTuple, Optional, Tuple
 
 from .files import PIECE, Damaged, Source
@@ -15,7 +16,9 @@ IN_A_ROW = 5  # packets that tell where they begin
 ERROR, BEGINS = 0x80, 0x40  # in the second byte of a packet
 SCRAMBLED, ADAPTED, PAYLOAD = 0xC0, 0x20, 0x10  # in the fourth
 BEGIN_MARK = bytes(byte & BEGINS != 0 for byte in range(256))
-DISCONTINUITY, PCR = 0x80, 0x10  # in the first byte of an adaptation field
+HAS_FIELD = bytes(byte & ADAPTED != 0 for byte in range(256))
+HAS_FLAGS = bytes(byte > 0 for byte in range(256))
+DISCONTINUITY, RANDOM_ACCESS, PCR = 0x80, 0x40, 0x10  # in an adaptation field's first byte
 PCR_PLACE = slice(6, 12)  # of a packet
 
 
@@ -190,6 +193,24 @@ def as_number(data: bytes) -> int:
     return int.from_bytes(data, "big")
 
 
+def flagged(piece: Piece, flag: int) -> int:
+    """The packets of a piece in whose adaptation field a flag is set, as `marks` of a stream."""
+    return (as_number(column(piece, 3).translate(HAS_FIELD))
+            & as_number(column(piece, 4).translate(HAS_FLAGS))
+            & as_number(column(piece, 5).translate(is_set(flag))))
+
+
+def beginning(piece: Piece) -> int:
+    """The packets of a piece in which a PES packet or a section begins."""
+    return as_number(column(piece, 1).translate(BEGIN_MARK))
+
+
+@functools.lru_cache(maxsize=None)
+def is_set(flag: int) -> bytes:
+    """By a byte: 1 where a bit is set in it."""
+    return bytes(byte & flag != 0 for byte in range(256))
+
+
 def places(piece: Piece, marks: int) -> Iterator[int]:
     """Where the packets of a piece begin whose byte in a number is 1."""
     found = marks.to_bytes(piece.packets, "big")
@@ -202,7 +223,7 @@ def places(piece: Piece, marks: int) -> Iterator[int]:
 def beginnings(piece: Piece, left_out: Iterable[Stream]) -> Iterator[int]:
     """Where the packets of a piece begin in which a PES packet or a section does, but for those of
     some streams."""
-    marks = as_number(column(piece, 1).translate(BEGIN_MARK))
+    marks = beginning(piece)
     for stream in left_out:
         marks &= ~stream.marks(piece)
     return places(piece, marks)

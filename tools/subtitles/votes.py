@@ -56,6 +56,16 @@ class Fit(NamedTuple):
     start: int
 
 
+class Apart(NamedTuple):
+    """Beginnings or ends of subtitles that are late by the same number of frames compared with the
+    others, by a number below zero early: how many they are, of how many."""
+
+    is_begin: bool
+    late: int
+    agree: int
+    of: int
+
+
 def edges_of(subtitles: Sequence[Shown]) -> list[Edge]:
     """The edges of subtitles, where another look is due than before."""
     looks: dict[int, Shown | None] = {}
@@ -86,11 +96,12 @@ class Election:
             frames, ticks = self.distance(change.pts)
             self.changes[frames] = change.letters, ticks
         self.length = max(self.distance(last)[0], 0)
+        self.best: list[Fit] | None = None
 
     def limited(self, edges: Sequence[Edge], low: int, high: int) -> Election:
         """The election of some of the edges, by the changes between two distances."""
         one = copy.copy(self)
-        one.edges, one.frames = edges, [edge.frame for edge in edges]
+        one.edges, one.frames, one.best = edges, [edge.frame for edge in edges], None
         one.changes = {frames: change for frames, change in self.changes.items()
                        if low < frames < high}
         return one
@@ -102,7 +113,10 @@ class Election:
 
     def fits(self) -> list[Fit]:
         """The best origins, falling."""
-        return best_first(self.fit(start) for start in self.starts())
+        if self.best is None:
+            is_any = self.edges and self.changes
+            self.best = best_first(map(self.fit, self.starts())) if is_any else []
+        return self.best
 
     def starts(self) -> set[int]:
         """Frames that the first PTS may have: those with the most votes."""
@@ -152,22 +166,34 @@ class Election:
         origin = (self.first + rest - TICKS * start) % CLOCK
         return Fit(origin, len(ticks), letters, texts, ticks.count(rest), high - low, other, start)
 
-    def apart(self, fit: Fit) -> tuple[bool, int] | None:
+    def apart(self, fit: Fit) -> Apart | None:
         """Whether beginnings and ends agree, but a constant number of frames apart.
 
-        `None`, or which of the two disagree with the origin, and by how many frames they are late.
         Only edges at which the letters change to those that are due count here.
         """
         for is_begin in (True, False):
-            own = [(edge.frame - fit.start, edge.letters) for edge in self.edges
-                   if edge.is_begin == is_begin and 0 <= edge.frame - fit.start <= self.length]
-            shifts = (shift for shift in range(-MOST_APART, MOST_APART + 1)
-                      if all(self.letters_at(frames + shift) == letters for frames, letters in own))
-            late = next(shifts, 0)
-            agree = sum(self.letters_at(frames) == letters for frames, letters in own)
-            if len(own) > 1 and late and agree * 2 < len(own):
-                return is_begin, late
+            now = self.late_by(fit, is_begin, 0)
+            if now.of and now.agree * 2 >= now.of:
+                continue
+            least = 1 if is_begin or fit.texts else 2  # one that is erased may be any
+            several = (self.late_by(fit, is_begin, shift)
+                       for shift in range(-MOST_APART, MOST_APART + 1))
+            best = max(several, key=lambda one: (one.agree, -abs(one.late)))
+            if best.agree >= least and best.agree * 10 >= best.of * 9:
+                return best
         return None
+
+    def late_by(self, fit: Fit, is_begin: bool, late: int) -> Apart:
+        """How many beginnings, or ends, are late by so many frames, of those that may be."""
+        own = [(edge.frame - fit.start + late, edge.letters) for edge in self.edges
+               if edge.is_begin == is_begin and 0 <= edge.frame - fit.start + late <= self.length]
+        agree = sum(self.letters_at(frames) == letters for frames, letters in own)
+        return Apart(is_begin, late, agree, len(own))
+
+    def by_beginnings(self, fit: Fit) -> Fit:
+        """An origin, or the one of the beginnings, where these are apart from the ends."""
+        apart = self.apart(fit)
+        return self.fit(fit.start - apart.late) if apart and apart.is_begin else fit
 
     def letters_at(self, frames: int) -> bytes | None:
         """The letters to which the page changes so many frames after the first PTS."""
@@ -222,5 +248,7 @@ def points_of_few(fit: Fit) -> int:
 
 
 def best_first(fits: Iterable[Fit]) -> list[Fit]:
-    """Those of some origins with which an edge agrees, the best ones first."""
-    return sorted((fit for fit in fits if fit.agree), key=lambda fit: (-points(fit), fit.start))
+    """Those of some origins with which an edge agrees, the best ones first: of two that are as
+    good, the one with which more subtitles come."""
+    return sorted((fit for fit in fits if fit.agree),
+                  key=lambda fit: (-points(fit), -fit.texts, fit.start))

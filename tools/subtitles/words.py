@@ -5,14 +5,20 @@ import argparse
 import contextlib
 import os
 import re
+import shlex
 import sys
-from typing import IO, Callable, NoReturn
+from typing import IO, Callable, NoReturn, TextIO
 
 from .teletext import page_of
 from .times import CLOCK, frame_of
 
+# Control characters, marks of the direction of writing, ends of lines, halves of characters.
+HIDDEN = re.compile("[\x00-\x1f\x7f-\x9f\u061c\u200e\u200f\u2028-\u202e\u2066-\u2069"
+                    "\ud800-\udfff]")
 INSTALLED = "subttx-"  # before the names of tools that are installed
 MOST_EVERY = 1500  # frames of a repeat bound
+MOST_DIGITS = 3  # of a number of breaks, or of a run
+TCP_WORD = "tcp"  # for the time code that the GSI block has
 NO_PID = 0x1FFF  # of the packets of a transport stream that hold nothing
 HOME = os.path.dirname(os.path.dirname(os.path.dirname(os.path.realpath(__file__))))
 
@@ -89,6 +95,33 @@ def every_word(text: str) -> int:
     return int(digits)
 
 
+def number_word(text: str, least: int, thing: str) -> int:
+    """A number of a few digits."""
+    if not (text.isascii() and text.isdecimal() and len(text) <= MOST_DIGITS
+            and int(text) >= least):
+        raise argparse.ArgumentTypeError(f"{text} is no {thing}: {least} to "
+                                         f"{10 ** MOST_DIGITS - 1}")
+    return int(text)
+
+
+def breaks_word(text: str) -> int:
+    """How many breaks a programme has."""
+    return number_word(text, 0, "number of breaks")
+
+
+def run_word(text: str) -> int:
+    """Which run of a programme, from 1."""
+    return number_word(text, 1, "run of the programme")
+
+
+def start_word(text: str) -> str:
+    """The time code of the first picture, or `tcp`."""
+    if text != TCP_WORD and frame_of(text) is None:
+        raise argparse.ArgumentTypeError(
+            f"{text} is no start: HH:MM:SS:FF, 25 frames a second, or {TCP_WORD}")
+    return text
+
+
 def pid_word(text: str) -> int:
     """A PID, decimal or as 0x101."""
     try:
@@ -128,11 +161,31 @@ def counted(count: int, thing: str) -> str:
     return f"{count} {thing}" if count == 1 else f"{count} {thing}s"
 
 
+def shown(text: str) -> str:
+    """A text without what a terminal would obey or a file of text can't hold: control characters,
+    what turns the direction of writing, and bytes of a name that are not UTF-8, as \\x1b."""
+    return HIDDEN.sub(lambda found: escaped(found[0]), text)
+
+
+def escaped(letter: str) -> str:
+    """A character as its number; of a byte that is not UTF-8, that of the byte."""
+    code = ord(letter)
+    is_byte = 0xDC80 <= code <= 0xDCFF
+    return f"\\x{code & 0xFF:02x}" if is_byte or code < 0x80 else f"\\u{code:04x}"
+
+
+def quoted(word: str) -> str:
+    """A word as a shell takes it; one with characters that are not shown, as bash does."""
+    if not HIDDEN.search(word):
+        return shlex.quote(word)
+    return "$'" + shown(word.replace("\\", "\\\\").replace("'", "\\'")) + "'"
+
+
 def tell(line: str) -> None:
     """A line on standard error, after what was printed before it."""
     with contextlib.suppress(OSError, AttributeError):  # it is closed
         sys.stdout.flush()  # `run` tells where that fails
-    print(f"{os.path.basename(sys.argv[0])}: {line}", file=sys.stderr)
+    print(f"{os.path.basename(sys.argv[0])}: {shown(line)}", file=sys.stderr)
 
 
 def run(main: Callable[[list[str]], int]) -> NoReturn:
@@ -168,7 +221,7 @@ def line_of(reason: BaseException) -> str:
     return " ".join(str(reason).split())
 
 
-def silence() -> None:
+def silence(out: TextIO | None = None) -> None:
     """Python writes to standard output once more when it ends; nobody takes that any more."""
     with contextlib.suppress(OSError, AttributeError):
-        os.dup2(os.open(os.devnull, os.O_WRONLY), sys.stdout.fileno())
+        os.dup2(os.open(os.devnull, os.O_WRONLY), (out or sys.stdout).fileno())

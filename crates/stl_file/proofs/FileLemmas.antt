@@ -10,50 +10,49 @@ use Rattle.std.proofs.lemmas.Bool.{cases_lt, le-ltb}
 use Rattle.std.specs.List.{concat}
 use Rattle.stl_file.specs.declared.fault.StlFault.{StlFault}
 use Rattle.stl_file.specs.Tti.{most_blocks}
-use Rattle.stl_file.specs.Reader.{ReaderValue, outcome_left, outcome_of, outcome_opened, opened_at}
-use Rattle.stl_file.specs.Reader.{opened}
+use Rattle.stl_file.specs.Reader.{ReaderValue, findings_of, findings_opened, opened, opened_at}
+use Rattle.stl_file.specs.Reader.{outcome_from, outcome_of}
 use Rattle.stl_file.specs.Gsi.{gsi_at, IsGsi}
 use Rattle.stl_file.specs.Subtitle.{SubtitleValue}
 use Rattle.stl_file.specs.File.{IsFile}
 use Rattle.stl_file.specs.NormalForm.{subtitles_of}
-use Rattle.stl_file.specs.Reading.{outcome_at}
-use Rattle.stl_file.proofs.OutcomeLemmas.{outcome_at-first}
-use Rattle.stl_file.proofs.RestLemmas.{outcome_complete, outcome_sound}
+use Rattle.stl_file.specs.Reading.{stopped}
+use Rattle.stl_file.proofs.FindingsLemmas.{findings_at-first}
+use Rattle.stl_file.proofs.RestLemmas.{read_complete, read_sound}
 use Rattle.stl_file.proofs.GsiLemmas.{gsi_complete}
 use Rattle.stl_file.proofs.OpeningLemmas.{good, opened_sound, file_gsi}
 
 -- A file that was read was opened.
 judged_ok : (b : List ℕ) (o : Result ReaderValue StlFault) (ts : List SubtitleValue)
-    → subtitles_of (outcome_opened b o) ≡ Ok ts
-    → (r : ReaderValue) × (o ≡ good r) × (subtitles_of (outcome_left r b) ≡ Ok ts)
+    → subtitles_of (stopped (findings_opened b o)) ≡ Ok ts
+    → (r : ReaderValue) × (o ≡ good r) × (subtitles_of (outcome_from 0 b) ≡ Ok ts)
 judged_ok b o ts e = grind (arith, nat_tests)
 
 -- The bytes after a GSI block that is taken.
 pub body_sound : (s : List ℕ) (ts : List SubtitleValue)
     → 1024 ≤ length s
     → IsGsi (take 1024 s)
-    → subtitles_of (outcome_at most_blocks None (drop 1024 s)) ≡ Ok ts
+    → subtitles_of (outcome_from 0 (drop 1024 s)) ≡ Ok ts
     → IsFile s (take 1024 s) ts
 body_sound s ts le g e =
-    let sound = outcome_sound most_blocks None [] (drop 1024 s) ts refl e in
+    let sound = read_sound most_blocks None [] (drop 1024 s) ts refl e in
     grind (arith, nat_tests, take-append-drop 1024 s)
 
 -- Bytes that are read without a fault are a file.
 pub file_sound : (s : List ℕ) (ts : List SubtitleValue)
     → subtitles_of (outcome_of s) ≡ Ok ts
     → IsFile s (take 1024 s) ts
-unfolding outcome_of
+unfolding findings_of
 file_sound s ts e =
     let j = judged_ok (drop 1024 s) (opened_at s) ts e in
     let o = opened_sound s j.0 j.1 in
-    body_sound s ts o.0 o.1
-    (ap (λ (r : ReaderValue). subtitles_of (outcome_left r (drop 1024 s))) (sym o.2) ∙ j.2)
+    body_sound s ts o.0 o.1 j.2
 
 -- A file is read without a fault.
 pub file_complete : (s g : List ℕ) (ts : List SubtitleValue)
     → IsFile s g ts
     → (take 1024 s ≡ g) × (subtitles_of (outcome_of s) ≡ Ok ts)
-unfolding outcome_of opened_at
+unfolding findings_of opened_at
 file_complete s g ts h =
     let size = h.gsi.size in
     let whole = ap length h.bytes in
@@ -64,7 +63,7 @@ file_complete s g ts h =
     let long : ltb (length s) 1024 ≡ false = le-ltb _ _ (omega arith) in (
       front,
       rw (long, front, back, gsi_complete g h.gsi)
-          (outcome_complete h.blocks most_blocks ts h.rest),
+          (read_complete h.blocks most_blocks ts h.rest),
     )
 
 -- A file is what is read.
@@ -86,17 +85,20 @@ one_file s g h ts us a b = grind (arith, nat_tests, file_complete s g ts a, file
 
 -- One byte more than the longest file has decides what a file that was opened gives.
 opened-first : (r : Result (List ℕ) StlFault) (b : List ℕ)
-    → outcome_opened (take (128 * 99999 + 1) b) (opened r) ≡ outcome_opened b (opened r)
+    → findings_opened (take (128 * 99999 + 1) b) (opened r) ≡ findings_opened b (opened r)
 opened-first (Err e) b = refl
-opened-first (Ok g) b = outcome_at-first 99999 None b
+opened-first (Ok g) b = findings_at-first 99999 false None b
 
 -- So what any bytes give.
-pub outcome_of-first : (s : List ℕ) → outcome_of (take 12800897 s) ≡ outcome_of s
-unfolding outcome_of opened_at
-outcome_of-first s = elim (cases_lt 12800897 (length s)) [
-  | inr short ↦ ap outcome_of (take_all 12800897 s short)
+findings_of-first : (s : List ℕ) → findings_of (take 12800897 s) ≡ findings_of s
+unfolding findings_of opened_at
+findings_of-first s = elim (cases_lt 12800897 (length s)) [
+  | inr short ↦ ap findings_of (take_all 12800897 s short)
   | inl long ↦
       let size : length (take 12800897 s) ≡ 12800897 = length-take-le 12800897 s (omega arith) in
       rw (size, le-ltb (length s) 1024 (omega arith), take-take 1024 12800897 s (omega arith))
       (rw (drop-take 1024 (128 * 99999 + 1) s) (opened-first (gsi_at (take 1024 s)) (drop 1024 s)))
 ]
+
+pub outcome_of-first : (s : List ℕ) → outcome_of (take 12800897 s) ≡ outcome_of s
+outcome_of-first s = ap stopped (findings_of-first s)

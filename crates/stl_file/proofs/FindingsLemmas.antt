@@ -1,20 +1,17 @@
--- `findings_at` by cases, what it gives where reading stops, and the blocks that it names; main
--- lemmas: findings_block, stopped_is, finds_from.
-use Rattle.std.proofs.Common.{◌≡◌, ℕ, Bool, false, List, [], ◌∷◌, ◌++◌, length, refl, arith}
-use Rattle.std.proofs.Common.{length-append, take, drop, Option, Some, None, Result, zero, suc, ◌+◌}
-use Rattle.std.proofs.Common.{◌-◌, ◌<◌, ◌≤◌, inl, inr, Ok, Err}
-use Rattle.std.proofs.lemmas.List.{take_at, drop_at}
-use Rattle.std.proofs.lemmas.Bool.{cases_lt, le-ltb, lt-ltb}
+-- `findings_at` by cases, the bytes that decide it, and the blocks that it names; main lemmas:
+-- findings_block, findings_at-first, finds_from.
+use Rattle.std.proofs.Common.{◌≡◌, ◌*◌, ℕ, Bool, List, [], ◌∷◌, ◌++◌, length, refl, arith}
+use Rattle.std.proofs.Common.{length-append, length-take, take, drop, Option, Some, None, Result}
+use Rattle.std.proofs.Common.{zero, suc, ◌+◌, ◌-◌, ◌<◌, ◌≤◌, inl, inr}
+use Rattle.std.proofs.lemmas.List.{take_all, take-take, drop-take, take_at, drop_at}
+use Rattle.std.proofs.lemmas.Bool.{cases_lt, le-ltb}
 use Rattle.std.proofs.lemmas.Bool.Decides.{nat_tests}
 use Rattle.stl_file.specs.declared.fault.StlFault.{StlFault}
 use Rattle.stl_file.specs.declared.fault.StlFault.TheVariants as fault
 use Rattle.stl_file.specs.Tti.{most_blocks}
-use Rattle.stl_file.specs.Gsi.{gsi_at}
-use Rattle.stl_file.specs.Reader.{NamesFrom, opened, opened_at, outcome_of, outcome_opened}
-use Rattle.stl_file.specs.Reading.{Begun, BlockStep, Outcome, outcome_of_step, outcome_at, step_at}
-use Rattle.stl_file.specs.Resuming.{Findings, FindsFrom, breaks, finds, findings_after, findings_at}
-use Rattle.stl_file.specs.Resuming.{findings_of, findings_opened, no_more, refuses, stopped}
-use Rattle.stl_file.proofs.OutcomeLemmas.{outcome_end, outcome_full, outcome_short, outcome_step}
+use Rattle.stl_file.specs.Reader.{FindsFrom}
+use Rattle.stl_file.specs.Reading.{Begun, BlockStep, Findings, breaks, findings_after, findings_at}
+use Rattle.stl_file.specs.Reading.{finds, no_more, refuses, step_at}
 
 -- ---- the function by cases
 
@@ -65,40 +62,24 @@ findings_block room next is begun b rest e size =
     rw (e, findings_step next is begun (b ++ rest) (omega (arith, length-append b rest)))
     (rw (take_at b rest 128 size, drop_at b rest 128 size) refl)
 
--- ---- where reading stops
+-- ---- the bytes that decide
 
--- What comes of a block.
-stopped-after : (room : ℕ) (next : Bool → Option Begun → Findings) (then' : Option Begun → Outcome)
-    (b : List ℕ) (r : Result BlockStep StlFault)
-    → ((begun : Option Begun) → stopped (next false begun) ≡ then' begun)
-    → stopped (findings_after room next false b r) ≡ outcome_of_step room then' r
-stopped-after room next then' b r same = grind arith
-
--- Up to the first fault both are the same.
-pub stopped_is : (room : ℕ) (begun : Option Begun) (b : List ℕ)
-    → stopped (findings_at room false begun b) ≡ outcome_at room begun b
-stopped_is room begun [] = grind (arith, findings_end, outcome_end)
-stopped_is zero begun (x ∷ b) = grind (arith, findings_full, outcome_full)
-stopped_is (suc room) begun (x ∷ b) = elim (cases_lt (length (x ∷ b)) 128) [
-  | inl cut ↦ grind (arith, findings_short, outcome_short)
-  | inr whole ↦
-      rw (findings_step room false begun (x ∷ b) whole, outcome_step room begun (x ∷ b) whole)
-      (stopped-after room (λ is next. findings_at room is next (drop 128 (x ∷ b)))
-      (λ next. outcome_at room next (drop 128 (x ∷ b))) (take 128 (x ∷ b))
-      (step_at begun (take 128 (x ∷ b))) (λ next. stopped_is room next (drop 128 (x ∷ b))))
-]
-
--- So of a file that was opened or not, and of a whole file.
-stopped-opened : (b : List ℕ) (r : Result (List ℕ) StlFault)
-    → stopped (findings_opened b (opened r)) ≡ outcome_opened b (opened r)
-stopped-opened b (Err e) = refl
-stopped-opened b (Ok g) = stopped_is most_blocks None b
-
-pub stopped_whole : (s : List ℕ) → stopped (findings_of s) ≡ outcome_of s
-unfolding findings_of outcome_of opened_at
-stopped_whole s = elim (cases_lt (length s) 1024) [
-  | inl short ↦ rw (lt-ltb _ _ short) refl
-  | inr long ↦ rw (le-ltb _ _ long) (stopped-opened (drop 1024 s) (gsi_at (take 1024 s)))
+-- One byte more than `room` blocks have decides what they give.
+pub findings_at-first : (room : ℕ) (is : Bool) (begun : Option Begun) (b : List ℕ)
+    → findings_at room is begun (take (128 * room + 1) b) ≡ findings_at room is begun b
+findings_at-first zero is begun b = grind (arith, nat_tests, findings_full)
+findings_at-first (suc room) is begun b = elim (cases_lt (length b) 128) [
+  | inl short ↦ rw (take_all (128 * suc room + 1) b (omega arith)) refl
+  | inr long ↦
+      let k : ℕ = 128 * room + 1 in
+      let m : 128 * suc room + 1 ≡ 128 + k = omega arith in
+      let size : 128 ≤ length (take (128 + k) b) = omega (arith, length-take (128 + k) b) in
+      rw (
+        m,
+        findings_step room is begun (take (128 + k) b) size,
+        findings_step room is begun b long,
+      ) (rw (take-take 128 (128 + k) b (omega arith), drop-take 128 k b)
+      (simp (findings_at-first room)))
 ]
 
 -- ---- the blocks that are named
@@ -131,10 +112,3 @@ finds_from (suc room) block is begun (x ∷ b) e = elim (cases_lt (length (x ∷
       (finds-after room (block + 1) _ _ _ _ (omega arith)
       (λ is' next. finds_from room (block + 1) is' next _ (omega arith)))
 ]
-
--- So does what is given where reading stops.
-pub names-stopped : (block : ℕ) (o : Findings) → FindsFrom block o → NamesFrom block (stopped o)
-names-stopped block no_more h = tt
-names-stopped block (breaks f at) h = grind arith
-names-stopped block (finds s at o) h = (h.0, names-stopped block o h.1)
-names-stopped block (refuses f at o) h = grind arith

@@ -2,12 +2,11 @@ pub mod TimeCodeLemmas
 pub mod SubtitleLemmas
 pub mod SubtitleBlocksLemmas
 pub mod StepLemmas
-pub mod OutcomeLemmas
+pub mod FindingsLemmas
 pub mod RestLemmas
 pub mod GsiLemmas
 pub mod OpeningLemmas
 pub mod FileLemmas
-pub mod FindingsLemmas
 pub mod ReadBlocksLemmas
 pub mod ReaderLemmas
 pub mod BlocksOfLemmas

@@ -14,7 +14,8 @@ use Rattle.stl_file.specs.declared.fault.NormalFault.{NormalFault}
 use Rattle.stl_file.specs.declared.fault.NormalFault.TheVariants.{Refused, Write}
 use Rattle.stl_file.specs.Tti.{is_kept, most_blocks}
 use Rattle.stl_file.specs.SubtitleBlocks.{IsBlock, AreLinked, IsRest, AreBlocksOf}
-use Rattle.stl_file.specs.Reader.{ReaderValue, outcome_from, outcome_of, opened_at}
+use Rattle.stl_file.specs.Reader.{ReaderValue, findings_of, outcome_from, outcome_of}
+use Rattle.stl_file.specs.Reader.{opened_at}
 use Rattle.stl_file.specs.Gsi.{with_counts}
 use Rattle.stl_file.specs.Subtitle.{SubtitleValue}
 use Rattle.stl_file.specs.File.{IsFile}
@@ -104,15 +105,15 @@ keeps_same o = grind (arith, nat_tests)
 pub refused_open : (s : List ℕ) (f : StlFault) (old : Option (List ℕ))
     → opened_at s ≡ Err f
     → NormalAnswers s old old (Err (Refused f 0))
-unfolding outcome_of
+unfolding findings_of
 refused_open s f old e = (rw e refl, keeps_same old)
 
 -- After a GSI block that is taken, a file gives what its body gives.
 file_body : (s : List ℕ) (r : ReaderValue)
     → opened_at s ≡ good r
     → subtitles_of (outcome_of s) ≡ subtitles_of (outcome_from 0 (drop 1024 s))
-unfolding outcome_of
-file_body s r e = let o = opened_sound s r e in rw (e, o.2) refl
+unfolding findings_of
+file_body s r e = rw e refl
 
 -- A file whose blocks are refused, as `normal` answers it.
 pub refused_body : (s : List ℕ) (r : ReaderValue) (f : NormalFault) (old : Option (List ℕ))

@@ -1,5 +1,5 @@
 -- The loop over blocks: what they and any more bytes give; main lemmas: reads_on, leads_given,
--- leads_refused, fails_finding.
+-- leads_refused, fails_reading.
 use Rattle.std.proofs.Common.{rules, ◌≡◌, ◌*◌, ℕ, Bool, false, true, List, [], ◌++◌, length, refl}
 use Rattle.std.proofs.Common.{sym, ap, ◌∙◌}
 use Rattle.std.proofs.Common.{append_assoc, arith, length-append, take, drop, Option, None, Result}
@@ -15,11 +15,11 @@ use Rattle.stl_file.specs.declared.fault.StlFault.TheVariants as fault
 use Rattle.stl_file.specs.declared.resuming.Found.{Found}
 use Rattle.stl_file.specs.declared.resuming.Found.TheVariants as found
 use Rattle.stl_file.specs.Tti.{most_blocks}
-use Rattle.stl_file.specs.Reader.{LastIsKept, block_after}
+use Rattle.stl_file.specs.Reader.{FailsReading, LastIsKept, block_after}
 use Rattle.stl_file.specs.Subtitle.{SubtitleValue}
-use Rattle.stl_file.specs.Reading.{Begun, More, Give, step_at}
-use Rattle.stl_file.specs.Resuming.{FailsFinding, LeadsOn, findings_after, findings_at, findings_by}
-use Rattle.stl_file.specs.Resuming.{findings_from, finds_end, found_of, refused_at}
+use Rattle.stl_file.specs.Reading.{Begun, More, Give, findings_after, findings_at, findings_from}
+use Rattle.stl_file.specs.Reading.{refused_at, step_at}
+use Rattle.stl_file.specs.Resuming.{LeadsOn, findings_by, finds_end, found_of}
 use Rattle.stl_file.specs.Fault.{is_cut, is_of_block}
 use Rattle.stl_file.proofs.StepLemmas.{step_gives}
 use Rattle.stl_file.proofs.FindingsLemmas.{findings_block, findings_full, findings_short}
@@ -40,14 +40,14 @@ pub record HasRead (from : ℕ) (refused : Option Begun) (old now : Option (List
       ≡ findings_at (most_blocks - block) (is_some refused) begun more
 
 -- Fewer than 128 bytes were taken after them, and the source failed.
-pub fails_finding : (from block : ℕ) (refused : Option Begun) (old mid new : Option (List ℕ))
+pub fails_reading : (from block : ℕ) (refused : Option Begun) (old mid new : Option (List ℕ))
     (begun : Option Begun) (bytes : List ℕ)
     → HasRead from refused old mid block begun
     → block ≤ most_blocks
     → length bytes < 128
     → Consumes mid new bytes
-    → FailsFinding from (block + 1) refused old new
-fails_finding from block refused old mid new begun bytes h few lt c = record {
+    → FailsReading from (block + 1) refused old new
+fails_reading from block refused old mid new begun bytes h few lt c = record {
   bytes = h.bytes ++ bytes;
   consumed = Consumes-trans old mid new h.bytes bytes h.consumed c;
   block = let s = h.size in omega (arith, length-append h.bytes bytes);

@@ -1,8 +1,9 @@
 -- `IsRest`: bytes are read without a fault exactly when they are blocks of subtitles; main lemmas:
--- outcome_complete, outcome_sound.
-use Rattle.std.proofs.Common.{◌≡◌, ℕ, cond, List, [], ◌∷◌, ◌++◌, length, refl, sym, ap, ◌∙◌}
-use Rattle.std.proofs.Common.{append_assoc, arith, take, drop, Option, Some, None, Result, Ok, Err}
-use Rattle.std.proofs.Common.{subst, zero, suc, ◌+◌, ◌-◌, ◌<◌, ◌≤◌, length-append, inl, inr}
+-- read_complete, read_sound.
+use Rattle.std.proofs.Common.{◌≡◌, ℕ, Bool, false, cond, List, [], ◌∷◌, ◌++◌, length, refl, sym}
+use Rattle.std.proofs.Common.{ap, ◌∙◌, append_assoc, arith, take, drop, Option, Some, None, Result}
+use Rattle.std.proofs.Common.{Ok, Err, subst, zero, suc, ◌+◌, ◌-◌, ◌<◌, ◌≤◌, length-append, inl}
+use Rattle.std.proofs.Common.{inr}
 use Rattle.std.specs.Prelude.{filter}
 use Rattle.std.specs.List.{AllByRecursion, flat_map, concat, AllZip}
 use Rattle.std.proofs.lemmas.List.Folds.{concat-append}
@@ -14,50 +15,57 @@ use Rattle.stl_file.specs.Tti.{is_kept, ebn, text_of, is_passed_block}
 use Rattle.stl_file.specs.SubtitleBlocks.{IsBlock, AreLinked, IsRest, AreBlocksOf}
 use Rattle.stl_file.specs.Subtitle.{SubtitleValue}
 use Rattle.stl_file.specs.NormalForm.{Judged, subtitles_of, cons_all}
-use Rattle.stl_file.specs.Reading.{Begun, BlockStep, More, Give, Outcome, outcome_at}
-use Rattle.stl_file.specs.Reading.{closed, kept_at, outcome_of_step, step_at}
+use Rattle.stl_file.specs.Reading.{Begun, BlockStep, More, Give, Findings, closed, findings_after}
+use Rattle.stl_file.specs.Reading.{findings_at, kept_at, step_at, stopped}
 use Rattle.stl_file.proofs.SubtitleBlocksLemmas.{kept_few, first_linked}
 use Rattle.stl_file.proofs.StepLemmas.{first_kept, further_kept, step_kept, step_passed, Represents}
 use Rattle.stl_file.proofs.StepLemmas.{step_sound}
-use Rattle.stl_file.proofs.OutcomeLemmas.{outcome_full, outcome_step, outcome_end, outcome_short}
-use Rattle.stl_file.proofs.OutcomeLemmas.{outcome_block}
+use Rattle.stl_file.proofs.FindingsLemmas.{findings_full, findings_step, findings_end}
+use Rattle.stl_file.proofs.FindingsLemmas.{findings_block, findings_short}
 
 -- The blocks of each subtitle, one after the other.
 abbrev pub groups_of : List (List (List ℕ)) → List (List ℕ)
 groups_of gs = flat_map (λ (g : List (List ℕ)). g) gs
 
+-- The subtitles that bytes give, where a subtitle was begun that was not refused or none was.
+abbrev pub read_at : ℕ → Option Begun → List ℕ → Judged
+read_at room begun b = subtitles_of (stopped (findings_at room false begun b))
+
 -- ---- completeness: the blocks of a file give its subtitles
 
 -- What a step gives, it gives wherever what follows gives no less.
-after_enough : (few room : ℕ) (f g : Option Begun → Outcome) (r : Result BlockStep StlFault)
-    (ss : List SubtitleValue)
+after_enough : (few room : ℕ) (f g : Bool → Option Begun → Findings) (b : List ℕ)
+    (r : Result BlockStep StlFault) (ss : List SubtitleValue)
     → ((next : Option Begun) (ts : List SubtitleValue)
-    → subtitles_of (f next) ≡ Ok ts
-    → subtitles_of (g next) ≡ Ok ts)
-    → subtitles_of (outcome_of_step few f r) ≡ Ok ss
-    → subtitles_of (outcome_of_step room g r) ≡ Ok ss
-after_enough few room f g r ss same e = grind arith
+    → subtitles_of (stopped (f false next)) ≡ Ok ts
+    → subtitles_of (stopped (g false next)) ≡ Ok ts)
+    → subtitles_of (stopped (findings_after few f false b r)) ≡ Ok ss
+    → subtitles_of (stopped (findings_after room g false b r)) ≡ Ok ss
+after_enough few room f g b r ss same e = grind arith
 
 -- What the kept blocks give, they give with passed ones between them.
 kept_enough : (bs : List (List ℕ)) (begun : Option Begun) (few room : ℕ) (ss : List SubtitleValue)
     → AllByRecursion IsBlock bs
     → length bs ≤ few
     → length bs ≤ room
-    → subtitles_of (outcome_at few begun (concat (filter is_kept bs))) ≡ Ok ss
-    → subtitles_of (outcome_at room begun (concat bs)) ≡ Ok ss
-kept_enough [] begun few room ss h f le e = grind (arith, outcome_end)
+    → read_at few begun (concat (filter is_kept bs)) ≡ Ok ss
+    → read_at room begun (concat bs) ≡ Ok ss
+kept_enough [] begun few room ss h f le e = grind (arith, findings_end)
 kept_enough (b ∷ bs) begun few room ss h f le e =
-    rw (outcome_block room (room - 1) begun b (concat bs) (omega arith) h.0)
+    rw (findings_block room (room - 1) false begun b (concat bs) (omega arith) h.0)
     (elim (cases_Bool (is_passed_block b)) [
       | inl passed ↦
           rw (step_passed begun b passed)
           (kept_enough bs begun few (room - 1) ss h.1 (omega arith) (omega arith) (rw passed at e))
       | inr kept ↦
-          after_enough (few - 1) (room - 1) _ _ (step_at begun b) ss
+          after_enough (few - 1) (room - 1)
+          (λ is next. findings_at (few - 1) is next (concat (filter is_kept bs)))
+          (λ is next. findings_at (room - 1) is next (concat bs)) b (step_at begun b) ss
           (λ next ts. kept_enough bs next (few - 1) (room - 1) ts h.1 (omega arith) (omega arith))
           (rw (
             kept,
-            outcome_block few (few - 1) begun b (concat (filter is_kept bs)) (omega arith) h.0,
+            findings_block few (few - 1) false begun b (concat (filter is_kept bs)) (omega arith)
+                h.0,
           ) at e)
     ])
 
@@ -68,15 +76,15 @@ blocks_give : (tail : List (List ℕ)) (room : ℕ) (begun : Option Begun) (b re
     → AreLinked s.sgn s.sn (b ∷ tail)
     → count + length tail ≤ 9
     → length tail < room
-    → subtitles_of (outcome_at room begun (b ++ (concat tail ++ rest)))
+    → read_at room begun (b ++ (concat tail ++ rest))
     ≡ cons_all (record s { text = s.text ++ flat_map text_of tail })
-    (subtitles_of (outcome_at (room - length (b ∷ tail)) None rest))
+    (read_at (room - length (b ∷ tail)) None rest)
 blocks_give [] room begun b rest s count step linked few le =
-    let one = outcome_block room (room - 1) begun b rest (omega arith) linked.0.size in
-    grind (arith, nat_tests, step_kept, outcome_block, append-nil)
+    let one = findings_block room (room - 1) false begun b rest (omega arith) linked.0.size in
+    grind (arith, nat_tests, step_kept, findings_block, append-nil)
 blocks_give (c ∷ tail) room begun b rest s count step linked few le =
     let kept = step_kept begun b (inl linked.1) linked.0.is_subtitle in
-    let one = outcome_block room (room - 1) begun b (concat (c ∷ tail) ++ rest) (omega arith)
+    let one = findings_block room (room - 1) false begun b (concat (c ∷ tail) ++ rest) (omega arith)
     linked.0.size in
     let o : Begun = record { subtitle = s; blocks = count } in
     let next = further_kept o c (first_linked s.sgn s.sn c tail linked.2) (omega arith) in
@@ -89,8 +97,8 @@ blocks_give (c ∷ tail) room begun b rest s count step linked few le =
 groups_give : (ss : List SubtitleValue) (gs : List (List (List ℕ))) (room : ℕ)
     → AllZip AreBlocksOf ss gs
     → length (groups_of gs) ≤ room
-    → subtitles_of (outcome_at room None (concat (groups_of gs))) ≡ Ok ss
-groups_give [] gs room h le = grind (arith, nat_tests, outcome_end)
+    → read_at room None (concat (groups_of gs)) ≡ Ok ss
+groups_give [] gs room h le = grind (arith, nat_tests, findings_end)
 groups_give (s ∷ ss) [] room h le = absurd h
 groups_give (s ∷ ss) (g ∷ gs) room h le =
     let i = h.0 in
@@ -103,10 +111,10 @@ groups_give (s ∷ ss) (g ∷ gs) room h le =
     grind (arith, concat-append, append_assoc)
 
 -- The blocks of a file from where a subtitle may begin give its subtitles and no fault.
-pub outcome_complete : (bs : List (List ℕ)) (room : ℕ) (ss : List SubtitleValue)
+pub read_complete : (bs : List (List ℕ)) (room : ℕ) (ss : List SubtitleValue)
     → IsRest room bs ss
-    → subtitles_of (outcome_at room None (concat bs)) ≡ Ok ss
-outcome_complete bs room ss r =
+    → read_at room None (concat bs) ≡ Ok ss
+read_complete bs room ss r =
     let few : length (groups_of r.parts) ≤ room =
     omega (arith, r.few, kept_few bs, ap length r.kept) in
     kept_enough bs None room room ss r.each r.few r.few
@@ -157,10 +165,11 @@ step_reads : (room : ℕ) (begun : Option Begun) (before : List (List ℕ)) (b :
     → Represents begun before
     → step_at begun (take 128 b) ≡ r
     → ((g : Option Begun) (k : List (List ℕ)) (ts : List SubtitleValue) → Represents g k
-    → subtitles_of (outcome_at room g (drop 128 b)) ≡ Ok ts → Reads room k (drop 128 b) ts)
-    → subtitles_of (outcome_of_step room (λ next. outcome_at room next (drop 128 b)) r) ≡ Ok ss
+    → read_at room g (drop 128 b) ≡ Ok ts → Reads room k (drop 128 b) ts)
+    → subtitles_of (stopped (findings_after room
+    (λ is next. findings_at room is next (drop 128 b)) false (take 128 b) r)) ≡ Ok ss
     → Reads (suc room) before b ss
-step_reads room begun before b ss (Err f) le rep e go all = absurd cc
+step_reads room begun before b ss (Err f) le rep e go all = absurd (grind arith)
 step_reads room begun before b ss (Ok (More next)) le rep e go all =
     let s = step_sound begun before (take 128 b) (More next) (length-take-le 128 b le) rep e in
     let r = go next _ ss s all in
@@ -176,23 +185,23 @@ step_reads room begun before b ss (Ok (Give s)) le rep e go all =
     (t, r.are_groups))
 
 -- Bytes that give subtitles and no fault are blocks of them.
-pub outcome_sound : (room : ℕ) (begun : Option Begun) (before : List (List ℕ)) (b : List ℕ)
+pub read_sound : (room : ℕ) (begun : Option Begun) (before : List (List ℕ)) (b : List ℕ)
     (ss : List SubtitleValue)
     → Represents begun before
-    → subtitles_of (outcome_at room begun b) ≡ Ok ss
+    → read_at room begun b ≡ Ok ss
     → Reads room before b ss
-outcome_sound room None before [] ss rep e = record {
+read_sound room None before [] ss rep e = record {
   blocks = [];
   each = tt;
   few = omega arith;
   bytes = refl;
   groups = [];
   kept = append-nil before ∙ rep;
-  are_groups = grind (arith, outcome_end);
+  are_groups = grind (arith, findings_end);
 }
-outcome_sound room (Some o) before [] ss rep e = absurd (grind (arith, outcome_end))
-outcome_sound zero begun before (x ∷ b) ss rep e = absurd (grind (arith, outcome_full))
-outcome_sound (suc room) begun before (x ∷ b) ss rep e =
-    let long : 128 ≤ length (x ∷ b) = grind (arith, outcome_short) in
-    step_reads room begun before (x ∷ b) ss _ long rep refl (λ g k ts. outcome_sound room g k _ ts)
-    (rw (outcome_step room begun (x ∷ b) long) at e)
+read_sound room (Some o) before [] ss rep e = absurd (grind (arith, findings_end))
+read_sound zero begun before (x ∷ b) ss rep e = absurd (grind (arith, findings_full))
+read_sound (suc room) begun before (x ∷ b) ss rep e =
+    let long : 128 ≤ length (x ∷ b) = grind (arith, findings_short) in
+    step_reads room begun before (x ∷ b) ss _ long rep refl (λ g k ts. read_sound room g k _ ts)
+    (rw (findings_step room false begun (x ∷ b) long) at e)

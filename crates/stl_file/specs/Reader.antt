@@ -13,7 +13,8 @@ use Rattle.stl_file.specs.Gsi.{gsi_size, gsi_at}
 use Rattle.stl_file.specs.Tti.{most_blocks, is_kept}
 use Rattle.stl_file.specs.Subtitle.{SubtitleValue}
 use Rattle.stl_file.specs.SubtitleBlocks.{IsBlock, AreBlocksOf, IsRest}
-use Rattle.stl_file.specs.Reading.{Outcome, ends, fails, gives, outcome_at}
+use Rattle.stl_file.specs.Reading.{Begun, Findings, breaks, findings_from, finds, no_more, refuses}
+use Rattle.stl_file.specs.Reading.{Outcome, ends, fails, gives, stopped}
 use Rattle.stl_file.specs.File.{IsFile}
 
 -- A reader: the GSI block, the last TTI block that was read or begun (0 before the first), and how
@@ -39,7 +40,7 @@ given_subtitle (Err f) s = Err f
 
 -- What these bytes give after `block` TTI blocks, where the next one begins a subtitle.
 abbrev pub outcome_from : ℕ → List ℕ → Outcome
-outcome_from block b = outcome_at (most_blocks - block) None b
+outcome_from block b = stopped (findings_from block None b)
 
 -- What a reader has still to give, where these bytes are left.
 abbrev pub outcome_in : Progress → ℕ → List ℕ → Outcome
@@ -81,37 +82,10 @@ abbrev pub block_by : ℕ → Result (Option SubtitleValue) StlFault → ℕ
 block_by block (Err f) = block_after block f
 block_by block (Ok found) = block
 
--- What an answer that names this block says of all that was left, where `rest` is left after it.
-abbrev pub outcome_by : ℕ → List ℕ → Result (Option SubtitleValue) StlFault → Outcome
-outcome_by block rest (Err f) = fails f block
-outcome_by block rest (Ok None) = ends
-outcome_by block rest (Ok (Some s)) = gives s block (outcome_from block rest)
-
--- The answer is told of the end of the file, and more bytes might change it.
-abbrev pub tells_end : Result (Option SubtitleValue) StlFault → Bool
-tells_end (Err f) = is_cut f
-tells_end (Ok None) = true
-tells_end (Ok (Some s)) = false
-
 -- The last block of these bytes is no passed block.
 abbrev pub LastIsKept : List ℕ → Type 0
 LastIsKept bytes =
     (front last : List ℕ) → bytes ≡ front ++ last → IsBlock last → is_kept last ≡ true
-
--- The bytes that were taken after `from` blocks lead to the answer, which names the block `to`,
--- whatever comes after them; where it tells the end, nothing does. A subtitle is given at a block
--- that is not passed over.
-pub record Leads (from to : ℕ) (old new : Option (List ℕ))
-    (result : Result (Option SubtitleValue) StlFault) : Type 0 where
-  pub bytes : List ℕ
-  pub consumed : Consumes old new bytes
-  pub block : to ≡ from + (length bytes + 127) / 128
-  pub outcome :
-      (more : List ℕ)
-      → (tells_end result ≡ true → more ≡ [])
-      → outcome_from from (bytes ++ more) ≡ outcome_by to more result
-  pub ended : tells_end result ≡ true → IsAtEnd new
-  pub kept : (s : SubtitleValue) → result ≡ Ok (Some s) → LastIsKept bytes
 
 -- ---- what a call takes
 
@@ -157,26 +131,27 @@ pub record Refuses (from to : ℕ) (old new : Option (List ℕ)) (f : StlFault) 
       → concat bs ≡ bytes ++ more
       → ⊥
 
--- What bytes give names this block or one after it, in each subtitle and in the fault at the end.
--- The end of the file inside a subtitle names the last whole block, so one less.
-abbrev pub NamesFrom : ℕ → Outcome → Type 0
-NamesFrom block ends = ⊤
-NamesFrom block (fails fault.Unfinished at) = block ≤ at + 1
-NamesFrom block (fails f at) = block ≤ at
-NamesFrom block (gives s at outcome) = (block ≤ at) × NamesFrom block outcome
-
 -- The block of the byte that stands after n bytes of a file: 0 is the GSI block.
 abbrev pub block_of_byte : ℕ → ℕ
 block_of_byte n = if nat_lt n gsi_size then 0 else (n - gsi_size) / 128 + 1
 
+-- What is found names this block or one after it; but the end of the file inside a subtitle names
+-- the last whole block, so one less.
+abbrev pub FindsFrom : ℕ → Findings → Type 0
+FindsFrom block no_more = ⊤
+FindsFrom block (breaks fault.Unfinished at) = block ≤ at + 1
+FindsFrom block (breaks f at) = block ≤ at
+FindsFrom block (finds s at more) = (block ≤ at) × FindsFrom block more
+FindsFrom block (refuses f at more) = (block ≤ at) × FindsFrom block more
+
 -- The source failed: the block is that of the byte that was asked for, the first one after those
--- that were taken. These hold no fault, and end no subtitle: whatever comes after them, what they
--- give together is told of that block or a later one.
-pub record FailsReading (from to : ℕ) (old new : Option (List ℕ)) : Type 0 where
+-- that were taken. Whatever comes after these, nothing is found before that block.
+pub record FailsReading (from to : ℕ) (refused : Option Begun) (old new : Option (List ℕ))
+    : Type 0 where
   pub bytes : List ℕ
   pub consumed : Consumes old new bytes
   pub block : to ≡ from + length bytes / 128 + 1
-  pub none : (more : List ℕ) → NamesFrom to (outcome_from from (bytes ++ more))
+  pub none : (more : List ℕ) → FindsFrom to (findings_from from refused (bytes ++ more))
 
 -- How far a reader has come after an answer.
 abbrev pub progress_after_answer : Progress → Result (Option SubtitleValue) StlFault → Progress
@@ -209,11 +184,17 @@ pub record RefusesOpening (old new : Option (List ℕ)) (f : StlFault) : Type 0 
       → IsFile (bytes ++ more) g ts
       → ⊥
 
+-- ---- a whole file
+
 -- What the bytes of a whole file give: a fault of the GSI block names block 0.
-abbrev pub outcome_opened : List ℕ → Result ReaderValue StlFault → Outcome
-outcome_opened b (Err f) = fails f 0
-outcome_opened b (Ok r) = outcome_left r b
+abbrev pub findings_opened : List ℕ → Result ReaderValue StlFault → Findings
+findings_opened b (Err f) = breaks f 0
+findings_opened b (Ok r) = findings_from 0 None b
 
 -- What reading the bytes of a whole file gives.
-unfoldable pub outcome_of : List ℕ → Outcome
-outcome_of s = outcome_opened (drop gsi_size s) (opened_at s)
+unfoldable pub findings_of : List ℕ → Findings
+findings_of s = findings_opened (drop gsi_size s) (opened_at s)
+
+-- The same, up to the first fault.
+abbrev pub outcome_of : List ℕ → Outcome
+outcome_of s = stopped (findings_of s)

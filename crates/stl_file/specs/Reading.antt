@@ -1,19 +1,21 @@
--- Reading TTI blocks one after the other, as far as the first fault.
+-- Reading TTI blocks one after the other, also after a subtitle that is refused; and what that is
+-- as far as the first fault.
 --
 -- The suffix `_at` means: as read at the front of these bytes, or the first fault in the order of
 -- the lines below.
 use Rattle.std.specs.Prelude.{ℕ, zero, suc, ◌+◌, ◌-◌, ◌*◌, ◌≤◌, Bool, true, false, not, ◌==◌, ◌&&◌}
 use Rattle.std.specs.Prelude.{nat_lt, nat_le, List, [], ◌∷◌, ◌++◌, length, take, drop}
-use Rattle.std.specs.Prelude.{if◌then◌else◌, Option, Some, None, Result, Ok, Err}
+use Rattle.std.specs.Prelude.{if◌then◌else◌, Option, Some, None, Result, Ok, Err, is_some}
 use Rattle.sub_io.specs.Reading.{◌>>=◌}
 use Rattle.stl_file.specs.declared.fault.StlFault.{StlFault}
 use Rattle.stl_file.specs.declared.fault.StlFault.TheVariants as fault
+use Rattle.stl_file.specs.Fault.{is_of_first}
 use Rattle.stl_file.specs.Questions.{Questions, asked}
 use Rattle.stl_file.specs.TimeCode.{frame_in, is_time}
 use Rattle.stl_file.specs.Tti.{block_size, most_blocks, most_of_subtitle, first_reserved, user_data}
 use Rattle.stl_file.specs.Tti.{last_block, not_cumulative, is_comment, sgn, sn, ebn, cs, vp, jc, cf}
 use Rattle.stl_file.specs.Tti.{text_of, tci, tco}
-use Rattle.stl_file.specs.Subtitle.{SubtitleValue}
+use Rattle.stl_file.specs.Subtitle.{SubtitleValue, empty_subtitle}
 
 -- ---- one block
 
@@ -100,32 +102,80 @@ step_at begun b =
     else asked (asked_of_block b)
     (if cf b == is_comment then Ok (More begun) else kept_at begun b)
 
+-- ---- a subtitle that is refused
+
+-- Five faults are of what the first block of a subtitle says of it: its CS, JC, VP, TCI and TCO.
+-- Which blocks are those of the subtitle is known all the same: that one and the next ones up to
+-- the first with EBN FF, comments and user data left aside. So the subtitle is no record, and
+-- reading can go on after its blocks, in which all other faults are met as ever (own).
+
+-- A subtitle that was refused at this block and goes on: of its other blocks it is asked that they
+-- have the SGN and SN of this one, and that they are not too many.
+abbrev pub refused_by : List ℕ → Begun
+refused_by b = record {
+  subtitle = record empty_subtitle { sgn = sgn b; sn = sn b };
+  blocks = 1;
+}
+
+-- It goes on where this block is not its last.
+abbrev pub refused_at : List ℕ → Option Begun
+refused_at b = if ebn b == last_block then None else Some (refused_by b)
+
 -- ---- all blocks that follow
 
 -- What the rest of a file gives, one after the other: subtitles, each with the number of its last
--- block, and then the end, or the first fault with the block that it names.
+-- block, and those that are refused, each with its fault and the number of its first block; then
+-- the end, or the fault that ends reading, with the block that it names.
+pub data Findings : Type 0 where
+  no_more : Findings
+  breaks : StlFault → ℕ → Findings
+  finds : SubtitleValue → ℕ → Findings → Findings
+  refuses : StlFault → ℕ → Findings → Findings
+
+-- What comes of a block after which `room` blocks may still follow. `is_refused` tells of the
+-- subtitle that was begun whether it was refused: it is given at its last block only if it was not.
+abbrev pub findings_after :
+    ℕ → (Bool → Option Begun → Findings) → Bool → List ℕ → Result BlockStep StlFault → Findings
+findings_after room next is_refused b (Err f) =
+    if is_of_first f
+    then refuses f (most_blocks - room) (next (is_some (refused_at b)) (refused_at b))
+    else breaks f (most_blocks - room)
+findings_after room next is_refused b (Ok (More begun)) = next is_refused begun
+findings_after room next true b (Ok (Give s)) = next false None
+findings_after room next false b (Ok (Give s)) = finds s (most_blocks - room) (next false None)
+
+-- What bytes after the GSI block give, where `room` blocks may still follow and a subtitle was
+-- begun or not. The end inside a subtitle names the last whole block, every other fault the block
+-- that was begun; one byte after 99,999 blocks is a block too many.
+unfoldable pub findings_at : ℕ → Bool → Option Begun → List ℕ → Findings
+findings_at room is_refused None [] = no_more
+findings_at room is_refused (Some begun) [] = breaks fault.Unfinished (most_blocks - room)
+findings_at zero is_refused begun (x ∷ b) = breaks fault.TooManyBlocks (most_blocks + 1)
+findings_at (suc room) is_refused begun (x ∷ b) =
+    if nat_lt (length (x ∷ b)) block_size then breaks fault.Truncated (most_blocks - room)
+    else findings_after room (λ is next. findings_at room is next (drop block_size (x ∷ b)))
+    is_refused (take block_size (x ∷ b)) (step_at begun (take block_size (x ∷ b)))
+
+-- What these bytes give after `block` TTI blocks, within a subtitle that was refused or where the
+-- next one begins.
+abbrev pub findings_from : ℕ → Option Begun → List ℕ → Findings
+findings_from block refused b = findings_at (most_blocks - block) (is_some refused) refused b
+
+-- ---- up to the first fault
+
+-- What a reader gives that stops at the first fault: subtitles, each with the number of its last
+-- block, and then the end, or that fault with the block that it names.
 pub data Outcome : Type 0 where
   ends : Outcome
   fails : StlFault → ℕ → Outcome
   gives : SubtitleValue → ℕ → Outcome → Outcome
 
--- What comes of a block after which `room` blocks may still follow.
-abbrev pub outcome_of_step : ℕ → (Option Begun → Outcome) → Result BlockStep StlFault → Outcome
-outcome_of_step room next (Err f) = fails f (most_blocks - room)
-outcome_of_step room next (Ok (Give s)) = gives s (most_blocks - room) (next None)
-outcome_of_step room next (Ok (More begun)) = next begun
-
--- What bytes after the GSI block give, where `room` blocks may still follow and a subtitle was
--- begun or not. The end inside a subtitle names the last whole block, every other fault the block
--- that was begun; one byte after 99,999 blocks is a block too many.
-unfoldable pub outcome_at : ℕ → Option Begun → List ℕ → Outcome
-outcome_at room None [] = ends
-outcome_at room (Some begun) [] = fails fault.Unfinished (most_blocks - room)
-outcome_at zero begun (x ∷ b) = fails fault.TooManyBlocks (most_blocks + 1)
-outcome_at (suc room) begun (x ∷ b) =
-    if nat_lt (length (x ∷ b)) block_size then fails fault.Truncated (most_blocks - room)
-    else outcome_of_step room (λ next. outcome_at room next (drop block_size (x ∷ b)))
-    (step_at begun (take block_size (x ∷ b)))
+-- What is found up to there.
+abbrev pub stopped : Findings → Outcome
+stopped no_more = ends
+stopped (breaks f block) = fails f block
+stopped (finds s block more) = gives s block (stopped more)
+stopped (refuses f block more) = fails f block
 
 -- ---- what a subtitle that was begun keeps
 

@@ -4,7 +4,6 @@ ghost use Rattle.std.specs.Prelude.{◌≡◌, ◌↔◌, ℕ, List, Ok, take};
 ghost use Rattle.stl_file.specs.File.{IsFile};
 ghost use Rattle.stl_file.specs.NormalForm.{counted_gsi, normal_form, subtitles_of};
 ghost use Rattle.stl_file.specs.Reader.{outcome_of};
-ghost use Rattle.stl_file.specs.Resuming.{findings_of, stopped};
 ghost use Rattle.stl_file.specs.Subtitle.{SubtitleValue};
 
 /// Bytes are a file with these subtitles exactly where reading gives these subtitles and no fault.
@@ -23,12 +22,6 @@ pub fn law_of_one_reading()
         → IsFile s g ts
         → IsFile s h us
         → (g ≡ h) × (ts ≡ us) }
-{}
-
-/// What a file gives where reading goes on after subtitles that are refused is, up to the first of
-/// them, what it gives where reading stops.
-pub fn law_of_reading_on()
-    ensures { (s : List ℕ) → stopped (findings_of s) ≡ outcome_of s }
 {}
 
 /// The normal form of a file is a file with the same subtitles, whose GSI block is the same but for

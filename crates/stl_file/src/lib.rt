@@ -31,7 +31,6 @@ pub use fault::{NormalFault, StlFault};
 pub use gsi::{Gsi, five_digits_of};
 pub use laws::{
     law_of_files, law_of_normal_form, law_of_normal_form_again, law_of_one_reading,
-    law_of_reading_on,
 };
 pub use normal_form::normal;
 pub use progress::Progress;

@@ -10,11 +10,11 @@ ghost use Rattle.sub_io.specs.Reading.{IfTold};
 ghost use Rattle.stl_file.specs.declared.fault.StlFault.TheVariants.{Ended};
 ghost use Rattle.stl_file.specs.Fault.{is_format, is_read};
 ghost use Rattle.stl_file.specs.Gsi.{IsGsi};
-ghost use Rattle.stl_file.specs.Reader.{Leads, block_after, block_by, opened_at, FailsReading};
+ghost use Rattle.stl_file.specs.Reader.{block_after, block_by, opened_at, FailsReading};
 ghost use Rattle.stl_file.specs.Reader.{HasPlace, GivesNext, Refuses, RefusesOpening, TakesPassed};
 ghost use Rattle.stl_file.specs.Reader.{TakesSubtitle, given_subtitle, progress_after_answer};
-ghost use Rattle.stl_file.specs.Reading.{begun_in};
-ghost use Rattle.stl_file.specs.Resuming.{FailsFinding, LeadsOn, found_of, refused_by};
+ghost use Rattle.stl_file.specs.Reading.{begun_in, refused_by};
+ghost use Rattle.stl_file.specs.Resuming.{LeadsOn, found_of};
 ghost use Rattle.stl_file.specs.Tti.{most_blocks};
 
 use crate::fault::StlFault;
@@ -150,7 +150,7 @@ impl StlReader {
             (S.remaining source.old) (S.remaining source.new) fault) }
         // A source that failed failed at this block.
         ensures failed { self.old.progress ≡ Reading → failed is_read result ≡ true →
-            FailsReading self.old.block self.new.block
+            FailsReading self.old.block self.new.block None
             (S.remaining source.old) (S.remaining source.new) }
 
         ensures progress { self.new.progress ≡ progress_after_answer self.old.progress result }
@@ -209,7 +209,7 @@ impl StlReader {
             (S.remaining source.old) (S.remaining source.new) fault) }
         // A source that failed failed at this block.
         ensures failed { self.old.progress ≡ Reading → failed is_read result ≡ true →
-            FailsReading self.old.block self.new.block
+            FailsReading self.old.block self.new.block None
             (S.remaining source.old) (S.remaining source.new) }
 
         ensures progress { self.new.progress ≡ progress_after_answer self.old.progress
@@ -229,7 +229,9 @@ impl StlReader {
             Progress::AtEnd => return Ok(false),
             Progress::Broken => return Err(StlFault::Ended),
         };
-        match read_subtitle(&mut block, source, subtitle) {
+        // A subtitle that is refused is a fault as any other here: reading stops.
+        let mut refused = None;
+        match read_blocks(&mut block, source, subtitle, &mut refused) {
             Ok(true) => {
                 self.block = block;
                 Ok(true)
@@ -246,27 +248,6 @@ impl StlReader {
             }
         }
     }
-}
-
-// The next subtitle of a file of which `block` blocks were read.
-fn read_subtitle<S: Source>(
-    block: &mut u32,
-    source: &mut S,
-    subtitle: &mut Subtitle,
-) -> Result<bool, StlFault>
-    requires few { block.old ≤ most_blocks }
-    requires count { CanFail (S.failure_count source.old) }
-    ensures leads { failed is_read result ≡ false →
-        Leads block.old (block_by block.new (given_subtitle result subtitle.new))
-        (S.remaining source.old) (S.remaining source.new) (given_subtitle result subtitle.new) }
-    ensures failed { failed is_read result ≡ true →
-        FailsReading block.old (block.new + 1) (S.remaining source.old) (S.remaining source.new) }
-    ensures never { IfErr result (λ fault. fault ≢ Ended) }
-    ensures few { block.new ≤ most_blocks }
-    ensures count { CountsIf S.failure_count source.old (failed is_read result) source.new }
-{
-    let mut refused = None;
-    read_blocks(block, source, subtitle, &mut refused)
 }
 
 // Reads blocks after `block` of a file, up to the last of a subtitle, the end or a fault. `refused`
@@ -286,7 +267,7 @@ pub(crate) fn read_blocks<S: Source>(
         (S.remaining source.old) (S.remaining source.new) subtitle.new
         (found_of (is_some (option_map refused_by refused.old)) result) }
     ensures failed { failed is_read result ≡ true →
-        FailsFinding block.old (block.new + 1) (option_map refused_by refused.old)
+        FailsReading block.old (block.new + 1) (option_map refused_by refused.old)
         (S.remaining source.old) (S.remaining source.new) }
     ensures never { IfErr result (λ fault. fault ≢ Ended) }
     ensures over { result ≡ Ok true → refused.new ≡ None }

@@ -5,9 +5,9 @@ ghost use Rattle.sub_io.specs.Device.{CanFail, CountsIf, failed};
 ghost use Rattle.stl_file.specs.declared.fault.StlFault.TheVariants.{Ended};
 ghost use Rattle.stl_file.specs.declared.progress.Progress.TheVariants.{Reading};
 ghost use Rattle.stl_file.specs.Fault.{is_read};
-ghost use Rattle.stl_file.specs.Reader.{HasPlace};
-ghost use Rattle.stl_file.specs.Resuming.{FailsFinding, IsOfFirst, LeadsOn, found_of};
-ghost use Rattle.stl_file.specs.Resuming.{progress_found, refused_by};
+ghost use Rattle.stl_file.specs.Reader.{FailsReading, HasPlace};
+ghost use Rattle.stl_file.specs.Reading.{refused_by};
+ghost use Rattle.stl_file.specs.Resuming.{IsOfFirst, LeadsOn, found_of, progress_found};
 
 use crate::fault::StlFault;
 use crate::progress::Progress;
@@ -47,7 +47,8 @@ pub struct ResumingReader {
 impl Model for ResumingReader {
     ghost use Rattle.std.specs.Prelude.{option_map};
     ghost use Rattle.stl_file.specs.Reader.{HasPlace};
-    ghost use Rattle.stl_file.specs.Resuming.{ResumingValue, refused_by};
+    ghost use Rattle.stl_file.specs.Reading.{refused_by};
+    ghost use Rattle.stl_file.specs.Resuming.{ResumingValue};
 
     ghost Value = { ResumingValue };
 
@@ -106,7 +107,7 @@ impl ResumingReader {
             (S.remaining source.old) (S.remaining source.new) subtitle.new result }
         // A source that failed failed at this block.
         ensures failed { failed is_read result ≡ true →
-            FailsFinding self.old.block self.new.block self.old.refused
+            FailsReading self.old.block self.new.block self.old.refused
             (S.remaining source.old) (S.remaining source.new) }
         ensures first { IfOk result IsOfFirst }
         ensures never { IfErr result (λ fault. fault ≢ Ended) }

@@ -1,5 +1,4 @@
--- The first of all faults is the one that `load` tells; main lemmas: every_fault, tells-first,
--- none-told.
+-- The first of all faults is the one that `load` tells; main lemmas: tells-first, none-told.
 use Rattle.std.proofs.Common.{rules, ◌≡◌, ℕ, List, ◌∷◌, ◌++◌, map, Option, Some, None, [], Result}
 use Rattle.std.proofs.Common.{Ok, Err, refl, ap, sym, ◌<◌, ◌≤◌, ◌⊎◌, Bool, true, false, arith, take}
 use Rattle.std.proofs.lemmas.Bool.Decides.{nat_tests}
@@ -8,70 +7,27 @@ use Rattle.std.specs.List.{filter}
 use Rattle.sub_io.specs.Telling.{KeepsFirst}
 use Rattle.sub_io.proofs.TellingLemmas.{first_is}
 use Rattle.stl_file.specs.declared.fault.StlFault.TheVariants.{Ended, Unfinished}
-use Rattle.stl_file.specs.Reading.{Outcome}
-use Rattle.stl_file.specs.Resuming.{Findings, breaks, findings_of, finds, no_more, refuses, stopped}
-use Rattle.stl_file.proofs.FindingsLemmas.{stopped_whole}
-use Rattle.stl_file.specs.Reader.{outcome_of}
-use Rattle.stl_file.specs.Subtitle.{SubtitleValue}
 use Rattle.stl_rows.specs.declared.fault.LoadFault.{LoadFault}
 use Rattle.stl_rows.specs.declared.fault.LoadFaultKind.{LoadFaultKind}
 use Rattle.stl_rows.specs.declared.national.National.{National}
 use Rattle.stl_rows.specs.declared.fault.LoadFaultKind.TheVariants.{File}
-use Rattle.stl_rows.specs.EveryFault.{FailsTelling, LawOfEveryFault, TellsFaults, TellsOfFile}
-use Rattle.stl_rows.specs.EveryFault.{faults, faults_behind, is_told_before, is_of_file}
-use Rattle.stl_rows.specs.Loading.{FailsLoading, TellsFault, load_fault, loaded, loaded_behind}
-use Rattle.stl_rows.specs.Loading.{unless_told}
+use Rattle.stl_rows.specs.EveryFault.{FailsTelling, TellsFaults, TellsOfFile, faults, is_of_file}
+use Rattle.stl_rows.specs.EveryFault.{is_told_before, load_fault}
+use Rattle.stl_rows.specs.Loading.{FailsLoading, TellsFault, loaded, unless_told}
 use Rattle.stl_rows.specs.Fault.{is_read, is_read_kind}
-use Rattle.stl_rows.specs.Programme.{ProgrammeValue, follow_faults, times_before, times_of}
-use Rattle.stl_rows.proofs.ProgrammeLemmas.{last_of-push}
+use Rattle.stl_rows.specs.Programme.{ProgrammeValue}
 use Rattle.stl_rows.specs.TextCode.{first_of}
 
--- A file is refused for the first of these.
-abbrev pub FirstIs : Result ProgrammeValue LoadFault → List LoadFault → Type 0
-FirstIs r fs = (fault : LoadFault) → (r ≡ Err fault) ↔ (first_of fs ≡ Some fault)
+-- A file is refused for the first of its faults.
+first_told : (fs : List LoadFault) (p : ProgrammeValue) (fault : LoadFault)
+    → (unless_told fs p ≡ Err fault) ↔ (first_of fs ≡ Some fault)
+first_told [] p fault = ((λ e. absurd cc), (λ e. absurd cc))
+first_told (f ∷ fs) p fault = ((λ e. cc), (λ e. cc))
 
--- The first fault of a subtitle, or else what comes next.
-first_told : (kinds : List LoadFaultKind) (block : ℕ) (next : Result ProgrammeValue LoadFault)
-    (rest : List LoadFault)
-    → FirstIs next rest
-    → FirstIs (unless_told kinds block next) (map (load_fault block) kinds ++ rest)
-first_told [] block next rest h = h
-first_told (k ∷ ks) block next rest h = λ fault. ((λ e. cc), (λ e. cc))
-
--- Of all that is left.
-first_behind : (national : National) (records : List SubtitleValue) (left : Findings)
-    → FirstIs (loaded_behind national records (stopped left))
-    (faults_behind national (times_before records) left)
-unfolding faults_behind
-first_behind national records no_more = λ fault. ((λ e. absurd cc), (λ e. absurd cc))
-first_behind national records (breaks f block) = λ fault. ((λ e. cc), (λ e. cc))
-first_behind national records (refuses f block left) = λ fault. ((λ e. cc), (λ e. cc))
-first_behind national records (finds t block left) =
-    first_told (follow_faults national (times_before records) t) block
-    (loaded_behind national (records ++ t ∷ []) (stopped left))
-    (faults_behind national (Some (times_of t)) left)
-    (rw (ap (option_map times_of) (last_of-push records t))
-    at (first_behind national (records ++ t ∷ []) left))
-
--- None is told exactly where the file is loaded.
-none_is : (r : Result ProgrammeValue LoadFault) (fs : List LoadFault)
-    → FirstIs r fs
-    → (fs ≡ []) ↔ IsOk r
-none_is (Ok p) [] h = ((λ e. refl), (λ e. refl))
-none_is (Ok p) (f ∷ fs) h = absurd (let e = (h f).1 refl in cc)
-none_is (Err fault) [] h = absurd (let e = (h fault).0 refl in cc)
-none_is (Err fault) (f ∷ fs) h = ((λ e. absurd cc), (λ e. absurd cc))
-
--- Of all faults.
-pub first_fault : (national : National) (file : List ℕ)
-    → FirstIs (loaded national (outcome_of file)) (faults national file)
-unfolding faults
-first_fault national file =
-    rw (stopped_whole file) at (first_behind national [] (findings_of file))
-
--- The law: for `law_of_every_fault`.
-pub every_fault : LawOfEveryFault
-every_fault national s = search (rules, first_fault, none_is)
+first_fault : (national : National) (file : List ℕ) (fault : LoadFault)
+    → (loaded national file ≡ Err fault) ↔ (first_of (faults national file) ≡ Some fault)
+unfolding loaded
+first_fault national file fault = first_told (faults national file) _ fault
 
 -- ---- `load`, which is told the first
 
@@ -83,11 +39,11 @@ first_taken : (n : ℕ) (all : List LoadFault) (fault : LoadFault)
 first_taken n all fault some h = grind (arith, nat_tests)
 
 -- A fault of the file is told as `load` tells it.
-tells-kind : (national : National) (outcome : Outcome) (block : ℕ) (kind : LoadFaultKind)
+tells-kind : (national : National) (file : List ℕ) (block : ℕ) (kind : LoadFaultKind)
     → is_of_file kind ≡ true
-    → loaded national outcome ≡ Err (load_fault block kind)
-    → TellsFault national outcome block kind
-tells-kind national outcome block kind of_file h = grind (arith, nat_tests)
+    → loaded national file ≡ Err (load_fault block kind)
+    → TellsFault national file block kind
+tells-kind national file block kind of_file h = grind (arith, nat_tests)
 
 -- What was told of the file by the first is one of its faults.
 pub first-of_file : (first : Option LoadFault)
@@ -114,14 +70,14 @@ first-not_read new first fault is_new is_first of_file =
 pub tells-first : (national : National) (file : List ℕ) (fault : LoadFault) (stopped : Bool)
     → TellsFaults KeepsFirst None (Some fault) stopped (faults national file)
     → TellsOfFile KeepsFirst None (Some fault)
-    → TellsFault national (outcome_of file) fault.block fault.kind
+    → TellsFault national file fault.block fault.kind
 tells-first national file fault stopped told of_file =
     let p = told.prefix in
     let taken = first_is (Some fault) (take p.0 (faults national file)) p.3 in
     let first = first_taken p.0 (faults national file) fault p.1 taken in
     let own = first-of_file (Some fault) of_file in
     let kind : is_of_file fault.kind ≡ true = let same = own.1 in let is = own.2 in cc in
-    tells-kind national (outcome_of file) fault.block fault.kind kind
+    tells-kind national file fault.block fault.kind kind
     ((first_fault national file fault).1 first)
 
 -- The first of all does not come before this block, where none does.

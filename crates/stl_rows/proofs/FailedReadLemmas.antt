@@ -11,9 +11,9 @@ use Rattle.sub_io.proofs.TellingLemmas.{Tells-none}
 use Rattle.stl_file.specs.declared.fault.StlFault.{StlFault}
 use Rattle.stl_file.specs.declared.resuming.Found.{Found}
 use Rattle.stl_file.specs.Subtitle.{SubtitleValue}
-use Rattle.stl_file.specs.Reading.{Begun}
-use Rattle.stl_file.specs.Reader.{block_of_byte}
-use Rattle.stl_file.specs.Resuming.{FailsFinding, FindsFrom, LeadsOn, ResumingValue, findings_from}
+use Rattle.stl_file.specs.Reading.{Begun, findings_from}
+use Rattle.stl_file.specs.Reader.{FailsReading, FindsFrom, block_of_byte}
+use Rattle.stl_file.specs.Resuming.{LeadsOn, ResumingValue}
 use Rattle.stl_rows.specs.declared.national.National.{National}
 use Rattle.stl_rows.specs.declared.fault.LoadFault.{LoadFault}
 use Rattle.stl_rows.specs.declared.times.Times.{Times}
@@ -66,7 +66,7 @@ pub fails-next : {national : National} {start old new : Option (List ℕ)} {befo
     → Tells IsTold told_old told_new early
     → ((all : List ℕ) → start ≡ Some all → (rest : List ℕ) × (old ≡ Some rest)
     × GoesOn national all (findings_from reader.block reader.refused rest) before kept early)
-    → FailsFinding reader.block block reader.refused old new
+    → FailsReading reader.block block reader.refused old new
     → FailsTelling national start new IsTold told_old told_new block
 fails-next {start = start} {old} {new} reader {block} taken early_told told goes failed =
     record {

@@ -15,7 +15,7 @@ empty_parts [] ys e = (refl, e)
 empty_parts (x ∷ xs) ys e = cc
 
 -- Where nothing is made of a list it is none.
-map_empty : {A B : Type 0} (f : A → B) (xs : List A) → map f xs ≡ [] → xs ≡ []
+pub map_empty : {A B : Type 0} (f : A → B) (xs : List A) → map f xs ≡ [] → xs ≡ []
 map_empty f [] e = refl
 map_empty f (x ∷ xs) e = cc
 

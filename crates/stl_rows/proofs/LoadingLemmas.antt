@@ -1,7 +1,7 @@
 -- What is left of a file after some of its subtitles, and what was told of these; main lemmas:
 -- goes_on-next, tells-stopped, tells-unread.
 use Rattle.std.proofs.Common.{rules, ◌≡◌, ◌<◌, ◌≤◌, ◌+◌, ℕ, Bool, true, false, List, ◌∷◌, ◌++◌, []}
-use Rattle.std.proofs.Common.{drop, take, length, map, Option, Some, None, Result, refl, sym}
+use Rattle.std.proofs.Common.{drop, take, length, map, Option, Some, None, Result, Ok, refl, sym}
 use Rattle.std.proofs.Common.{◌∙◌, ap, inl, arith, length-take, append_assoc, append-nil}
 use Rattle.std.proofs.Common.{length-append}
 use Rattle.std.proofs.Math.Seq.{take-append-add, take-length}
@@ -19,16 +19,11 @@ use Rattle.sub_io.specs.Telling.{Tells, first_alone}
 use Rattle.sub_io.proofs.TellingLemmas.{Tells-trans}
 use Rattle.stl_file.specs.declared.fault.StlFault.{StlFault}
 use Rattle.stl_file.specs.declared.fault.StlFault.TheVariants.{Ended}
-use Rattle.stl_file.specs.declared.resuming.Found.{Found}
 use Rattle.stl_file.specs.Fault.{is_of_first, is_read}
-use Rattle.stl_file.specs.Reading.{Begun}
+use Rattle.stl_file.specs.Reading.{Findings, breaks, finds, no_more, refuses}
 use Rattle.stl_file.specs.Gsi.{gsi_size}
 use Rattle.stl_file.specs.Subtitle.{IsSubtitle, SubtitleValue}
-use Rattle.stl_file.specs.Reader.{ReaderValue, opened_at, outcome_of}
-use Rattle.stl_file.specs.Resuming.{Findings, FindsFrom, breaks, findings_of, findings_opened}
-use Rattle.stl_file.specs.Resuming.{finds}
-use Rattle.stl_file.specs.Resuming.{LeadsOn, findings_by, findings_from, no_more, refuses, stopped}
-use Rattle.stl_file.proofs.FindingsLemmas.{stopped_whole}
+use Rattle.stl_file.specs.Reader.{FindsFrom, ReaderValue, findings_of, findings_opened, opened_at}
 use Rattle.stl_rows.specs.declared.national.National.{National}
 use Rattle.stl_rows.specs.declared.fault.LoadFault.{LoadFault}
 use Rattle.stl_rows.specs.declared.fault.LoadFaultKind.{LoadFaultKind}
@@ -37,7 +32,8 @@ use Rattle.stl_rows.specs.declared.times.Times.{Times}
 use Rattle.stl_rows.specs.DrawnPage.{drawn}
 use Rattle.stl_rows.specs.EveryFault.{StopsWithin, TellsFaults, TellsOfFile, faults, faults_behind}
 use Rattle.stl_rows.specs.EveryFault.{is_told_before, is_of_file, is_unfinished, kept_after}
-use Rattle.stl_rows.specs.Loading.{EndsRecord, load_fault, loaded, loaded_behind}
+use Rattle.stl_rows.specs.EveryFault.{load_fault}
+use Rattle.stl_rows.specs.Loading.{EndsBehind, EndsRecord, loaded, records_of}
 use Rattle.stl_rows.specs.Programme.{IsProgramme, follow_faults, order_faults, row_faults}
 use Rattle.stl_rows.specs.Programme.{times_before, times_of}
 use Rattle.stl_rows.proofs.ProgrammeLemmas.{IsProgramme-push, last_of-push}
@@ -49,19 +45,6 @@ pub findings_of-opened : (bytes : List ℕ) (r : Result ReaderValue StlFault)
     → findings_of bytes ≡ findings_opened (drop gsi_size bytes) r
 unfolding findings_of
 findings_of-opened bytes r h = ap (findings_opened (drop gsi_size bytes)) h
-
--- What is left is what was found, and what is left after it.
-pub left-then : (old new : Option (List ℕ)) (rest : List ℕ) {from to : ℕ}
-    {refused next : Option Begun} {t : SubtitleValue} {result : Result Found StlFault}
-    → LeadsOn from to refused next old new t result
-    → old ≡ Some rest
-    → (more : List ℕ) × (new ≡ Some more)
-    × (findings_from from refused rest ≡ findings_by to next more t result)
-left-then None new rest l is = absurd cc
-left-then (Some all) None rest l is = absurd l.consumed
-left-then (Some all) (Some more) rest l is =
-    let same : rest ≡ l.bytes ++ more = let whole = l.consumed in cc in
-    (more, refl, rw same (l.findings more l.ended))
 
 -- ---- what was told of subtitles
 
@@ -149,17 +132,17 @@ stops-last national before t block old mid new order row is_order is_row some p 
 -- ---- what is left
 
 -- What was told of the subtitles so far, and what is wrong with the rest, is all that is wrong with
--- the file. While all of them are kept, what comes of the rest is what comes of the file.
+-- the file. While all of them are kept, they and the rest are all that the file gives.
 pub record GoesOn (national : National) (file : List ℕ) (left : Findings) (before : Option Times)
     (kept : Option (List SubtitleValue)) (early : List LoadFault) : Type 0 where
   pub same : faults national file ≡ early ++ faults_behind national before left
   pub loads : (records : List SubtitleValue)
       → kept ≡ Some records
-      → loaded_behind national records (stopped left) ≡ loaded national (outcome_of file)
+      → records_of (findings_of file) ≡ records ++ records_of left
   pub ends_record : (records : List SubtitleValue) (at : ℕ)
       → kept ≡ Some records
-      → EndsRecord national records at (stopped left)
-      → EndsRecord national [] at (outcome_of file)
+      → EndsBehind national before at left
+      → EndsRecord national file at
 
 -- All subtitles so far are kept: they are a programme, and nothing was told of any.
 pub record AreKept (national : National) (before : Option Times) (early : List LoadFault)
@@ -212,13 +195,16 @@ module _ {national : National} {before : Option Times} {kept : Option (List Subt
   was_kept : (records : List SubtitleValue)
       → kept_after clean t kept ≡ Some records
       → (ts : List SubtitleValue) × (kept ≡ Some ts) × (records ≡ ts ++ t ∷ [])
-      × (follow_faults national (times_before ts) t ≡ [])
+      × (follow_faults national before t ≡ [])
   was_kept records h = grind (arith, nat_tests, kept_before, none-first)
 
   -- Nothing was told while something is kept.
   none_told : (records : List SubtitleValue) → kept_after clean t kept ≡ Some records
       → told_then ≡ []
-  none_told records h = grind (arith, nat_tests, was_kept)
+  none_told records h =
+      let was = was_kept records h in
+      let ok = are_kept was.0 was.1 in
+      rw (ok.none, was.3) refl
 
   -- What is left goes on.
   pub goes_on-next : {file : List ℕ} {rest : Findings}
@@ -233,7 +219,10 @@ module _ {national : National} {before : Option Times} {kept : Option (List Subt
       → kept_after clean t kept ≡ Some records
       → AreKept national (Some (times_of t)) told_then records
   are_kept-next subtitle records h =
-      grind (arith, nat_tests, was_kept, last_of-push, none_told, IsProgramme-push)
+      let was = was_kept records h in
+      let ok = are_kept was.0 was.1 in
+      let none : follow_faults national (times_before was.0) t ≡ [] = rw ok.before_is at was.3 in
+      grind (arith, nat_tests, last_of-push, none_told, IsProgramme-push)
 
   -- Where nothing is, faults were told.
   pub some-next : (kept ≡ None → 0 < length early)
@@ -246,7 +235,7 @@ module _ {national : National} {before : Option Times} {kept : Option (List Subt
       → clean ≡ true
       → is_none kept ≡ false
       → GoesOn national file (finds t block rest) before kept early
-      → EndsRecord national [] block (outcome_of file)
+      → EndsRecord national file block
   ends-here is_true some on =
       let kept_then = still_kept clean t kept is_true some in
       let was = was_kept kept_then.0 kept_then.1 in
@@ -343,7 +332,23 @@ module _ {D : Type 0} {IsTold : D → LoadFault → D → Type 0} {old mid new :
 pub goes_on-start : (national : National) (file : List ℕ)
     → GoesOn national file (findings_of file) None (Some []) []
 unfolding faults
-goes_on-start national file = grind (arith, nat_tests, stopped_whole file)
+goes_on-start national file = grind (arith, nat_tests)
+
+-- None was told, and nothing is wrong with the rest: what was kept is the programme.
+pub loads-all : {national : National} {file : List ℕ} {left : Findings} {before : Option Times}
+    {kept : Option (List SubtitleValue)} {early : List LoadFault}
+    → GoesOn national file left before kept early
+    → left ≡ no_more
+    → (records : List SubtitleValue)
+    → kept ≡ Some records
+    → early ≡ []
+    → loaded national file ≡ Ok (record { national = national; records = records })
+unfolding loaded faults_behind
+loads-all {national} {file} on is records h none =
+    let same : faults national file ≡ [] = rw (is, none) at on.same in
+    let all : records_of (findings_of file) ≡ records =
+    rw is at (on.loads records h) ∙ append-nil records in
+    rw (same, all) refl
 
 module _ {D : Type 0} {IsTold : D → LoadFault → D → Type 0} {old mid : D} {national : National}
     {file : List ℕ} {left : Findings} {before : Option Times} {kept : Option (List SubtitleValue)}

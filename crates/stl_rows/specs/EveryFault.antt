@@ -1,23 +1,24 @@
 -- Every fault of a subtitle file, one after another, and what a device is told of them.
-use Rattle.std.specs.Prelude.{◌≡◌, ℕ, ◌<◌, ◌≤◌, ◌&&◌, ◌↔◌, nat_lt, not, Bool, true, false, List, []}
-use Rattle.std.specs.Prelude.{◌∷◌, ◌++◌, length, map, take}
-use Rattle.std.specs.Prelude.{Option, Some, None, Err, IsOk, option_map}
+use Rattle.std.specs.Prelude.{◌≡◌, ℕ, ◌<◌, ◌≤◌, ◌&&◌, nat_lt, not, Bool, true, false, List, []}
+use Rattle.std.specs.Prelude.{◌∷◌, ◌++◌, length, map, take, Option, Some, None, option_map}
 use Rattle.std.specs.List.{filter, list_all}
 use Rattle.std.specs.Io.KnownBytes.{Consumes}
 use Rattle.sub_io.specs.Reading.{IfTold}
 use Rattle.sub_io.specs.Telling.{Tells}
 use Rattle.stl_file.specs.declared.fault.StlFault.TheVariants.{Ended, Read, Unfinished}
-use Rattle.stl_file.specs.Reader.{block_of_byte, outcome_of}
-use Rattle.stl_file.specs.Resuming.{Findings, breaks, findings_of, finds, no_more, refuses}
+use Rattle.stl_file.specs.Reader.{block_of_byte, findings_of}
+use Rattle.stl_file.specs.Reading.{Findings, breaks, finds, no_more, refuses}
 use Rattle.stl_file.specs.Subtitle.{SubtitleValue}
 use Rattle.stl_rows.specs.declared.fault.LoadFault.{LoadFault}
 use Rattle.stl_rows.specs.declared.fault.LoadFaultKind.{LoadFaultKind}
 use Rattle.stl_rows.specs.declared.fault.LoadFaultKind.TheVariants.{File, Memory}
 use Rattle.stl_rows.specs.declared.national.National.{National}
 use Rattle.stl_rows.specs.declared.times.Times.{Times}
-use Rattle.stl_rows.specs.Loading.{load_fault, loaded}
 use Rattle.stl_rows.specs.Programme.{follow_faults, times_of}
-use Rattle.stl_rows.specs.TextCode.{first_of}
+
+-- A fault at a block.
+abbrev pub load_fault : ℕ → LoadFaultKind → LoadFault
+load_fault block kind = record { block = block; kind = kind }
 
 -- What is wrong with the rest of a file, after a subtitle of these times. At a subtitle's first
 -- block, the fault for which it is refused: then it is no record, and times are compared as if it
@@ -95,12 +96,3 @@ pub record FailsTelling
       IfTold old
       (λ all. Tells IsTold told_old told_new
       (filter (is_told_before block) (faults national all)))
-
--- The first of all faults is the one for which `load` refuses the file, and there is none exactly
--- where it loads it.
-abbrev pub LawOfEveryFault : Type 0
-LawOfEveryFault =
-    (national : National) (s : List ℕ)
-    → ((fault : LoadFault) → (loaded national (outcome_of s) ≡ Err fault)
-    ↔ (first_of (faults national s) ≡ Some fault))
-    × ((faults national s ≡ []) ↔ IsOk (loaded national (outcome_of s)))

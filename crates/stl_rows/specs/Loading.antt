@@ -1,64 +1,66 @@
--- What loading a subtitle file gives: the programme of its subtitles, or the first fault.
-use Rattle.std.specs.Prelude.{◌≡◌, ℕ, ◌⊎◌, List, [], ◌∷◌, ◌++◌, Result, Ok}
-use Rattle.std.specs.Prelude.{Err, ⊤, ◌↔◌, ◌≤◌, All, IsOk, Option, length}
+-- What loading a subtitle file gives: the programme of its subtitles, or the first of its faults.
+use Rattle.std.specs.Prelude.{◌≡◌, ℕ, ◌⊎◌, List, [], ◌∷◌, Result, Ok, Err, ⊤, ◌↔◌, ◌≤◌, All, IsOk}
+use Rattle.std.specs.Prelude.{Option, Some, None, length}
 use Rattle.std.specs.Io.KnownBytes.{Consumes}
 use Rattle.sub_io.specs.Reading.{IfTold}
 use Rattle.stl_file.specs.declared.fault.StlFault.TheVariants.{Read, Unfinished}
 use Rattle.stl_file.specs.File.{IsFile}
-use Rattle.stl_file.specs.Reader.{block_of_byte, outcome_of}
+use Rattle.stl_file.specs.Reader.{block_of_byte, findings_of}
 use Rattle.stl_file.specs.Subtitle.{SubtitleValue}
-use Rattle.stl_file.specs.Reading.{Outcome, ends, fails, gives}
+use Rattle.stl_file.specs.Reading.{Findings, breaks, finds, no_more, refuses}
 use Rattle.stl_rows.specs.declared.national.National.{National}
 use Rattle.stl_rows.specs.declared.fault.LoadFault.{LoadFault}
 use Rattle.stl_rows.specs.declared.fault.LoadFaultKind.{LoadFaultKind}
 use Rattle.stl_rows.specs.declared.fault.LoadFaultKind.TheVariants.{File, Memory}
+use Rattle.stl_rows.specs.declared.times.Times.{Times}
 use Rattle.stl_rows.specs.DrawnPage.{drawn}
-use Rattle.stl_rows.specs.Programme.{AreInOrder, ProgrammeValue, follow_faults, times_before}
+use Rattle.stl_rows.specs.EveryFault.{faults, load_fault}
+use Rattle.stl_rows.specs.Programme.{AreInOrder, ProgrammeValue, follow_faults, times_of}
 
--- A fault at a block.
-abbrev pub load_fault : ℕ → LoadFaultKind → LoadFault
-load_fault block kind = record { block = block; kind = kind }
+-- The subtitles that a file gives.
+abbrev pub records_of : Findings → List SubtitleValue
+records_of no_more = []
+records_of (breaks fault block) = []
+records_of (refuses fault block more) = records_of more
+records_of (finds t block more) = t ∷ records_of more
 
--- The first of these faults of a subtitle, at its last block, or else what comes next.
-abbrev pub unless_told : List LoadFaultKind → ℕ → Result ProgrammeValue LoadFault
-    → Result ProgrammeValue LoadFault
-unless_told [] block next = next
-unless_told (kind ∷ kinds) block next = Err (load_fault block kind)
+-- The programme of a file with which nothing is wrong; else the first of what is.
+abbrev pub unless_told : List LoadFault → ProgrammeValue → Result ProgrammeValue LoadFault
+unless_told [] programme = Ok programme
+unless_told (fault ∷ more) programme = Err fault
 
--- What comes of a file, after the subtitles that it gave before: the file's faults by block, and
--- at a subtitle's last block its own, in order.
-abbrev pub loaded_behind : National → List SubtitleValue → Outcome → Result ProgrammeValue LoadFault
-loaded_behind national records ends = Ok (record { national = national; records = records })
-loaded_behind national records (fails fault block) = Err (load_fault block (File fault))
-loaded_behind national records (gives t block outcome) =
-    unless_told (follow_faults national (times_before records) t) block
-    (loaded_behind national (records ++ t ∷ []) outcome)
+-- What loading a file gives: the programme of its subtitles, or the first of its faults.
+unfoldable pub loaded : National → List ℕ → Result ProgrammeValue LoadFault
+loaded national file =
+    unless_told (faults national file)
+    (record { national = national; records = records_of (findings_of file) })
 
--- The programme of a file, or its first fault.
-abbrev pub loaded : National → Outcome → Result ProgrammeValue LoadFault
-loaded national outcome = loaded_behind national [] outcome
+-- A subtitle that follows one of these times ends at this block, and up to it nothing is wrong.
+abbrev pub EndsBehind : National → Option Times → ℕ → Findings → Type 0
+EndsBehind national before at no_more = ⊥
+EndsBehind national before at (breaks fault block) = ⊥
+EndsBehind national before at (refuses fault block more) = ⊥
+EndsBehind national before at (finds t block more) =
+    (follow_faults national before t ≡ [])
+    × ((at ≡ block) ⊎ EndsBehind national (Some (times_of t)) at more)
 
--- A subtitle that the file gives ends at this block, and up to it there is no fault.
-abbrev pub EndsRecord : National → List SubtitleValue → ℕ → Outcome → Type 0
-EndsRecord national records at ends = ⊥
-EndsRecord national records at (fails fault block) = ⊥
-EndsRecord national records at (gives t block outcome) =
-    (follow_faults national (times_before records) t ≡ [])
-    × ((at ≡ block) ⊎ EndsRecord national (records ++ t ∷ []) at outcome)
+-- A subtitle of the file ends at this block, and up to it nothing is wrong.
+abbrev pub EndsRecord : National → List ℕ → ℕ → Type 0
+EndsRecord national file at = EndsBehind national None at (findings_of file)
 
 -- A fault of loading. Want of memory is told at the last block of a subtitle alone, where no fault
 -- comes before. That the source failed says nothing of the file.
-abbrev pub TellsFault : National → Outcome → ℕ → LoadFaultKind → Type 0
-TellsFault national outcome block (File Read) = ⊤
-TellsFault national outcome block Memory = EndsRecord national [] block outcome
-TellsFault national outcome block kind = loaded national outcome ≡ Err (load_fault block kind)
+abbrev pub TellsFault : National → List ℕ → ℕ → LoadFaultKind → Type 0
+TellsFault national file block (File Read) = ⊤
+TellsFault national file block Memory = EndsRecord national file block
+TellsFault national file block kind = loaded national file ≡ Err (load_fault block kind)
 
 -- No fault comes before this block; but the end of the file inside a subtitle, which names the last
 -- whole block, is found only where the block after it is asked for.
-abbrev pub NoneBefore : National → Outcome → ℕ → Type 0
-NoneBefore national outcome block =
+abbrev pub NoneBefore : National → List ℕ → ℕ → Type 0
+NoneBefore national file block =
     (fault : LoadFault)
-    → loaded national outcome ≡ Err fault
+    → loaded national file ≡ Err fault
     → (fault.kind ≡ File Unfinished) ⊎ (block ≤ fault.block)
 
 -- The source failed: the block is that of the byte that was asked for, the first one after those
@@ -67,7 +69,7 @@ pub record FailsLoading (national : National) (old new : Option (List ℕ)) (blo
   pub bytes : List ℕ
   pub consumed : Consumes old new bytes
   pub block_is : block ≡ block_of_byte (length bytes)
-  pub none : IfTold old (λ all. NoneBefore national (outcome_of all) block)
+  pub none : IfTold old (λ all. NoneBefore national all block)
 
 -- Bytes are loaded as a programme exactly where they are a subtitle file whose subtitles are in
 -- order, disjoint and drawable; the programme holds these. So `load` refuses no such file but for
@@ -75,7 +77,7 @@ pub record FailsLoading (national : National) (old new : Option (List ℕ)) (blo
 abbrev pub LawOfLoading : Type 0
 LawOfLoading =
     (national : National) (s : List ℕ) (ts : List SubtitleValue)
-    → (loaded national (outcome_of s) ≡ Ok (record { national = national; records = ts }))
+    → (loaded national s ≡ Ok (record { national = national; records = ts }))
     ↔ ((g : List ℕ)
     × IsFile s g ts
     × AreInOrder ts

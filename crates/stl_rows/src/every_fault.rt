@@ -8,12 +8,11 @@ ghost use Rattle.sub_io.specs.Reading.{IfTold};
 ghost use Rattle.sub_io.specs.Telling.{Tells, TellsSome, first_alone};
 ghost use Rattle.stl_file.specs.declared.fault.StlFault.TheVariants.{Read};
 ghost use Rattle.stl_file.specs.Fault as stl;
-ghost use Rattle.stl_file.specs.Reader.{outcome_of};
 ghost use Rattle.stl_file.specs.Subtitle.{IsSubtitle};
-ghost use Rattle.stl_rows.specs.EveryFault.{FailsTelling, LawOfEveryFault, StopsWithin};
-ghost use Rattle.stl_rows.specs.EveryFault.{TellsFaults, TellsOfFile, faults, kept_after};
+ghost use Rattle.stl_rows.specs.EveryFault.{FailsTelling, StopsWithin, TellsFaults, TellsOfFile};
+ghost use Rattle.stl_rows.specs.EveryFault.{faults, kept_after, load_fault};
 ghost use Rattle.stl_rows.specs.Fault.{is_read};
-ghost use Rattle.stl_rows.specs.Loading.{EndsRecord, load_fault, loaded};
+ghost use Rattle.stl_rows.specs.Loading.{EndsRecord, loaded};
 ghost use Rattle.stl_rows.specs.Programme.{IsProgramme, follow_faults, row_faults};
 ghost use Rattle.stl_rows.specs.DrawnPage.{drawn};
 ghost use Rattle.stl_rows.specs.TextCode.{first_of};
@@ -52,12 +51,12 @@ pub fn load_all<S: Source, D: Audience<LoadFault>>(
     requires listens { D.has_stopped audience.old ≡ false }
     // Where the source tells its bytes, they decide the programme and what was told.
     ensures exact { IfTold (S.remaining source.old) (λ bytes. IfOk result (λ found.
-        IfSome found (λ programme. loaded national (outcome_of bytes) ≡ Ok programme))) }
+        IfSome found (λ programme. loaded national bytes ≡ Ok programme))) }
     ensures told { IfTold (S.remaining source.old) (λ bytes. result ≡ Ok None →
         TellsFaults D.is_told audience.old audience.new (D.has_stopped audience.new)
         (faults national bytes)) }
     ensures memory { IfTold (S.remaining source.old) (λ bytes. IfErr result (λ f.
-        f.kind ≡ Memory → EndsRecord national [] f.block (outcome_of bytes))) }
+        f.kind ≡ Memory → EndsRecord national bytes f.block)) }
 
     ensures programme { IfOk result (λ found. IfSome found (λ programme.
         IsProgramme programme.national programme.records)) }
@@ -102,13 +101,13 @@ pub fn load_all_in<A: Allocator + Drop, S: Source, D: Audience<LoadFault>>(
     requires count { CanFail (S.failure_count source.old) }
     requires listens { D.has_stopped audience.old ≡ false }
     ensures exact { IfTold (S.remaining source.old) (λ bytes. IfOk result (λ found.
-        IfSome found (λ v. loaded national (outcome_of bytes)
-        ≡ Ok (record { national = national; records = v.items })))) }
+        IfSome found (λ v.
+        loaded national bytes ≡ Ok (record { national = national; records = v.items })))) }
     ensures told { IfTold (S.remaining source.old) (λ bytes. result ≡ Ok None →
         TellsFaults D.is_told audience.old audience.new (D.has_stopped audience.new)
         (faults national bytes)) }
     ensures memory { IfTold (S.remaining source.old) (λ bytes. IfErr result (λ f.
-        f.kind ≡ Memory → EndsRecord national [] f.block (outcome_of bytes))) }
+        f.kind ≡ Memory → EndsRecord national bytes f.block)) }
     ensures programme { IfOk result (λ found. IfSome found (λ v. IsProgramme national v.items)) }
     ensures some { result ≡ Ok None →
         TellsOfFile D.is_told audience.old audience.new }
@@ -270,9 +269,3 @@ fn row_fault(subtitle: &Subtitle, national: National) -> Option<LoadFaultKind>
         Some(fault) => Some(LoadFaultKind::Row(fault)),
     }
 }
-
-/// The first of all faults is the one for which `load` refuses the file, and there is none exactly
-/// where it loads it.
-pub fn law_of_every_fault()
-    ensures { LawOfEveryFault }
-{}

@@ -25,7 +25,7 @@ mod text_faults;
 mod times;
 
 pub use drawing::draw;
-pub use every_fault::{law_of_every_fault, load_all, load_all_in};
+pub use every_fault::{load_all, load_all_in};
 pub use fault::{LoadFault, LoadFaultKind, RowFault, RowFaultKind};
 pub use loading::{law_of_loading, load, load_in};
 pub use national::National;

@@ -4,7 +4,6 @@ ghost use Rattle.std.specs.Prelude.{◌≡◌, ◌≢◌, Err, IfErr, IfOk, Ok, 
 ghost use Rattle.sub_io.specs.Device.{CanFail, CountsIf, failed};
 ghost use Rattle.sub_io.specs.Reading.{IfTold};
 ghost use Rattle.stl_file.specs.declared.fault.StlFault.TheVariants.{Ended};
-ghost use Rattle.stl_file.specs.Reader.{outcome_of};
 ghost use Rattle.stl_rows.specs.Fault.{is_read};
 ghost use Rattle.stl_rows.specs.declared.fault.LoadFaultKind.TheVariants.{File};
 ghost use Rattle.stl_rows.specs.Loading.{FailsLoading, LawOfLoading, TellsFault, loaded};
@@ -37,9 +36,9 @@ pub fn load<S: Source>(
     requires { CanFail (S.failure_count source.old) }
     // Where the source tells its bytes, they decide the programme and the fault.
     ensures exact { IfTold (S.remaining source.old) (λ bytes.
-        IfOk result (λ programme. loaded national (outcome_of bytes) ≡ Ok programme)) }
+        IfOk result (λ programme. loaded national bytes ≡ Ok programme)) }
     ensures fault { IfTold (S.remaining source.old) (λ bytes.
-        IfErr result (λ f. TellsFault national (outcome_of bytes) f.block f.kind)) }
+        IfErr result (λ f. TellsFault national bytes f.block f.kind)) }
     ensures never { IfErr result (λ f. f.kind ≢ File Ended) }
 
     ensures programme { IfOk result (λ programme.
@@ -68,10 +67,9 @@ pub fn load_in<A: Allocator + Drop, S: Source>(
 ) -> Result<Vec<Subtitle, A>, LoadFault>
     requires { CanFail (S.failure_count source.old) }
     ensures exact { IfTold (S.remaining source.old) (λ bytes. IfOk result (λ v.
-        loaded national (outcome_of bytes)
-        ≡ Ok (record { national = national; records = v.items }))) }
+        loaded national bytes ≡ Ok (record { national = national; records = v.items }))) }
     ensures fault { IfTold (S.remaining source.old) (λ bytes. IfErr result (λ f.
-        TellsFault national (outcome_of bytes) f.block f.kind)) }
+        TellsFault national bytes f.block f.kind)) }
     ensures never { IfErr result (λ f. f.kind ≢ File Ended) }
     ensures programme { IfOk result (λ v. IsProgramme national v.items) }
     ensures read { IfErr result (λ f. is_read f ≡ true → FailsLoading national

@@ -8,8 +8,6 @@ use Rattle.sub_io.specs.Device.{failed}
 use Rattle.sub_io.specs.Reading.{IfTold}
 use Rattle.ttx_pes.specs.Reader.{FailsAtPacket}
 use Rattle.stl_file.specs.declared.fault.StlFault.TheVariants as stl
-use Rattle.stl_file.specs.Reader.{outcome_of}
-use Rattle.stl_file.specs.Reading.{Outcome}
 use Rattle.stl_rows.specs.declared.fault.LoadFault.{LoadFault}
 use Rattle.stl_rows.specs.declared.fault.LoadFaultKind.{LoadFaultKind}
 use Rattle.stl_rows.specs.declared.fault.LoadFaultKind.TheVariants as load
@@ -34,17 +32,17 @@ use Rattle.sub_answer.proofs.BothFilesLemmas.{told-fails, told-not_done, told-ru
 
 -- A file whose PES file was looked at gives a programme. For `done-exactly`.
 has_programme :
-    (national : National) (outcome : Outcome) (answer : Result Accepted CheckFault)
-    → (((programme : ProgrammeValue) → loaded national outcome ≢ Ok programme)
+    (national : National) (file : List ℕ) (answer : Result Accepted CheckFault)
+    → (((programme : ProgrammeValue) → loaded national file ≢ Ok programme)
     → failed is_subtitle_fault answer ≡ true)
     → failed is_subtitle_fault answer ≡ false
-    → (programme : ProgrammeValue) × (loaded national outcome ≡ Ok programme)
-has_programme national outcome answer refused looked = go (loaded national outcome) refl
+    → (programme : ProgrammeValue) × (loaded national file ≡ Ok programme)
+has_programme national file answer refused looked = go (loaded national file) refl
   where
     go :
         (r : Result ProgrammeValue LoadFault)
-        → loaded national outcome ≡ r
-        → (programme : ProgrammeValue) × (loaded national outcome ≡ Ok programme)
+        → loaded national file ≡ r
+        → (programme : ProgrammeValue) × (loaded national file ≡ Ok programme)
     go (Ok programme) is = (programme, is)
     go (Err f) is =
         let is_refused = refused (λ programme same. cc) in cc
@@ -52,27 +50,27 @@ has_programme national outcome answer refused looked = go (loaded national outco
 -- A file that gives a programme is refused for want of memory or a failing source alone. For
 -- `looked-at`.
 failure-of_programme :
-    (national : National) (outcome : Outcome) (programme : ProgrammeValue) (block : ℕ)
+    (national : National) (file : List ℕ) (programme : ProgrammeValue) (block : ℕ)
     (kind : LoadFaultKind)
-    → loaded national outcome ≡ Ok programme
-    → TellsFault national outcome block kind
+    → loaded national file ≡ Ok programme
+    → TellsFault national file block kind
     → is_failure_kind kind ≡ true
-failure-of_programme national outcome programme block (load.File stl.Read) is told = refl
-failure-of_programme national outcome programme block load.Memory is told = refl
-failure-of_programme national outcome programme block kind is told = cc
+failure-of_programme national file programme block (load.File stl.Read) is told = refl
+failure-of_programme national file programme block load.Memory is told = refl
+failure-of_programme national file programme block kind is told = cc
 
 -- The subtitle file gives a programme, so a fault that is no failure is none of it. For
 -- `done-exactly`.
 looked-at :
-    (national : National) (outcome : Outcome) (programme : ProgrammeValue) (f : CheckFault)
-    → loaded national outcome ≡ Ok programme
-    → TellsSubtitles national outcome (Err f)
+    (national : National) (file : List ℕ) (programme : ProgrammeValue) (f : CheckFault)
+    → loaded national file ≡ Ok programme
+    → TellsSubtitles national file (Err f)
     → is_failure f ≡ false
     → (is_subtitle_fault f ≡ false) × (is_pes_read f ≡ false)
-looked-at national outcome programme (fault.Subtitles f) is told runs =
-    let fails = failure-of_programme national outcome programme f.block f.kind is told in
+looked-at national file programme (fault.Subtitles f) is told runs =
+    let fails = failure-of_programme national file programme f.block f.kind is told in
     absurd (true≢false (sym fails ∙ runs))
-looked-at national outcome programme f is told runs = (refl, runs)
+looked-at national file programme f is told runs = (refl, runs)
 
 -- The status is that of what is done exactly where the files are accepted.
 done-exactly :
@@ -82,7 +80,7 @@ done-exactly :
     → (verdict answer).status ≢ Fault
     → ((verdict answer).status ≡ Done) ↔ IsAccepted national options file bytes
 done-exactly national options file bytes (Ok a) are other =
-    let given = has_programme national (outcome_of file) (Ok a) are.refused refl in (
+    let given = has_programme national file (Ok a) are.refused refl in (
       λ done.
           good-accepted national options file bytes given.0 a given.1
           (are.checked given.0 given.1 bytes refl),
@@ -92,7 +90,7 @@ done-exactly national options file bytes (Err f) are other = (
   λ done. absurd (told-not_done (is_failure f) done),
   λ is.
       let looked =
-      looked-at national (outcome_of file) is.programme f is.loads are.subtitles
+      looked-at national file is.programme f is.loads are.subtitles
       (told-runs (is_failure f) other) in
       let ok =
       accepted-ok national options file bytes is.programme (Err f) is.loads
@@ -131,6 +129,6 @@ as_answered national options stl pes Untouched out status answer printed sources
         subst (λ (r : Result Accepted CheckFault). Appends out.old out.new (verdict r).text)
             memory line,
         λ file told.
-            subst (TellsSubtitles national (outcome_of file)) memory (checked file told).subtitles,
+            subst (TellsSubtitles national file) memory (checked file told).subtitles,
       ));
 }

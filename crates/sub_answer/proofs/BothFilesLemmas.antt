@@ -10,9 +10,9 @@ use Rattle.sub_io.specs.Device.{failed}
 use Rattle.sub_io.specs.Reading.{IfTold}
 use Rattle.ttx_pes.specs.declared.fault.PesFault.TheVariants as pes_fault
 use Rattle.stl_file.specs.declared.fault.StlFault.TheVariants as stl
-use Rattle.stl_file.specs.Reader.{outcome_of}
 use Rattle.stl_rows.specs.Fault.{is_read_kind}
-use Rattle.stl_rows.specs.Loading.{load_fault, loaded}
+use Rattle.stl_rows.specs.EveryFault.{load_fault}
+use Rattle.stl_rows.specs.Loading.{loaded}
 use Rattle.stl_rows.specs.Programme.{ProgrammeValue}
 use Rattle.stl_rows.specs.declared.fault.LoadFaultKind.{LoadFaultKind}
 use Rattle.stl_rows.specs.declared.fault.LoadFaultKind.TheVariants as load
@@ -86,7 +86,7 @@ memory-fault (Err f) fails read fine = cc
 pub good-accepted :
     (national : National) (options : OptionsValue) (file bytes : List ℕ)
     (programme : ProgrammeValue) (a : Accepted)
-    → loaded national (outcome_of file) ≡ Ok programme
+    → loaded national file ≡ Ok programme
     → IsChecked programme options bytes (Ok a)
     → IsAccepted national options file bytes
 good-accepted national options file bytes programme a loads checked =
@@ -104,7 +104,7 @@ good-accepted national options file bytes programme a loads checked =
 pub accepted-ok :
     (national : National) (options : OptionsValue) (file bytes : List ℕ)
     (programme : ProgrammeValue) (answer : Result Accepted CheckFault)
-    → loaded national (outcome_of file) ≡ Ok programme
+    → loaded national file ≡ Ok programme
     → IsChecked programme options bytes answer
     → failed is_subtitle_fault answer ≡ false
     → failed is_pes_read answer ≡ false

@@ -12,12 +12,11 @@ use Rattle.sub_io.specs.Reading.{IfTold}
 use Rattle.sub_io.specs.Telling.{Tells, TellsSome}
 use Rattle.ttx_packet.specs.PageId.{PageIdValue}
 use Rattle.ttx_pes.specs.declared.fault.PesFault.TheVariants as pes_fault
-use Rattle.stl_file.specs.Reader.{outcome_of}
 use Rattle.stl_file.specs.declared.fault.StlFault.TheVariants as stl_fault
-use Rattle.stl_rows.specs.EveryFault.{FailsTelling, TellsFaults, TellsOfFile, faults}
+use Rattle.stl_rows.specs.EveryFault.{FailsTelling, TellsFaults, TellsOfFile, faults, load_fault}
 use Rattle.stl_rows.specs.EveryFault.{is_told_before}
 use Rattle.stl_rows.specs.Fault.{is_read, is_read_kind}
-use Rattle.stl_rows.specs.Loading.{EndsRecord, load_fault, loaded}
+use Rattle.stl_rows.specs.Loading.{EndsRecord, loaded}
 use Rattle.stl_rows.specs.Programme.{ProgrammeValue}
 use Rattle.stl_rows.specs.declared.fault.LoadFault.{LoadFault}
 use Rattle.stl_rows.specs.declared.fault.LoadFaultKind.{LoadFaultKind}
@@ -113,7 +112,7 @@ module _ {D : Type 0} (IsTold : D → LoadFault → D → Type 0) (value : D →
       → (value new).failed ≡ false
       → Tells IsTold old new []
       → RisesIf stl.old_count (is_read (load_fault block load.Memory)) stl.new_count
-      → IfTold stl.told (λ file. EndsRecord national [] block (outcome_of file))
+      → IfTold stl.told (λ file. EndsRecord national file block)
       → TellsBoth national options stl pes Untouched (value old) (value new)
       (Err (fault.Subtitles (load_fault block load.Memory)))
   at_memory block quiet told count memory =
@@ -146,8 +145,7 @@ module _ {D : Type 0} (IsTold : D → LoadFault → D → Type 0) (value : D →
       → TellsSome IsTold old new
       → (kind ≡ load.Memory → Tells IsTold old new [])
       → RisesIf stl.old_count (is_read (load_fault block kind)) stl.new_count
-      → IfTold stl.told (λ file. kind ≡ load.Memory
-      → EndsRecord national [] block (outcome_of file))
+      → IfTold stl.told (λ file. kind ≡ load.Memory → EndsRecord national file block)
       → (is_read (load_fault block kind) ≡ true
       → FailsTelling national stl.told stl.left IsTold old new block)
       → TellsBoth national options stl pes Untouched (value old) (value new)
@@ -273,7 +271,7 @@ module _ {D : Type 0} (IsTold : D → Event → D → Type 0) (value : D → Pri
     (national : National) (options : OptionsValue) (stl pes : SourceCall) (Untouched : Type 0)
     (programme : ProgrammeValue) (old new : D)
     (goes : (value old).failed ≡ false) (few : (value old).refused ≤ most_counted)
-    (loads : IfTold stl.told (λ file. loaded national (outcome_of file) ≡ Ok programme))
+    (loads : IfTold stl.told (λ file. loaded national file ≡ Ok programme))
     (stl_count : RisesIf stl.old_count false stl.new_count) where
   put : (items : List Event) → Tells IsTold old new items
       → PrintsEvents (value old) items (value new)

@@ -3,7 +3,6 @@ use Rattle.std.specs.Prelude.{◌≡◌, ◌≢◌, ◌↔◌, ℕ, Bool, true, 
 use Rattle.sub_io.specs.Device.{RisesIf, failed}
 use Rattle.sub_io.specs.Reading.{IfTold}
 use Rattle.ttx_pes.specs.declared.fault.PesFault.TheVariants.{Read}
-use Rattle.stl_file.specs.Reader.{outcome_of}
 use Rattle.stl_rows.specs.Fault.{is_read}
 use Rattle.stl_rows.specs.Loading.{loaded}
 use Rattle.stl_rows.specs.Programme.{ProgrammeValue}
@@ -28,7 +27,7 @@ pub record IsAccepted
     (national : National) (options : OptionsValue) (file bytes : List ℕ) : Type 0 where
   pub programme : ProgrammeValue
   pub frames : Transmission
-  pub loads : loaded national (outcome_of file) ≡ Ok programme
+  pub loads : loaded national file ≡ Ok programme
   pub carries : Carries options.origin bytes frames
   pub good : Good programme frames options
   pub complete : IsTrue options.asks_complete → Complete frames options

@@ -5,7 +5,7 @@ use Rattle.std.specs.List.{filter}
 use Rattle.std.specs.Io.KnownBytes.{Consumes}
 use Rattle.sub_io.specs.Reading.{IfTold}
 use Rattle.ttx_pes.specs.declared.fault.PesFault.TheVariants.{Read}
-use Rattle.stl_file.specs.Reader.{block_of_byte, outcome_of}
+use Rattle.stl_file.specs.Reader.{block_of_byte}
 use Rattle.stl_rows.specs.EveryFault.{faults, is_told_before}
 use Rattle.stl_rows.specs.Loading.{EndsRecord, loaded}
 use Rattle.stl_rows.specs.Programme.{ProgrammeValue}
@@ -45,7 +45,7 @@ abbrev pub AreListedBefore : National → List ℕ → List Event → ℕ → Lo
 AreListedBefore national file events block (File stl_fault.Read) =
     events ≡ subtitle_events (filter (is_told_before block) (faults national file))
 AreListedBefore national file events block Memory =
-    (events ≡ []) × EndsRecord national [] block (outcome_of file)
+    (events ≡ []) × EndsRecord national file block
 AreListedBefore national file events block kind = ⊥
 
 -- What is told of the PES file, by how many pieces of it were read: of all of them, and the frames
@@ -64,7 +64,7 @@ pub record IsListedOf
     (national : National) (options : OptionsValue) (file : List ℕ) (pes : Option (List ℕ))
     (events : List Event) (answer : Result Accepted ℕ) : Type 0 where
   pub programme : ProgrammeValue
-  pub loads : loaded national (outcome_of file) ≡ Ok programme
+  pub loads : loaded national file ≡ Ok programme
   pub listed : IfTold pes (λ bytes. AreListedOfPes programme options bytes events answer)
 
 -- These are the events of a subtitle file and of a PES file: all faults of the one, where it has
@@ -96,7 +96,7 @@ abbrev pub IsVerdict :
     → Type 0
 IsVerdict national options file bytes events (Ok (Some a)) =
     (programme : ProgrammeValue)
-    → loaded national (outcome_of file) ≡ Ok programme
+    → loaded national file ≡ Ok programme
     → IsChecked programme options bytes (first_answer events a)
 IsVerdict national options file bytes events answer = ⊤
 

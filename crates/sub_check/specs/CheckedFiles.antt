@@ -7,7 +7,6 @@ use Rattle.sub_io.specs.Device.{failed}
 use Rattle.sub_io.specs.Reading.{IfTold}
 use Rattle.ttx_pes.specs.declared.fault.PesFault.TheVariants.{Read}
 use Rattle.stl_file.specs.File.{IsFile}
-use Rattle.stl_file.specs.Reader.{outcome_of}
 use Rattle.stl_file.specs.Subtitle.{SubtitleValue}
 use Rattle.stl_rows.specs.DrawnPage.{drawn}
 use Rattle.stl_rows.specs.Loading.{loaded}
@@ -18,9 +17,8 @@ use Rattle.sub_plan.specs.Schedule.{plan}
 use Rattle.sub_io.specs.Telling.{Tells, TellsPrefix}
 use Rattle.std.specs.Prelude.{◌+◌, flat_map, ⊤}
 use Rattle.ttx_packet.specs.PageId.{PageIdValue}
-use Rattle.stl_file.specs.Reading.{Outcome}
 use Rattle.stl_rows.specs.Loading.{TellsFault}
-use Rattle.sub_rules.specs.Events.{events, events_of_first, first_told}
+use Rattle.sub_rules.specs.Events.{first_told}
 use Rattle.sub_rules.specs.FrameRules.{task_of}
 use Rattle.sub_rules.specs.PacketRules.{header_count}
 use Rattle.sub_rules.specs.Transmission.{SentFrame, first_frame, last_frame, Transmission}
@@ -44,10 +42,9 @@ use Rattle.sub_rules.specs.declared.fault.CheckFault.TheVariants as fault
 -- ---- what an answer tells, and counts
 
 -- What is told of the subtitle file by an answer that refuses it.
-abbrev pub TellsSubtitles : National → Outcome → Result Accepted CheckFault → Type 0
-TellsSubtitles national outcome (Err (fault.Subtitles f)) =
-    TellsFault national outcome f.block f.kind
-TellsSubtitles national outcome _ = ⊤
+abbrev pub TellsSubtitles : National → List ℕ → Result Accepted CheckFault → Type 0
+TellsSubtitles national file (Err (fault.Subtitles f)) = TellsFault national file f.block f.kind
+TellsSubtitles national file _ = ⊤
 
 -- What is told of an accepted transmission: the frames of the day from the first to the last, and
 -- the headers of the page.
@@ -99,14 +96,8 @@ pub record AreAccepted
 
 -- ---- a PES file, against a programme
 
--- All that is told of the bytes of a PES file, checked against a programme.
-abbrev pub events_of : ProgrammeValue → OptionsValue → List ℕ → List Event
-events_of programme options bytes =
-    let file = pes_file_of options.origin bytes in
-    events (task_of programme options file.unread) file.frames
-
--- All that is told of them where reading goes on after a piece that is passed over, and which
--- frames may be trusted.
+-- All that is told of the bytes of a PES file, checked against a programme: reading goes on after a
+-- piece that is passed over; and which frames may be trusted.
 abbrev pub all_events_of : ProgrammeValue → OptionsValue → List ℕ → List Event
 all_events_of programme options bytes =
     let file = piece_file_of options.origin bytes in
@@ -156,16 +147,14 @@ pub record IsChecked
   pub first :
       failed is_subtitle_fault answer ≡ false
       → failed is_pes_read answer ≡ false
-      → IfErr answer (λ f. first_told (events_of programme options bytes) ≡ Some f)
+      → IfErr answer (λ f. first_told (all_events_of programme options bytes) ≡ Some f)
   -- That the source failed is told at the PES packet that could not be read: those before it were
-  -- read, and nothing is told of their frames.
+  -- read, and no refusal is told of them.
   pub read :
       (pes : ℕ)
       → answer ≡ Err (fault.Pes pes Read)
-      → (pes ≤ length (pes_file_of options.origin bytes).frames)
-      × (events_of_first (task_of programme options (pes_file_of options.origin bytes).unread)
-      (pes_file_of options.origin bytes).frames pes
-      ≡ [])
+      → (pes ≤ length (piece_file_of options.origin bytes).pieces)
+      × (first_told (events_of_first_pieces programme options bytes pes) ≡ None)
   -- Where the page is refused at a cell, every receiver that starts at the first packet, with no
   -- bit wrong, shows another code there than is due.
   pub content :
@@ -190,15 +179,15 @@ pub record AreChecked
     : Type 0 where
   -- A refusal of the subtitle file is its first fault, or else that its source failed or memory
   -- was refused.
-  pub subtitles : TellsSubtitles national (outcome_of file) answer
+  pub subtitles : TellsSubtitles national file answer
   -- A subtitle file that gives no programme is refused.
   pub refused :
-      ((programme : ProgrammeValue) → loaded national (outcome_of file) ≢ Ok programme)
+      ((programme : ProgrammeValue) → loaded national file ≢ Ok programme)
       → failed is_subtitle_fault answer ≡ true
   -- The PES file is checked against the programme that the subtitle file gives.
   pub checked :
       (programme : ProgrammeValue)
-      → loaded national (outcome_of file) ≡ Ok programme
+      → loaded national file ≡ Ok programme
       → IfTold pes (λ bytes. IsChecked programme options bytes answer)
 
 -- The answer of `check` by what is told first: these counts where it is nothing.

@@ -11,7 +11,6 @@ pub use Rattle.sub_rules.specs.Events
 pub use Rattle.sub_rules.specs.Trusted
 pub use Rattle.sub_rules.specs.Fault
 pub use Rattle.sub_rules.specs.WrongContent
-pub use Rattle.sub_laws.specs.StepByStep
 pub use Rattle.sub_laws.specs.Robust
 pub use Rattle.sub_laws.specs.LostRows
 pub use Rattle.sub_laws.specs.Recovery

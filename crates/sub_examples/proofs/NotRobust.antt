@@ -1,6 +1,6 @@
--- Of each part of what is asked of a clean stretch a transmission that keeps the other parts and is
+-- Of each number on which a receiver depends a transmission of which it is told alone, and which is
 -- not robust: for each a start, what is got, and the tests.
-use Rattle.std.proofs.Common.{ℕ, List, [], ◌∷◌, refl}
+use Rattle.std.proofs.Common.{List, [], ◌∷◌, refl, ℕ}
 use Rattle.std.specs.Int.RustNames.{count_ones}
 use lib.Count.{ones_in}
 use Rattle.ttx_packet.specs.Hamming84.{decoded}
@@ -9,14 +9,12 @@ use Rattle.ttx_packet.specs.PacketAddress.{address}
 use Rattle.ttx_packet.specs.PageHeader.{header, coded_header}
 use Rattle.ttx_packet.specs.Parity.{is_odd}
 use Rattle.ttx_page.specs.Page.{blank, blank_row}
-use Rattle.sub_rules.specs.PacketTests.{are_code_words, breaks, is_word_below}
+use Rattle.sub_rules.specs.PacketTests.{are_code_words, breaks, is_word_below, packet_rules}
 use Rattle.ttx_packet.specs.RowPacket.{first_even_byte}
 use Rattle.ttx_page.specs.Differing.{columns_differing}
-use Rattle.sub_rules.specs.Events.{is_gap}
+use Rattle.sub_rules.specs.Events.{first_cell, is_gap, is_incomplete, standing_at, wrong_after}
 use Rattle.ttx_page.specs.PacketKind.{kind}
 use Rattle.stl_rows.specs.DuePage.{due}
-use Rattle.sub_laws.specs.CleanStretch.Part.{DueContent, ExactAddresses, ExactHeaders, FramesRise}
-use Rattle.sub_laws.specs.CleanStretch.Part.{OddRows, HeadersInTime, SameRows, SubtitleHeaders}
 use Rattle.sub_examples.specs.Examples.{ExamplesOfNeededParts, closing, header_888}
 use Rattle.sub_examples.specs.Examples.{header_without_c4, row_1, x0}
 use Rattle.sub_examples.proofs.RobustTests.{needed}
@@ -35,29 +33,28 @@ abbrev header_with_two_wrong_bits : List ℕ
 header_with_two_wrong_bits =
     x0 (0x16 ∷ 0x15 ∷ 0xD0 ∷ 0xD0 ∷ 0x15 ∷ 0xD0 ∷ 0x15 ∷ 0xD0 ∷ 0x02 ∷ 0x15 ∷ [])
 
--- What each part is needed for.
+-- What each is needed for.
 pub examples_of_needed_parts : ExamplesOfNeededParts
 unfolding are_code_words is_word_below first_even_byte breaks columns_differing is_gap
+    packet_rules standing_at wrong_after first_cell is_incomplete
     kind address header coded_header decoded is_near is_odd count_ones ones_in due blank
     blank_row
--- Frames 900000 and 900001 are got as they were sent.
-examples_of_needed_parts FramesRise =
-    needed _ _ _ _ 900000 0 900001 (header_888 ∷ row_1 0xA1 ∷ []) refl
--- Another bit of the address is wrong.
-examples_of_needed_parts ExactAddresses =
-    needed _ _ _ _ 900000 0 900000 (header_with_two_wrong_bits ∷ closing ∷ []) refl
--- One bit of the last packet is wrong, and it is all that is heard.
-examples_of_needed_parts ExactHeaders =
-    needed _ _ _ _ 900000 2 900000 (header_with_wrong_units ∷ []) refl
--- The question marks stay.
-examples_of_needed_parts SubtitleHeaders =
-    needed _ _ _ _ 900000 0 900000 (header_without_c4 ∷ closing ∷ []) refl
--- A0 is got as A1.
-examples_of_needed_parts OddRows = needed _ _ _ _ 900000 0 900000 mark refl
--- Both rows are got as they were sent.
-examples_of_needed_parts SameRows =
-    needed _ _ _ _ 900000 0 900000 (header_888 ∷ row_1 0x20 ∷ row_1 0xA1 ∷ closing ∷ []) refl
--- All is got as it was sent.
-examples_of_needed_parts DueContent = needed _ _ _ _ 900000 0 900000 mark refl
--- From the end of the first frame on.
-examples_of_needed_parts HeadersInTime = needed _ _ _ _ 900000 2 900001 (closing ∷ []) refl
+examples_of_needed_parts = record {
+  -- Frames 900000 and 900001 are got as they were sent.
+  frames_rise = needed 62 _ _ 900000 0 900001 (header_888 ∷ row_1 0xA1 ∷ []) refl;
+  -- Another bit of the address is wrong.
+  exact_addresses = needed 64 _ _ 900000 0 900000 (header_with_two_wrong_bits ∷ closing ∷ []) refl;
+  -- One bit of the last packet is wrong, and it is all that is heard.
+  exact_headers = needed 65 _ _ 900000 2 900000 (header_with_wrong_units ∷ []) refl;
+  -- The question marks stay.
+  subtitle_headers = needed 67 _ _ 900000 0 900000 (header_without_c4 ∷ closing ∷ []) refl;
+  -- A0 is got as A1.
+  odd_rows = needed 68 _ _ 900000 0 900000 mark refl;
+  -- Both rows are got as they were sent.
+  same_rows =
+      needed 69 _ _ 900000 0 900000 (header_888 ∷ row_1 0x20 ∷ row_1 0xA1 ∷ closing ∷ []) refl;
+  -- All is got as it was sent.
+  due_content = needed 72 _ _ 900000 0 900000 mark refl;
+  -- From the end of the first frame on.
+  headers_in_time = needed 73 _ _ 900000 2 900001 (closing ∷ []) refl;
+}

@@ -1,46 +1,36 @@
--- A transmission is not robust, by a receiver that computes: `refuted`. And it is not though all
--- that is asked of a clean stretch but one part holds, which is needed then: `needed`.
-use Rattle.std.proofs.lemmas.Bool.Decides.{nat_tests, Decides-and, Decides-eqb, Decides-like}
-use Rattle.std.proofs.lemmas.Bool.Decides.{Decides-ltb}
+-- A transmission is not robust, by a receiver that computes: `refuted`. Where one number alone is
+-- told of it on which a receiver depends, that is needed: `needed`.
+use Rattle.std.proofs.lemmas.Bool.Decides.{nat_tests, Decides-and, Decides-like, Decides-ltb}
+use Rattle.std.proofs.lemmas.List.Elements.{recursion_from_All}
 use Rattle.std.proofs.lemmas.List.Kept.{AllPairs-cons}
 use Rattle.std.specs.List.{list_all}
-use Rattle.std.proofs.Common.{◌≡◌, ◌⊎◌, ℕ, suc, ◌+◌, ◌-◌, ◌≤◌, inl, inr, ◌==◌, Bool, true, not}
-use Rattle.std.proofs.Common.{None, IsFalse, ◌&&◌, ◌||◌, nat_le, nat_lt, List, [], ◌++◌, length}
-use Rattle.std.proofs.Common.{take, refl, sym, ap, ◌∙◌, arith, eqb-true, slice_index_or, false}
-use Rattle.std.proofs.Common.{replicate, subst, zero, ◌∷◌, ◌<◌, find, option_map, unwrap_or}
-use Rattle.std.proofs.Common.{slice_index, Option}
+use Rattle.std.proofs.Common.{◌≡◌, ◌≢◌, ◌⊎◌, ℕ, suc, ◌+◌, ◌-◌, ◌≤◌, inl, inr, ◌==◌, Bool, true}
+use Rattle.std.proofs.Common.{not, None, IsFalse, ◌&&◌, ◌||◌, nat_le, nat_lt, List, [], ◌++◌}
+use Rattle.std.proofs.Common.{length, take, refl, sym, ap, ◌∙◌, arith, eqb-true, slice_index_or}
+use Rattle.std.proofs.Common.{false, replicate, subst, zero, ◌∷◌, ◌<◌, is_none, Option}
 use Rattle.std.proofs.lemmas.Bool.{and_parts, or_cases, leb-true}
 use Rattle.std.specs.Bool.{Decides}
-use Rattle.ttx_packet.specs.PageId.{PageIdValue}
-use Rattle.ttx_packet.specs.Parity.{code_of}
-use Rattle.ttx_packet.specs.RowPacket.{text_byte}
-use Rattle.ttx_page.specs.Page.{IsCell, Rows, cell, row_at, space}
-use Rattle.ttx_page.specs.PacketKind.{is_row, kind}
+use Rattle.ttx_page.specs.Page.{cell, space}
+use Rattle.ttx_page.specs.PacketKind.{kind}
 use Rattle.ttx_page.specs.Receiver.{State}
-use Rattle.ttx_page.specs.Shown.{shown}
-use Rattle.ttx_page.specs.Span.{holds_header, span}
+use Rattle.ttx_page.specs.Span.{holds_header}
 use Rattle.ttx_page.proofs.ComputedReceiver.{heard_so, near_packets, packets_tested, state_after}
 use Rattle.stl_rows.specs.Programme.{ProgrammeValue}
 use Rattle.sub_plan.specs.Options.{OptionsValue}
 use Rattle.sub_plan.specs.Schedule.{due_in}
-use Rattle.sub_laws.specs.CleanStretch.{AtEnds, AtPackets, IsCleanStretch, IsKeptWithin, Part}
-use Rattle.sub_laws.specs.CleanStretch.{number_of}
-use Rattle.sub_laws.specs.CleanStretch.Part.{DueContent, ExactAddresses, ExactHeaders, FramesRise}
-use Rattle.sub_laws.specs.CleanStretch.Part.{OddRows, HeadersInTime, SameRows, SubtitleHeaders}
-use Rattle.sub_rules.specs.Events.{is_gap}
-use Rattle.sub_examples.specs.Examples.{IsNeeded}
+use Rattle.sub_rules.specs.Events.{standing_at}
 use Rattle.sub_rules.specs.FrameRules.{Task, frame_at, packets_before, packets_of_frame, task_of}
-use Rattle.sub_rules.specs.PacketTests.{breaks, is_same_bit}
+use Rattle.sub_rules.specs.PacketTests.{breaks, is_same_bit, packet_rules}
 use Rattle.sub_rules.specs.Transmission.{IsRising, SentFrame, Transmission, first_frame}
 use Rattle.sub_rules.specs.Transmission.{last_frame, on_air, packets_of}
-use Rattle.sub_laws.specs.Robust.{IsListening, Robust}
 use Rattle.sub_rules.specs.declared.packet_rule.PacketRule.{PacketRule}
-use Rattle.sub_rules.specs.declared.packet_rule.PacketRule.TheVariants as rule
-use Rattle.sub_laws.proofs.StandingLemmas.{gap_decided}
+use Rattle.sub_laws.specs.CleanStretch.{AtEnds, AtPackets, IsUntold, is_needed}
+use Rattle.sub_laws.specs.Robust.{IsListening, Robust}
+use Rattle.sub_examples.specs.Examples.{IsNeeded, IsUntoldBut, each, no_subtitles, number_of}
+use Rattle.sub_rules.proofs.TestLemmas.{all_below, at_most, each_below, each_of, fails, holds}
+use Rattle.sub_rules.proofs.TestLemmas.{implied, same_bit}
+use Rattle.sub_laws.proofs.FirstFoundLemmas.{each_rule}
 use Rattle.sub_laws.proofs.StretchLemmas.{robust_of_recovers}
-use Rattle.sub_rules.proofs.TestLemmas.{all_below, at_most, below, each_below, each_of, fails}
-use Rattle.sub_rules.proofs.TestLemmas.{holds, implied, same_bit}
-use Rattle.sub_laws.proofs.UntoldLemmas.{packets_kept, rows_kept}
 
 -- It has heard nothing, and holds a page of question marks.
 abbrev before : State
@@ -118,7 +108,7 @@ refuted programme frames o g j f got e robust =
       | inr hit ↦ inr hit.0
     ])
 
--- ---- all parts but one of what is asked of a clean stretch
+-- ---- nothing is told but one number
 
 -- A frame is in the stretch.
 abbrev in_stretch : ℕ → ℕ → ℕ → Bool
@@ -218,146 +208,95 @@ rising_decided (s ∷ frames) =
     (each_of (λ (later : SentFrame). nat_lt s.frame later.frame) (R s)
     (λ t. Decides-ltb s.frame t.frame) frames) (rising_decided frames))
 
--- A packet, or none, shows the codes of a row.
-abbrev shows_row : Option (List ℕ) → List ℕ → Bool
-shows_row found codes =
-    all_below
-    (λ column.
-    unwrap_or (option_map (λ p. code_of (text_byte p column)) found) space
-    == slice_index codes column)
-    40
+-- Nothing is told of a stretch that a receiver depends on but this number.
+abbrev told_alone : ℕ → Task → Transmission → ℕ → ℕ → Bool
+told_alone number g frames a b =
+    (number == 62 || rises frames)
+    && (list_all
+    (λ r. number == number_of r || (not (is_needed r) || unbroken r g frames a b))
+    packet_rules
+    && ((number == 72
+    || ends_pass (λ n f. is_none (standing_at g frames n f).content) frames a b)
+    && (number == 73 || ends_pass (λ n f. not (standing_at g frames n f).gap) frames a b)))
 
--- The packets of a span show the page.
-abbrev shows_page : PageIdValue → List (List ℕ) → Rows → Bool
-shows_page page ps rows =
-    all_below
-    (λ k. shows_row (find (λ p. is_row (suc k) (kind page p)) ps) (row_at rows (suc k)))
-    24
+-- A test passes, or another number is meant.
+unless : (n m : ℕ) (b : Bool) → (n == m || b) ≡ true → n ≢ m → b ≡ true
+unless n m b e other = elim (or_cases (n == m) b e) [
+  | inl same ↦ absurd (other (eqb-true n m same))
+  | inr passes ↦ passes
+]
 
-shows_decided :
-    (page : PageIdValue) (packets : List (List ℕ)) (rows : Rows)
-    → Decides (shows_page page (span (kind page) packets) rows)
-    ((row column : ℕ) → IsCell row column → shown page packets row column ≡ cell rows row column)
-shows_decided page packets rows =
-    Decides-like _ at_each
-    (λ h k l column m. h (suc k) column (omega arith, omega arith, m))
-    (below _ (λ k. (column : ℕ) → column < 40 → P (suc k) column)
-    (λ k. below _ (P (suc k)) (λ column. Decides-eqb _ _) 40) 24)
-  where
-    P : ℕ → ℕ → Type 0
-    P row column = shown page packets row column ≡ cell rows row column
+-- There is none.
+none_by_test : {A : Type 0} (o : Option A) → is_none o ≡ true → o ≡ None
+none_by_test o e = grind arith
 
-    at_each :
-        ((k : ℕ) → k < 24 → (column : ℕ) → column < 40 → P (suc k) column)
-        → (row column : ℕ)
-        → IsCell row column
-        → P row column
-    at_each h zero column named = absurd (omega (arith, named.0))
-    at_each h (suc k) column named = h k (omega (arith, named.1)) column named.2
-
--- After n frames the page that is due at frame f is shown.
-abbrev shows_due : Task → Transmission → ℕ → ℕ → Bool
-shows_due g frames n f =
-    shows_page g.watched.page (span (kind g.watched.page) (packets_before frames n)) (g.due f)
-
--- The part as a test of a stretch.
-abbrev keeps_part : Part → Task → Transmission → ℕ → ℕ → Bool
-keeps_part FramesRise g frames a b = rises frames
-keeps_part ExactAddresses g frames a b = unbroken rule.Address g frames a b
-keeps_part ExactHeaders g frames a b = unbroken rule.HeaderCode g frames a b
-keeps_part SubtitleHeaders g frames a b = unbroken rule.Control g frames a b
-keeps_part OddRows g frames a b = unbroken rule.Parity g frames a b
-keeps_part SameRows g frames a b = unbroken rule.RowChanged g frames a b
-keeps_part DueContent g frames a b = ends_pass (shows_due g frames) frames a b
-keeps_part HeadersInTime g frames a b = ends_pass (λ n f. not (is_gap g frames n f)) frames a b
-
--- What passes it is kept.
-kept_by_test :
-    (part : Part) (g : Task) (frames : Transmission) (a b : ℕ)
-    → keeps_part part g frames a b ≡ true
-    → IsKeptWithin part g frames a b
-kept_by_test FramesRise g frames a b e = (rising_decided frames).0 e
-kept_by_test ExactAddresses g frames a b e =
-    packets_kept g.watched frames a b rule.Address (λ is. cc)
-    (none_breaks rule.Address g frames a b e)
-kept_by_test ExactHeaders g frames a b e =
-    packets_kept g.watched frames a b rule.HeaderCode (λ is. cc)
-    (none_breaks rule.HeaderCode g frames a b e)
-kept_by_test SubtitleHeaders g frames a b e =
-    packets_kept g.watched frames a b rule.Control (λ is. cc)
-    (none_breaks rule.Control g frames a b e)
-kept_by_test OddRows g frames a b e =
-    packets_kept g.watched frames a b rule.Parity (λ is. cc)
-    (none_breaks rule.Parity g frames a b e)
-kept_by_test SameRows g frames a b e =
-    rows_kept g.watched frames a b (none_breaks rule.RowChanged g frames a b e)
-kept_by_test DueContent g frames a b e = λ n f end low high.
-    (shows_decided g.watched.page (packets_before frames n) (g.due f)).0
-    (at_ends (shows_due g frames) frames a b e n f end low high)
-kept_by_test HeadersInTime g frames a b e = λ n f end low high.
-    (gap_decided g frames n f end.1).0
-    (at_ends (λ n f. not (is_gap g frames n f)) frames a b e n f end low high)
-
--- A test of all parts.
-abbrev all_parts : (Part → Bool) → Bool
-all_parts test =
-    test FramesRise
-    && (test ExactAddresses
-    && (test ExactHeaders
-    && (test SubtitleHeaders
-    && (test OddRows && (test SameRows && (test DueContent && test HeadersInTime))))))
-
-each_part : (test : Part → Bool) → all_parts test ≡ true → (part : Part) → test part ≡ true
-each_part test e = grind (arith, nat_tests, and_parts, true)
-
--- All other parts pass, and the transmission is refuted.
-abbrev is_needed :
-    Part → ProgrammeValue → Transmission → OptionsValue → ℕ → ℕ → ℕ → List (List ℕ) → Bool
-is_needed part programme frames o g j f got =
-    all_parts
-    (λ other. (number_of other == number_of part)
-    || keeps_part other (task_of programme o None) frames (first_frame frames)
-    (last_frame frames))
-    && is_refuted programme frames o g j f got
-
--- So the part is needed.
-pub needed :
-    (part : Part) (programme : ProgrammeValue) (frames : Transmission) (o : OptionsValue)
-    → (g j f : ℕ) (got : List (List ℕ))
-    → is_needed part programme frames o g j f got ≡ true
-    → IsNeeded part programme frames o
-needed part programme frames o g j f got e =
-    let test : Part → Bool = λ other. (number_of other == number_of part)
-    || keeps_part other (task_of programme o None) frames (first_frame frames)
-    (last_frame frames) in
-    let parts = and_parts (all_parts test) (is_refuted programme frames o g j f got) e in
-    let not_robust = refuted programme frames o g j f got parts.1 in
+untold_but :
+    (number : ℕ) (g : Task) (frames : Transmission) (a b : ℕ)
+    → told_alone number g frames a b ≡ true
+    → IsUntoldBut number g frames a b
+untold_but number g frames a b e =
+    let PacketsPass : PacketRule → Bool =
+    λ r. number == number_of r || (not (is_needed r) || unbroken r g frames a b) in
+    let order = and_parts (number == 62 || rises frames) _ e in
+    let packets = and_parts (list_all PacketsPass packet_rules) _ order.1 in
+    let ends =
+    and_parts
+    (number == 72 || ends_pass (λ n f. is_none (standing_at g frames n f).content) frames a b) _
+    packets.1 in
+    let each =
+    each_rule (λ r. PacketsPass r ≡ true)
+    (recursion_from_All (λ r. PacketsPass r ≡ true) packet_rules
+    ((each_of PacketsPass (λ r. PacketsPass r ≡ true) (λ r. holds (PacketsPass r)) packet_rules).0
+    packets.0)) in
     record {
-      others = λ other differs.
-          elim (or_cases (number_of other == number_of part) _ (each_part test parts.0 other)) [
-            | inl same ↦ absurd (differs (eqb-true (number_of other) (number_of part) same))
-            | inr kept ↦ kept_by_test other (task_of programme o None) frames _ _ kept
-          ];
+      rising = λ other. (rising_decided frames).0 (unless number 62 _ order.0 other);
+      packets = λ r needed other.
+          none_breaks r g frames a b
+          ((implied _ _ (holds (is_needed r)) (holds _)).0
+          (unless number (number_of r) _ (each r) other) needed);
+      content = λ other n f end low high.
+          none_by_test _
+          (at_ends (λ n f. is_none (standing_at g frames n f).content) frames a b
+          (unless number 72 _ ends.0 other) n f end low high);
+      gap = λ other n f end low high.
+          (fails _).0
+          (at_ends (λ n f. not (standing_at g frames n f).gap) frames a b
+          (unless number 73 _ ends.1 other) n f end low high);
+    }
+
+-- Nothing else is told of the transmission, and it is refuted. So the number is needed.
+pub needed :
+    (number : ℕ) (frames : Transmission) (every g j f : ℕ) (got : List (List ℕ))
+    → told_alone number (task_of no_subtitles (each every) None) frames (first_frame frames)
+    (last_frame frames)
+    && is_refuted no_subtitles frames (each every) g j f got
+    ≡ true
+    → IsNeeded number frames every
+needed number frames every g j f got e =
+    let task : Task = task_of no_subtitles (each every) None in
+    let tests =
+    and_parts (told_alone number task frames (first_frame frames) (last_frame frames)) _ e in
+    let not_robust = refuted no_subtitles frames (each every) g j f got tests.1 in
+    record {
+      others = untold_but number task frames (first_frame frames) (last_frame frames) tests.0;
       not_robust = not_robust;
-      not_trusted = λ trusted. not_robust (robust_of_recovers programme frames o trusted);
+      not_trusted = λ trusted.
+          not_robust (robust_of_recovers no_subtitles frames (each every) trusted);
     }
 
 -- ---- a clean stretch
 
--- All parts pass, and the frames are some of the transmission.
-abbrev is_clean_stretch : Task → Transmission → ℕ → ℕ → Bool
-is_clean_stretch g frames a b =
-    all_parts (λ part. keeps_part part g frames a b)
+-- Nothing at all is told of it, and the frames are some of the transmission.
+pub untold_by_test :
+    (g : Task) (frames : Transmission) (a b : ℕ)
+    → told_alone 0 g frames a b
     && (nat_lt 0 (length frames)
     && (nat_le (first_frame frames) a && (nat_le a b && nat_le b (last_frame frames))))
-
-pub clean_by_test :
-    (g : Task) (frames : Transmission) (a b : ℕ)
-    → is_clean_stretch g frames a b ≡ true
-    → IsCleanStretch g frames a b
-clean_by_test g frames a b e =
-    let test : Part → Bool = λ part. keeps_part part g frames a b in
-    let parts = and_parts (all_parts test) _ e in
+    ≡ true
+    → IsUntold g frames a b
+untold_by_test g frames a b e =
+    let parts = and_parts (told_alone 0 g frames a b) _ e in
+    let untold = untold_but 0 g frames a b parts.0 in
     record {
       stretch = record {
         not_empty = grind (arith, nat_tests, and_parts);
@@ -365,5 +304,11 @@ clean_by_test g frames a b e =
         in_order = grind (arith, nat_tests, and_parts);
         to = grind (arith, nat_tests, and_parts);
       };
-      kept = λ part. kept_by_test part g frames a b (each_part test parts.0 part);
+      rising = untold.rising (λ is. cc);
+      packets = λ r needed. untold.packets r needed (numbered r);
+      content = untold.content (λ is. cc);
+      gap = untold.gap (λ is. cc);
     }
+  where
+    numbered : (r : PacketRule) → 0 ≢ number_of r
+    numbered r is = grind arith

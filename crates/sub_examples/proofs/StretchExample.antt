@@ -1,4 +1,4 @@
--- A refused transmission with a clean stretch, by the tests of all parts.
+-- A refused transmission with a clean stretch, by the tests of what is told.
 use Rattle.std.proofs.lemmas.Bool.Decides.{nat_tests}
 use Rattle.std.proofs.Common.{ℕ, inl, inr, List, [], ◌∷◌, None, refl, arith}
 use Rattle.std.specs.Int.RustNames.{count_ones}
@@ -9,10 +9,10 @@ use Rattle.ttx_packet.specs.PacketAddress.{address}
 use Rattle.ttx_packet.specs.PageHeader.{header, coded_header}
 use Rattle.ttx_packet.specs.Parity.{is_odd}
 use Rattle.ttx_page.specs.Page.{blank, blank_row}
-use Rattle.sub_rules.specs.PacketTests.{are_code_words, breaks, is_word_below}
+use Rattle.sub_rules.specs.PacketTests.{are_code_words, breaks, is_word_below, packet_rules}
 use Rattle.ttx_packet.specs.RowPacket.{first_even_byte}
 use Rattle.ttx_page.specs.Differing.{columns_differing}
-use Rattle.sub_rules.specs.Events.{is_gap}
+use Rattle.sub_rules.specs.Events.{first_cell, is_gap, is_incomplete, standing_at, wrong_after}
 use Rattle.ttx_page.specs.PacketKind.{kind}
 use Rattle.ttx_page.specs.Receiver.ReceiverClass.{Storing}
 use Rattle.ttx_page.proofs.NoiseLaws.{all_kept, may_all}
@@ -20,14 +20,15 @@ use Rattle.stl_rows.specs.DrawnPage.{drawn, page_of_lines, line_fault_kinds}
 use Rattle.stl_rows.specs.DuePage.{due}
 use Rattle.stl_rows.specs.Line.{is_boxed, is_double, prepared, row_of}
 use Rattle.stl_rows.specs.TextCode.{cell_of, cell_of_pair}
-use Rattle.sub_laws.specs.CleanStretch.{IsCleanStretch}
+use Rattle.sub_laws.specs.CleanStretch.{IsUntold}
 use Rattle.sub_examples.specs.Examples.{ExampleOfCleanStretch, closing, damaged_first, each}
 use Rattle.sub_examples.specs.Examples.{header_888, later_subtitle, row_22}
 use Rattle.sub_rules.specs.FrameRules.{task_of}
 use Rattle.sub_rules.specs.Good.{Good}
 use Rattle.sub_rules.specs.Transmission.{SentFrame}
-use Rattle.sub_laws.proofs.CleanStretchLemmas.{law_of_clean_stretch}
-use Rattle.sub_examples.proofs.RobustTests.{clean_by_test, listening}
+use Rattle.sub_laws.proofs.CleanStretchLemmas.{law_of_untold_stretch}
+use Rattle.sub_laws.proofs.StretchLemmas.{law_of_stretch}
+use Rattle.sub_examples.proofs.RobustTests.{listening, untold_by_test}
 
 -- Its first packet, a header of the page, has no C4.
 refused : Good later_subtitle damaged_first (each 1) → ⊥
@@ -37,12 +38,13 @@ refused good =
     let control = good.control 0 none (omega arith) 0 [] (omega arith) in
     grind (arith, nat_tests, control _ refl)
 
-clean : IsCleanStretch (task_of later_subtitle (each 1) None) damaged_first 900001 900002
+clean : IsUntold (task_of later_subtitle (each 1) None) damaged_first 900001 900002
 unfolding are_code_words is_word_below first_even_byte breaks columns_differing is_gap
+    packet_rules standing_at wrong_after first_cell is_incomplete
     kind address header coded_header decoded is_near is_odd count_ones ones_in due blank
     blank_row drawn page_of_lines row_of line_fault_kinds prepared is_boxed is_double
     cell_of cell_of_pair
-clean = clean_by_test _ _ _ _ refl
+clean = untold_by_test _ _ _ _ refl
 
 pub example_of_clean_stretch : ExampleOfCleanStretch
 unfolding kind address header coded_header decoded is_near is_odd count_ones ones_in due blank
@@ -53,8 +55,9 @@ example_of_clean_stretch = record {
   clean = clean;
   held = λ got old new near hears.
       let sent : List (List ℕ) = header_888 ∷ row_22 ∷ closing ∷ [] in
-      let trusted = (law_of_clean_stretch later_subtitle damaged_first (each 1) None 900001 900002
-      clean).trusted in
+      let enough =
+      law_of_untold_stretch later_subtitle damaged_first (each 1) None 900001 900002 clean in
+      let trusted = law_of_stretch later_subtitle damaged_first (each 1) 900001 900002 enough.0 in
       let served =
       trusted.recovers Storing 900001 0 900001 (all_kept sent) got old new
       (record {

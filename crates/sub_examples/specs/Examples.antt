@@ -1,6 +1,7 @@
 -- Transmissions of page 888 in full, byte by byte: a good one, and for each part of what the
 -- headline needs one that is not robust.
 use Rattle.std.specs.Prelude.{◌≡◌, ◌≢◌, ◌⊎◌, ℕ, false, List, [], ◌∷◌, ◌++◌, None, replicate}
+use Rattle.std.specs.Prelude.{IsFalse, IsTrue}
 use Rattle.std.specs.List.{AllZip}
 use Rattle.ttx_packet.specs.OneBit.{AreNear}
 use Rattle.ttx_page.specs.Page.{cell, space}
@@ -10,12 +11,14 @@ use Rattle.stl_rows.specs.declared.national.National.TheVariants.{English}
 use Rattle.stl_rows.specs.Programme.{ProgrammeValue}
 use Rattle.sub_plan.specs.Examples.{page_888}
 use Rattle.sub_plan.specs.Options.{OptionsValue}
-use Rattle.sub_rules.specs.Transmission.{Transmission, first_frame, last_frame}
-use Rattle.sub_laws.specs.CleanStretch.{IsCleanStretch, IsKeptWithin, Part, number_of}
-use Rattle.sub_laws.specs.CleanStretch.Part.{DueContent, ExactAddresses, ExactHeaders, FramesRise}
-use Rattle.sub_laws.specs.CleanStretch.Part.{HeadersInTime, OddRows, SameRows, SubtitleHeaders}
-use Rattle.sub_rules.specs.FrameRules.{task_of}
+use Rattle.sub_rules.specs.Transmission.{IsRising, Transmission, first_frame, last_frame}
+use Rattle.sub_rules.specs.Events.{packet_fault, standing_at}
+use Rattle.sub_rules.specs.Fault.{check_code}
+use Rattle.sub_rules.specs.FrameRules.{Task, task_of}
 use Rattle.sub_rules.specs.Good.{Good}
+use Rattle.sub_rules.specs.PacketTests.{breaks}
+use Rattle.sub_rules.specs.declared.packet_rule.PacketRule.{PacketRule}
+use Rattle.sub_laws.specs.CleanStretch.{AtEnds, AtPackets, IsUntold, is_needed}
 use Rattle.sub_laws.specs.Recovery.{RecoversWithin}
 use Rattle.sub_laws.specs.Robust.{Robust}
 
@@ -114,22 +117,34 @@ ExampleOfGood =
     (two_frames (header_888 ∷ row_22 ∷ closing ∷ []) (header_888 ∷ closing ∷ []))
     (each 1)
 
--- ---- for each part of what is asked of a clean stretch one that is not robust without it
+-- ---- for each thing that is told of which a receiver depends one that is not robust
 
--- In all frames each other part is kept, and the transmission is not robust. So neither may its
--- frames be trusted.
-pub record IsNeeded
-    (part : Part) (programme : ProgrammeValue) (transmission : Transmission)
-    (options : OptionsValue)
-    : Type 0 where
+-- The number of the refusal that tells that a packet breaks the rule.
+abbrev pub number_of : PacketRule → ℕ
+number_of r = (check_code (packet_fault r 0 0)).number
+
+-- Of the frames from a to b nothing is told that a receiver depends on, as in `IsUntold`, but this
+-- number perhaps.
+pub record IsUntoldBut (number : ℕ) (g : Task) (frames : Transmission) (a b : ℕ) : Type 0 where
+  pub rising : number ≢ 62 → IsRising frames
+  pub packets :
+      (r : PacketRule)
+      → IsTrue (is_needed r)
+      → number ≢ number_of r
+      → AtPackets (λ before p. IsFalse (breaks r g.watched before p)) frames a b
+  pub content :
+      number ≢ 72 → AtEnds (λ n f. (standing_at g frames n f).content ≡ None) frames a b
+  pub gap : number ≢ 73 → AtEnds (λ n f. IsFalse (standing_at g frames n f).gap) frames a b
+
+-- Of all frames of the transmission nothing else is told, where every due page is blank, and it is
+-- not robust. So neither may its frames be trusted.
+pub record IsNeeded (number : ℕ) (transmission : Transmission) (every : ℕ) : Type 0 where
   pub others :
-      (other : Part)
-      → number_of other ≢ number_of part
-      → IsKeptWithin other (task_of programme options None) transmission
+      IsUntoldBut number (task_of no_subtitles (each every) None) transmission
       (first_frame transmission) (last_frame transmission)
-  pub not_robust : Robust programme transmission options → ⊥
+  pub not_robust : Robust no_subtitles transmission (each every) → ⊥
   pub not_trusted :
-      RecoversWithin Storing programme transmission options (first_frame transmission)
+      RecoversWithin Storing no_subtitles transmission (each every) (first_frame transmission)
       (last_frame transmission)
       → ⊥
 
@@ -146,34 +161,24 @@ listed_late =
     ∷ record { frame = 900003; packets = header_888 ∷ closing ∷ [] }
     ∷ []
 
--- A transmission in which the part alone is not kept.
-abbrev pub without : Part → Transmission
--- Who hears the frames up to 900001 is shown an exclamation mark that is not due.
-without FramesRise = listed_late
--- One bit more, and the address byte decodes to nothing: the header is not heard.
-without ExactAddresses = one_header header_with_wrong_bit
--- One wrong bit, and a packet X/0 is a header that nobody sent.
-without ExactHeaders = one_frame (header_888 ∷ closing ∷ no_header ∷ [])
--- Without C4 a receiver keeps its old page.
-without SubtitleHeaders = one_header header_without_c4
--- A0 may be got as A1, which has odd parity: an exclamation mark that nobody sent.
-without OddRows = one_frame (header_888 ∷ row_1 0xA0 ∷ closing ∷ [])
--- Of two packets of row 1 the first one counts as what is shown, and a receiver holds the second.
-without SameRows = changed_row
--- Every receiver shows what is not due.
-without DueContent = one_frame (header_888 ∷ row_1 0xA1 ∷ closing ∷ [])
--- Who starts after the first frame hears no header within the bound.
-without HeadersInTime = two_frames (header_888 ∷ closing ∷ []) (closing ∷ [])
-
--- Its repeat bound.
-abbrev pub bound_without : Part → ℕ
-bound_without FramesRise = 3
-bound_without _ = 1
-
--- So each part is needed: with the seven others alone a stretch can't be trusted.
-abbrev pub ExamplesOfNeededParts : Type 0
-ExamplesOfNeededParts =
-    (part : Part) → IsNeeded part no_subtitles (without part) (each (bound_without part))
+-- Each of the eight is needed: where it is told alone a stretch can't be trusted.
+pub record ExamplesOfNeededParts : Type 0 where
+  -- Who hears the frames up to 900001 is shown an exclamation mark that is not due.
+  pub frames_rise : IsNeeded 62 listed_late 3
+  -- One bit more, and the address byte decodes to nothing: the header is not heard.
+  pub exact_addresses : IsNeeded 64 (one_header header_with_wrong_bit) 1
+  -- One wrong bit, and a packet X/0 is a header that nobody sent.
+  pub exact_headers : IsNeeded 65 (one_frame (header_888 ∷ closing ∷ no_header ∷ [])) 1
+  -- Without C4 a receiver keeps its old page.
+  pub subtitle_headers : IsNeeded 67 (one_header header_without_c4) 1
+  -- A0 may be got as A1, which has odd parity: an exclamation mark that nobody sent.
+  pub odd_rows : IsNeeded 68 (one_frame (header_888 ∷ row_1 0xA0 ∷ closing ∷ [])) 1
+  -- Of two packets of row 1 the first one counts as what is shown, and a receiver holds the second.
+  pub same_rows : IsNeeded 69 changed_row 1
+  -- Every receiver shows what is not due.
+  pub due_content : IsNeeded 72 (one_frame (header_888 ∷ row_1 0xA1 ∷ closing ∷ [])) 1
+  -- Who starts after the first frame hears no header within the bound.
+  pub headers_in_time : IsNeeded 73 (two_frames (header_888 ∷ closing ∷ []) (closing ∷ [])) 1
 
 -- ---- a clean stretch of a refused transmission
 
@@ -202,11 +207,12 @@ damaged_first =
     ∷ record { frame = 900002; packets = header_888 ∷ closing ∷ [] }
     ∷ []
 
--- It is refused. The frames after it are clean; so who hears frame 900001, with any bit of each
--- byte wrong and whatever he held before, holds the `H` there or, where its byte was hit, a space.
+-- It is refused. Nothing is told of the frames after it; so who hears frame 900001, with any bit of
+-- each byte wrong and whatever he held before, holds the `H` there or, where its byte was hit, a
+-- space.
 pub record ExampleOfCleanStretch : Type 0 where
   pub refused : Good later_subtitle damaged_first (each 1) → ⊥
-  pub clean : IsCleanStretch (task_of later_subtitle (each 1) None) damaged_first 900001 900002
+  pub clean : IsUntold (task_of later_subtitle (each 1) None) damaged_first 900001 900002
   pub held :
       (got : List (List ℕ)) (old new : State)
       → AllZip AreNear (header_888 ∷ row_22 ∷ closing ∷ []) got

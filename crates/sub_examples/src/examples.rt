@@ -11,8 +11,8 @@ pub fn example_of_good()
     ensures { ExampleOfGood }
 {}
 
-/// Each part of what is asked of a clean stretch is needed: for each there is a transmission that
-/// keeps all others and is not robust.
+/// Each of the eight numbers of which none is told of a clean stretch is needed: for each there is
+/// a transmission of which it is told alone, and which is not robust.
 #[tactic(auto, using(crate::proofs::NotRobust::examples_of_needed_parts))]
 pub fn examples_of_needed_parts()
     ensures { ExamplesOfNeededParts }

@@ -1,34 +1,50 @@
--- A clean stretch has what suffices, and so may be trusted: `law_of_clean_stretch`.
+-- A clean stretch has what suffices: `law_of_untold_stretch`.
 use Rattle.std.proofs.lemmas.Bool.Decides.{nat_tests}
 use Rattle.std.proofs.Common.{◌≡◌, ℕ, ◌+◌, ◌-◌, ◌<◌, ◌≤◌, ◌⊎◌, inl, inr, List, [], ◌++◌, length}
-use Rattle.std.proofs.Common.{take, slice_index_or, Option, refl, sym, ap, ◌∙◌, subst, arith}
-use Rattle.std.proofs.Common.{IsTrue, le_refl}
+use Rattle.std.proofs.Common.{take, slice_index, slice_index_or, Option, refl, sym, ap, ◌∙◌, subst}
+use Rattle.std.proofs.Common.{Bool, true, false, not, ◌&&◌, Some, find, IsTrue, IsFalse, arith, le_refl}
 use Rattle.std.proofs.lemmas.Bool.{cases_eq, cases_lt}
 use Rattle.std.proofs.lemmas.List.{append-nil, get_or-append-add, length-append, length-take}
 use Rattle.std.proofs.lemmas.List.Elements.{All-nil}
 use Rattle.ttx_packet.specs.PageId.{PageIdValue}
 use Rattle.ttx_page.specs.Noise.{IsSound}
+use Rattle.ttx_page.specs.PacketKind.{is_row, kind}
 use Rattle.ttx_page.specs.Shown.{shown}
+use Rattle.ttx_page.specs.Span.{is_open_after, span}
+use Rattle.ttx_page.specs.declared.packet_kind.PacketKind.TheVariants.{Row}
 use Rattle.ttx_page.proofs.LateStart.{MayFollow, sound-joined}
 use Rattle.stl_rows.specs.Programme.{ProgrammeValue}
 use Rattle.sub_plan.specs.Options.{OptionsValue}
-use Rattle.sub_laws.specs.CleanStretch.{AtEnds, IsCleanStretch, IsEnd, LawOfCleanStretch}
-use Rattle.sub_laws.specs.CleanStretch.Part.{DueContent, ExactAddresses, ExactHeaders, FramesRise}
-use Rattle.sub_laws.specs.CleanStretch.Part.{OddRows, HeadersInTime, SameRows, SubtitleHeaders}
-use Rattle.sub_rules.specs.FrameRules.{IsEnded, Unread, frame_at, packets_before, packets_of_frame}
-use Rattle.sub_rules.specs.FrameRules.{HasHeader, task_of, watched_of}
+use Rattle.sub_rules.specs.Events.{standing_at}
+use Rattle.sub_rules.specs.FrameRules.{HasHeader, Task, Unread, frame_at, packets_before}
+use Rattle.sub_rules.specs.FrameRules.{packets_of_frame, task_of, watched_of}
 use Rattle.sub_rules.specs.Good.{HoldsHeader}
+use Rattle.sub_rules.specs.PacketRules.{KeepsRule, codes_of}
+use Rattle.sub_rules.specs.PacketTests.{breaks}
+use Rattle.sub_rules.specs.Transmission.{Transmission, first_frame, on_air_until, packets_between}
+use Rattle.sub_rules.specs.declared.packet_rule.PacketRule.{PacketRule}
+use Rattle.sub_rules.specs.declared.packet_rule.PacketRule.TheVariants as rule
+use Rattle.sub_laws.specs.CleanStretch.{AtEnds, AtPackets, IsEnd, IsUntold, LawOfUntoldStretch}
+use Rattle.sub_laws.specs.CleanStretch.{is_needed}
 use Rattle.sub_laws.specs.OnScreen.{CompleteWithin}
 use Rattle.sub_laws.specs.Sufficient.{IsSufficient}
-use Rattle.sub_rules.specs.Transmission.{Transmission, first_frame, on_air_until, packets_between}
 use Rattle.sub_rules.proofs.CodesLemmas.{code_of_column}
+use Rattle.sub_rules.proofs.FrameLists.{joined_more}
+use Rattle.sub_laws.proofs.BrokenRuleLemmas.{columns_zero, refuted, rule_decided}
 use Rattle.sub_laws.proofs.GoodLemmas.{any_sent, rises_each}
 use Rattle.sub_laws.proofs.PrefixLemmas.{EachAfter, RiseTo, before, each_after, end_at, first-same}
 use Rattle.sub_laws.proofs.PrefixLemmas.{last-same, on_air_at, packet_at, rises_to}
-use Rattle.sub_laws.proofs.StretchLemmas.{law_of_stretch}
+use Rattle.sub_laws.proofs.StandingLemmas.{stands_broken}
 use Rattle.sub_laws.proofs.TransmissionLemmas.{packets_between-split}
-use Rattle.sub_rules.proofs.FrameLists.{joined_more}
 use Rattle.std.proofs.Math.Seq.{take-append-add}
+
+-- What is not false is true.
+not_false : (b : Bool) → not b ≡ false → b ≡ true
+not_false b h1 = grind (arith, nat_tests)
+
+-- Of tests that fail together, the last where the others pass.
+last_of_two : (x y : Bool) → (x && y) ≡ false → x ≡ true → y ≡ false
+last_of_two x y h1 h2 = grind (arith, nat_tests)
 
 -- No packets are sound.
 sound_nil : (page : PageIdValue) → IsSound page []
@@ -38,7 +54,32 @@ sound_nil page = grind (arith, nat_tests, All-nil)
 
 module _ (programme : ProgrammeValue) (transmission : Transmission) (options : OptionsValue)
     (unread : Option Unread) (a b : ℕ)
-    (clean : IsCleanStretch (task_of programme options unread) transmission a b) where
+    (untold : IsUntold (task_of programme options unread) transmission a b) where
+  -- What it is checked against.
+  abbrev g : Task
+  g = task_of programme options unread
+
+  -- Its packets keep the rules of which nothing is told.
+  kept : (r : PacketRule) → IsTrue (is_needed r) → (r ≡ rule.RowChanged → ⊥)
+      → AtPackets (KeepsRule r g.watched) transmission a b
+  kept r needed other i k l m low high =
+      (refuted _ (rule_decided g.watched _ _ r (λ e. absurd (other e)))).0
+      (untold.packets r needed i k l m low high)
+
+  -- While the page is open a row has the codes of the first packet of its row since the last header
+  -- of the page.
+  same_codes : AtPackets (λ heard p. IsTrue (is_open_after (kind options.page) heard)
+      → (row : ℕ) (first : List ℕ)
+      → kind options.page p ≡ Row row
+      → find (λ q. is_row row (kind options.page q)) (span (kind options.page) heard) ≡ Some first
+      → (column : ℕ)
+      → column < 40
+      → slice_index (codes_of first) column ≡ slice_index (codes_of p) column) transmission a b
+  unfolding breaks
+  same_codes i k l m low high up row first is found column below =
+      let equal = untold.packets rule.RowChanged refl i k l m low high in
+      grind (arith, nat_tests, last_of_two, columns_zero, not_false)
+
   -- Each packet may follow those before it.
   fit :
       (i k : ℕ)
@@ -48,19 +89,21 @@ module _ (programme : ProgrammeValue) (transmission : Transmission) (options : O
       → frame_at transmission i ≤ b
       → MayFollow options.page (before transmission i k) (packet_at transmission i k)
   fit i k l m low high = record {
-    exact =
-        (clean.kept ExactAddresses i k l m low high, clean.kept ExactHeaders i k l m low high);
-    erases = λ h is. (clean.kept SubtitleHeaders i k l m low high h is).erases;
-    odd = λ up row is. clean.kept OddRows i k l m low high up row is;
+    exact = (
+      kept rule.Address refl (λ is. cc) i k l m low high,
+      kept rule.HeaderCode refl (λ is. cc) i k l m low high,
+    );
+    erases = λ h is. (kept rule.Control refl (λ is. cc) i k l m low high h is).erases;
+    odd = λ up row is. kept rule.Parity refl (λ is. cc) i k l m low high up row is;
     same = λ up row column first is found below.
         sym (code_of_column first column)
-        ∙ clean.kept SameRows i k l m low high up row first is found column below
+        ∙ same_codes i k l m low high up row first is found column below
         ∙ code_of_column (slice_index_or (packets_of_frame transmission i) k []) column;
   }
 
   -- Each frame of the list is after the one before.
   rising : RiseTo transmission (length transmission)
-  rising = rises_each transmission (clean.kept FramesRise)
+  rising = rises_each transmission (untold.rising)
 
   -- Each frame of the stretch has an end, at which what is on air up to it counts.
   end_of : (f : ℕ) → a ≤ f → f ≤ b
@@ -88,7 +131,7 @@ module _ (programme : ProgrammeValue) (transmission : Transmission) (options : O
         let low = rises_to transmission (length transmission) rising 0 i (omega arith) l in
         let split =
         packets_between-split transmission (first_frame transmission)
-        (frame_at transmission i + 1) a (clean.kept FramesRise) (omega arith) (omega arith) in
+        (frame_at transmission i + 1) a (untold.rising) (omega arith) (omega arith) in
         let here = on_air_at transmission rising i l ∙ joined_more transmission i l in
         grind (arith, nat_tests, length-append, length-take)
   ]
@@ -101,7 +144,7 @@ module _ (programme : ProgrammeValue) (transmission : Transmission) (options : O
       let more : List (List ℕ) = packets_between transmission a (f + 1) in
       let split : on_air_until transmission f ≡ earlier ++ more =
       packets_between-split transmission (first_frame transmission) a (f + 1)
-      (clean.kept FramesRise) clean.stretch.from (omega arith) in
+      (untold.rising) untold.stretch.from (omega arith) in
       let Fits : List (List ℕ) → List ℕ → Type 0 =
       λ heard p. length earlier ≤ length heard → MayFollow options.page heard p in
       let each : EachAfter Fits (earlier ++ more) =
@@ -129,11 +172,11 @@ module _ (programme : ProgrammeValue) (transmission : Transmission) (options : O
       × (j < length transmission)
       × (frame_at transmission j ≤ f)
       × (f < frame_at transmission j + options.every)
-      × HasHeader (task_of programme options unread) transmission j)
+      × HasHeader g transmission j)
   covered f low high =
       let first = first-same transmission in
       let (n, end, on, before) = end_of f low high in
-      elim (clean.kept HeadersInTime n f end low high) [
+      elim ((stands_broken g transmission n f end.1).gap.0 (untold.gap n f end low high)) [
         | inl early ↦ inl (omega arith)
         | inr (j, l, late, has) ↦
             let rises =
@@ -145,14 +188,15 @@ module _ (programme : ProgrammeValue) (transmission : Transmission) (options : O
   -- It has what suffices.
   enough : IsSufficient programme transmission options a b
   enough = record {
-    first = clean.stretch.from;
-    rising = clean.kept FramesRise;
+    first = untold.stretch.from;
+    rising = untold.rising;
     sound = sound_at;
     repeats = repeats;
     content = λ f row column low high named.
         let end = end_of f low high in
         ap (λ ps. shown options.page ps row column) end.2
-        ∙ clean.kept DueContent end.0 f end.1 low high row column named;
+        ∙ (stands_broken g transmission end.0 f end.1.1).content.0
+        (untold.content end.0 f end.1 low high) row column named;
   }
     where
       repeats :
@@ -164,10 +208,10 @@ module _ (programme : ProgrammeValue) (transmission : Transmission) (options : O
           × (f < start + options.every)
           × HoldsHeader options.page transmission f
       repeats start low high =
-          let from = clean.stretch.from in
+          let from = untold.stretch.from in
           elim (cases_eq options.every 0) [
             | inl none ↦
-                grind (arith, nat_tests, covered a (le_refl a) clean.stretch.in_order, le_refl a)
+                grind (arith, nat_tests, covered a (le_refl a) untold.stretch.in_order, le_refl a)
             | inr every ↦
                 elim (covered (start + options.every - 1) (omega arith) (omega arith)) [
                   | inl early ↦ absurd (omega arith)
@@ -184,19 +228,17 @@ module _ (programme : ProgrammeValue) (transmission : Transmission) (options : O
   -- Where the page is open at no end of it, pages are complete in it.
   complete :
       IsTrue options.asks_complete
-      → AtEnds (λ n f. IsEnded (task_of programme options unread) transmission n) transmission a b
+      → AtEnds (λ n f. IsFalse (standing_at g transmission n f).incomplete) transmission a b
       → CompleteWithin transmission options a b
-  complete asks ended f low high holds =
+  complete asks closed f low high holds =
       let end = end_of f low high in
-      let shut = ended end.0 f end.1 low high asks in
+      let shut =
+      (stands_broken g transmission end.0 f end.1.1).incomplete.0 (closed end.0 f end.1 low high)
+      asks in
       grind (arith, nat_tests)
 
--- A clean stretch may be trusted.
-pub law_of_clean_stretch : LawOfCleanStretch
-law_of_clean_stretch programme transmission options unread a b clean =
-    record {
-      trusted =
-          law_of_stretch programme transmission options a b
-          (enough programme transmission options unread a b clean);
-      complete = complete programme transmission options unread a b clean;
-    }
+pub law_of_untold_stretch : LawOfUntoldStretch
+law_of_untold_stretch programme transmission options unread a b untold = (
+  enough programme transmission options unread a b untold,
+  complete programme transmission options unread a b untold,
+)

@@ -1,9 +1,11 @@
 pub mod AllTrustedLemmas
 pub mod BrokenRuleLemmas
+pub mod CleanSpanLemmas
 pub mod CleanStretchLemmas
 pub mod ContentLemmas
 pub mod DoubtLemmas
 pub mod EventLemmas
+pub mod FirstFoundLemmas
 pub mod FrameByFrame
 pub mod FrameDoubtLemmas
 pub mod GoodLemmas
@@ -17,10 +19,8 @@ pub mod ReadFileLemmas
 pub mod RisingEndLemmas
 pub mod RobustLemmas
 pub mod StandingLemmas
-pub mod StepByStepLemmas
 pub mod StretchLemmas
 pub mod TransmissionLemmas
 pub mod TrustedFrameLemmas
 pub mod TrustedPieceLemmas
 pub mod TrustedRunLemmas
-pub mod UntoldLemmas

@@ -27,9 +27,8 @@ use Rattle.sub_rules.proofs.PacketLists.{first_header-push, Each-push, Each-map}
 use Rattle.sub_rules.specs.Transmission.{EachPacket, SentFrame, Transmission, first_frame}
 use Rattle.sub_rules.specs.Transmission.{last_frame, on_air_until}
 use Rattle.sub_rules.specs.Good.{Good, HoldsHeader, IsCleanSpan, IsControlled, IsEnhancement}
-use Rattle.sub_rules.specs.Good.{IsInOneMode}
+use Rattle.sub_rules.specs.Good.{IsInOneMode, Repeats}
 use Rattle.sub_laws.specs.OnScreen.{Complete}
-use Rattle.sub_laws.specs.StepByStep.{IsNeverLate, MayFollow}
 use Rattle.sub_rules.specs.FrameRules.{HasHeader, IsCovered, Unread, end_frame, frame_at}
 use Rattle.sub_rules.specs.FrameRules.{packets_before, packets_of_frame, task_of, watched_of}
 use Rattle.sub_laws.specs.CleanStretch.{IsEnd}
@@ -42,7 +41,7 @@ use Rattle.sub_laws.proofs.PrefixLemmas.{EachAfter, RiseTo, before_more, each_af
 use Rattle.sub_laws.proofs.PrefixLemmas.{first-same, rises_strictly, last-same, on_air_at}
 use Rattle.sub_laws.proofs.PrefixLemmas.{on_air_is, end_at}
 use Rattle.sub_rules.proofs.FrameLists.{joined_more}
-use Rattle.sub_laws.proofs.StepByStepLemmas.{clean_cuts, last_clean, law_of_repeats}
+use Rattle.sub_laws.proofs.CleanSpanLemmas.{MayFollow, clean_cuts, last_clean}
 use Rattle.sub_rules.specs.declared.packet_rule.PacketRule.TheVariants as rule
 
 -- ---- a packet of the span
@@ -179,7 +178,8 @@ module _ (programme : ProgrammeValue) (options : OptionsValue) (unread : Option 
       ((h.each 0 some).header refl)
 
   -- At the end of each frame the last one is not too long ago.
-  never_late : IsNeverLate options.page options.every t
+  never_late : (f : ℕ) → first_frame t ≤ f → f ≤ last_frame t
+      → (n : ℕ) × (n ≤ f) × (f < n + options.every) × HoldsHeader options.page t n
   never_late f low high =
       let first = first-same t in
       let (n, end, on, from) = end_at t rising f some (omega arith) (omega (arith, last-same t)) in
@@ -190,6 +190,12 @@ module _ (programme : ProgrammeValue) (options : OptionsValue) (unread : Option 
             (omega (arith, end.0, end.1)) in
             grind (arith, nat_tests, any_sent (watched_of programme options) t j (frame_at t j))
       ]
+
+  -- So one comes in each `every` frames.
+  repeats : Repeats options.page options.every t
+  repeats start low high =
+      let found = never_late (start + options.every - 1) (omega arith) (omega arith) in
+      (found.0, omega (arith, found.2), omega (arith, found.1), found.3)
 
   -- Each header has the C11 of the first.
   agreed : EachPacket (Agrees (whole t)) t
@@ -215,7 +221,7 @@ module _ (programme : ProgrammeValue) (options : OptionsValue) (unread : Option 
         (λ i k l m. clean_at i k l m rule.Control);
     spans = spans_of;
     opens = opens;
-    repeats = (law_of_repeats options.page options.every t some_frames opens).1 never_late;
+    repeats = repeats;
     content = shows_at;
   }
 

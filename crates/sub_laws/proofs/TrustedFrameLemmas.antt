@@ -2,27 +2,26 @@
 use Rattle.std.proofs.lemmas.Bool.Decides.{nat_tests}
 use Rattle.std.specs.Bool.{Decides}
 use Rattle.std.proofs.Common.{◌≡◌, ℕ, zero, suc, ◌+◌, ◌-◌, ◌<◌, ◌≤◌, inl, inr, true, false, length}
-use Rattle.std.proofs.Common.{take, None, ap, ◌∙◌, arith}
+use Rattle.std.proofs.Common.{take, None, ap, ◌∙◌, arith, IsFalse}
 use Rattle.std.proofs.lemmas.Bool.{cases_lt, cases_eq}
 use Rattle.std.proofs.lemmas.List.{length-take-le, take-take}
 use Rattle.std.proofs.lemmas.List.Elements.{All-contains}
 use Rattle.ttx_page.specs.PacketKind.{kind}
 use Rattle.ttx_page.specs.Span.{holds_header}
 use Rattle.sub_rules.specs.Events.{Standing, is_gap, is_incomplete, standing_at}
-use Rattle.sub_rules.specs.FrameRules.{Task, frame_at, IsEnded, packets_of_frame, task_of}
+use Rattle.sub_rules.specs.FrameRules.{Task, frame_at, packets_of_frame, task_of}
 use Rattle.sub_rules.specs.PacketTests.{breaks}
 use Rattle.sub_rules.specs.Pieces.{frames_of}
 use Rattle.sub_rules.specs.Transmission.{Transmission, last_frame, packets_of}
 use Rattle.sub_rules.specs.Trusted.{stands_none}
 use Rattle.sub_rules.specs.declared.packet_rule.PacketRule.{PacketRule}
-use Rattle.sub_laws.specs.CleanStretch.{AtEnds, IsCleanStretch, IsEnd, IsStretch, IsUntold}
-use Rattle.sub_laws.specs.CleanStretch.{is_needed}
+use Rattle.sub_laws.specs.CleanStretch.{AtEnds, IsEnd, IsStretch, IsUntold, is_needed}
 use Rattle.sub_laws.specs.TrustedFrames.{LawOfTrusted, rises_at, rising_count, rising_part}
-use Rattle.sub_laws.proofs.CleanStretchLemmas.{law_of_clean_stretch}
+use Rattle.sub_laws.proofs.CleanStretchLemmas.{law_of_untold_stretch}
 use Rattle.sub_laws.proofs.GoodLemmas.{any_sent}
-use Rattle.sub_laws.proofs.UntoldLemmas.{law_of_untold_stretch}
 use Rattle.sub_laws.proofs.PrefixLemmas.{RiseTo, before, first-same, frame_at-take, packet_at}
 use Rattle.sub_laws.proofs.PrefixLemmas.{packets-take, rises_to, take_last, take_rising}
+use Rattle.sub_laws.proofs.StretchLemmas.{law_of_stretch}
 use Rattle.sub_laws.proofs.TrustedPieceLemmas.{StaysTo, all_stay}
 
 -- ---- the rising part
@@ -174,7 +173,8 @@ module _ (g : Task) (frames : Transmission) (from to : ℕ) (stays : StaysTo g f
   packets_quiet r i k needed l below low high =
       grind (arith, nat_tests, cases_lt, later, order, j_low, part_rises)
 
-  untold : IsUntold g part from to
+  -- Nothing is told of what is trusted that a receiver depends on.
+  pub untold : IsUntold g part from to
   untold = record {
     stretch = stretch;
     rising = take_rising frames m (risen_low frames) (part_rises frames);
@@ -185,14 +185,9 @@ module _ (g : Task) (frames : Transmission) (from to : ℕ) (stays : StaysTo g f
     gap = λ n f at low high. (none_of_three _ (stands_quiet n f at low high)).1;
   }
 
-  -- What is told as trusted is clean, and pages are complete in it.
-  pub clean : IsCleanStretch g part from to
-  clean = (law_of_untold_stretch g part from to).clean untold
-
-  pub complete : AtEnds (λ n f. IsEnded g part n) part from to
-  complete =
-      (law_of_untold_stretch g part from to).ended
-      (λ n f at low high. (none_of_three _ (stands_quiet n f at low high)).2)
+  -- And the page stands open at no end of it.
+  pub closed : AtEnds (λ n f. IsFalse (standing_at g part n f).incomplete) part from to
+  closed n f at low high = (none_of_three _ (stands_quiet n f at low high)).2
 
   pub header_there : holds_header (kind g.watched.page) (packets_of part from) ≡ true
   header_there =
@@ -209,11 +204,11 @@ law_of_trusted programme options unread pieces from to told =
     let frames = frames_of pieces in
     let stays : StaysTo g frames from to =
     grind (arith, nat_tests, All-contains, all_stay) in
-    let trusted =
-    law_of_clean_stretch programme (rising_part frames) options unread from to
-    (clean g frames from to stays) in
+    let clean =
+    law_of_untold_stretch programme (rising_part frames) options unread from to
+    (untold g frames from to stays) in
     record {
       header = header_there g frames from to stays;
-      trusted = trusted.trusted;
-      complete = λ asks. trusted.complete asks (complete g frames from to stays);
+      trusted = law_of_stretch programme (rising_part frames) options from to clean.0;
+      complete = λ asks. clean.1 asks (closed g frames from to stays);
     }

@@ -13,10 +13,10 @@ use Rattle.sub_rules.specs.Transmission.{Transmission}
 use Rattle.sub_rules.specs.Trusted.{doubted, tells_none}
 use Rattle.sub_rules.specs.declared.event.Event.{Event}
 use Rattle.sub_rules.specs.declared.event.Event.TheVariants.{Told}
-use Rattle.sub_rules.proofs.TrustedLemmas.{own_frame, plain_closing}
+use Rattle.sub_rules.proofs.AnyToldLemmas.{own_closing, own_frame}
 use Rattle.std.proofs.lemmas.List.Elements.{All-append, All-cons, All-nil}
 use Rattle.sub_laws.proofs.DoubtLemmas.{EachTrusted, OnTrusted, each-announced, each-at, each-ended}
-use Rattle.sub_laws.proofs.DoubtLemmas.{each-plain, each-put, first_doubt, trusted_in_run}
+use Rattle.sub_laws.proofs.DoubtLemmas.{each-own, each-put, first_doubt, trusted_in_run}
 use Rattle.sub_laws.proofs.TrustedRunLemmas.{EndsQuiet, IsRun, Run, ended, run_next}
 use Rattle.sub_rules.specs.Trusted.{at_pes}
 use Rattle.sub_rules.proofs.RunLemmas.{all_are, all_in_runs, closing_told, frame_before}
@@ -89,7 +89,7 @@ module _ (g : Task) (frames : Transmission) where
       → EachTrusted StaysTo (told_of_passed frames pes n kept u)
   passed_stays n pes u kept within before =
       trusted_in_run StaysTo (frame_before frames n) kept (Told (unread_fault pes (Some u)) ∷ [])
-      (each-plain StaysTo (Told (unread_fault pes (Some u)) ∷ []) refl)
+      (All-cons (OnTrusted StaysTo) _ [] tt (All-nil (OnTrusted StaysTo)))
       (λ x from e run l.
       let at : x ≡ frame_before frames n =
       let here = passed_doubt (frame_before frames n) pes u in cc in
@@ -108,7 +108,7 @@ module _ (g : Task) (frames : Transmission) where
       All-append (OnTrusted StaysTo) (map (at_pes pes) (told_of_frame g frames n kept)) _
       (each-at StaysTo pes (told_of_frame g frames n kept)
       (trusted_in_run StaysTo (frame_before frames n) kept (frame_events g frames n)
-      (each-plain StaysTo _ (own_frame g frames n).plain)
+      (each-own StaysTo n _ (own_frame g frames n))
       (λ x from e run l. frame_stays n (omega arith) x from e (before from run) l)))
       (each_stays (suc pes) (suc n) (run_at g frames n kept) pieces (omega arith)
       (run_next g frames n kept (omega arith) before))
@@ -140,14 +140,17 @@ module _ (g : Task) (frames : Transmission) where
   last_stays kept any h1 = grind (arith, nat_tests, All-nil, each-put, end_low-trusted, run_stays)
 
   -- What is told after them.
-  closing_plain : (pes n : ℕ) → EachTrusted StaysTo (closing_of_pieces g frames pes n)
+  closing_plain : (pes n : ℕ) → length frames ≡ n
+      → EachTrusted StaysTo (closing_of_pieces g frames pes n)
   unfolding closing_of_pieces
-  closing_plain pes n =
-      let plain = each-plain StaysTo _ (plain_closing g frames n) in
+  closing_plain pes n all =
+      let plain = each-own StaysTo n _ (own_closing g frames n all) in
       grind (arith, nat_tests, All-nil, All-cons)
 
-  closing_stays : (pes n : ℕ) → EachTrusted StaysTo (closing_told g frames pes n)
-  closing_stays pes n = each-at StaysTo pes (closing_of_pieces g frames pes n) (closing_plain pes n)
+  closing_stays : (pes n : ℕ) → length frames ≡ n
+      → EachTrusted StaysTo (closing_told g frames pes n)
+  closing_stays pes n all =
+      each-at StaysTo pes (closing_of_pieces g frames pes n) (closing_plain pes n all)
 
 -- All that is told as trusted of pieces.
 runs_stay : (g : Task) (pieces : List Piece)
@@ -167,7 +170,7 @@ runs_stay g pieces =
     (All-append (OnTrusted P) each (last_of_run g frames kept any)
     (each_stays g frames 0 0 None pieces (omega arith) (λ from e. cc))
     (last_stays g frames kept any (kept_after g frames 0 None pieces (omega arith) (λ from e. cc))))
-    (closing_stays g frames (length pieces) (length frames))))
+    (closing_stays g frames (length pieces) (length frames) refl)))
     (each-ended P (passed_after_all no_run told))
 
 pub all_stay : (g : Task) (pieces : List Piece)

@@ -97,7 +97,7 @@ module _ (g : Task) (frames : Transmission) where
           let same : n ≡ i = omega arith in
           subst (λ (i : ℕ). k < length (packets_of_frame frames i)
           → breaks r g.watched (before frames i k) (packet_at frames i k) ≡ false) same
-          (((own_doubt g frames n).quiet parts_quiet.1).0 r k needed) l;
+          (λ l. ((own_doubt g frames n).quiet parts_quiet.1).0 k l r needed) l;
       ends = λ m f end within low high. elim (cases_lt n m) [
         | inl more ↦
             grind (arith, nat_tests, own_end)
@@ -133,7 +133,7 @@ module _ (g : Task) (frames : Transmission) where
             let same : n ≡ i = omega arith in
             subst (λ (i : ℕ). k < length (packets_of_frame frames i)
             → breaks r g.watched (before frames i k) (packet_at frames i k) ≡ false) same
-            (((own_doubt g frames n).quiet parts_quiet.1).0 r k needed) l
+            (λ l. ((own_doubt g frames n).quiet parts_quiet.1).0 k l r needed) l
       ];
       ends = λ m f end within low high. elim (cases_lt n m) [
         | inl more ↦

@@ -6,7 +6,6 @@ pub mod OnScreen
 pub mod Planned
 pub mod Recovery
 pub mod Robust
-pub mod StepByStep
 pub mod Stretch
 pub mod Sufficient
 pub mod TrustedFrames

@@ -2,13 +2,12 @@
 //!
 //! The functions do nothing: the contract of each is a law over the definitions of `specs/`.
 ghost use Rattle.sub_laws.specs.BrokenPlaces.{LawOfBrokenPlaces, LawOfNothingTold};
-ghost use Rattle.sub_laws.specs.CleanStretch.{LawOfCleanStretch, LawOfUntoldStretch};
+ghost use Rattle.sub_laws.specs.CleanStretch.{LawOfUntoldStretch};
 ghost use Rattle.sub_laws.specs.Laws.{LawOfAllKept, LawOfGood, LawOfWindow};
 ghost use Rattle.sub_laws.specs.OnScreen.{LawOfCompletePlan};
 ghost use Rattle.sub_rules.specs.PesReading.{LawOfPesFiles};
 ghost use Rattle.sub_rules.specs.PieceEvents.{LawOfFirstTold};
 ghost use Rattle.sub_laws.specs.Planned.{LawOfPlan, LawOfPlanRead};
-ghost use Rattle.sub_laws.specs.StepByStep.{LawOfCleanSpans, LawOfRepeats, LawOfSpansByPacket};
 ghost use Rattle.sub_laws.specs.Stretch.{LawOfWholeRecovery, LawOfWholeStretch};
 ghost use Rattle.sub_laws.specs.Sufficient.{LawOfStretch, LawOfSufficientParts};
 ghost use Rattle.sub_laws.specs.TrustedFrames.{LawOfAllTrusted, LawOfTrusted};
@@ -45,15 +44,8 @@ pub fn law_of_stretch()
     ensures { LawOfStretch }
 {}
 
-/// Where frames rise, a stretch of frames that is clean may be trusted, whatever else is broken
-/// outside it.
-pub fn law_of_clean_stretch()
-    ensures { LawOfCleanStretch }
-{}
-
-/// A stretch is clean where nothing of the rules that a receiver depends on is told of its packets,
-/// and no wrong content and no gap stands at its ends.
-#[tactic(auto, using(crate::proofs::UntoldLemmas::law_of_untold_stretch))]
+/// A stretch of which nothing is told that a receiver depends on has what suffices, whatever else is
+/// told, there or elsewhere; and where the page stands open at no end of it, its pages are complete.
 pub fn law_of_untold_stretch()
     ensures { LawOfUntoldStretch }
 {}
@@ -87,23 +79,6 @@ pub fn law_of_whole_stretch()
 /// With all packets marked as kept, robust to lost rows is robust.
 pub fn law_of_all_kept()
     ensures { LawOfAllKept }
-{}
-
-/// The spans of a list cut anywhere are clean exactly where each packet may follow the span that it
-/// comes after.
-pub fn law_of_clean_spans()
-    ensures { LawOfCleanSpans }
-{}
-
-/// A transmission's spans are clean exactly where each of its packets may follow.
-pub fn law_of_spans_by_packet()
-    ensures { LawOfSpansByPacket }
-{}
-
-/// A header comes in each R frames, the repeat bound, exactly where the last one is never R frames
-/// old.
-pub fn law_of_repeats()
-    ensures { LawOfRepeats }
 {}
 
 /// The schedule of a programme that has a subtitle is a good transmission of it, in both modes and

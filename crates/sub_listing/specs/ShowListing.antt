@@ -22,7 +22,7 @@ ReadsSubtitles failed from told ends left =
     (failed ≡ false) × (to : ℕ) × TakesPassed from to told left
 ReadsSubtitles failed from told (fails f block) left =
     (is_read f ≡ failed)
-    × (failed ≡ true → FailsReading from block told left)
+    × (failed ≡ true → FailsReading from block None told left)
     × (is_format f ≡ true → Refuses from block told left f)
 ReadsSubtitles failed from told (gives s block more) left =
     (behind : Option (List ℕ)) × TakesSubtitle from block told behind s

@@ -6,7 +6,7 @@ use Rattle.sub_io.specs.Device.{AppendsPrefix, RisesIf, failed}
 use Rattle.sub_io.specs.Reading.{IfTold}
 use Rattle.stl_file.specs.Fault as stl_fault
 use Rattle.stl_file.specs.NormalForm.{NormalAnswers}
-use Rattle.stl_file.specs.Reader.{block_of_byte, outcome_of}
+use Rattle.stl_file.specs.Reader.{block_of_byte}
 use Rattle.stl_rows.specs.Fault as load_fault
 use Rattle.stl_rows.specs.Loading.{EndsRecord, FailsLoading, TellsFault, loaded}
 use Rattle.stl_rows.specs.Programme.{ProgrammeValue}
@@ -90,13 +90,13 @@ WritesSchedule programme o serial old new (Err NoSubtitles) =
 -- told why, and at which block where the source failed.
 abbrev pub Schedules : National → OptionsValue → Bool → Work
 Schedules national o serial told left old new (Ok count) =
-    IfTold told (λ bytes. IsOkAnd (loaded national (outcome_of bytes)) (λ programme.
+    IfTold told (λ bytes. IsOkAnd (loaded national bytes) (λ programme.
     WritesSchedule programme o serial old new (Ok count)))
 Schedules national o serial told left old new (Err (write.Plan f)) =
-    IfTold told (λ bytes. IsOkAnd (loaded national (outcome_of bytes)) (λ programme.
+    IfTold told (λ bytes. IsOkAnd (loaded national bytes) (λ programme.
     WritesSchedule programme o serial old new (Err f)))
 Schedules national o serial told left old new (Err (write.Load f)) =
-    IfTold told (λ bytes. TellsFault national (outcome_of bytes) f.block f.kind)
+    IfTold told (λ bytes. TellsFault national bytes f.block f.kind)
     × (load_fault.is_read f ≡ true → FailsLoading national told left f.block)
     × Keeps old new
 Schedules national o serial told left old new answer = ⊥
@@ -106,7 +106,7 @@ abbrev pub PrintsMemory :
     National → Option (List ℕ) → Option (List ℕ) → Option (List ℕ) → Type 0
 PrintsMemory national told old new =
     (block : ℕ) × Appends old new (line_of (load_told Memory block))
-    × IfTold told (λ bytes. EndsRecord national [] block (outcome_of bytes))
+    × IfTold told (λ bytes. EndsRecord national bytes block)
 
 -- ---- `normal`
 

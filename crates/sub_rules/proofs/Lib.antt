@@ -1,3 +1,4 @@
+pub mod AnyToldLemmas
 pub mod CodeWordLemmas
 pub mod CodesLemmas
 pub mod EndLemmas

@@ -1,14 +1,14 @@
 -- Of a PES file that is read on the refusal is told first that is told where reading stops at the
 -- first piece that is passed over. Main lemma: first_told_is.
-use Rattle.std.proofs.Common.{◌≡◌, ℕ, zero, suc, ◌+◌, ◌&&◌, ◌||◌, Bool, not, List, []}
-use Rattle.std.proofs.Common.{◌∷◌, ◌++◌, length, map, Option, Some, None, refl, sym, ap, ◌∙◌, arith}
-use Rattle.std.proofs.Common.{ap₂, append_assoc, length-append}
+use Rattle.std.proofs.Common.{◌≡◌, ℕ, suc, ◌+◌, ◌&&◌, ◌||◌, Bool, not, List, [], ◌∷◌, ◌++◌, length}
+use Rattle.std.proofs.Common.{map, Option, Some, None, refl, sym, ap, ◌∙◌, arith, append_assoc}
+use Rattle.std.proofs.Common.{length-append}
 use Rattle.std.proofs.lemmas.Bool.Decides.{nat_tests}
 use Rattle.std.proofs.lemmas.List.{append-nil, map-append}
 use Rattle.std.specs.Prelude.{option_map}
 use Rattle.sub_rules.specs.Events.{Standing, closing_events, end_events, endings, events}
-use Rattle.sub_rules.specs.Events.{events_of_first, first_told, frame_events, nothing_stands}
-use Rattle.sub_rules.specs.Events.{rest_events, unread_fault}
+use Rattle.sub_rules.specs.Events.{events_of_first, first_told, frame_events}
+use Rattle.sub_rules.specs.Events.{unread_fault}
 use Rattle.sub_rules.specs.Fault.{fault_at_pes}
 use Rattle.sub_rules.specs.FrameRules.{Task, Unread}
 use Rattle.sub_rules.specs.PieceEvents.{LawOfFirstTold, all_announced, announced}
@@ -23,10 +23,11 @@ use Rattle.sub_rules.specs.declared.event.Event.TheVariants.{Ended, PassedUntil,
 use Rattle.sub_rules.specs.declared.fault.CheckFault.{CheckFault}
 use Rattle.sub_rules.specs.declared.passed_run.PassedRun.{PassedRun}
 use Rattle.sub_rules.proofs.PrefixEventLemmas.{frame_events-prefix}
+use Rattle.sub_rules.proofs.AnyToldLemmas.{own_closing, own_frame, own_names}
 use Rattle.sub_rules.proofs.RunLemmas.{all_are, all_in_runs, closing_told, last_of_run}
 use Rattle.sub_rules.proofs.RunLemmas.{run_after_each, run_at, told_in_runs, told_of_each}
 use Rattle.sub_rules.proofs.RunLemmas.{told_of_frame}
-use Rattle.sub_rules.proofs.TrustedLemmas.{Names, own_end, own_frame, with_run}
+use Rattle.sub_rules.proofs.TrustedLemmas.{with_run}
 
 -- ---- what is told first of two lists
 
@@ -78,21 +79,6 @@ announced_first (PassedUntil f ∷ es) = announced_first es
 ended_first : (run : PassedRun) → first_told (ended_run run) ≡ None
 ended_first run = grind (arith, nat_tests)
 
--- ---- refusals that name the PES packet already
-
--- What is told after the last frame.
-names_closing : (g : Task) (frames : Transmission) (n : ℕ) → length frames ≡ n
-    → Names n (closing_events g frames n)
-unfolding closing_events at_pes
-names_closing g frames zero all = grind (arith, nat_tests)
-names_closing g frames (suc n) all =
-    let ended = (own_end g frames (suc n) _ _ nothing_stands _).names in
-    map-append (at_pes (suc n)) (endings _ _) (rest_events g frames g.unread)
-    ∙ ap₂ ◌++◌ ended (rest g.unread)
-  where
-    rest : (u : Option Unread) → Names (suc n) (rest_events g frames u)
-    rest u = grind (arith, nat_tests)
-
 -- ---- the whole
 
 -- Events of PES packet `pes` by what is told of its frame.
@@ -113,7 +99,7 @@ frame_first g frames i run =
     first_at i (told_of_frame g frames i run)
     ∙ ap (option_map (fault_at_pes i)) (with_run_first _ run (frame_events g frames i))
     ∙ sym (first_at i (frame_events g frames i))
-    ∙ ap first_told (own_frame g frames i).names
+    ∙ ap first_told (own_names i (frame_events g frames i) (own_frame g frames i))
 
 -- Bytes that can't be read on are told first after the last frame: what stood broken has ended.
 endings_first : (last : Standing) (f : ℕ) → first_told (endings last f) ≡ None
@@ -181,7 +167,9 @@ walk g done all first n run (Sent s ∷ pieces) u after size all_is first_is u_i
 closing_same : (g : Task) (frames : Transmission) (n : ℕ) → length frames ≡ n
     → closing_told g frames n n ≡ closing_events g frames n
 unfolding closing_of_pieces
-closing_same g frames n h1 = grind (arith, nat_tests, names_closing)
+closing_same g frames n h1 =
+    let same = own_names n (closing_events g frames n) (own_closing g frames n h1) in
+    grind (arith, nat_tests)
 
 last_of_first : (g : Task) (frames : Transmission) (run : Option ℕ) (any : Bool)
     → first_told (last_of_run g frames run any) ≡ None

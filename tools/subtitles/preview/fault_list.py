@@ -66,6 +66,9 @@ class FaultList:
         if fault.frame is None:
             return ""
         if fault.number == CONTENT:
+            reasons, due = self.report.reasons, self.report.programme.subtitle(fault.frame)
+            cause = reasons.words(fault.frame, due.index if due else None) if reasons else ""
+            words += [cause] if cause else []
             words.append(self.cell_words(fault))
         words.append(self.subtitle_words(fault.frame))
         fit = self.looks.fits.words(fault.frame) if fault.number == CONTENT else ""

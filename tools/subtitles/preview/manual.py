@@ -6,6 +6,7 @@ import os
 import re
 from typing import NamedTuple
 
+from ..words import escaped
 from . import TOP
 
 CHAPTER = os.path.join(TOP, "docs", "manual", "refusals.md")
@@ -36,9 +37,9 @@ def meanings() -> dict[int, Meaning]:
 
 
 def shown(text: str) -> str:
-    """Any text as XML: marks escaped, and what XML can't hold replaced."""
+    """Any text as XML: marks escaped, and what XML can't hold by its number."""
     return html.escape(re.sub("[^\t\n\r\x20-\ud7ff\ue000-\ufffd\U00010000-\U0010ffff]",
-                              "\ufffd", text))
+                              lambda found: escaped(str(found[0])), text))
 
 
 def marked_up(text: str) -> str:

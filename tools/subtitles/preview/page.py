@@ -2,17 +2,21 @@
 from __future__ import annotations
 
 import os
-from typing import TYPE_CHECKING
+from typing import TYPE_CHECKING, Iterable
 
 from ..words import counted
 from .counts import heads, meaning_of_verdict, numbers_table
 from .manual import shown
 from .places import place_of_pts
 from .program import verdict_of
+from .scope import listed
 
 if TYPE_CHECKING:
+    from ..qc.made_with import Program as Made
+    from ..qc.sums import File
     from .listening import Heard
     from .report import Looks, Report
+    from .scope import Recorded
 
 GOOD = ('<svg aria-hidden="true" viewBox="0 0 62 62"><circle cx="31" cy="31" r="27" '
         'fill="none" stroke="currentColor" '
@@ -26,6 +30,7 @@ UNSEEN = ('<svg aria-hidden="true" viewBox="0 0 62 62"><path d="M31 6L58 55H4z" 
           'stroke="currentColor" stroke-width="5"/><path d="M31 23V40M31 44V50" '
           'stroke="currentColor" stroke-width="6"/></svg>')
 MOST_PAGES, MOST_LINKS = 200, 100  # of the table of headers, and to subtitles
+NEW_LINE = "\n"
 MOST_LOST = 5  # places that are told in the box; more are unfolded
 
 SAYS = ("The verdict and the faults are lines that <code>subttx check --all</code> printed, and "
@@ -59,17 +64,27 @@ TRUSTED = ("<p><b>Trusted.</b> Green lines below the axis are the frames that <c
            "</code> calls trusted.</p>")
 
 
-def report_page(report: Report) -> str:
-    """The page, as text."""
-    title = " and ".join(os.path.basename(name) for name in (report.stl, report.pes) if name)
+def document(line: str, title: str, parts: Iterable[str]) -> str:
+    """A page with a verdict's line in its title."""
     with open(os.path.join(os.path.dirname(__file__), "style.css"), encoding="utf-8") as file:
         style = file.read()
-    parts = ['<!DOCTYPE html>\n'
-             '<html xmlns="http://www.w3.org/1999/xhtml" lang="en"><head><meta charset="UTF-8"/>'
-             '<meta name="viewport" content="width=device-width, initial-scale=1"/>'
-             f"<title>{shown(report.verdict.line)} &#8211; {shown(title)}</title>"
-             f"<style>\n{style}</style></head><body><h1>Preview of {shown(title)}</h1>",
-             navigation(report), verdict_box(report)]
+    head = ('<!DOCTYPE html>\n'
+            '<html xmlns="http://www.w3.org/1999/xhtml" lang="en"><head><meta charset="UTF-8"/>'
+            '<meta name="viewport" content="width=device-width, initial-scale=1"/>'
+            f"<title>{shown(line)} &#8211; {shown(title)}</title>"
+            f"<style>\n{style}</style></head><body><h1>Preview of {shown(title)}</h1>")
+    return "\n".join([head, *parts, "</body></html>\n"])
+
+
+def report_page(report: Report) -> str:
+    """The page, as text."""
+    recording = report.asked.recording
+    names = [report.stl, recording.name if recording else report.pes]
+    title = " and ".join(os.path.basename(name) for name in names if name)
+    parts = [navigation(report), verdict_box(report)]
+    scope = report.scope()
+    if scope:
+        parts.append(scope.box())
     parts += transmission_parts(report, report.looks) if report.looks else \
         refused_file_parts(report)
     if report.pes:
@@ -77,8 +92,7 @@ def report_page(report: Report) -> str:
     if report.looks:
         parts += [KEYS, TRUSTED if report.faults.trusted else ""]
     parts.append(foot(report))
-    parts.append("</body></html>\n")
-    return "\n".join(parts)
+    return document(report.verdict.line, title, parts)
 
 
 def refused_file_parts(report: Report) -> list[str]:
@@ -95,6 +109,8 @@ def transmission_parts(report: Report, looks: Looks) -> list[str]:
     parts = [looks.fault_list.place(),
              f'<h2 id="timeline">Timeline</h2><p>A strip is {looks.timeline.called}.</p>'
              f"{looks.timeline.overview()}"]
+    if report.reasons:
+        parts.append(report.reasons.section())
     if report.faults.count:
         parts += [faults_head(report), looks.fault_list.listed(), looks.fault_list.others()]
     parts.append(f'<h2 id="subtitles">Subtitles</h2>{subtitles_words(report, looks)}'
@@ -123,6 +139,9 @@ def verdict_box(report: Report) -> str:
             parts.append(f'<p class="count">and {faults.count - 1:,} more '
                          f'fault{"s" * (faults.count != 2)}: <a href="#faults">all '
                          f"{faults_words(report)}</a></p>")
+        if report.reasons:
+            parts.append('<p class="count"><a href="#causes">Why the content is refused</a>, '
+                         f"{report.reasons.counted()}</p>")
         parts.append(meaning_of_verdict(report))
     else:
         parts.append(f"<p>{ACCEPTED}</p>")
@@ -130,6 +149,7 @@ def verdict_box(report: Report) -> str:
     if report.asked.lost:
         parts.append(lost_places(report.asked.lost))
         kind, shape = (kind, shape) if verdict.status else ("unseen", UNSEEN)
+    parts += [f'<p class="note">{shown(words)}</p>' for words in report.asked.notes]
     return (f'<div class="verdict {kind}">{shape}<div><p class="line" id="verdict">'
             f'{shown(verdict.line)}</p>{"".join(parts)}</div></div>')
 
@@ -150,6 +170,8 @@ def navigation(report: Report) -> str:
         links.append(("timeline", "Timeline"))
     if report.faults.count:
         links += [("faults", "Faults"), ("place", "The broken place")]
+    if report.reasons:
+        links.append(("causes", "Why"))
     if report.looks:
         links.append(("subtitles", "Subtitles"))
     if report.pes:
@@ -162,20 +184,27 @@ def navigation(report: Report) -> str:
 
 def foot(report: Report) -> str:
     """What the page is made from, by what, and when."""
+    words = [("Options", report.asked.options()), ("Command line", report.command_line)]
+    return made_from(report.files, report.date, report.made_with, words) + \
+        f'<p class="says">{SAYS}</p>'
+
+
+def made_from(files: Iterable[tuple[str, File | Recorded]], date: str, program: Made,
+              words: Iterable[tuple[str, str]]) -> str:
+    """The files of a page, each with what it is, the program, and commands."""
     rows = "".join(
         f'<tr><th scope="row">{kind}</th><td class="long">{shown(one.name)}</td>'
         f'<td>{one.size:,} bytes</td><td class="long"><code>{one.sha256}</code></td></tr>'
-        for kind, one in report.files)
-    proved = report.made_with.proved
-    made = [("Date", report.date), ("Version", report.made_with.version),
-            ("Options", f"<code>{shown(report.asked.options())}</code>"),
-            ("Command line", f'<code class="long">{shown(report.command_line)}</code>'),
+        for kind, one in files)
+    proved = program.proved
+    made = [("Date", date), ("Version", program.version),
+            *((name, f'<code class="long">{shown(line).replace(NEW_LINE, "<br/>")}</code>')
+              for name, line in words),
             ("PROVED", f'<code class="long">{shown(proved)}</code>' if proved else
              "no file PROVED says what the prover said of this program")]
-    lines = "".join(f"<dt>{name}</dt><dd>{words}</dd>" for name, words in made)
     return ('<h2 id="files">Made from</h2><table class="files"><thead><tr><td></td>'
             f"{heads('Name', 'Size', 'SHA-256')}</tr></thead><tbody>{rows}</tbody></table>"
-            f'<dl class="made">{lines}</dl><p class="says">{SAYS}</p>')
+            f"{listed(made)}")
 
 
 COLUMNS = ("Headers", "First PTS", "First frame", "Last PTS", "Last frame",

@@ -8,12 +8,14 @@ import time
 from typing import NamedTuple
 
 from ..built import behind_script
+from ..gsi import titles_in
+from ..qc.clock import FITTED
 from ..qc.made_with import program_at
 from ..qc.sums import File, Files
 from ..teletext import Page, page_name
 from ..times import NO_FRAME, time_of
 from ..words import counted
-from .fault_list import FaultList
+from .fault_list import CONTENT, FaultList
 from .faults import MOST_ENTRIES, Faults, Programme
 from .figures import Figures
 from .fits import Fits
@@ -23,7 +25,9 @@ from .manual import meanings
 from .counts import place_words
 from .passed import Passed
 from .program import NoReport, Program, Subtitle, Verdict
+from .reasons import Reasons
 from .receiver import Rows
+from .scope import Recorded, Scope
 from .subtitles import Entries
 from .timeline import Timeline
 
@@ -34,7 +38,8 @@ class Asked(NamedTuple):
     """What is asked for: files and the program as they were typed, and the options of `check`.
 
     `words` are those of the command line. `pes` is `None` where there is none. `window` are the
-    first and the last frame of which subtitles get pictures. `lost` tells what is missing.
+    first and the last frame of which subtitles get pictures. `lost` tells what is missing, `notes`
+    what else stands beside the verdict.
     """
 
     words: list[str]
@@ -49,6 +54,9 @@ class Asked(NamedTuple):
     is_complete: bool
     window: tuple[int, int]
     lost: list[str]
+    notes: list[str]
+    recording: Recorded | None
+    part: tuple[int, int] | None
 
     def options(self) -> str:
         """All options as they hold."""
@@ -79,7 +87,10 @@ class Report:
         # Each with what it is; those that come with the pair are summed up while they are read.
         kinds = ["STL", "PES"] if asked.pes else ["STL"]
         own = File(asked.program, os.path.getsize(path), self.made_with.sha256)
-        self.files = list(zip([*kinds, "Program"], [*summed.all(), own]))
+        self.files: list[tuple[str, File | Recorded]] = \
+            list(zip([*kinds, "Program"], [*summed.all(), own]))
+        if asked.recording:
+            self.files.insert(len(kinds), ("Recording", asked.recording))
         self.looks = None if self.is_refused_file else Looks(self, program)
 
     def read(self, program: Program) -> None:
@@ -107,6 +118,16 @@ class Report:
                                                   for entry in self.faults.entries)
         self.held = Heard(program.packets(path, self.passed, self.faults.ending()), self.frames,
                           asked.page, asked.origin, told, self.passed, self.hears_all)
+        has_reasons = self.subtitles and self.faults.counts[CONTENT]
+        self.reasons = Reasons(self, program.path) if has_reasons else None
+
+    def scope(self) -> Scope | None:
+        """What the page speaks of; `None` where the subtitle file is refused."""
+        if self.is_refused_file or not self.subtitles:
+            return None
+        return Scope(titles_in(self.stl), self.asked.recording, self.subtitles[0].first,
+                     self.subtitles[-1].end, len(self.subtitles), self.asked.part,
+                     FITTED in self.asked.notes, self.asked.part is not None)
 
     def first_link(self, fault: Verdict) -> str:
         """The place of the first fault of a number, as a link where the list has it."""
@@ -134,6 +155,8 @@ class Looks:
         pes = report.verdict.pes
         broken = report.verdict.frame if pes is None else held.last_before(pes)
         self.entries = Entries(self.figures, held, report.subtitles, asked.window, faults, broken)
+        if report.reasons:
+            report.reasons.drawn = self.entries.drawn
         self.fault_list = FaultList(report, self, program)
         self.timeline = Timeline(report.subtitles, held.sendings, self.entries, faults, broken,
                                  report.verdict.line, end_of_knowledge(held, report.subtitles))

@@ -7,6 +7,7 @@ pair          a pair judged, from a recording to a verdict
 steps         the steps, each of which runs a command and says it
 verdict       a verdict, its parts, and what is missing
 unclear       why a pair can't be judged
+claim         the files of a pair in a folder belong to one call
 
 recording     a recording as a file of PES packets
 kinds         what a recording is, by its first bytes
@@ -14,6 +15,9 @@ source        its bytes, read once
 carriers      the PES packets of a transport stream, one file for a PID
 feed          a recording that comes through a pipe
 live          `check --all` that hears a feed
+stall         a feed that stands still
+start         the clock by the first picture
+warned        what is strange of a recording
 
 checking      `check --all`, and what it comes to
 told          its lines as values
@@ -28,7 +32,17 @@ machine       a verdict as a JSON object
 table         faults as lines of CSV
 junit         pairs as testcases
 pairs         the pairs of a folder or a list
-batch         many pairs
+batch         many pairs, each judged by a call of its own
+objects       the objects of pairs that were judged, as rows
+collecting    one table, and the files for machines, of many objects
+index_page    one page of many pairs
+watching      a folder into which pairs are written
+
+channel       the programmes of a channel, one after another
+planned       its list
+channel_feed  its feed
+ring          what of it came lately
+awaited       a programme that is waited for
 
 typed         commands as a person types them
 names         the files that the steps make

@@ -2,17 +2,26 @@
 from __future__ import annotations
 
 import argparse
+import contextlib
 import dataclasses
+import os
 from typing import Sequence
 
-from ..files import as_file
+from ..files import plain_name
 from ..teletext import page_name
-from ..words import Stop, Words, add_page, every_word, origin_word, pid_word
+from ..words import (
+    Stop, Words, add_page, breaks_word, every_word, origin_word, pid_word, run_word, start_word)
+
+AUTO = "auto"  # the national option is that of the language
+LC, GERMAN = slice(14, 16), b"08"  # the field in the GSI block, and a language in it
 
 
 @dataclasses.dataclass
 class Asked:
-    """A pair and its options; `page` is the magazine, 0 for 8, and the number."""
+    """A pair and its options; `page` is the magazine, 0 for 8, and the number.
+
+    `start` is the time code of the recording's first picture, or `tcp`: the GSI block has it.
+    """
 
     stl: str
     recording: str | None
@@ -24,6 +33,9 @@ class Asked:
     pid: int | None
     is_loss_allowed: bool
     severity: str | None
+    breaks: int
+    run: int | None
+    start: str | None
 
     @property
     def page_name(self) -> str:
@@ -40,6 +52,11 @@ class Asked:
     def every_words(self) -> list[str]:
         return [] if self.every == 250 else ["--every", str(self.every)]
 
+    def clock_words(self) -> list[str]:
+        """What tools/origin is told of the clock, as options."""
+        return [*(["--breaks", str(self.breaks)] if self.breaks else []),
+                *(["--run", str(self.run)] if self.run is not None else [])]
+
     def check_words(self) -> list[str]:
         """The options of `check` that a person would type, but for the origin."""
         return [*self.page_words(), *self.every_words(), *self.option_words(),
@@ -51,10 +68,13 @@ def add_pair_options(parser: Words) -> None:
     add_page(parser)
     parser.add_argument("--every", type=every_word, default=250, metavar="N",
                         help="the repeat bound, 250 frames where it is left out")
-    parser.add_argument("--option", default="english", choices=("english", "german"),
-                        help="the national option, english where it is left out")
-    parser.add_argument("--complete", dest="is_complete", action="store_true",
-                        help="ask for complete pages")
+    parser.add_argument("--option", default="english", choices=("english", "german", AUTO),
+                        help="the national option, english where it is left out; auto: the one "
+                             "of the language that the subtitle file names")
+    parser.add_argument("--complete", dest="is_complete", action="store_true", default=True,
+                        help="ask for complete pages, as is done where it is left out")
+    parser.add_argument("--no-complete", dest="is_complete", action="store_false",
+                        help="ask for none")
     parser.add_argument("--origin", type=origin_word, metavar="T",
                         help="the PTS of 00:00:00:00; it is found where it is left out")
     parser.add_argument("--pid", type=pid_word, metavar="PID",
@@ -63,6 +83,13 @@ def add_pair_options(parser: Words) -> None:
                         help="accept a recording of which TS packets are lost")
     parser.add_argument("--severity", metavar="FILE",
                         help="lines `NUMBER error` and `NUMBER warning`")
+    parser.add_argument("--breaks", type=breaks_word, default=0, metavar="N",
+                        help="the breaks of the programme, none where it is left out")
+    parser.add_argument("--run", type=run_word, metavar="N",
+                        help="which one, where the programme is in the recording more than once")
+    parser.add_argument("--start", type=start_word, metavar="TIME|tcp",
+                        help="the time code of the recording's first picture; tcp: the one of the "
+                             "GSI block")
 
 
 def pair_options() -> list[str]:
@@ -77,8 +104,23 @@ def asked_of(words: argparse.Namespace) -> Asked:
 
 def asked_with(stl: str, recording: str | None, options: argparse.Namespace) -> Asked:
     """A pair, and options that are read."""
-    named = recording and (recording if recording == "-" else as_file(recording))
-    return Asked(as_file(stl), named, **{name: getattr(options, name) for name in pair_options()})
+    named = recording and (recording if recording == "-" else plain_name(recording))
+    if options.origin is not None and options.start is not None:
+        raise Stop("--start tells the origin: --origin is too many")
+    asked = Asked(plain_name(stl), named,
+                  **{name: getattr(options, name) for name in pair_options()})
+    if asked.option == AUTO:
+        asked.option = option_named_in(asked.stl)
+    return asked
+
+
+def option_named_in(stl: str) -> str:
+    """The national option of a subtitle file, by its language (GSI block, field LC)."""
+    language = b""
+    if os.path.isfile(stl):
+        with contextlib.suppress(OSError), open(stl, "rb") as file:
+            language = file.read(LC.stop)[LC]
+    return "german" if language == GERMAN else "english"
 
 
 def asked_of_line(line: Sequence[str], defaults: argparse.Namespace) -> Asked:
@@ -87,7 +129,12 @@ def asked_of_line(line: Sequence[str], defaults: argparse.Namespace) -> Asked:
     parser.add_argument("stl")
     parser.add_argument("recording")
     add_pair_options(parser)
-    parser.set_defaults(**{name: getattr(defaults, name) for name in pair_options()})
+    known = {name: getattr(defaults, name) for name in pair_options()}
+    given = {word.partition("=")[0] for word in line}
+    for one, other in (("origin", "start"), ("start", "origin")):
+        if f"--{one}" in given:
+            known[other] = None  # a line that tells its origin takes none of the call
+    parser.set_defaults(**known)
     asked = asked_of(parser.parse_args(line))
     if asked.recording == "-":
         raise Stop("- is no recording of a list: give a file")

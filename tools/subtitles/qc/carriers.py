@@ -5,13 +5,17 @@ import os
 from typing import BinaryIO, Iterator
 
 from ..extracting import Extractor, NoTeletext
-from ..files import Damaged
+from ..files import Damaged, naming
 from ..joining import Place
 from ..listing import Listing
-from ..pes import data_field, pes_packets, teletext_packets
-from ..teletext import CODE_WORDS, Page, headers_in, mirrored
+from ..pes import data_field, has_pts, pes_packets, pts_in, teletext_packets
+from ..pictures import Videos
+from ..repeat import coded_header
+from ..teletext import Page, headers_in
+from ..timing import Timing, signed
 from ..transport import Piece, Reader
 from .source import Source
+from .start import Grid
 
 MOST_BEFORE = 1 << 24  # bytes of something else before the first TS packet
 
@@ -22,33 +26,64 @@ class Kept:
     def __init__(self, path: str, page: Page, has_page: bool) -> None:
         self.path, self.page, self.has_page, self.count = path, page, has_page, 0
         self.file: BinaryIO = open(path, "wb")
-        # A header of the page without a wrong bit, as a data unit sends it.
-        magazine, number = page
-        self.header = mirrored(bytes(CODE_WORDS[one] for one in
-                                     (magazine, 0, number & 15, number >> 4)))
+        self.header, self.grid = coded_header(page), Grid()
 
     def keep(self, data: bytes) -> bytes:
         """Keeps a PES packet."""
-        self.file.write(data)
+        try:
+            self.file.write(data)
+        except OSError as error:
+            error.filename = self.path
+            raise
         self.count += 1
+        if self.count <= Grid.MOST and has_pts(data):
+            self.grid.take(pts_in(data))
         if not self.has_page and self.header in data:
             self.has_page = has_header(data, self.page)
         return data
 
+    def pcr(self) -> int | None:
+        """The last PCR that has come, where there is one."""
+        return None
+
+    def late(self) -> int:
+        """By how many ticks PTS were behind the PCR, at most."""
+        return 0
+
     def flush(self) -> None:
         """What was kept can be read from the file then."""
-        self.file.flush()
+        with naming(self.path):
+            self.file.flush()
 
     def close(self) -> None:
-        self.file.close()
+        with naming(self.path):
+            self.file.close()
 
 
 class Carrier(Kept):
     """The PES packets of a PID."""
 
-    def __init__(self, pid: int, page: Page, path: str) -> None:
+    def __init__(self, pid: int, page: Page, path: str, listing: Listing) -> None:
         super().__init__(path, page, False)
         self.pid, self.extractor = pid, Extractor(pid)
+        self.timing = Timing(pid, listing)
+
+    def take(self, piece: Piece) -> list[bytes]:
+        """The PES packets that end in a piece of the file."""
+        self.timing.take(piece, self.extractor.joiner.before)
+        found: list[bytes] = self.extractor.ended(piece)
+        return found
+
+    def pcr(self) -> int | None:
+        return self.timing.last()
+
+    def late(self) -> int:
+        return self.timing.late()
+
+    def last(self) -> int | None:
+        """The last PTS, or the last PCR where that is later."""
+        pts, pcr = self.extractor.joiner.before, self.timing.last()
+        return pcr if pts is None or pcr is not None and signed(pcr - pts) > 0 else pts
 
     def places(self) -> list[Place]:
         """Where something is missing."""
@@ -83,11 +118,14 @@ class Opening:
 
 
 class Carriers:
-    """The PIDs with Teletext of a transport stream, or one PID that was asked for."""
+    """The PIDs with Teletext of a transport stream, or one PID that was asked for; and its video,
+    where the first picture has to be known."""
 
-    def __init__(self, source: Source, page: Page, pid: int | None, folder: str) -> None:
+    def __init__(self, source: Source, page: Page, pid: int | None, folder: str,
+                 has_start: bool) -> None:
         self.source, self.page, self.pid, self.folder = source, page, pid, folder
         self.listing = Listing()
+        self.videos = Videos(self.listing) if has_start else None
         self.by_pid: dict[int, Carrier] = {}
         self.skipped = 0
         if pid is not None:
@@ -95,18 +133,23 @@ class Carriers:
 
     def open(self, pid: int) -> None:
         path = os.path.join(self.folder, f"{pid}.pes")
-        self.by_pid[pid] = Carrier(pid, self.page, path)
+        self.by_pid[pid] = Carrier(pid, self.page, path, self.listing)
 
     def packets(self) -> Iterator[tuple[Carrier, bytes]]:
-        """The PES packets as they come, each with what carries it."""
+        """The PES packets as they come, each with what carries it; of a feed none, too, where time
+        goes on without them."""
         opening = Opening(self.source)
         reader = Reader(opening)
         for piece in reader:
             opening.is_found = True
             self.listing.find(piece)
+            if self.videos:
+                self.videos.take(piece)
             pids = self.listing.streams.keys() | self.by_pid.keys()
             for pid in sorted(pids, key=lambda pid: pid == self.pid):  # the list hears it before
                 yield from self.packets_of(pid, piece)
+            if self.source.is_feed:
+                yield from [(carrier, b"") for carrier in self.by_pid.values()]
         self.skipped = reader.skipped
 
     def packets_of(self, pid: int, piece: Piece) -> Iterator[tuple[Carrier, bytes]]:
@@ -119,7 +162,7 @@ class Carriers:
                 listed.take(piece)
             return
         try:
-            found = carrier.extractor.ended(piece)
+            found = carrier.take(piece)
         except NoTeletext:  # whatever is announced
             if self.pid is not None:
                 raise

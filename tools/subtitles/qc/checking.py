@@ -5,6 +5,7 @@ import shutil
 import subprocess
 from typing import BinaryIO, Callable, Iterator
 
+from ..files import naming
 from .told import ACCEPTED, COUNT, TRUSTED, Told, told_of
 from .unclear import Unclear
 
@@ -28,7 +29,8 @@ class Answer:
 
     def take(self, line: str) -> None:
         """Takes a line as it comes."""
-        self.file.write(line.encode() + b"\n")
+        with naming(self.path):
+            self.file.write(line.encode() + b"\n")
         self.last = line
         if line.startswith("refused "):
             self.count += 1
@@ -39,7 +41,8 @@ class Answer:
 
     def end(self, status: int) -> None:
         """Takes the status; what is no answer is `Unclear`."""
-        self.file.close()
+        with naming(self.path):
+            self.file.close()
         self.status = status
         counted = COUNT.fullmatch(self.last)
         is_answer = self.frames is not None if status == 0 else \
@@ -48,9 +51,15 @@ class Answer:
             raise Unclear(f"check was not answered: {self.last or 'it printed nothing'}, status "
                           f"{status}")
 
+    def stop(self) -> None:
+        """Takes that nothing more is told: what was told so far is no answer."""
+        with naming(self.path):
+            self.file.close()
+
     def move(self, path: str) -> None:
         """Moves the file of its lines."""
-        shutil.move(self.path, path)
+        with naming(path):
+            shutil.move(self.path, path)
         self.path = path
 
     def accept(self, line: str) -> None:
@@ -62,7 +71,7 @@ class Answer:
 
     @property
     def verdict(self) -> str:
-        return ACCEPTED_WORD if self.status == 0 else REFUSED_WORD
+        return {0: ACCEPTED_WORD, 1: REFUSED_WORD}.get(self.status, NOT_JUDGED)
 
     @property
     def line(self) -> str:
@@ -96,8 +105,12 @@ def check(command: list[str], path: str, hear: Callable[[str], None]) -> Answer:
     with subprocess.Popen(command, stdin=subprocess.DEVNULL, stdout=subprocess.PIPE,
                           encoding="utf-8", errors="replace") as process:
         assert process.stdout
-        for line in process.stdout:
-            answer.take(line.rstrip("\n"))
-            hear(line.rstrip("\n"))
+        try:
+            for line in process.stdout:
+                answer.take(line.rstrip("\n"))
+                hear(line.rstrip("\n"))
+        except BaseException:
+            process.kill()
+            raise
     answer.end(process.returncode)
     return answer

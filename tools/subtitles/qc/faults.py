@@ -10,6 +10,7 @@ from typing import Iterator, TypedDict
 from ..preview.letters import ENGLISH, GERMAN, letters
 from ..preview.manual import meanings
 from ..times import CLOCK, FRAMES_OF_A_DAY, TICKS, time_of
+from .cause_words import CauseWords, SubtitleWords, Wording
 from .cells import NOWHERE, Due, Place, Places, code_at, passed_over
 from .subtitle_file import Subtitle, SubtitleFile
 from .told import CONTENT, LETTERS, STL_FAULTS, Told
@@ -23,14 +24,6 @@ class Cell(TypedDict):
 
     code: str
     character: str | None
-
-
-class SubtitleWords(TypedDict):
-    """A subtitle: SN, TCI and TCO."""
-
-    number: int
-    begin: str
-    end: str
 
 
 class Fault(TypedDict):
@@ -61,6 +54,7 @@ class Fault(TypedDict):
     until_pes: int | None
     means: str
     do: str
+    cause: CauseWords | None
 
 
 def plain(text: str) -> str:
@@ -97,6 +91,7 @@ class PartFaults:
         self.meanings = {number: (plain(one.means), plain(one.do))
                          for number, one in meanings().items()}
         self.ends = Ends(part.answer.told())
+        self.wording = Wording(part.causes, self.asked.option) if part.causes else None
         self.subtitles = SubtitleFile(part.stl_path)
         self.due: Due | None = None
         self.places: Places | None = None
@@ -131,7 +126,15 @@ class PartFaults:
             "frame": told.frame, "time": told.time, "row": told.row, "column": told.column,
             "due": self.due_cell(told), "held": self.held_cell(told, place),
             "until": until, "until_pes": until_pes, "means": means, "do": do,
+            "cause": self.cause_of(told),
         }
+
+    def cause_of(self, told: Told) -> CauseWords | None:
+        """The cause of the subtitle whose fault a 72 is."""
+        if self.wording is None or told.number != CONTENT or told.frame is None:
+            return None
+        cause = self.wording.causes.of(told.frame)
+        return self.wording.values(cause) if cause else None
 
     def subtitle_of(self, told: Told) -> Subtitle | None:
         """The subtitle of a block, or the one that is due at a frame."""

@@ -5,6 +5,7 @@ import re
 import xml.etree.ElementTree as tree
 from typing import NamedTuple, Sequence
 
+from ..words import shown
 from .checking import ACCEPTED_WORD, NOT_JUDGED
 
 NOT_XML = re.compile("[^\t\n\r\x20-\ud7ff\ue000-\ufffd\U00010000-\U0010ffff]")
@@ -22,8 +23,9 @@ class TestCase(NamedTuple):
 
 
 def clean(text: str) -> str:
-    """A text without what XML can't hold."""
-    return NOT_XML.sub("\ufffd", text)
+    """A text without what XML can't hold, and what a terminal would obey."""
+    lines = map(shown, text.split("\n"))
+    return NOT_XML.sub("\ufffd", "\n".join(lines))
 
 
 def element_of(case: TestCase) -> tree.Element:

@@ -2,10 +2,11 @@
 from __future__ import annotations
 
 from ..pes import START
-from ..transport import PACKET, SYNC
+from ..transport import STRIDES, SYNC
 from ..words import Stop
 from .source import Source
 
+BEHIND_TIME = 4  # bytes before the first TS packet of 192 bytes, of any value
 LOOKED_AT = 11  # bytes: a subtitle file has told what it is by then
 SUBTITLE_FILE = b"STL"  # in a GSI block, from byte 3 on
 
@@ -15,6 +16,8 @@ def is_pes_packets(source: Source) -> bool:
     head = source.look(LOOKED_AT)
     if not head:
         raise Stop(f"{source.name} is empty")
+    if head[BEHIND_TIME:BEHIND_TIME + 1] == bytes([SYNC]) and head.startswith(START[:3]):
+        return False  # a TS packet behind a time: no PES packet of Teletext is so long
     if head[3:6] == SUBTITLE_FILE:
         raise Stop(f"{source.name} is a subtitle file: the recording stands after the subtitle "
                    "file")
@@ -27,6 +30,7 @@ def is_pes_packets(source: Source) -> bool:
 def is_recording(path: str) -> bool:
     """Whether a file that should be a subtitle file begins as a recording does."""
     with open(path, "rb") as file:
-        head = file.read(PACKET + 1)
-    is_stream = len(head) > PACKET and head[0] == head[PACKET] == SYNC
+        head = file.read(BEHIND_TIME + max(STRIDES) + 1)
+    is_stream = any(head[at:at + stride + 1:stride] == bytes([SYNC, SYNC])
+                    for at in (0, BEHIND_TIME) for stride in STRIDES)
     return is_stream or head.startswith(START)

@@ -6,28 +6,34 @@ import threading
 from typing import TYPE_CHECKING, BinaryIO
 
 from ..cutting import Cut
+from ..files import naming
 from ..pes import pes_packets
 from ..teletext import Page
-from ..times import time_of
+from ..times import CLOCK, FRAMES_OF_A_DAY, TICKS, time_of
 from ..words import counted
 from .checking import Answer
 from .names import Names
 from .speech import Speech
+from .why import Following
 
 if TYPE_CHECKING:
-    from .steps import Found
+    from .fitting import Found
 
 
 class Live:
     """A call of `check --all` that is handed the PES packets of the time of the subtitles; it is
     heard beside that."""
 
-    def __init__(self, command: list[str], found: Found, page: Page, names: Names,
-                 speech: Speech) -> None:
-        self.cut, self.speech = Cut(found.begin, found.end, page, found.origin), speech
+    def __init__(self, command: list[str], found: Found, page: Page, every: int, names: Names,
+                 speech: Speech, following: Following) -> None:
+        self.cut = Cut(found.begin, found.end, page, found.origin, every, found.packets)
+        self.speech = speech
         self.origin, self.answer = found.origin, Answer(names.list_path)
-        self.kept: BinaryIO = open(names.cut_path, "wb")
+        self.path = names.cut_path
+        self.kept: BinaryIO = open(self.path, "wb")
         self.has_ended = False  # the program, before all was handed on
+        self.failed: OSError | None = None  # why a line could not be written
+        self.following = following
         self.process = subprocess.Popen(command, stdin=subprocess.PIPE, stdout=subprocess.PIPE)
         self.listener = threading.Thread(target=self.listen, daemon=True)
         self.listener.start()
@@ -37,8 +43,12 @@ class Live:
         assert self.process.stdout
         for data in self.process.stdout:
             line = data.decode("utf-8", "replace").rstrip("\n")
-            self.answer.take(line)
-            self.speech.of_list(line)
+            try:
+                self.answer.take(line)
+                self.speech.of_list(line)
+            except OSError as reason:
+                self.failed = self.failed or reason
+            self.following.hear(line)
 
     def put_all(self, path: str) -> None:
         """Hands on what has come before."""
@@ -48,30 +58,55 @@ class Live:
 
     def put(self, data: bytes) -> None:
         """Hands on a PES packet, where it is to be judged."""
+        if self.failed:
+            raise self.failed
         for one in self.cut.taken([data]):
             assert self.process.stdin
-            self.kept.write(one)
+            with naming(self.path):
+                self.kept.write(one)
             try:
                 self.process.stdin.write(one)
                 self.process.stdin.flush()
             except BrokenPipeError:
                 self.has_ended = True  # what it said tells why
+        self.follow()
         if self.speech.progress.is_due():
             self.show()
+
+    def follow(self) -> None:
+        """Tells the causes that are known by now."""
+        if self.following.is_due():
+            with naming(self.path):
+                self.kept.flush()
+            self.following.follow()
 
     def is_over(self) -> bool:
         """Whether nothing more is to be judged."""
         return self.cut.is_over or self.has_ended
 
+    def has_last(self) -> bool:
+        """Whether the last sending has come: no more is needed where nothing else comes."""
+        return self.cut.was_in and self.cut.has_end
+
+    def is_past(self, pcr: int | None, late: int) -> bool:
+        """Whether by the PCR, behind which PTS are `late` ticks at most, all has come that is to be
+        judged."""
+        if pcr is None:
+            return False
+        frame = (pcr - late - self.cut.origin) % CLOCK // TICKS
+        return self.cut.high < frame < FRAMES_OF_A_DAY
+
     def show(self, still: float = 0.0) -> None:
         """The time of the last PES packet, the faults so far, and how long nothing has come."""
+        self.follow()
         if self.cut.frame is not None:
             line = f"{time_of(self.cut.frame)}  {counted(self.answer.count, 'fault')}"
             self.speech.show(line + (f"  nothing for {still:.0f} s" if still else ""))
 
     def end(self) -> Answer:
         """The answer, once all has been handed on."""
-        self.kept.close()
+        with naming(self.path):
+            self.kept.close()
         try:
             assert self.process.stdin
             self.process.stdin.close()
@@ -80,6 +115,16 @@ class Live:
         status = self.process.wait()
         self.listener.join()
         self.answer.end(status)
+        self.speech.end_list(self.answer.last)
+        self.following.follow(is_over=True)
+        if self.failed:
+            raise self.failed
+        return self.answer
+
+    def stop_early(self) -> Answer:
+        """What was told so far, where a signal ends it all."""
+        self.stop()
+        self.answer.stop()
         return self.answer
 
     def stop(self) -> None:

@@ -5,13 +5,15 @@ import json
 from typing import Iterable, Iterator, Mapping
 
 from .asked import Asked
+from .cause_words import Wording
 from .faults import faults_of
 from .made_with import Program
+from .naming import counts_of
 from .sums import File
 from .typed import Typed
 from .verdict import Gap, Part, Verdict
 
-FORMAT = 1
+FORMAT = 2
 
 Value = object
 
@@ -22,17 +24,22 @@ def file_words(file: File | None) -> dict[str, Value] | None:
 
 def asked_words(asked: Asked) -> dict[str, Value]:
     """What was asked; `origin` and `pid` are `None` where they were to be found."""
-    return {"page": asked.page_name, "every": asked.every, "option": asked.option,
+    return {"stl": asked.stl, "recording": asked.recording,
+            "page": asked.page_name, "every": asked.every, "option": asked.option,
             "origin": asked.origin, "complete": asked.is_complete, "pid": asked.pid,
-            "allow_lost": asked.is_loss_allowed, "severity": asked.severity}
+            "allow_lost": asked.is_loss_allowed, "severity": asked.severity,
+            "breaks": asked.breaks, "run": asked.run, "start": asked.start}
 
 
-def part_words(part: Part) -> dict[str, Value]:
+def part_words(part: Part, is_kept: bool) -> dict[str, Value]:
+    """A part; what was judged of it has a name where it is kept."""
+    judged = part.judged and {**part.judged._asdict(), **({} if is_kept else {"name": None})}
     answer, (begin, end) = part.answer, part.times()
     return {"part": part.number, "stl": part.stl, "origin": part.origin, "from": begin, "to": end,
             "verdict": answer.verdict, "line": answer.line,
             "frames": answer.frames, "transmissions": answer.transmissions,
-            "faults": answer.count, "pes": file_words(part.judged)}
+            "faults": answer.count, "pes": judged,
+            "clock": part.clock and part.clock._asdict()}
 
 
 def gap_words(gap: Gap) -> dict[str, Value]:
@@ -62,12 +69,17 @@ def head_of(verdict: Verdict, program: Program) -> dict[str, Value]:
         "transmissions": total([part.answer.transmissions for part in parts]),
         "fault_count": verdict.faults,
         "asked": asked_words(verdict.asked),
-        "parts": [part_words(part) for part in parts],
+        "found": verdict.found,
+        "parts": [part_words(part, verdict.is_kept) for part in parts],
         "lost": [gap_words(gap) for gap in verdict.gaps],
+        "warnings": [warned._asdict() for warned in verdict.warnings],
+        "notes": verdict.said(),
         "inputs": {"stl": file_words(verdict.stl), "recording": file_words(verdict.recording)},
         "program": program._asdict(),
         "commands": verdict.commands,
         "date": verdict.date,
+        "seconds": verdict.seconds,
+        "cause_counts": counts_of(part.causes for part in parts if part.causes),
     }
 
 
@@ -80,7 +92,18 @@ def object_of(verdict: Verdict, program: Program, typed: Typed) -> Iterator[str]
     yield from listed(trusted)
     yield '],\n "faults": ['
     yield from listed(faults_of(verdict, typed))
+    yield '],\n "causes": ['
+    yield from listed(causes_of(verdict))
     yield "]\n}\n"
+
+
+def causes_of(verdict: Verdict) -> Iterator[dict[str, Value]]:
+    """The causes of all parts, in the order of the subtitles."""
+    for part in verdict.parts:
+        if part.causes:
+            wording = Wording(part.causes, verdict.asked.option)
+            for cause in part.causes.all():
+                yield {"part": part.number, **wording.values(cause)}
 
 
 def listed(items: Iterable[Mapping[str, Value]]) -> Iterator[str]:

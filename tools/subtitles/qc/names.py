@@ -4,6 +4,8 @@ from __future__ import annotations
 import glob
 import os
 
+from ..files import is_utf_8
+from ..words import shown
 from .asked import Asked
 from .typed import Typed, line_of
 
@@ -17,6 +19,7 @@ class Names:
 
     def __init__(self, name: str, folder: str, out: str | None) -> None:
         self.name, self.folder, self.out = name, folder, out
+        self.given = self.given_typed = ""  # the subtitle file, for the program and as it is typed
         self.whole, self.whole_path = self.typed("recording.pes"), self.temporary("recording.pes")
         self.cut, self.cut_path = self.typed("cut.pes"), self.place("cut.pes")
         self.stl, self.stl_path = self.typed("stl"), self.place("stl")  # of a part
@@ -50,8 +53,21 @@ class Names:
                                              f"[1-9]*.{ending}"))
                       if os.path.basename(path)[len(self.name) + 1:-len(ending) - 1].isdecimal()]
 
+    def give(self, stl: str) -> None:
+        """Takes the subtitle file; the program asks for a name that is UTF-8."""
+        self.given = self.given_typed = stl
+        if not is_utf_8(stl):
+            self.given = os.path.join(self.folder, shown(os.path.basename(stl)))
+            os.symlink(os.path.abspath(stl), self.given)
+
+    def judged(self) -> list[str]:
+        """The PES packets that were judged, where they stand in the folder that was asked for."""
+        return [path for path in self.kept() if path.endswith(".cut.pes") and os.path.exists(path)]
+
     def as_typed(self, line: str) -> str:
         """A line of a tool, in which files have the names that a person types."""
+        if self.given != self.given_typed:
+            line = line.replace(self.given, self.given_typed)
         return line.replace(os.path.join(self.folder, ""), os.path.join(self.out or "", ""))
 
 
@@ -59,8 +75,12 @@ def again(asked: Asked, typed: Typed, *more: str) -> str:
     """The call of this tool for the pair, with more words, or with others of an option."""
     words = [typed.tool("qc"), asked.stl, *([asked.recording] if asked.recording else [])]
     options = [asked.page_words(), asked.every_words(), asked.option_words(),
-               ["--complete"] if asked.is_complete else [],
+               [] if asked.is_complete else ["--no-complete"],
                ["--pid", f"0x{asked.pid:X}"] if asked.pid is not None else [],
-               ["--origin", str(asked.origin)] if asked.origin is not None else []]
-    words += [word for option in options if option[:1] != list(more[:1]) for word in option]
+               ["--origin", str(asked.origin)] if asked.origin is not None else [],
+               ["--start", asked.start] if asked.start is not None else [],
+               ["--breaks", str(asked.breaks)] if asked.breaks else [],
+               ["--run", str(asked.run)] if asked.run is not None else []]
+    instead = {"--origin": ["--origin", "--start"]}.get(more[0], [more[0]]) if more else []
+    words += [word for option in options if not set(option[:1]) & set(instead) for word in option]
     return line_of(*words, *more)

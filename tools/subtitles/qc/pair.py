@@ -9,19 +9,29 @@ from ..times import CLOCK, FRAMES_OF_A_DAY, TICKS, time_of
 from ..words import counted
 from .carriers import Carrier, Kept
 from .checking import Answer
-from .feed import Feed, Finder
+from .clock import GIVEN, RECORDING, TCP, Clock
+from .feed import At, Feed, Finder
+from .fitting import Found, found_in, notes_of, runs_in, with_delay
 from .kinds import is_recording
 from .live import Live
 from .names import Names
+from .naming import Causes
 from .recording import Recording
 from .source import STANDARD_INPUT
 from .speech import Speech
-from .steps import Found, Steps, Stretch, origin_words
+from .stall import Stall
+from .start import Starting, refuse_outside
+from .steps import Steps, Stretch, origin_words, packets_words
 from .sums import file_of
 from .told import EMPTY
 from .typed import Typed
 from .unclear import Unclear
 from .verdict import Gap, Part, Verdict
+from .warned import Warned, of_repeat, of_tables, of_timing
+from .whole import of_end, of_growth
+from .why import Asking, Following, Telling
+
+NO_CLOCK = Clock(0, RECORDING)  # stands for one that is not found yet
 
 
 class Pair:
@@ -32,8 +42,14 @@ class Pair:
         self.verdict, self.asked = verdict, verdict.asked
         self.typed, self.names, self.speech = typed, names, speech
         self.is_summed = is_summed
+        self.stalled_after = 10  # seconds
+        self.recording: Recording | None = None
         self.steps = Steps(self.asked, typed, names, speech)
-        self.whole = Found(0, 0, 0)  # the first and the last frame of the subtitle file
+        # The first and the last frame of the subtitle file, and the clock where it was given.
+        self.whole = Found(0, 0, NO_CLOCK)
+        self.count = 1  # of the parts
+        self.times: list[tuple[int, int]] = []  # at which each subtitle comes and goes
+        self.starting = Starting(self.asked, speech) if self.asked.start else None
 
     def judge(self) -> None:
         """Judges the pair; `Unclear` where a step is not clear."""
@@ -53,6 +69,24 @@ class Pair:
             self.judge_alone(answer, is_refused)
         else:
             self.judge_transmission()
+        if asked.recording is not None and not self.verdict.has_errors() and \
+                not all(part.is_read() for part in self.verdict.parts):
+            raise Unclear("nothing of the recording was read, and --severity leaves no fault an "
+                          "error")
+
+    def stop(self) -> str | None:
+        """Takes what was told of a feed before a signal came; the time up to which it was judged.
+        """
+        live = self.recording.live if self.recording else None
+        if live is None or live.cut.frame is None or self.verdict.parts:
+            return None
+        answer, frame = live.stop_early(), live.cut.frame
+        clock = self.starting.began.clock if self.starting and self.starting.began else \
+            self.given() or Clock(live.origin, RECORDING)
+        self.verdict.parts.append(Part(
+            1, self.asked.stl, self.names.given, self.names.cut_path, live.origin,
+            self.whole.begin, frame, None, answer, clock))
+        return time_of(min(frame, FRAMES_OF_A_DAY))
 
     def judge_alone(self, answer: Answer, is_refused: bool) -> None:
         """Ends with the subtitle file, which is refused or is all that there is."""
@@ -63,48 +97,109 @@ class Pair:
                 self.speech.of_list(line)
             self.speech.end_list(answer.last)
         else:
-            count = len(self.steps.times(self.asked.stl))
+            count = len(self.steps.times(self.names.given))
             answer.accept(f"{counted(count, 'subtitle')}, nothing is wrong with "
                           f"{'it' if count == 1 else 'them'}")
-        stl = self.asked.stl
-        self.verdict.parts.append(Part(1, stl, stl, None, None, None, None, None, answer))
+        stl, given = self.asked.stl, self.names.given
+        self.verdict.parts.append(Part(1, stl, given, None, None, None, None, None, answer))
         if is_refused:
-            self.steps.draw(self.names, [stl], [stl], 0, [])
+            self.steps.draw(self.names, [given], [stl], 0, [])
 
     def judge_transmission(self) -> None:
         """Judges what was recorded, part by part."""
         asked, steps = self.asked, self.steps
-        times = steps.times(asked.stl)
+        times = self.times = steps.times(self.names.given)
         if not times:
             raise Unclear(f"{asked.stl} has no subtitle")
-        self.whole = Found(times[0][0], times[-1][1], asked.origin or 0)
-        recording = Recording(asked, self.typed, self.names, self.speech)
-        finder = Finder([*self.typed.call("origin"), *asked.page_words(), *asked.option_words(),
-                         "--", asked.stl])
-        recording.read(self.is_summed, Feed(asked.origin, finder, self.start))
+        given = self.given()
+        self.whole = Found(times[0][0], times[-1][1], given or NO_CLOCK)
+        stall = Stall(self.stalled_after, self.speech.tell)
+        recording = Recording(asked, self.typed, self.names, self.speech, stall)
+        self.recording = recording
+        finder = Finder([*self.typed.call("origin"), *steps.fit_words(None), "--", asked.stl])
+        recording.read(self.is_summed, Feed(asked.origin, finder, self.start, self.starting,
+                                            asked.breaks, asked.every))
         self.verdict.recording = recording.file
+        given = given or self.by_start(recording)
         if recording.live:
             answer = recording.live.end()
-            self.speech.end_list(answer.last)
-            self.end_part(1, self.all_of(recording.live.origin), answer, recording.places())
+            clock = self.clock_of_live(recording, recording.live.origin, given)
+            self.warn(recording, clock.origin)
+            self.end_part(1, self.all_of(Found(0, 0, clock)), answer, recording)
         else:
-            found = [self.whole] if asked.origin is not None else \
-                steps.origins(recording, self.whole)
+            found = self.found(recording, given)
+            self.warn(recording, found[0].origin)
             stretches = self.stretches(found, len(times))
+            self.count = len(stretches)
             for number, one in enumerate(stretches, 1):
                 steps.cut(recording, one)
-                self.end_part(number, one, steps.check(one), recording.places())
+                self.end_part(number, one, steps.check(one), recording)
+        if not any(warned.kind == "grew" for warned in self.verdict.warnings):
+            self.verdict.warnings += of_growth(recording)
         self.note_gaps(recording.places())
 
-    def all_of(self, origin: int) -> Stretch:
-        """All subtitles, with one origin."""
-        stl = self.asked.stl
-        return Stretch(stl, stl, self.names, self.whole.begin, self.whole.end, origin)
+    def given(self) -> Clock | None:
+        """The clock that was given, `None` where it is to be found."""
+        origin = self.asked.origin
+        source = RECORDING if self.verdict.was_fitted else GIVEN
+        return None if origin is None else Clock(origin, source)
+
+    def found(self, recording: Recording, given: Clock | None) -> list[Found]:
+        """The parts with their clocks; the first one has the one that was given."""
+        done = self.steps.fit(recording, given)
+        runs = runs_in(done)
+        if runs > 1 and self.asked.run is None and recording.is_feed:
+            self.verdict.notes.append(f"{done.told[0]}: of a feed the first run is judged")
+            done = self.steps.fit(recording, given, "--run", "1")
+        self.verdict.notes += notes_of(done)
+        is_other = runs > 1 and self.asked.run is None and not recording.is_feed
+        if given is None or self.asked.breaks or is_other:
+            found = self.steps.fitted(done, self.whole)
+        else:
+            found = found_in(done, self.whole) or [self.whole]
+        if given:
+            clock, notes = with_delay(given, done)
+            self.verdict.notes[:0] = notes
+            found[0] = found[0]._replace(clock=clock)
+        return found
+
+    def clock_of_live(self, recording: Recording, origin: int, given: Clock | None) -> Clock:
+        """The clock of a feed that was judged while it came, with what is seen of it at its end."""
+        done = self.steps.ask_origin(recording, given)
+        if runs_in(done) > 1 and self.asked.run is None:
+            self.verdict.notes.append(f"{done.told[0]}: of a feed the first run is judged")
+            done = self.steps.ask_origin(recording, given, "--run", "1")
+        clock, notes = with_delay(given, done) if given else (Clock(origin, RECORDING), [])
+        self.verdict.notes += [*notes, *notes_of(done)]
+        return clock
+
+    def by_start(self, recording: Recording) -> Clock | None:
+        """The clock that the first picture tells, where it is asked."""
+        if self.starting is None:
+            return None
+        began = self.starting.began or recording.began(self.starting)
+        if began.clock.source == TCP:
+            refuse_outside(self.asked, began, self.whole.begin, self.whole.end, recording.last())
+        return began.clock
+
+    def warn(self, recording: Recording, origin: int) -> None:
+        """Takes what is strange of a recording."""
+        self.verdict.warnings += [*of_growth(recording), *of_end(recording)]
+        carrier, carriers = recording.carrier, recording.carriers
+        if carrier and carriers:
+            self.verdict.warnings += [*of_timing(carrier.timing, origin),
+                                      *of_tables(carriers.listing, carrier.pid, self.asked)]
+
+    def all_of(self, found: Found) -> Stretch:
+        """All subtitles, with one clock."""
+        stl, whole = self.asked.stl, self.whole
+        return Stretch(stl, self.names.given, self.names, whole.begin, whole.end, found.clock,
+                       found.packets)
 
     def stretches(self, found: list[Found], count: int) -> list[Stretch]:
         """What is judged, one after another; each of the subtitles has to be in one."""
         if len(found) == 1:
-            return [self.all_of(found[0].origin)]
+            return [self.all_of(found[0])]
         stretches = [self.steps.part(number, one) for number, one in enumerate(found, 1)]
         left = count - sum(len(self.steps.times(one.stl_path)) for one in stretches)
         if left:
@@ -112,32 +207,57 @@ class Pair:
                           "and nobody would look at it: mend its times")
         return stretches
 
-    def end_part(self, number: int, one: Stretch, answer: Answer, places: list[Place]) -> None:
+    def end_part(self, number: int, one: Stretch, answer: Answer, recording: Recording) -> None:
         """Takes what `check` said of a part, and draws its report, with what is missing there."""
         cut = one.names.cut_path
         judged = file_of(cut, one.names.cut) if self.is_summed else None
         part = Part(number, one.stl, one.stl_path, cut, one.origin, one.begin, one.end, judged,
-                    answer)
+                    answer, one.clock)
         self.verdict.parts.append(part)
-        lost = [gap_of(place, one.origin, True).line() for place in places if is_in(place, part)]
+        part.causes = self.causes(part, recording)
+        for warned in of_repeat(cut, self.asked, one.origin, self.times):
+            if warned not in self.verdict.warnings:
+                self.verdict.warnings.append(warned)
+        lost = [gap_of(place, one.origin, True).line() for place in recording.places()
+                if is_in(place, part)]
         if len(lost) > TOLD:
             lost = [*lost[:TOLD], f"and at {counted(len(lost) - TOLD, 'more place')}"]
-        self.steps.draw(one.names, [one.stl_path, cut], [one.stl, one.names.cut], one.origin, lost)
+        self.steps.draw(one.names, [one.stl_path, cut], [one.stl, one.names.cut], one.origin, lost,
+                        [*self.verdict.notes, *map(Warned.said, self.verdict.warnings)],
+                        one.clock.is_fitted, self.verdict.recording,
+                        ["--part", str(number), str(self.count)] if self.count > 1 else [])
+
+    def causes(self, part: Part, recording: Recording) -> Causes | None:
+        """Why the content of a part is refused; it is said, as far as it was not said before."""
+        if recording.live:
+            return recording.live.following.causes
+        causes = Asking(self.asked, self.typed, recording.places).of(part)
+        if causes:
+            telling = Telling(self.speech, self.asked.option)
+            telling.tell(causes, causes.all())
+            telling.end()
+        return causes
 
     # A feed.
 
-    def start(self, kept: Kept, origin: int) -> Live:
+    def start(self, kept: Kept, at: At) -> Live:
         """Begins to judge a feed."""
-        asked = self.asked
+        asked, origin = self.asked, at.origin
         words = [*asked.check_words(), *origin_words(origin), "--all"]
         taken = [self.typed.tool("ts2pes"), str(asked.recording), f"0x{kept.pid:X}", "|"] \
             if isinstance(kept, Carrier) else []
         self.speech.command(*taken, self.typed.tool("cut"), "-" if taken else str(asked.recording),
-                            "--stl", asked.stl, *asked.page_words(), *origin_words(origin), "-o",
-                            "-", "|", self.typed.program_word, "check", asked.stl, "/dev/stdin",
-                            *words)
-        return Live([self.typed.program_path, "check", *words, "--", asked.stl, "/dev/stdin"],
-                    self.whole._replace(origin=origin), asked.page, self.names, self.speech)
+                            "--stl", asked.stl, *asked.page_words(), *asked.every_words(),
+                            *origin_words(origin), *packets_words(at.packets), "-o", "-", "|",
+                            self.typed.program_word, "check", asked.stl, "/dev/stdin", *words)
+        asking = Asking(asked, self.typed,
+                        lambda: kept.places() if isinstance(kept, Carrier) else [])
+        following = Following(lambda: asking.begin(self.names.given, self.names.cut_path, origin),
+                              Telling(self.speech, asked.option))
+        return Live([self.typed.program_path, "check", *words, "--", self.names.given,
+                     "/dev/stdin"],
+                    self.whole._replace(clock=Clock(origin, RECORDING), packets=at.packets),
+                    asked.page, asked.every, self.names, self.speech, following)
 
     # What is missing.
 
@@ -161,7 +281,9 @@ def is_in(place: Place, part: Part) -> bool:
         return False
     first, last = (part.origin + TICKS * frame for frame in (part.begin, part.end))
     is_before = place.after is not None and ticks_between(first, place.after) <= 0
-    is_after = place.before is not None and ticks_between(last, place.before) >= 0
+    # One that is filled up has its time before it.
+    is_after = place.before is not None and \
+        ticks_between(last, place.before) >= (1 if place.filled else 0)
     return not is_before and not is_after
 
 

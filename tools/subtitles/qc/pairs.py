@@ -5,10 +5,11 @@ import argparse
 import collections
 import os
 import shlex
+import stat
 from typing import Iterable, NamedTuple
 
 from ..files import refuse_device
-from ..words import Stop
+from ..words import Stop, shown
 from .asked import Asked, asked_of_line, asked_with
 
 SUBTITLES, RECORDINGS = ".stl", (".ts", ".pes")
@@ -29,7 +30,7 @@ def pairs_at(path: str, defaults: argparse.Namespace) -> list[Item]:
         raise Stop(f"{path} has no pair")
     counts: collections.Counter[str] = collections.Counter()
     named = []
-    for item in items:
+    for item in (item._replace(name=shown(item.name)) for item in items):
         counts[item.name] += 1
         number = counts[item.name]
         named.append(item if number == 1 else item._replace(name=f"{item.name}-{number}"))
@@ -41,10 +42,38 @@ def of_folder(folder: str, defaults: argparse.Namespace) -> list[Item]:
     alike: dict[str, list[str]] = collections.defaultdict(list)
     for file in sorted(os.listdir(folder)):
         stem, ending = os.path.splitext(file)
-        is_file = os.path.isfile(os.path.join(folder, file))
-        if is_file and ending.lower() in (SUBTITLES, *RECORDINGS):
+        if ending.lower() in (SUBTITLES, *RECORDINGS):
             alike[stem.lower()].append(file)
     return [item for files in alike.values() for item in of_files(folder, files, defaults)]
+
+
+def no_file(path: str) -> str | None:
+    """Why a name is none of a file that can be judged; a pipe would never end."""
+    try:
+        mode = os.stat(path).st_mode
+    except OSError as error:
+        return f"{path}: {error.strerror}"
+    if stat.S_ISREG(mode):
+        return None
+    kind = "a folder" if stat.S_ISDIR(mode) else "a pipe" if stat.S_ISFIFO(mode) else \
+        "a device" if stat.S_ISCHR(mode) or stat.S_ISBLK(mode) else "no file"
+    return f"{path} is {kind}"
+
+
+def item_of(name: str, stl: str, recording: str, defaults: argparse.Namespace) -> Item:
+    """The pair of two files, or why it can't be judged."""
+    try:
+        asked = asked_with(stl, recording, defaults)
+    except Stop as reason:
+        return Item(name, None, str(reason))
+    return with_files(Item(name, asked, None))
+
+
+def with_files(item: Item) -> Item:
+    """An item as it is, where both of its names are those of files."""
+    assert item.asked and item.asked.recording
+    reason = no_file(item.asked.stl) or no_file(item.asked.recording)
+    return Item(item.name, None, reason) if reason else item
 
 
 def of_files(folder: str, files: list[str], defaults: argparse.Namespace) -> Iterable[Item]:
@@ -65,7 +94,7 @@ def of_files(folder: str, files: list[str], defaults: argparse.Namespace) -> Ite
     elif len(paths) > 2:
         reason = f"more than one pair is possible: {', '.join(paths)}"
     else:
-        return [Item(name, asked_with(paths[0], paths[1], defaults), None)]
+        return [item_of(name, paths[0], paths[1], defaults)]
     return [Item(name, None, reason)]
 
 
@@ -88,7 +117,7 @@ def of_list(path: str, defaults: argparse.Namespace) -> list[Item]:
                     continue
                 asked = asked_of_line(words, defaults)
                 name = os.path.splitext(os.path.basename(asked.stl))[0]
-                items.append(Item(name, asked, None))
+                items.append(with_files(Item(name, asked, None)))
             except (Stop, ValueError) as reason:
                 items.append(Item(f"line {at}", None, f"{path}, line {at}: {reason}"))
     return items

@@ -8,6 +8,7 @@ from ..extracting import NoTeletext
 from ..files import Damaged
 from ..joining import Place
 from ..pes import pes_packets
+from ..pictures import NoFirst
 from ..words import counted, pid_name
 from .asked import Asked
 from .carriers import Carrier, Carriers, Kept
@@ -17,9 +18,12 @@ from .live import Live
 from .names import Names, again
 from .source import STANDARD_INPUT, Source
 from .speech import Speech
+from .stall import Stall
+from .start import Began, Starting
 from .sums import File
 from .typed import Typed
 from .unclear import Unclear
+from .whole import size_of
 
 MEGA = 1 << 20
 
@@ -31,19 +35,26 @@ class Recording:
     feed while it came, where there was one.
     """
 
-    def __init__(self, asked: Asked, typed: Typed, names: Names, speech: Speech) -> None:
+    def __init__(self, asked: Asked, typed: Typed, names: Names, speech: Speech,
+                 stall: Stall) -> None:
         self.asked, self.typed, self.names, self.speech = asked, typed, names, speech
+        self.stall = stall
         assert asked.recording is not None
         self.name = asked.recording
         self.path, self.shown = names.whole_path, names.whole
         self.carrier: Carrier | None = None
+        self.carriers: Carriers | None = None
         self.live: Live | None = None
         self.file: File | None = None
+        self.size = size_of(self.name)
+        self.is_feed = False
 
     def read(self, is_summed: bool, feed: Feed) -> None:
         """Reads it: a file to its end, a feed up to the last subtitle at least."""
         source = Source(self.name, is_summed)
-        source.wait = lambda seconds: self.show(source, feed, seconds)
+        self.is_feed = source.is_feed
+        source.wait = lambda seconds: self.wait(source, feed, seconds)
+        source.gone_on = self.stall.go_on
         try:
             if not is_pes_packets(source):
                 self.take_out(source, feed)
@@ -52,6 +63,9 @@ class Recording:
             else:
                 self.take(source)
             self.live, self.file = feed.live, source.summed()
+        except KeyboardInterrupt:
+            self.live = feed.live
+            raise
         except BaseException as reason:
             feed.drop()
             if isinstance(reason, Damaged):
@@ -99,7 +113,11 @@ class Recording:
 
     def take_out(self, source: Source, feed: Feed) -> None:
         """Takes the PES packets of the PID that carries the page out of a transport stream."""
-        carriers = Carriers(source, self.asked.page, self.asked.pid, self.names.folder)
+        has_start = self.asked.start is not None
+        carriers = Carriers(source, self.asked.page, self.asked.pid, self.names.folder, has_start)
+        self.carriers = carriers
+        if feed.starting:
+            feed.starting.videos = carriers.videos
         try:
             if source.is_feed:
                 feed.follow(carriers.packets(), lambda: self.show(source, feed))
@@ -109,6 +127,8 @@ class Recording:
         except NoTeletext as reason:
             raise Unclear(said(f"{self.name}: {reason}", carriers),
                           *self.other_pids(carriers)) from None
+        except NoFirst as reason:
+            raise self.without_first(reason) from None
         carriers.close()
         self.carrier = carrier = self.chosen(carriers)
         if not feed.live:
@@ -122,6 +142,12 @@ class Recording:
         for other in carriers.by_pid.values():
             if other is not carrier:
                 os.unlink(other.path)
+
+    def wait(self, source: Source, feed: Feed, still: float) -> bool:
+        """Hears that nothing has come for some seconds; whether nothing more is needed."""
+        self.stall.wait(still)
+        self.show(source, feed, still)
+        return feed.is_settled()
 
     def show(self, source: Source, feed: Feed, still: float = 0.0) -> None:
         """How much of the recording is read, and how long nothing has come."""
@@ -158,6 +184,27 @@ class Recording:
         known = [f"0x{pid:X}" for pid in sorted(streams)
                  if self.asked.page_name in streams[pid].pages()]
         return [self.again("--pid", word) for word in known or ["PID"] * bool(streams)]
+
+    def began(self, starting: Starting) -> Began:
+        """The clock by the first picture, of a recording that is read."""
+        if self.carriers is None or self.carriers.videos is None or self.carrier is None:
+            raise self.without_first(NoFirst("PES packets of Teletext have no pictures"))
+        try:
+            first = self.carriers.videos.first_of(self.carrier.pid)
+        except NoFirst as reason:
+            raise self.without_first(reason) from None
+        return starting.begin(first, self.carrier.grid)
+
+    def without_first(self, reason: NoFirst) -> Unclear:
+        """Why the first picture is not clear, and what there is."""
+        return Unclear(f"{self.name}: there is no first picture for --start: {reason}",
+                       self.again("--origin", "T"))
+
+    def last(self) -> int | None:
+        """The last PTS, or the last PCR where that is later."""
+        if self.carrier is None:
+            return None
+        return self.carrier.last()
 
     def again(self, *more: str) -> str:
         return again(self.asked, self.typed, *more)

@@ -6,6 +6,10 @@ from ..words import Stop
 
 ERROR, WARNING = "error", "warning"
 OTHERS = "others"  # the word for all numbers that are not named
+# The numbers that a command of the program refuses by: packets and files, texts, transmissions.
+REFUSALS = {3, 4, *range(10, 26), *range(30, 41), 44, *range(50, 58), *range(60, 75), 76, 77, 82}
+# Where reading a recording ended: nobody saw what comes after that, whatever is a warning.
+ENDS_READING = {30, 31, 32, 44}
 
 
 class Severity:
@@ -30,11 +34,15 @@ class Severity:
             raise Stop(f"{path}, line {at}: a line is `NUMBER error` or `NUMBER warning`")
         if words[0] == OTHERS:
             self.others = words[1]
-        else:
+        elif words[0].lstrip("0") in map(str, REFUSALS):
             self.named[int(words[0])] = words[1]
+        else:
+            raise Stop(f"{path}, line {at}: no refusal has the number {words[0]}")
 
     def of(self, number: int) -> str:
-        return self.named.get(number, self.others)
+        """The severity of a number."""
+        return ERROR if number in ENDS_READING else self.named.get(number, self.others)
 
     def is_error(self, number: int) -> bool:
+        """Whether a number counts."""
         return self.of(number) == ERROR

@@ -4,28 +4,36 @@ from __future__ import annotations
 import argparse
 import io
 import itertools
-import json
 import os
+import re
+import signal
 import tempfile
 import time
-from typing import Iterator
+from typing import Callable, Iterator
 
 from ..extracting import TOLD
 from ..files import OWN_OUTPUT, as_file, refuse_name, whole_file
-from ..words import Stop, counted, line_of
+from ..words import Stop, counted, escaped, line_of, shown
 from . import junit, machine, table
 from .asked import Asked, asked_of
+from .cause_words import count_line
+from .checking import NOT_JUDGED
+from .claim import claimed
 from .faults import faults_of
 from .made_with import program_at
 from .names import Names
+from .objects import found
+from .overview import overview
 from .pair import Pair
 from .progress import Progress
 from .severity import Severity
 from .speech import Speech
 from .typed import Typed
 from .unclear import Unclear
-from .verdict import Verdict
+from .verdict import LOST, Verdict
 
+ESCAPED = re.compile("[\ud800-\udfff]")  # bytes of a name that is not UTF-8
+SIGNALS = (signal.SIGINT, signal.SIGTERM, signal.SIGHUP)
 SUMMED = 100  # lines of a list in a summary, and in a file for a CI
 
 
@@ -37,31 +45,54 @@ def now() -> str:
 def judge(words: argparse.Namespace, called: str) -> int:
     """Judges the pair of a command line; answers its status."""
     asked = asked_of(words)
-    out = words.out and as_file(words.out)
+    out = as_file(words.out) if words.out else None
     is_output_taken = any(path in OWN_OUTPUT for path in (words.json, words.csv, words.junit))
     speech = Speech(Progress(), is_output_taken)
     typed = Typed(called, words.program)
-    verdict = Verdict(asked, Severity(asked.severity), now())
-    name = words.name or os.path.splitext(os.path.basename(asked.stl))[0]
-    has_files = words.out or words.json or words.csv or words.summary
-    with tempfile.TemporaryDirectory(prefix="subttx-qc-") as folder:
+    verdict = Verdict(asked, Severity(asked.severity), now(), was_fitted=words.is_fitted)
+    verdict.is_kept = words.is_kept
+    name = shown(words.name or os.path.splitext(os.path.basename(asked.stl))[0])
+    with tempfile.TemporaryDirectory(prefix="subttx-qc-") as folder, claimed(out, name):
         names = Names(name, folder, out)
+        names.give(asked.stl)
         files = Files(words, verdict, typed, names)
         files.prepare()
-        began = time.monotonic()
+        verdict.found = found(asked)
+        pair = Pair(verdict, typed, names, speech, files.are_any())
+        pair.stalled_after = words.stall
         try:
-            Pair(verdict, typed, names, speech, bool(has_files)).judge()
-        except (Unclear, Stop, OSError) as reason:
-            verdict.to_type = reason.to_type if isinstance(reason, Unclear) else ()
-            verdict.reason = reason.reason if isinstance(reason, Unclear) else line_of(reason)
-        verdict.commands = speech.commands
-        files.write(time.monotonic() - began)
+            judge_pair(pair, files)
+        finally:
+            files.leave()
     end(verdict, speech)
     return verdict.status
 
 
+def judge_pair(pair: Pair, files: Files) -> None:
+    """Judges a pair and writes the files; what is not clear stands in the verdict."""
+    verdict, began = pair.verdict, time.monotonic()
+    try:
+        pair.judge()
+    except (Unclear, Stop, OSError) as reason:
+        verdict.to_type = reason.to_type if isinstance(reason, Unclear) else ()
+        verdict.reason = reason.reason if isinstance(reason, Unclear) else line_of(reason)
+    except KeyboardInterrupt:
+        for one in SIGNALS:
+            signal.signal(one, signal.SIG_IGN)  # what is known is written now
+        verdict.is_stopped = True
+        verdict.reason = f"stopped at {pair.stop() or now()}"
+    verdict.commands = pair.speech.commands
+    verdict.seconds = round(time.monotonic() - began, 3)
+    failed = files.write()
+    if failed:
+        verdict.reason = "\n".join([*([verdict.reason] if verdict.reason else []), *failed])
+
+
 def end(verdict: Verdict, speech: Speech) -> None:
     """Says the verdict, after what was lost and what is not clear."""
+    causes = [part.causes for part in verdict.parts if part.causes]
+    if causes:
+        speech.say(count_line(causes))
     for line in verdict.lines():
         speech.say(line)
     for gap in verdict.gaps[:TOLD]:
@@ -69,12 +100,21 @@ def end(verdict: Verdict, speech: Speech) -> None:
     if len(verdict.gaps) > TOLD:
         speech.tell(f"and at {counted(len(verdict.gaps) - TOLD, 'more place')}")
     if verdict.is_lost and not verdict.asked.is_loss_allowed:
-        speech.tell("nobody saw what was sent there; --allow-lost accepts the recording "
-                    "without it")
-    if verdict.line is not None:
-        speech.end(verdict.line)
-    for line in (verdict.reason or "").splitlines():
+        would = "; --allow-lost accepts the recording without it" if verdict.word == LOST else ""
+        speech.tell(f"nobody saw what was sent there{would}")
+    for line in verdict.notes:
         speech.tell(line)
+    for warned in verdict.warnings:
+        speech.tell(warned.said())
+    if verdict.line is not None:
+        if verdict.fitted:
+            speech.say(verdict.fitted)
+        speech.end(verdict.line)
+    if verdict.is_stopped:
+        speech.say(counted(verdict.faults, "fault") + " so far" if verdict.parts else
+                   "nothing was judged so far")
+    for line in (verdict.reason or "").splitlines():
+        speech.tell(f"{NOT_JUDGED}: {line}" if verdict.is_stopped else line)
     for at, line in enumerate(verdict.to_type):
         speech.tell(f"{'type' if at == 0 else 'or'} {line}")
 
@@ -87,10 +127,13 @@ class Files:
         self.words, self.verdict, self.typed, self.names = words, verdict, typed, names
         self.of_pair = names.kept()
 
+    def are_any(self) -> bool:
+        """Whether something is written that has the sums of the inputs."""
+        words = self.words
+        return bool(words.out or words.json or words.csv)
+
     def prepare(self) -> None:
-        """Makes the folder, and takes away what an earlier call left of this pair."""
-        if self.names.out:
-            os.makedirs(self.names.out, exist_ok=True)
+        """Takes away what an earlier call left of this pair in the folder."""
         written = [path for path in (self.words.json, self.words.csv, self.words.junit) if path]
         for path in [*self.of_pair, *written]:
             self.refuse_input(path)
@@ -106,24 +149,42 @@ class Files:
             if one and is_there and os.path.samefile(path, one):
                 raise Stop(f"{path} is an input too")
 
-    def write(self, seconds: float) -> None:
-        """Writes what is asked for."""
+    def write(self) -> list[str]:
+        """Writes what is asked for; answers why a file could not be written. The object in the
+        folder comes last, when all else is there."""
         words, verdict = self.words, self.verdict
-        objects = [path for path in (words.json, self.names.machine) if path]
-        if objects or words.summary:
-            program = program_at(self.typed.program_path)
-            for path in objects:
-                self.put(path, machine.object_of(verdict, program, self.typed))
-            if words.summary:
-                summary = {**machine.head_of(verdict, program), "seconds": seconds,
-                           "lines": self.lines()}
-                self.put(words.summary, iter([json.dumps(summary)]))
+        wanted: list[tuple[str, Callable[[], Iterator[str]]]] = []
         if words.csv:
-            self.put(words.csv, self.table_lines())
+            wanted.append((words.csv, self.table_lines))
         if words.junit:
-            case = junit.TestCase(name_of(verdict.asked), verdict.word, verdict.status,
-                                  verdict.line or verdict.reason or "", self.lines(), seconds)
-            self.put(words.junit, iter([junit.text_of([case], verdict.date).decode()]))
+            wanted.append((words.junit, self.testcase))
+        objects = [path for path in (words.json, self.names.machine) if path]
+        if objects:
+            program = program_at(self.typed.program_path)
+            if self.names.out and len(verdict.parts) > 1:
+                wanted.append((self.names.report, lambda: overview(verdict, program, self.names,
+                                                                   self.typed)))
+            wanted += [(path, lambda: machine.object_of(verdict, program, self.typed))
+                       for path in objects]
+        failed = []
+        for path, pieces in wanted:
+            try:
+                self.put(path, pieces())
+            except (Stop, OSError) as reason:
+                failed.append(line_of(reason))
+        return failed
+
+    def testcase(self) -> Iterator[str]:
+        """The file for a CI."""
+        verdict = self.verdict
+        case = junit.TestCase(name_of(verdict.asked), verdict.word, verdict.status,
+                              verdict.line or verdict.reason or "", self.lines(), verdict.seconds)
+        yield junit.text_of([case], verdict.date).decode()
+
+    def leave(self) -> None:
+        """Takes away what was judged, where it is not to be kept."""
+        for path in [] if self.words.is_kept else self.names.judged():
+            os.unlink(path)
 
     def lines(self) -> list[str]:
         """The first lines of the lists of all parts."""
@@ -132,22 +193,24 @@ class Files:
         return list(itertools.islice(lines, SUMMED))
 
     def table_lines(self) -> Iterator[str]:
-        """The lines of the CSV file, with the names of the columns."""
+        """The lines of the CSV file: the names of the columns, the pair, its faults."""
         text = io.StringIO()
         table.write_head(text)
+        table.write_row(text, table.of_pair(self.verdict))
+        yield text.getvalue()
         for fault in faults_of(self.verdict, self.typed):
-            table.write_row(text, self.verdict, fault)
-            yield text.getvalue()
             text.seek(0)
             text.truncate()
-        yield text.getvalue()
+            table.write_row(text, table.of_fault(self.verdict, fault))
+            yield text.getvalue()
 
     def put(self, path: str, pieces: Iterator[str]) -> None:
         """Writes a file whole, or not at all."""
         inputs = [one for one in (self.verdict.asked.stl, self.verdict.asked.recording) if one]
         with whole_file(path, inputs) as file:
             for piece in pieces:
-                file.write(piece.encode("utf-8", "replace"))
+                # Only an object has such bytes still: the others have them escaped.
+                file.write(ESCAPED.sub(lambda found: "\\" + escaped(found[0]), piece).encode())
 
 
 def name_of(asked: Asked) -> str:

@@ -17,7 +17,8 @@ class Source:
     """A recording: `count` bytes of it are read, of `size` where that is known.
 
     `read` gives what is there: of a feed what has come, without waiting for more. `wait` hears how
-    many seconds a feed has stood still.
+    many seconds a feed has stood still, and ends it where it answers True; `gone_on` hears that it
+    goes on after that.
     """
 
     def __init__(self, name: str, is_summed: bool) -> None:
@@ -28,7 +29,8 @@ class Source:
         self.is_feed = not stat.S_ISREG(about.st_mode)
         self.size = None if self.is_feed else about.st_size
         self.count, self.ahead = 0, b""
-        self.wait: Callable[[float], None] | None = None
+        self.wait: Callable[[float], bool | None] | None = None
+        self.gone_on: Callable[[], None] | None = None
         self.summing = Summing() if is_summed else None
 
     def look(self, count: int) -> bytes:
@@ -42,20 +44,24 @@ class Source:
 
     def read(self, most: int = -1) -> bytes:
         """Some bytes, `most` where there are as many; none at the end."""
-        if self.is_feed and not self.ahead:
-            self.wait_for_more()
+        if self.is_feed and not self.ahead and not self.waits_for_more():
+            return b""
         data, self.ahead = self.ahead or self.file.read(most) or b"", b""
         self.count += len(data)
         if self.summing:
             self.summing.take(data)
         return data
 
-    def wait_for_more(self) -> None:
-        """Waits until something has come, or the feed has ended."""
-        began = time.monotonic()
+    def waits_for_more(self) -> bool:
+        """Waits until something has come or the feed has ended, unless nobody wants more."""
+        began, has_stood = time.monotonic(), False
         while not select.select([self.file], [], [], PATIENCE)[0]:
-            if self.wait:
-                self.wait(time.monotonic() - began)
+            has_stood = True
+            if self.wait and self.wait(time.monotonic() - began):
+                return False
+        if has_stood and self.gone_on:
+            self.gone_on()
+        return True
 
     def summed(self) -> File | None:
         """What was read, where that is asked; to be called once."""

@@ -1,11 +1,11 @@
 """What a person reads: the commands, what they answer, the verdict."""
 from __future__ import annotations
 
-import io
 import sys
 import threading
+from typing import TextIO
 
-from ..words import tell
+from ..words import shown, silence, tell
 from .progress import Progress
 from .typed import line_of
 
@@ -19,9 +19,6 @@ class Speech:
     def __init__(self, progress: Progress, is_output_taken: bool = False) -> None:
         self.progress = progress
         self.out = sys.stderr if is_output_taken else sys.stdout
-        if isinstance(self.out, io.TextIOWrapper):
-            # Names of files may be any bytes, and are said as they were typed.
-            self.out.reconfigure(errors="surrogateescape")
         self.commands: list[str] = []
         self.last, self.listed = "", 0
         self.lock = threading.RLock()  # a feed is heard beside the program that judges it
@@ -31,13 +28,25 @@ class Speech:
         with self.lock:
             self.progress.clear()
             self.last = line
-            print(line, file=self.out)
+            self.put(shown(line), self.out)
+
+    @staticmethod
+    def put(line: str, out: TextIO) -> None:
+        """Prints a line at once. Who closes the output early wants no more of it: what is judged
+        and written is not changed by that."""
+        try:
+            print(line, file=out, flush=True)
+        except BrokenPipeError:
+            silence(out)
 
     def tell(self, line: str) -> None:
         """A line on standard error, under the name of the tool, after what was said before it."""
         with self.lock:
             self.progress.clear()
-            tell(line)
+            try:
+                tell(line)
+            except BrokenPipeError:
+                silence(sys.stderr)
 
     def show(self, line: str) -> None:
         """How far it is, on a terminal."""
@@ -49,14 +58,12 @@ class Speech:
         self.commands.append(line_of(*words))
         self.listed = 0
         self.say(f"+ {self.commands[-1]}")
-        self.out.flush()
 
     def of_list(self, line: str) -> None:
         """A line of a list, of which the first ones are said."""
         self.listed += 1
         if self.listed <= MOST_LINES:
             self.say(line)
-            self.out.flush()
 
     def end_list(self, last: str) -> None:
         """How many lines of the list were not said, and its last one."""

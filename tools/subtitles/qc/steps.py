@@ -9,43 +9,35 @@ from typing import NamedTuple, Sequence
 from ..times import frame_of, time_of
 from .asked import Asked
 from .checking import Answer, check
+from .clock import Clock
+from .fitting import Done, Found, Packets, breaks_in, found_in, refuse, runs_in
 from .names import Names, again
 from .recording import Recording
 from .speech import Speech
+from .sums import File
 from .typed import Typed
 from .unclear import Unclear
 
 NO_PES = os.devnull
 SHOWN = re.compile(r"\d{5} (\S+) (\S+) ")  # a line of `show`
-FOUND = re.compile(r"(?:--from (\S+) --to (\S+) )?--origin (\d+)")  # a line of tools/origin
-
-
-class Done(NamedTuple):
-    """How a tool ended: its status, its lines, and those on standard error without its name."""
-
-    status: int
-    printed: list[str]
-    told: list[str]
-
-
-class Found(NamedTuple):
-    """An origin, and the frames of the part that it is of."""
-
-    begin: int
-    end: int
-    origin: int
 
 
 class Stretch(NamedTuple):
     """What is judged by itself: its subtitle file as it is typed and where it stands, the files
-    that are made of it, its first and its last frame, its origin."""
+    that are made of it, its first and its last frame, its clock, its PES packets where PTS go back.
+    """
 
     stl: str
     stl_path: str
     names: Names
     begin: int
     end: int
-    origin: int
+    clock: Clock
+    packets: Packets | None = None
+
+    @property
+    def origin(self) -> int:
+        return self.clock.origin
 
 
 class Steps:
@@ -72,7 +64,8 @@ class Steps:
 
     def check_alone(self) -> Answer:
         """What is wrong with the subtitle file; nothing is said of it yet."""
-        words = ["check", "--option", self.asked.option, "--all", "--", self.asked.stl, NO_PES]
+        words = ["check", "--option", self.asked.option, "--all", "--", self.names.given,
+                 NO_PES]
         return check([self.typed.program_path, *words], self.names.temporary("alone.txt"),
                      lambda line: None)
 
@@ -91,18 +84,38 @@ class Steps:
         found = (SHOWN.match(line) for line in done.stdout.splitlines())
         return [(frame_of(one[1]) or 0, frame_of(one[2]) or 0) for one in found if one]
 
-    def origins(self, recording: Recording, whole: Found) -> list[Found]:
-        """The origin that tools/origin finds, or those of the parts; else `Unclear`."""
+    def fit(self, recording: Recording, clock: Clock | None, *more: str) -> Done:
+        """What tools/origin says of the clock, also compared with one that is known."""
+        words = self.fit_words(clock, *more)
+        return self.tool("origin", [self.asked.stl, recording.path, *words],
+                         [self.asked.stl, recording.shown, *words])
+
+    def ask_origin(self, recording: Recording, clock: Clock | None, *more: str) -> Done:
+        """The same, where a feed was judged already, and nothing is said of it."""
+        done = subprocess.run([*self.typed.call("origin"), *self.fit_words(clock, *more), "--",
+                               self.asked.stl, recording.path], stdin=subprocess.DEVNULL,
+                              stdout=subprocess.PIPE, stderr=subprocess.PIPE, encoding="utf-8",
+                              errors="replace", check=False)
+        return Done(done.returncode, done.stdout.splitlines(),
+                    [line.partition(": ")[2] for line in done.stderr.splitlines()])
+
+    def fit_words(self, clock: Clock | None, *more: str) -> list[str]:
+        """The options of tools/origin."""
+        known = [] if clock is None else ["--origin", str(clock.origin)]
         asked = self.asked
-        more = [*asked.page_words(), *asked.option_words()]
-        done = self.tool("origin", [asked.stl, recording.path, *more],
-                         [asked.stl, recording.shown, *more])
-        found = [one for one in map(FOUND.fullmatch, done.printed) if one]
-        if done.status or not found or len(found) < len(done.printed):
-            raise Unclear(f"the origin is not clear: {'; '.join(done.told)}",
-                          self.again("--origin", "T"), self.again("--page", "P"))
-        return [whole._replace(origin=int(one[3])) if one[1] is None else
-                Found(frame_of(one[1]) or 0, frame_of(one[2]) or 0, int(one[3])) for one in found]
+        return [*asked.page_words(), *asked.option_words(), *known, *asked.clock_words(), *more]
+
+    def fitted(self, done: Done, whole: Found) -> list[Found]:
+        """The parts that tools/origin finds; else `Unclear`."""
+        found = found_in(done, whole)
+        if not found:
+            runs, breaks = runs_in(done), breaks_in(done)
+            if breaks is not None:
+                refuse(done, [self.again("--breaks", str(breaks))])
+            if runs > 1:
+                refuse(done, [self.again("--run", str(one)) for one in range(1, runs + 1)])
+            refuse(done, [self.again("--origin", "T"), self.again("--page", "P")])
+        return found
 
     def part(self, number: int, found: Found) -> Stretch:
         """Cuts the subtitles of a part out of the subtitle file."""
@@ -116,9 +129,13 @@ class Steps:
 
     def cut(self, recording: Recording, one: Stretch) -> None:
         """Cuts the PES packets of the time of the subtitles out of the recording."""
-        more = [*self.asked.page_words(), *origin_words(one.origin)]
-        self.tool("cut", [recording.path, "--stl", one.stl_path, *more, "-o", one.names.cut_path],
-                  [recording.shown, "--stl", one.stl, *more, "-o", one.names.cut])
+        more = [*self.asked.page_words(), *self.asked.every_words(), *origin_words(one.origin),
+                *packets_words(one.packets)]
+        done = self.tool(
+            "cut", [recording.path, "--stl", one.stl_path, *more, "-o", one.names.cut_path],
+            [recording.shown, "--stl", one.stl, *more, "-o", one.names.cut])
+        if done.status == 2:
+            raise Unclear(f"the recording was not cut: {'; '.join(done.told)}")
         if not os.path.exists(one.names.cut_path):
             raise Unclear("nothing of the page is in the recording at the time of the subtitles",
                           self.again("--origin", "T"), self.again("--page", "P"))
@@ -133,17 +150,30 @@ class Steps:
         return answer
 
     def draw(self, names: Names, given: list[str], typed: list[str], origin: int,
-             lost: list[str]) -> None:
-        """Draws the report of some files, and of what is lost, where there is a folder for it."""
+             lost: list[str], notes: Sequence[str] = (), is_fitted: bool = False,
+             recording: File | None = None, part: Sequence[str] = ()) -> None:
+        """Draws the report of some files, of what is lost and what else is said, of a recording or
+        of a part of it, where there is a folder for it."""
         if names.out is None:
             return
         words = [*self.asked.check_words(), *origin_words(origin),
-                 *(word for words in lost for word in ("--lost", words))]
+                 *(word for words in lost for word in ("--lost", words)),
+                 *(word for words in notes for word in ("--note", words)),
+                 *["--fitted"] * is_fitted, *part]
+        # What was read is not read once more; a person can do that, but not with a feed.
+        sums = ["--recording", recording.name, str(recording.size), recording.sha256] \
+            if recording else []
+        shown = sums[:2] if recording and os.path.isfile(recording.name) else sums
         done = self.tool(
-            "preview", [*given, *words, "-p", self.typed.program_path, "-o", names.report],
-            [*typed, *words, *self.typed.program_words, "-o", names.report])
+            "preview", [*given, *words, *sums, "-p", self.typed.program_path, "-o", names.report],
+            [*typed, *words, *shown, *self.typed.program_words, "-o", names.report])
         if done.status == 2:
             raise Unclear(f"no report was made: {'; '.join(done.told)}")
+
+
+def packets_words(packets: Packets | None) -> list[str]:
+    """The option for the PES packets of a part, where PTS go back."""
+    return ["--pes", f"{packets[0]}-{packets[1]}"] if packets else []
 
 
 def origin_words(origin: int) -> list[str]:

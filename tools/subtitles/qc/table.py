@@ -1,15 +1,22 @@
-"""Faults as lines of CSV, one a fault."""
+"""Pairs and their faults as lines of CSV: one for each pair, then one for each of its faults."""
 from __future__ import annotations
 
 import csv
-from typing import IO
+import io
+from typing import IO, Any, Iterable, Iterator
 
+from ..words import shown
 from .faults import Cell, Fault
 from .verdict import Verdict
 
-COLUMNS = ["stl", "recording", "part", "number", "name", "severity", "file", "block", "subtitle",
-           "begin", "end", "byte", "character", "pes", "pes_time", "packet", "frame", "time",
-           "row", "column", "due", "held", "until", "until_pes", "line", "means", "do"]
+OF_FAULT = ["part", "number", "name", "severity", "file", "block", "subtitle", "begin", "end",
+            "byte", "character", "pes", "pes_time", "packet", "frame", "time", "row", "column",
+            "due", "held", "until", "until_pes", "line", "means", "do"]
+OF_CAUSE = ["cause", "cause_frames", "cause_subtitle", "cause_text", "cause_sent", "cause_words"]
+OF_PAIR = ["verdict", "status", "reason"]
+COLUMNS = ["stl", "recording", *OF_FAULT, *OF_PAIR, *OF_CAUSE]
+
+Known = dict[str, object]  # the columns that there is something to say of
 
 
 def cell_words(cell: Cell | None) -> str:
@@ -19,16 +26,39 @@ def cell_words(cell: Cell | None) -> str:
     return f"{cell['code']} {cell['character']}" if cell["character"] else cell["code"]
 
 
-def row_of(verdict: Verdict, fault: Fault) -> list[object]:
-    """The columns of a fault; empty where one does not apply."""
-    subtitle = fault["subtitle"]
-    known: dict[str, object] = {
-        **fault, "stl": verdict.asked.stl, "recording": verdict.asked.recording,
+def of_pair(verdict: Verdict) -> Known:
+    """The columns of a pair, which its faults have too; `line` is that of the verdict."""
+    return {"stl": verdict.asked.stl, "recording": verdict.asked.recording,
+            "verdict": verdict.word, "status": verdict.status, "reason": verdict.reason,
+            "line": verdict.line}
+
+
+def of_object(known: dict[str, Any]) -> Known:
+    """The same of a pair by its object; what is no pair has a name alone."""
+    asked = known.get("asked") or {"stl": known.get("name")}
+    return {"stl": asked.get("stl"), "recording": asked.get("recording"),
+            **{name: known.get(name) for name in (*OF_PAIR, "line")}}
+
+
+def of_fault(verdict: Verdict, fault: Fault) -> Known:
+    """The columns of a fault."""
+    return with_fault(of_pair(verdict), fault)
+
+
+def with_fault(pair: Known, fault: Fault) -> Known:
+    """The columns of a fault of a pair."""
+    subtitle, cause = fault["subtitle"], fault["cause"]
+    known: Known = {
+        **pair, **fault,
         "subtitle": subtitle and subtitle["number"], "begin": subtitle and subtitle["begin"],
         "end": subtitle and subtitle["end"], "due": cell_words(fault["due"]),
-        "held": cell_words(fault["held"]),
+        "held": cell_words(fault["held"]), "cause": cause and cause["cause"],
     }
-    return ["" if known[name] is None else known[name] for name in COLUMNS]
+    if cause:
+        known |= {"cause_frames": cause["frames"], "cause_subtitle": cause["subtitle"]["number"],
+                  "cause_text": cause["text"], "cause_sent": cause["sent"],
+                  "cause_words": cause["words"]}
+    return known
 
 
 def write_head(file: IO[str]) -> None:
@@ -36,6 +66,27 @@ def write_head(file: IO[str]) -> None:
     csv.writer(file, lineterminator="\n").writerow(COLUMNS)
 
 
-def write_row(file: IO[str], verdict: Verdict, fault: Fault) -> None:
-    """Writes the line of a fault."""
-    csv.writer(file, lineterminator="\n").writerow(row_of(verdict, fault))
+def write_row(file: IO[str], known: Known) -> None:
+    """Writes a line; a column is empty where it does not apply."""
+    row = [said(known.get(name)) for name in COLUMNS]
+    csv.writer(file, lineterminator="\n").writerow(["" if one is None else one for one in row])
+
+
+def said(value: object) -> object:
+    """A value without what a terminal would obey; a reason may have several lines."""
+    return "\n".join(map(shown, value.split("\n"))) if isinstance(value, str) else value
+
+
+def text_of(objects: Iterable[dict[str, Any]]) -> Iterator[bytes]:
+    """The lines of many pairs and of their faults, by their objects, under one head."""
+    text = io.StringIO()
+    write_head(text)
+    for known in objects:
+        pair = of_object(known)
+        write_row(text, pair)
+        for fault in known.get("faults") or []:
+            write_row(text, with_fault(pair, fault))
+        yield text.getvalue().encode()
+        text.seek(0)
+        text.truncate()
+    yield text.getvalue().encode()

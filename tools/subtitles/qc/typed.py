@@ -2,12 +2,11 @@
 from __future__ import annotations
 
 import os
-import shlex
 import shutil
 import sys
 
 from ..built import TOP, behind_script
-from ..words import INSTALLED, Stop
+from ..words import INSTALLED, Stop, quoted
 
 
 class Typed:
@@ -48,5 +47,5 @@ class Typed:
 
 def line_of(*words: str) -> str:
     """A command line for a shell; `>` and `|` stay as they are."""
-    line = " ".join(word if word in (">", "|") else shlex.quote(word) for word in words)
+    line = " ".join(word if word in (">", "|") else quoted(word) for word in words)
     return line.replace(" > ", " >")

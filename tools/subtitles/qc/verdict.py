@@ -4,11 +4,17 @@ from __future__ import annotations
 import dataclasses
 
 from ..joining import Place
+from ..pes import pes_runs
 from ..times import time_of
 from .asked import Asked
+from .cells import passed_over
 from .checking import ACCEPTED_WORD, NOT_JUDGED, REFUSED_WORD, Answer
+from .clock import FITTED, FITTED_LATER, Clock
+from .naming import Causes
 from .severity import Severity
 from .sums import File
+from .told import EMPTY, PASSED_OVER
+from .warned import Warned
 
 LOST = "lost"  # the verdict where all that was seen is accepted, and TS packets are lost
 
@@ -30,6 +36,19 @@ class Part:
     end: int | None
     judged: File | None
     answer: Answer
+    clock: Clock | None = None
+    causes: Causes | None = None
+
+    def is_read(self) -> bool:
+        """Whether one of its PES packets at least could be read; the file has to be there still."""
+        if self.pes is None:
+            return False
+        if not self.answer.numbers or self.answer.numbers - PASSED_OVER - {EMPTY}:
+            return True
+        with open(self.pes, "rb") as file:
+            count = sum(len(begins) - 1 for _, begins in pes_runs(file))
+        passed = passed_over(self.answer.told())
+        return count > sum(last + 1 - first for first, last in passed)
 
     def times(self) -> tuple[str | None, str | None]:
         """Those frames as times."""
@@ -56,23 +75,44 @@ class Gap:
 
 @dataclasses.dataclass
 class Verdict:
-    """All there is to say of a pair."""
+    """All there is to say of a pair; `notes` are what else was seen, a line each. `found` is what
+    its files were like when judging began, `seconds` how long it took. `was_fitted`: the origin
+    that is given was found in the recording, by who calls this tool."""
 
     asked: Asked
     severity: Severity
     date: str
     parts: list[Part] = dataclasses.field(default_factory=list)
     gaps: list[Gap] = dataclasses.field(default_factory=list)
+    warnings: list[Warned] = dataclasses.field(default_factory=list)
+    notes: list[str] = dataclasses.field(default_factory=list)
     commands: list[str] = dataclasses.field(default_factory=list)
     stl: File | None = None
     recording: File | None = None
+    is_kept: bool = False  # what was judged stays in the folder
+    is_stopped: bool = False  # by a signal
     reason: str | None = None
     to_type: tuple[str, ...] = ()
+    found: dict[str, object] = dataclasses.field(default_factory=dict)
+    seconds: float = 0.0
+    was_fitted: bool = False
 
     @property
     def is_lost(self) -> bool:
         """Whether the verdict speaks of frames of which TS packets are lost."""
         return any(gap.is_judged for gap in self.gaps)
+
+    def said(self) -> list[str]:
+        """What the report and the object say beside the verdict."""
+        return [*self.notes, *([self.fitted] if self.fitted else [])]
+
+    @property
+    def fitted(self) -> str | None:
+        """That the clock was found in the recording, or that of the parts after a break."""
+        are_fitted = [part.clock.is_fitted for part in self.parts if part.clock]
+        if not any(are_fitted):
+            return None
+        return FITTED if are_fitted[0] else FITTED_LATER
 
     @property
     def word(self) -> str:

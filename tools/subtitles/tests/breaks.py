@@ -60,9 +60,11 @@ def sent(case: Case, made: Programme) -> bytes:
     return found
 
 
-def origin_of(case: Case, made: Programme, data: bytes) -> Done:
-    """What tools/origin says."""
-    return case.tool("origin", case.write("all.stl", made.file()), case.write("all.pes", data))
+def origin_of(case: Case, made: Programme, data: bytes, breaks: int | None = None) -> Done:
+    """What tools/origin says, where it is told of all breaks, or of so many."""
+    breaks = len(made.origins) - 1 if breaks is None else breaks
+    return case.tool("origin", case.write("all.stl", made.file()), case.write("all.pes", data),
+                     *(["--breaks", str(breaks)] if breaks else []))
 
 
 def finds_each_part(case: Case) -> None:
@@ -98,14 +100,123 @@ def finds_them_where_sendings_are_lost(case: Case) -> None:
 def takes_few_edges_as_one_part(case: Case) -> None:
     """Four edges that agree with another origin are no part: they don't agree."""
     made = at_random(random.Random(1), [20, 2])
-    done = origin_of(case, made, sent(case, made))
+    done = origin_of(case, made, sent(case, made), 0)
     case.test("two subtitles", done.status == 0 and done.out.decode().split() ==
               ["--origin", str(made.origins[0])] and "of them" not in done.told[0]
-              and any("does not agree" in line for line in done.told), done)
-    late = at_random(random.Random(2), [20, 20])
-    near = late._replace(origins=[late.origins[0], late.origins[0] + 30 * TICKS])
-    done = origin_of(case, near, sent(case, near))
-    case.test("a delay of a second is no break", "parts" not in done.told[0], done)
+              and any("does not agree" in line for line in done.told)
+              and not any("late" in line for line in done.told), done)
+    done = origin_of(case, made, sent(case, made), 1)
+    case.test("nor are they told", (done.status, done.out) == (1, b"")
+              and done.told[0] == "origin: no break found, where --breaks 1 is said", done)
+
+
+def tells_from_when_on_subtitles_are_late(case: Case) -> None:
+    """Five edges are enough, also where they are a frame late; the origin is that of the first."""
+    for seed, count, frames in ((2, 20, 30), (2, 20, 1), (6, 5, 250), (7, 5, 2)):
+        made = at_random(random.Random(seed), [20, count])
+        made = made._replace(origins=[made.origins[0], (made.origins[0] + frames * TICKS) % CLOCK])
+        done = origin_of(case, made, sent(case, made), 0)
+        line = f"origin: from {time_of(made.times[1][0])} on subtitles are {frames / 25:.2f} s " \
+            f"({frames} frame{'s' * (frames > 1)}) late; if the programme has a break there, say " \
+            "--breaks 1"
+        case.test(f"{count} subtitles, {frames} frames", done.status == 0 and done.out ==
+                  b"--origin %d\n" % made.origins[0] and line in done.told, (line, done))
+    early = made._replace(origins=[made.origins[0], (made.origins[0] - 2 * TICKS) % CLOCK])
+    done = origin_of(case, early, sent(case, early), 0)
+    case.test("early", any(line.endswith(" on subtitles are 0.08 s (2 frames) early")
+                           for line in done.told), done)
+    done = origin_of(case, early, sent(case, early), 1)
+    case.test("to be early is no break", (done.status, done.out) == (1, b""), done)
+
+
+def takes_as_many_breaks_as_there_are(case: Case) -> None:
+    """No more and no fewer than are said."""
+    made = at_random(random.Random(8), [10, 12, 14])
+    data = sent(case, made)
+    for breaks in (1, 3):
+        done = origin_of(case, made, data, breaks)
+        case.test(f"{breaks} breaks", (done.status, done.out) == (1, b"") and done.told[:3] == [
+            f"origin: 2 breaks found, where --breaks {breaks} is said",
+            *(f"origin: part {number + 1} begins at {time_of(made.times[number][0])}, after a "
+              f"break of {time_of((made.origins[number] - made.origins[number - 1]) // TICKS)}"
+              for number in (1, 2))], done)
+    done = origin_of(case, made, data, 0)
+    case.test("none is said", done.status == 0 and
+              sum(" on subtitles are " in line for line in done.told) == 2
+              and any(line.endswith("has breaks there, say --breaks 2") for line in done.told),
+              done)
+
+
+def adjoining(origins: tuple[int, int], count: int = 12) -> Programme:
+    """Two parts with a subtitle that comes where the last one before the break goes."""
+    blocks, times = [], []
+    for part in (0, 1):
+        first = 900_000 + part * 100 * count
+        own = [(first + 100 * number, first + 100 * number + 60) for number in range(count)]
+        if part == 0:
+            own[-1] = own[-1][0], own[-1][0] + 100
+        blocks.append(b"".join(subtitle_blocks(part * count + number, begin, end, 20, 2,
+                                               b"Subtitle %d" % (part * count + number))
+                               for number, (begin, end) in enumerate(own)))
+        times.append((own[0][0], own[-1][1]))
+    return Programme(blocks, times, list(origins))
+
+
+def parts_at_subtitles_that_adjoin(case: Case) -> None:
+    """The last one before the break is erased at its TCO, which is the TCI of the next one."""
+    for count, frames in ((12, 4500), (3, 4500), (12, 250), (40, 300)):
+        made = adjoining((77_000, 77_000 + frames * TICKS), count)
+        done = origin_of(case, made, sent(case, made))
+        case.test(f"{count} subtitles, {frames} frames", (done.status,
+                  done.out.decode().splitlines()) == (0, made.lines()), (made.lines(), done))
+
+
+def parts_where_pts_go_back(case: Case) -> None:
+    """An encoder that was started anew; not PTS that pass 2^33."""
+    for seed in SEEDS:
+        chance = random.Random(seed)
+        made = at_random(chance, [20, 20])
+        first, last = (frame * TICKS for frame in (made.times[0][0], made.times[1][1]))
+        made = made._replace(origins=[(CLOCK // 2 - first) % CLOCK, (CLOCK // 4 - first) % CLOCK])
+        data = sent(case, made)
+        count = len(packets(data))
+        done = origin_of(case, made, data)
+        lines = done.out.decode().splitlines()
+        border = int(lines[0].split()[5].split("-")[1]) if lines else 0
+        wanted = [line.replace(" --origin", f" --pes {some} --origin") for line, some in
+                  zip(made.lines(), (f"0-{border}", f"{border + 1}-{count - 1}"))]
+        case.test(f"seed {seed}", (done.status, lines) == (0, wanted), (wanted, done))
+        done = origin_of(case, made, data, 0)
+        case.test(f"seed {seed}: it is told", done.out == b"--origin %d\n" % made.origins[0]
+                  and any("on, where PTS go back, subtitles are" in line for line in done.told),
+                  done)
+        wraps = made._replace(origins=[(CLOCK - (first + last) // 2) % CLOCK] * 2)
+        done = origin_of(case, wraps, sent(case, wraps), 0)
+        case.test(f"seed {seed}: 2^33", done.out == b"--origin %d\n" % wraps.origins[0]
+                  and not any("subtitles are" in line for line in done.told), done)
+
+
+def takes_one_of_several_runs(case: Case) -> None:
+    """The programme is sent twice: nothing is chosen, and --run says which one is meant."""
+    for seed in SEEDS:
+        chance = random.Random(seed)
+        made = at_random(chance, [chance.choice([8, 30]) for _ in range(chance.randrange(1, 3))])
+        ways = {"later": 40_000_000 * chance.randrange(2, 40), "the same PTS": 0}
+        for name, away in ways.items():
+            again = made._replace(origins=[(origin + away) % CLOCK for origin in made.origins])
+            data = sent(case, made) + sent(case, again)
+            done = origin_of(case, made, data)
+            case.test(f"seed {seed}, {name}", (done.status, done.out) == (1, b"")
+                      and done.told[0] == "origin: the programme is there 2 times"
+                      and done.told[-1] == "origin: say which one: --run 1 to --run 2", done)
+            for number, one in enumerate((made, again), 1):
+                words = ["--breaks", str(len(made.origins) - 1), "--run", str(number)]
+                done = case.tool("origin", "all.stl", "all.pes", *words)
+                origins = [int(line.split()[-1]) for line in done.out.decode().splitlines()]
+                case.test(f"seed {seed}, {name}, run {number}", origins == one.origins,
+                          (one.origins, done))
+        done = case.tool("origin", "all.stl", "all.pes", "--run", "3")
+        case.test(f"seed {seed}, run 3", (done.status, done.out) == (1, b""), done)
 
 
 def tells_where_parts_begin(case: Case) -> None:
@@ -180,5 +291,7 @@ def keeps_comments_and_what_is_broken(case: Case) -> None:
 
 
 CASES = [finds_each_part, finds_them_where_sendings_are_lost, takes_few_edges_as_one_part,
+         tells_from_when_on_subtitles_are_late, takes_as_many_breaks_as_there_are,
+         parts_at_subtitles_that_adjoin, parts_where_pts_go_back, takes_one_of_several_runs,
          tells_where_parts_begin, tells_no_origin_that_is_not_clear, cuts_a_subtitle_file,
          keeps_comments_and_what_is_broken]

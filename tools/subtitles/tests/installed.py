@@ -9,7 +9,7 @@ import subprocess
 import tarfile
 
 from ..built import TOP, chosen, read
-from ..prefix import PAGES
+from ..prefix import PAGES, without_dead_links
 from ..proved import lacking, parsed
 from .bench import Case, Done, example
 
@@ -35,6 +35,59 @@ def installs(case: Case) -> None:
     runs_the_whole_way(case, case.path("moved"))
 
 
+def removes(case: Case) -> None:
+    """All that was installed goes, and its folders where nobody else has a file in them."""
+    tool = ("install", "--remove")
+    done = case.tool("install", "-p", case.bench.program, "own/prefix")
+    told = done.out.decode().splitlines()
+    done = case.tool(*tool, "own/prefix")
+    case.test("what is told", done.status == 0 and {*told} <= {*done.out.decode().splitlines()},
+              done)
+    case.test("its folder", not os.path.exists(case.path("own/prefix"))
+              and os.path.isdir(case.path("own")))
+    os.makedirs(case.path("shared/bin"))
+    os.makedirs(case.path("shared/share/man/man1"))
+    case.write("shared/bin/subttx-own", b"of somebody else")
+    case.tool("install", "-p", case.bench.program, "shared")
+    case.tool("install", "-p", case.bench.program, "shared")  # once more over it
+    case.write("shared/share/man/other", b"")
+    os.symlink("../lib/subttx/tools/older", case.path("shared/bin/subttx-older"))
+    done = case.tool(*tool, "shared")
+    left = sorted(os.path.relpath(os.path.join(place, name), case.path("shared"))
+                  for place, folders, names in os.walk(case.path("shared"))
+                  for name in [*folders, *names])
+    case.test("of others nothing", done.status == 0 and left == [
+        "bin", "bin/subttx-own", "share", "share/man", "share/man/man1", "share/man/other"], left)
+    for words in ([*tool, "shared"], [*tool, "none"], [*tool, "-p", case.bench.program, "shared"],
+                  list(tool)):
+        done = case.tool(*words)
+        case.test(" ".join(words[1:]), done.status == 2 and len(done.told) == 1, done)
+
+
+def has_no_dead_links(case: Case) -> None:
+    """Each link of the installed manual leads to a file there, and each tool that an example of it
+    calls beside the program is installed."""
+    case.tool("install", "-p", case.bench.program, "prefix")
+    home = case.path("prefix/lib/subttx")
+    paths = [os.path.join(home, "docs", "MANUAL.md"),
+             *glob.glob(os.path.join(home, "docs", "manual", "*.md"))]
+    case.test("chapters", len(paths) > 10, paths)
+    count = 0
+    for path in paths:
+        text = read(path) or ""
+        for target in re.findall(r"\]\(([^)\s#]+)", text):
+            count += 1
+            case.test(f"{os.path.relpath(path, home)}: {target}", ":" in target or
+                      os.path.exists(os.path.join(os.path.dirname(path), target)))
+        called = set(re.findall(r"^\$ .*?\btools/(\w+)", text, re.MULTILINE))
+        case.test(f"{os.path.relpath(path, home)}: tools", all(
+            os.path.exists(os.path.join(home, "tools", name)) for name in called
+            if name not in ("install", "dist")), called)
+    case.test("links", count > 40, count)
+    text = without_dead_links("![a](x.png) [`b`](y.md#z) [c](http://d) [e](f.md)", case.folder)
+    case.test("their words", text == "a `b` [c](http://d) e", text)
+
+
 def runs_the_whole_way(case: Case, prefix: str) -> None:
     """From a recording to a verdict, with the tools of a prefix."""
     def run(name: str, *words: str) -> Done:
@@ -58,6 +111,8 @@ def runs_the_whole_way(case: Case, prefix: str) -> None:
     done = run("subttx-qc", stl, "story.ts")
     case.test("qc", done.out.endswith(b"accepted 226 frames 5 transmissions\n") and
               os.path.join(prefix, "bin", "subttx-origin").encode() in done.out, done)
+    done = run("subttx-poke", stl, "11=20")
+    case.test("poke", done.status == 0 and done.out[11:12] == b" ", done.told)
     done = run("subttx-cut", "--help")
     case.test("its own names in the help", b"subttx-cut PES" in done.out
               and b"tools/" not in done.out, done)
@@ -107,19 +162,31 @@ def names_one_version(case: Case) -> None:
     case.test("the change log", log and log[1].rstrip(",") == version, log)
 
 
-def makes_an_archive(case: Case) -> None:
-    """The archive's sums are right, and what is in it runs; twice the same bytes."""
+def proved_here(case: Case) -> str | None:
+    """The file PROVED beside the program; none where the gate has not proved that."""
     program, _ = chosen(TOP)
     proved = os.path.join(os.path.dirname(program), "PROVED")
-    if not program or lacking(parsed(read(proved))):
-        case.bench.over.append("tools/dist, since the gate has not proved the program here")
+    if program and not lacking(parsed(read(proved))):
+        return proved
+    case.bench.over.append("tools/dist, since the gate has not proved the program here")
+    return None
+
+
+def makes_an_archive(case: Case) -> None:
+    """The archive's sums are right, and what is in it runs; twice the same bytes."""
+    proved = proved_here(case)
+    if not proved:
         return
     done = case.tool("dist")
     path = case.path(done.out.decode().strip())
     case.test("status", done.status == 0, done)
     before = case.read(path)
-    case.tool("dist")
-    case.test("the same bytes again", case.read(path) == before)
+    done = case.tool("dist", "new/folder")
+    case.test("the same bytes again, in a folder that is made",
+              case.read(done.out.decode().strip()) == before, done)
+    done = case.tool("dist", case.write("file", b""))
+    case.test("no folder", done.status == 2 and done.told == [
+        f"dist: {case.path('file')} is no folder"], done)
     with tarfile.open(path) as archive:
         archive.extractall(case.folder)
         folder = case.path(archive.getnames()[0])
@@ -129,4 +196,36 @@ def makes_an_archive(case: Case) -> None:
     runs_the_whole_way(case, folder)
 
 
-CASES = [installs, refuses_a_dash, completes, names_one_version, makes_an_archive]
+def makes_a_package(case: Case) -> None:
+    """A package of Debian: twice the same bytes, unpacked it judges, and lintian finds no error."""
+    proved = proved_here(case)
+    if not proved:
+        return
+    if not shutil.which("dpkg-deb"):
+        case.bench.over.append("tools/dist --deb, since there is no dpkg-deb")
+        return
+    done = case.tool("dist", "--deb")
+    path = case.path(done.out.decode().strip())
+    case.test("status", done.status == 0, done)
+    before = case.read(path)
+    case.tool("dist", "--deb")
+    case.test("the same bytes again", case.read(path) == before)
+    done = case.call(["dpkg-deb", "-f", path, "Version", "Depends"])
+    case.test("version, and what it needs", done.out.decode().splitlines() == [
+        f"Version: {(read(os.path.join(TOP, 'VERSION')) or '').strip()}",
+        "Depends: libc6 (>= 2.34), python3"], done)
+    done = case.call(["dpkg-deb", "-x", path, "empty"])
+    case.test("unpacked", done.status == 0, done)
+    runs_the_whole_way(case, case.path("empty/usr"))
+    documents = case.path("empty/usr/share/doc/subttx")
+    case.test("the manual", os.path.isfile(os.path.join(documents, "manual", "qc.md")))
+    case.test("what was proved", read(os.path.join(documents, "PROVED")) == read(proved))
+    if shutil.which("lintian"):
+        done = case.call(["lintian", "--allow-root", "--fail-on", "error", path])
+        case.test("lintian", done.status == 0, done)
+    else:
+        case.bench.over.append("the package by lintian, which is not there")
+
+
+CASES = [installs, removes, has_no_dead_links, refuses_a_dash, completes, names_one_version,
+         makes_an_archive, makes_a_package]

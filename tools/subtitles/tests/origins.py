@@ -111,6 +111,39 @@ def tells_that_rows_are_late(case: Case) -> None:
               in found[2], found)
 
 
+def tells_that_rows_of_any_number_are_late(case: Case) -> None:
+    """The same where no subtitles adjoin, of one subtitle, and where a sending is lost."""
+    for count in (1, 2, 3, 20):
+        blocks = [subtitle_blocks(number, 100 * number, 100 * number + 60, 22, 2,
+                                  b"Subtitle %d" % number) for number in range(count)]
+        stl = case.write("rows.stl", gsi_block(b"Rows", count, count) + b"".join(blocks))
+        case.schedule(stl, "rows.pes", "--every", "1500")
+        made = []
+        for one in packets(case.read("rows.pes")):
+            sent = teletext_packets(data_field(one))
+            made.append(pes_packet(pts_in(one), sent[:1]))
+            if len(sent) > 2:
+                made.append(pes_packet(pts_in(one) + TICKS, sent[1:]))
+        for name, some in (("all", made), ("one lost", made[:7] + made[8:])):
+            if name == "all" or count == 20:
+                found = origin_of(case, stl, b"".join(some))
+                which = "all" if name == "all" else "19 of 20"
+                case.test(f"{count}, {name}", found[:2] == (0, TICKS) and f"origin: {which} ends "
+                          "are 1 frame early compared with the beginnings" in found[2], found)
+
+
+def tells_that_pes_packets_have_no_pts(case: Case) -> None:
+    own = packets(example_bytes("story.pes"))
+    without = [one[:7] + b"\0" + one[8:] for one in own]
+    found = origin_of(case, example("story.stl"), b"".join(without))
+    case.test("none", found[:2] == (1, None) and found[2][0].endswith(
+        " has a PTS: check refuses them as 34") and len(found[2]) == 1, found)
+    found = origin_of(case, example("story.stl"), b"".join([*own[:2], without[2], *own[3:]]))
+    case.test("one has none", found[:2] == (0, 0)
+              and "origin: 1 of 5 PES packets have no PTS, and are passed over here: check refuses "
+              "them as 34" in found[2], found)
+
+
 def tells_jitter(case: Case) -> None:
     data, _ = random_subtitles(4)
     stl = case.write("jitter.stl", data)
@@ -231,6 +264,7 @@ def asks_many_in_one_step(case: Case) -> None:
 
 CASES = [counts_all_pairs, asks_many_in_one_step, finds_that_of_the_examples,
          finds_that_of_transmissions_at_random, finds_it_where_sendings_are_lost,
-         tells_that_all_is_late, tells_that_ends_are_late, tells_that_rows_are_late, tells_jitter,
+         tells_that_all_is_late, tells_that_ends_are_late, tells_that_rows_are_late,
+         tells_that_rows_of_any_number_are_late, tells_that_pes_packets_have_no_pts, tells_jitter,
          tells_what_is_not_unique, tells_that_a_few_edges_fit_elsewhere,
          tells_what_does_not_fit, goes_on_with_damaged_files]

@@ -1,6 +1,7 @@
 """tools/qc on a pair: from a recording to a verdict."""
 from __future__ import annotations
 
+import hashlib
 import json
 import os
 import select
@@ -14,6 +15,8 @@ from .bench import Case, Done, example, example_bytes, moved, packets, random_su
 
 STORY, RECORDING = example("story.stl"), example("recording.ts")
 ACCEPTED = "accepted 226 frames 5 transmissions"
+FITTED = "the clock was fitted to the recording: a delay that all subtitles share is not seen; " \
+    "give --origin or --start"
 TS = 188  # bytes of a packet
 
 
@@ -44,11 +47,13 @@ def judges_a_recording(case: Case) -> None:
                                              os.path.basename(case.bench.program), "preview"],
               commands)
     kept = sorted(os.listdir(case.path("out")))
-    case.test("its files", kept == ["story.cut.pes", "story.html", "story.json", "story.txt"], kept)
+    case.test("its files", kept == ["story.html", "story.json", "story.txt"], kept)
     said: dict[str, list[str]] = {}
     for line in lines:
         if line.startswith("+ "):
             answer = said.setdefault(line[2:], [])
+        elif line == FITTED:
+            break
         elif line:
             answer.append(line.removeprefix("ts2pes: "))
     for command in commands:
@@ -80,7 +85,8 @@ def judges_a_feed(case: Case) -> None:
     words = lines_of(done)[0].split()
     case.test("one line of commands", words.count("|") == 2, words)
     wrong = stream(case, "five", example_bytes("five-faults.pes"))
-    done = qc(case, STORY, "-", "--origin", "0", "--every", "25", "-o", "out", data=wrong)
+    done = qc(case, STORY, "-", "--origin", "0", "--every", "25", "-o", "out", "--keep",
+              data=wrong)
     case.test("refused", done.status == 1 and lines_of(done)[-1] ==
               "refused 67 Control frame 20:15:01:00 packet 0" and "5 faults" in lines_of(done),
               done)
@@ -214,40 +220,41 @@ def in_two_parts(case: Case) -> tuple[str, bytes]:
 def judges_part_by_part(case: Case) -> None:
     """A programme with a break: each part has an origin of its own."""
     stl, data = in_two_parts(case)
-    words = [stl, case.write("two.ts", stream(case, "two", data))]
+    words = [stl, case.write("two.ts", stream(case, "two", data)), "--breaks", "1"]
     done = qc(case, *words, "-o", "out", "--json", "two.json")
     lines = lines_of(done)
-    case.test("accepted", (done.status, lines[-3:]) == (0, [
+    case.test("accepted", (done.status, lines[-4:]) == (0, [
         "part 1, from 10:00:00:00 to 10:00:38:10: accepted 961 frames 49 transmissions",
-        "part 2, from 10:00:40:00 to 10:01:18:10: accepted 961 frames 49 transmissions",
+        "part 2, from 10:00:40:00 to 10:01:18:10: accepted 961 frames 49 transmissions", FITTED,
         "accepted 1922 frames 98 transmissions in 2 parts"]), done)
     kept = sorted(os.listdir(case.path("out")))
     case.test("its files", kept == sorted(
         ["two.json", *(f"two.{number}.{ending}" for number in (1, 2)
-                       for ending in ("stl", "cut.pes", "txt", "html"))]), kept)
+                       for ending in ("stl", "txt", "html"))]), kept)
     parts = json.loads(case.read("two.json"))["parts"]
     case.test("its object", [(part["from"], part["to"], part["origin"]) for part in parts] ==
               [("10:00:00:00", "10:00:38:10", 1000),
                ("10:00:40:00", "10:01:18:10", 1000 + 4500 * TICKS)], parts)
-    done = qc(case, stl, "-", data=case.read("two.ts"))
+    done = qc(case, stl, "-", "--breaks", "1", data=case.read("two.ts"))
     case.test("a pipe", done.status == 0 and lines_of(done)[-1].endswith(" in 2 parts"), done)
     second = bytearray(packets(data)[49])
     second[117] ^= 0xFF  # another letter, also of odd parity
     broken = b"".join([*packets(data)[:49], bytes(second), *packets(data)[50:]])
-    done = qc(case, stl, case.write("broken.pes", broken), "-o", "out")
-    case.test("a broken one", done.status == 1 and "part 1, " in lines_of(done)[-3]
-              and "accepted" in lines_of(done)[-3] and lines_of(done)[-1].startswith("refused "),
+    done = qc(case, stl, case.write("broken.pes", broken), "-o", "out", "--breaks", "1")
+    case.test("a broken one", done.status == 1 and "part 1, " in lines_of(done)[-4]
+              and "accepted" in lines_of(done)[-4] and lines_of(done)[-1].startswith("refused "),
               done)
-    done = qc(case, stl, case.write("one.pes", data[:len(data) // 2]))
-    case.test("one part is missing", done.status == 1, done)
+    one = case.write("one.pes", data[:len(data) // 2])
+    case.test("one part is missing", qc(case, stl, one).status == 1)
+    case.test("and was said", qc(case, stl, one, "--breaks", "1").status == 2)
 
 
-def waits_for_the_end_where_there_is_a_break(case: Case) -> None:
-    """The origin that is found in a feed is not that of all: it is judged part by part then."""
+def keeps_the_first_origin_of_a_feed(case: Case) -> None:
+    """What comes later than by the origin that is found is refused, and each line comes once."""
     stl, data = in_two_parts(case)
     process = subprocess.Popen([os.path.join(TOP, "tools", "qc"), stl, "-", "-p",
                                 case.bench.program], cwd=case.folder, stdin=subprocess.PIPE,
-                               stdout=subprocess.PIPE)
+                               stdout=subprocess.PIPE, stderr=subprocess.DEVNULL)
     assert process.stdin and process.stdout
     sent = iter(packets(data))
     for one in sent:
@@ -257,12 +264,31 @@ def waits_for_the_end_where_there_is_a_break(case: Case) -> None:
             if select.select([process.stdout], [], [], 1.0)[0]:
                 break
     first = process.stdout.readline().decode()
-    case.test("it was found", "/dev/stdin --origin 1000 --all" in first, first)
+    case.test("it was found", "/dev/stdin --complete --origin 1000 --all" in first, first)
     for one in sent:
         process.stdin.write(one)
     process.stdin.close()
     lines = process.stdout.read().decode().splitlines()
-    case.test("in two parts", process.wait() == 0 and lines[-1].endswith(" in 2 parts"), lines)
+    case.test("refused", process.wait() == 1 and lines[-1].startswith("refused ")
+              and lines.count(lines[-1]) == 2 and not any("+ " in line for line in lines), lines)
+
+
+def keeps_what_was_judged_where_it_is_asked(case: Case) -> None:
+    """With --keep; without, its sum stays in the object, and there is no name."""
+    cases: list[tuple[list[str], str | None]] = [(["--keep"], "out/story.cut.pes"), ([], None)]
+    for words, name in cases:
+        done = qc(case, STORY, example("story.pes"), "-o", "out", *words)
+        pes = json.loads(case.read("out/story.json"))["parts"][0]["pes"]
+        case.test(f"{words}: its sum", pes == {
+            "name": name, "size": len(example_bytes("story.pes")),
+            "sha256": hashlib.sha256(example_bytes("story.pes")).hexdigest()}, pes)
+        case.test(f"{words}: the file", os.path.exists(case.path("out/story.cut.pes")) ==
+                  bool(words) and done.status == 0, done)
+    done = qc(case, STORY, RECORDING, "--keep")
+    case.test("without a folder", done.status == 2 and len(done.told) == 1, done)
+    case.write("list", f"{STORY} {RECORDING}\n".encode())
+    qc(case, "--batch", "list", "-o", "all", "--keep")
+    case.test("a batch", os.path.exists(case.path("all/story.cut.pes")))
 
 
 def leaves_inputs_alone(case: Case) -> None:
@@ -305,5 +331,6 @@ def uses_the_page_and_the_option(case: Case) -> None:
 
 CASES = [judges_a_recording, takes_pes_packets, judges_a_feed, ends_with_a_feed_that_goes_on,
          judges_a_subtitle_file, refuses_what_was_lost, judges_part_by_part,
-         waits_for_the_end_where_there_is_a_break, guesses_nothing, leaves_inputs_alone,
+         keeps_the_first_origin_of_a_feed, guesses_nothing,
+         keeps_what_was_judged_where_it_is_asked, leaves_inputs_alone,
          heeds_severities, uses_the_page_and_the_option]

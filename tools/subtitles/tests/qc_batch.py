@@ -52,7 +52,13 @@ def judges_a_folder(case: Case) -> None:
     verdicts = [one["verdict"] for one in loaded(case, "all.json")["pairs"]]
     case.test("its object", verdicts.count("accepted") == 10 and len(verdicts) == 12, verdicts)
     rows = list(csv.DictReader(io.StringIO(case.read("all.csv").decode())))
-    case.test("its lines", [row["number"] for row in rows] == ["67", "72", "68", "69"], rows)
+    numbers = [row["number"] for row in rows if row["number"]]
+    case.test("its lines", numbers == ["67", "72", "68", "69"], rows)
+    pairs = [row["verdict"] for row in rows if not row["number"]]
+    case.test("a line for each pair", sorted(pairs) == ["accepted"] * 10 + ["not judged",
+                                                                           "refused"], rows)
+    case.test("why it is none", [row["reason"] for row in rows if row["status"] == "2"] ==
+              [f"{folder}/07.stl: no recording of that name"], rows)
     suite = tree.fromstring(case.read("all.xml"))[0]
     case.test("its testcases", (suite.get("tests"), suite.get("failures"), suite.get("errors")) ==
               ("12", "1", "1"), suite.attrib)
@@ -67,7 +73,7 @@ def judges_a_list(case: Case) -> None:
     done = qc(case, "--batch", "list", "--jobs", "2", "-o", "out")
     case.test("accepted", done.status == 0 and len(lines_of(done)) == 5, done)
     kept = sorted(os.listdir(case.path("out")))
-    case.test("its files", len(kept) == 4 * 3 and "german.html" in kept, kept)
+    case.test("its files", len(kept) == 3 * 3 + 1 and {"german.html", "index.html"} <= {*kept}, kept)
     case.write("refused", f"{STORY} {FIVE} --every 25\n{STORY}  {RECORDING}\n".encode())
     case.test("refused", qc(case, "--batch", "refused").status == 1)
     case.write("list", (text + f"{hello}\n{hello} none.ts\n{hello} -\n").encode())
@@ -107,6 +113,14 @@ def tells_what_is_known_of_a_fault(case: Case) -> None:
         "pes": 2, "time": "20:15:03:00", "row": 22, "column": 27,
         "due": {"code": "65", "character": "e"}, "held": {"code": "61", "character": "a"},
         "until": "20:15:03:24"}, known)
+    cause = faults[72]["cause"]
+    case.test("its cause", (cause["cause"], cause["subtitle"]["number"], cause["text"],
+                            cause["sent"]) ==
+              ("wrong text", 2, "Thank you, Anne.", "Thank you, Anna."), cause)
+    case.test("of no other fault", [fault["number"] for fault in verdict["faults"]
+                                    if fault["cause"]] == [72], faults)
+    case.test("all causes", (verdict["causes"], sum(verdict["cause_counts"].values())) ==
+              ([{"part": 1, **cause}], 1), verdict["causes"])
     case.test("73", (faults[73]["pes"], faults[73]["until"]) == (None, "20:15:02:24"), faults[73])
     case.test("68", (faults[68]["pes"], faults[68]["packet"], faults[68]["subtitle"]["number"]) ==
               (3, 1, 2), faults[68])
@@ -146,7 +160,7 @@ def takes_lines_of_every_kind(case: Case) -> None:
         faults)
     rows = list(csv.DictReader(case.read("lines.csv").decode().splitlines()))
     case.test("a line a fault", [(row["number"], row["until"], row["until_pes"]) for row in rows] ==
-              [("38", "", "2"), ("72", "20:15:06:24", "")], rows)
+              [("", "", ""), ("38", "", "2"), ("72", "20:15:06:24", "")], rows)
 
 
 def agrees(case: Case, verdict: Any, name: str = "the schema") -> None:

@@ -4,7 +4,7 @@ use Rattle.std.proofs.lemmas.Bool.Decides.{nat_tests}
 use Rattle.std.proofs.lemmas.Bool.{ne_eqb}
 use Rattle.stl_file.proofs.FindingsLemmas.{findings_end}
 use Rattle.stl_file.proofs.ReadBlocksLemmas.{leads_end, leads_too_many, leads_truncated}
-use Rattle.stl_file.proofs.ReadBlocksLemmas.{fails_finding, leads_given, leads_refused, reads_on}
+use Rattle.stl_file.proofs.ReadBlocksLemmas.{fails_reading, leads_given, leads_refused, reads_on}
 use Rattle.stl_file.proofs.reader.read_blocks.Goals as goal
 
 pub loop-got-init : goal.loop-got-init
@@ -13,7 +13,7 @@ loop-got-init g c = grind (arith, nat_tests)
 pub returns-in_err-got-clause-failed : goal.returns-in_err-got-clause-failed
 returns-in_err-got-clause-failed g c = λ _.
     let e = c.in_err-got.ensures.err in
-    fails_finding c.args.block.now c.loop-got.block _ _ _ _ _ e.0
+    fails_reading c.args.block.now c.loop-got.block _ _ _ _ _ e.0
     c.loop-got.invariant.read c.loop-got.invariant.few
     (let l = e.1 in let s = c.fill.auto.to in omega arith) e.2
 

@@ -1,8 +1,7 @@
 -- What the loop keeps: the blocks that were read so far, and room for those that may follow.
 use Rattle.std.proofs.Common.{◌≡◌, ◌≤◌, ◌-◌}
 use Rattle.std.specs.Prelude.{option_map}
-use Rattle.stl_file.specs.Reading.{BegunFits, begun_in}
-use Rattle.stl_file.specs.Resuming.{refused_by}
+use Rattle.stl_file.specs.Reading.{BegunFits, begun_in, refused_by}
 use Rattle.stl_file.specs.Tti.{most_blocks}
 use Rattle.stl_file.proofs.ReadBlocksLemmas.{HasRead}
 use Rattle.stl_file.proofs.reader.read_blocks.Given as goal

@@ -7,18 +7,19 @@ use Rattle.std.proofs.lemmas.Bool.{lt-ltb}
 use Rattle.std.specs.Prelude.{◌≢◌}
 use Rattle.sub_io.proofs.TellingLemmas.{Tells-none, Tells-trans}
 use Rattle.stl_file.specs.declared.fault.StlFault.TheVariants.{Ended}
-use Rattle.stl_file.specs.Reader.{outcome_of}
 use Rattle.stl_rows.specs.declared.fault.LoadFaultKind.TheVariants.{File}
-use Rattle.stl_rows.specs.Loading.{load_fault, loaded}
+use Rattle.stl_rows.specs.EveryFault.{load_fault}
+use Rattle.stl_rows.specs.Loading.{loaded}
 use Rattle.stl_rows.specs.Programme.{follow_faults}
 use Rattle.std.proofs.lemmas.List.Elements.{All-nil, All-weaker}
+use Rattle.stl_file.proofs.ReaderLemmas.{left-then}
 use Rattle.stl_rows.proofs.FailedReadLemmas.{fails-next, has_taken-next, reads-nothing}
 use Rattle.stl_rows.proofs.LoadingLemmas.{are_kept-next, ends-here, goes_on-next, goes_on-start}
 use Rattle.stl_rows.proofs.LoadingLemmas.{if_kept, of_file-end, of_file-stopped, findings_of-opened}
 use Rattle.stl_rows.proofs.LoadingLemmas.{IsToldBy, some-next, some_items, tells-end, told-none}
-use Rattle.stl_rows.proofs.LoadingLemmas.{first_kind, goes_on-refused, left-then, tells-none}
-use Rattle.stl_rows.proofs.LoadingLemmas.{tells-refused, tells-stop, told-next, told-of_file}
-use Rattle.stl_rows.proofs.LoadingLemmas.{told-refused}
+use Rattle.stl_rows.proofs.LoadingLemmas.{first_kind, goes_on-refused, loads-all}
+use Rattle.stl_rows.proofs.LoadingLemmas.{tells-none, tells-refused, tells-stop, told-next}
+use Rattle.stl_rows.proofs.LoadingLemmas.{told-of_file, told-refused}
 use Rattle.stl_rows.proofs.ProgrammeLemmas.{IsProgramme-none}
 use Rattle.stl_rows.proofs.every_fault.load_all_in.Goals as goal
 
@@ -212,14 +213,15 @@ returns-in-Err-keep-clause-some_before g c =
 
 pub returns-in-Ok-End-clause-exact : goal.returns-in-Ok-End-clause-exact
 returns-in-Ok-End-clause-exact g c = λ bytes e.
-    let here = c.subtitles.invariant.goes_on bytes e in
+    let i = c.subtitles.invariant in
+    let here = i.goes_on bytes e in
     let l = rw c.in-Ok-End.field-0-is at (c.in-Ok-End.ensures.leads refl) in
     let end = left-then _ _ here.0 l here.1 in
-    let on = rw end.2 at here.2 in
     if_kept (λ v. v.items)
-    (λ records. loaded c.args.national (outcome_of bytes)
+    (λ records. loaded c.args.national bytes
     ≡ Ok (record { national = c.args.national; records = records }))
-    c.subtitles.kept (λ records h. sym (on.loads records h))
+    c.subtitles.kept
+    (λ records h. loads-all here.2 end.2 records h (i.are_kept records h).none)
 
 pub returns-in-Ok-End-clause-told : goal.returns-in-Ok-End-clause-told
 returns-in-Ok-End-clause-told g c = λ bytes e none.

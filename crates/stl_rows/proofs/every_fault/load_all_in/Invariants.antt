@@ -5,7 +5,7 @@ use Rattle.std.specs.Prelude.{option_map}
 use Rattle.std.specs.List.{All}
 use Rattle.sub_io.specs.Telling.{Tells}
 use Rattle.stl_file.specs.declared.progress.Progress.TheVariants.{Reading}
-use Rattle.stl_file.specs.Resuming.{findings_from}
+use Rattle.stl_file.specs.Reading.{findings_from}
 use Rattle.stl_file.specs.Subtitle.{SubtitleValue}
 use Rattle.stl_rows.specs.declared.fault.LoadFault.{LoadFault}
 use Rattle.stl_rows.proofs.FailedReadLemmas.{HasTaken}

@@ -1,0 +1,128 @@
+-- Spans packet by packet: `clean_cuts`, `last_clean`.
+use Rattle.std.proofs.lemmas.Bool.Decides.{nat_tests}
+use Rattle.std.proofs.Common.{◌≡◌, ℕ, zero, suc, ◌<◌, inl, inr, Bool, true, false, not, ◌&&◌, cond}
+use Rattle.std.proofs.Common.{List, [], ◌∷◌, ◌++◌, length, take, slice_index_or, All, refl, sym, ap}
+use Rattle.std.proofs.Common.{IsTrue, IsFalse, ◌∙◌, subst, arith, add-one}
+use Rattle.std.proofs.lemmas.Bool.{cases_lt}
+use Rattle.std.proofs.lemmas.List.{take_more, take_all, length_push}
+use Rattle.std.proofs.lemmas.List.{get_or_append_left, get_or_at}
+use Rattle.std.proofs.lemmas.List.Elements.{All-nil, All-push}
+use Rattle.ttx_packet.specs.PageId.{PageIdValue}
+use Rattle.ttx_page.specs.Noise.{IsOddRow, IsSameRow}
+use Rattle.ttx_page.specs.PacketKind.{kind, is_this_page, ends_page}
+use Rattle.ttx_page.specs.Span.{is_open_after, span}
+use Rattle.ttx_page.proofs.SpanPush.{span-push}
+use Rattle.sub_rules.specs.Good.{IsEnhancement, IsCleanSpan}
+
+-- A packet may follow a clean span.
+pub record MayFollow (page : PageIdValue) (packets : List (List ℕ)) (packet : List ℕ) : Type 0 where
+  pub odd : IsOddRow page packet
+  pub same : All (λ earlier. IsSameRow page earlier packet) packets
+  pub plain : IsEnhancement page packet → ⊥
+
+-- Each packet that comes while the page is open, and is no header that opens it again or ends it,
+-- may follow the span that it comes after.
+abbrev pub EachMayFollow : PageIdValue → List (List ℕ) → Type 0
+EachMayFollow page packets =
+    (i : ℕ) (d : List ℕ)
+    → i < length packets
+    → IsTrue (is_open_after (kind page) (take i packets))
+    → IsFalse (is_this_page (kind page (slice_index_or packets i d)))
+    → IsFalse (ends_page (kind page (slice_index_or packets i d)))
+    → MayFollow page (span (kind page) (take i packets)) (slice_index_or packets i d)
+
+-- ---- one packet more
+
+-- A clean span stays clean with a packet that may follow.
+push_clean :
+    (page : PageIdValue) (packets : List (List ℕ)) (packet : List ℕ)
+    → IsCleanSpan page packets
+    → MayFollow page packets packet
+    → IsCleanSpan page (packets ++ packet ∷ [])
+push_clean page packets packet clean follows = record {
+  odd = All-push (IsOddRow page) packets packet clean.odd follows.odd;
+  same =
+      All-push (λ first. All (IsSameRow page first) (packets ++ packet ∷ [])) packets packet
+      (λ k d l. All-push (IsSameRow page (slice_index_or packets k d)) packets packet
+      (clean.same k d l) (follows.same k d l))
+      (grind (arith, nat_tests, All-push (IsSameRow page packet) packets packet));
+  plain = All-push (λ p. IsEnhancement page p → ⊥) packets packet clean.plain follows.plain;
+}
+
+-- The last packet of a clean span may follow those before it.
+pub last_clean :
+    (page : PageIdValue) (packets : List (List ℕ)) (packet : List ℕ)
+    → IsCleanSpan page (packets ++ packet ∷ [])
+    → MayFollow page packets packet
+last_clean page packets packet clean =
+    let n : ℕ = length packets in
+    let within : n < length (packets ++ packet ∷ []) =
+    subst (λ m. n < m) (sym (length_push packets packet)) (omega arith) in
+    let at : (d : List ℕ) → slice_index_or (packets ++ packet ∷ []) n d ≡ packet =
+    λ d. get_or_at packets packet [] d n refl in
+    record {
+      odd = subst (IsOddRow page) (at []) (clean.odd n [] within);
+      same = λ k d l.
+          let before : slice_index_or (packets ++ packet ∷ []) k d ≡ slice_index_or packets k d =
+          get_or_append_left packets (packet ∷ []) d k l in
+          let far : k < length (packets ++ packet ∷ []) =
+          subst (λ m. k < m) (sym (length_push packets packet)) (omega arith) in
+          subst (λ p. IsSameRow page p packet) before
+          (subst (IsSameRow page (slice_index_or (packets ++ packet ∷ []) k d)) (at [])
+          (clean.same k d far n [] within));
+      plain = subst (λ p. IsEnhancement page p → ⊥) (at []) (clean.plain n [] within);
+    }
+
+-- ---- a list, cut anywhere
+
+-- No packets are a clean span.
+clean_nil : (page : PageIdValue) → IsCleanSpan page []
+clean_nil page = record { odd = All-nil _; same = All-nil _; plain = All-nil _ }
+
+-- What one more packet makes of the span, by cases.
+pushed :
+    (page : PageIdValue) (packets : List (List ℕ)) (packet : List ℕ)
+    → IsCleanSpan page (span (kind page) packets)
+    → (is_open_after (kind page) packets ≡ true
+    → is_this_page (kind page packet) ≡ false
+    → ends_page (kind page packet) ≡ false
+    → MayFollow page (span (kind page) packets) packet)
+    → IsCleanSpan page (span (kind page) (packets ++ packet ∷ []))
+pushed page packets packet clean follows =
+    subst (IsCleanSpan page) (sym (span-push (kind page) packets packet))
+    (go (is_this_page (kind page packet)) (is_open_after (kind page) packets)
+    (ends_page (kind page packet)) refl refl refl)
+  where
+    go :
+        (t o e : Bool)
+        → is_this_page (kind page packet) ≡ t
+        → is_open_after (kind page) packets ≡ o
+        → ends_page (kind page packet) ≡ e
+        → IsCleanSpan page
+        (cond t []
+        (cond (o && not e) (span (kind page) packets ++ packet ∷ [])
+        (span (kind page) packets)))
+    go true o e p q r = clean_nil page
+    go false true false p q r =
+        push_clean page (span (kind page) packets) packet clean (follows q p r)
+    go false true true p q r = clean
+    go false false e p q r = clean
+
+-- Where each packet may follow, each cut is clean: induction on the place of the cut.
+pub clean_cuts :
+    (page : PageIdValue) (packets : List (List ℕ))
+    → EachMayFollow page packets
+    → (n : ℕ)
+    → IsCleanSpan page (span (kind page) (take n packets))
+clean_cuts page packets each zero = clean_nil page
+clean_cuts page packets each (suc n) =
+    let ih = clean_cuts page packets each n in
+    elim (cases_lt n (length packets)) [
+      | inl within ↦
+          let more : take (suc n) packets ≡ take n packets ++ slice_index_or packets n [] ∷ [] =
+          ap (λ m. take m packets) (sym (add-one n)) ∙ take_more packets n [] within in
+          subst (λ ps. IsCleanSpan page (span (kind page) ps)) (sym more)
+          (pushed page (take n packets) (slice_index_or packets n []) ih (each n [] within))
+      | inr past ↦
+          grind (arith, nat_tests, take_all)
+    ]

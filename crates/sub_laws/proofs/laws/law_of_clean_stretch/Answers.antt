@@ -1,6 +1,0 @@
--- The law: CleanStretchLemmas.
-use Rattle.sub_laws.proofs.CleanStretchLemmas.{law_of_clean_stretch}
-use Rattle.sub_laws.proofs.laws.law_of_clean_stretch.Goals as goal
-
-pub returns : goal.returns
-returns c = law_of_clean_stretch

@@ -1,0 +1,6 @@
+-- The law: CleanStretchLemmas.
+use Rattle.sub_laws.proofs.CleanStretchLemmas.{law_of_untold_stretch}
+use Rattle.sub_laws.proofs.laws.law_of_untold_stretch.Goals as goal
+
+pub returns : goal.returns
+returns c = law_of_untold_stretch

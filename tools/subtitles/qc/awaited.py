@@ -1,0 +1,103 @@
+"""A programme that is waited for: its edges, looked for among the changes of a page."""
+from __future__ import annotations
+
+import bisect
+import collections
+from typing import Iterator, Sequence
+
+from ..files import whole_bytes
+from ..stl import letters_on_page, readable, times_of
+from ..times import TICKS
+from ..votes import REPEATED, Edge, Shown, edges_of
+from ..words import Stop
+
+IN_A_ROW = 5  # edges that have to agree
+BEFORE = 12  # changes that are looked at again when others have come
+NEAR = TICKS // 2  # ticks between a change and the edge that agrees with it, at most
+
+
+class Changes:
+    """The changes of a page's text: when, in ticks of one clock that never goes back, and the
+    letters then."""
+
+    def __init__(self) -> None:
+        self.times: list[int] = []
+        self.letters: list[bytes] = []
+
+    def add(self, time: int, letters: bytes) -> None:
+        """One more change, after all others."""
+        self.times.append(time)
+        self.letters.append(letters)
+
+    def drop(self, before: int) -> None:
+        """Forgets those before a time."""
+        count = bisect.bisect_left(self.times, before)
+        del self.times[:count]
+        del self.letters[:count]
+
+    def near(self, time: int) -> int | None:
+        """The number of the change that is nearest to a time, if it is near."""
+        at = bisect.bisect_left(self.times, time)
+        found = min((one for one in (at - 1, at) if 0 <= one < len(self.times)),
+                    key=lambda one: abs(self.times[one] - time), default=None)
+        return found if found is not None and abs(self.times[found] - time) <= NEAR else None
+
+
+class Awaited:
+    """The edges of a subtitle file, looked for in changes from `since` on, and up to `until`."""
+
+    def __init__(self, stl: str, option: str, since: int, until: int) -> None:
+        shown = list(subtitles_of(stl, option))
+        if not shown:
+            raise Stop(f"{stl} has no subtitle that comes and goes within a day")
+        self.edges: Sequence[Edge] = edges_of(shown)
+        self.first = min(one.begin for one in shown)
+        self.last = max(one.end for one in shown)
+        self.since = self.looked = since  # those before the second were looked at
+        self.until = until
+        self.alike: dict[bytes, list[int]] = collections.defaultdict(list)
+        for number, edge in enumerate(self.edges):
+            if edge.letters:
+                self.alike[edge.letters].append(number)
+
+    def midnight(self, changes: Changes) -> int | None:
+        """The time of 00:00:00:00 with which five edges in a row agree, or all where they are
+        fewer; `None` where there is none yet."""
+        least = bisect.bisect_left(changes.times, self.since)
+        first = max(bisect.bisect_left(changes.times, self.looked) - BEFORE, least)
+        self.looked = changes.times[-1] if changes.times else self.looked
+        for at in range(first, len(changes.times)):
+            for number in self.alike.get(changes.letters[at], [])[:REPEATED]:
+                found = self.agreed(changes, at, number)
+                if found is not None:
+                    return found
+        return None
+
+    def agreed(self, changes: Changes, at: int, number: int) -> int | None:
+        """The same, where a change is that of an edge."""
+        count = min(IN_A_ROW, len(self.edges))
+        midnight = changes.times[at] - TICKS * self.edges[number].frame
+        for start in range(max(0, number - count + 1), min(number, len(self.edges) - count) + 1):
+            rest = list(self.rests(changes, midnight, self.edges[start:start + count]))
+            end = midnight + TICKS * self.edges[start + count - 1].frame
+            if len(rest) == count and end <= self.until:
+                return midnight + sorted(rest)[count // 2]
+        return None
+
+    def rests(self, changes: Changes, midnight: int, edges: Sequence[Edge]) -> Iterator[int]:
+        """How many ticks late edges are, up to the first that does not agree."""
+        for edge in edges:
+            time = midnight + TICKS * edge.frame
+            at = changes.near(time)
+            if at is None or changes.letters[at] != edge.letters or changes.times[at] < self.since:
+                return
+            yield changes.times[at] - time
+
+
+def subtitles_of(stl: str, option: str) -> Iterator[Shown]:
+    """The subtitles of a file that come and go within a day."""
+    for one in readable(stl, whole_bytes(stl)):
+        begin, end = times_of(one)
+        if begin is not None and end is not None and begin < end:
+            yield Shown(begin, end, (one.row, one.justify, one.text),
+                        letters_on_page(one.text, option))

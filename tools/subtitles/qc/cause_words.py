@@ -1,0 +1,90 @@
+"""Causes as a person reads them, and as values for machines."""
+from __future__ import annotations
+
+from typing import TypedDict
+
+from ..preview.letters import ENGLISH, GERMAN
+from ..times import time_of
+from ..words import counted
+from .causes import EARLY, LATE, NOT_ERASED, OTHER, Cause
+from .lettering import text_of
+from .naming import Causes, counts_of
+
+LINE = "cause: "  # before each
+
+
+class SubtitleWords(TypedDict):
+    """A subtitle: SN, TCI and TCO."""
+
+    number: int
+    begin: str
+    end: str
+
+
+class CauseWords(TypedDict):
+    """A cause; the schema says what each member is."""
+
+    subtitle: SubtitleWords
+    cause: str
+    frames: int | None
+    text: str
+    sent: str | None
+    other: int | None
+    words: str
+
+
+class Wording:
+    """The words for the causes of a part, with the letters of a national option."""
+
+    def __init__(self, causes: Causes, option: str) -> None:
+        self.causes, self.subtitles = causes, causes.programme.subtitles
+        self.option = GERMAN if option == "german" else ENGLISH
+
+    def values(self, cause: Cause) -> CauseWords:
+        """A cause for machines."""
+        one = self.subtitles[cause.place]
+        return {
+            "subtitle": {"number": one.number, "begin": time_of(one.begin),
+                         "end": time_of(one.end)},
+            "cause": cause.name, "frames": cause.frames, "text": text_of(one.rows, self.option),
+            "sent": None if cause.sent is None else text_of(cause.sent, self.option),
+            "other": None if cause.other is None else self.subtitles[cause.other].number,
+            "words": self.said(cause),
+        }
+
+    def line(self, cause: Cause) -> str:
+        """The line of a cause."""
+        one = self.subtitles[cause.place]
+        return (f'{LINE}subtitle {one.number} at {time_of(one.begin)}, '
+                f'"{text_of(one.rows, self.option)}": {self.said(cause)}')
+
+    def said(self, cause: Cause, has_text: bool = True) -> str:
+        """What a cause is, in words, with the text that is sent where that is another one."""
+        one = self.subtitles[cause.place]
+        words = cause.name
+        if cause.name in (LATE, EARLY):
+            words += f" by {counted(cause.frames or 0, 'frame')}"
+        elif cause.name == NOT_ERASED:
+            words += f" at {time_of(one.end)}"
+        elif cause.name == OTHER:
+            words += " at its time"
+        if cause.words:
+            words += f": {cause.words}"
+        if has_text and cause.sent not in (None, one.rows):
+            sent = text_of(cause.sent or (), self.option)
+            if sent != text_of(one.rows, self.option):
+                words += f', sent: "{sent}"'
+        if cause.other is not None:
+            words += f" of subtitle {self.subtitles[cause.other].number}"
+        return words
+
+
+def count_line(several: list[Causes]) -> str:
+    """How many subtitles have a cause, and how many of each name there are."""
+    count = sum(len(one.named) for one in several)
+    return f"causes of {counted(count, 'subtitle')}: {names_line(several)}"
+
+
+def names_line(several: list[Causes]) -> str:
+    """How many causes there are of each name."""
+    return ", ".join(f"{count} {name}" for name, count in counts_of(several).items() if count)

@@ -1,0 +1,279 @@
+"""Why a page is held otherwise than it is due: of each subtitle with such frames one cause.
+
+A sending is of the subtitle with its page that begins nearest to it. It is looked for from the TCO
+before the subtitle to the TCI after it, and 250 frames before and after its own TCI at least.
+"""
+from __future__ import annotations
+
+import bisect
+from typing import NamedTuple
+
+from ..preview.receiver import BLANK_PAGE, Rows
+from ..times import time_of
+from .held import Held, Span
+from .lettering import attribute_words, is_moved, is_part, place_words, words_on
+from .programme import Programme, Subtitle
+
+LATE, EARLY, NEVER, OTHER = "late", "early", "never sent", "another subtitle's text"
+TEXT, PLACE, ATTRIBUTE = "wrong text", "wrong place", "wrong colour or attribute"
+NOT_ERASED, UNKNOWN = "not erased", "unknown"
+NAMES = (LATE, EARLY, NEVER, OTHER, TEXT, PLACE, ATTRIBUTE, NOT_ERASED, UNKNOWN)
+LEAST = 250  # frames before and after a TCI in which its page is looked for
+UNSEEN = "not all that was sent then can be read"
+
+
+class Cause(NamedTuple):
+    """The cause of a subtitle: its place in the file, a name, the frames that it is late or early,
+    the page that is sent, the place of the subtitle whose text that is, and what more there is to
+    say. `known` is the frame from which on the cause can't become another one."""
+
+    place: int
+    name: str
+    frames: int | None
+    sent: Rows | None
+    other: int | None
+    words: str
+    known: int
+
+
+class Faulty:
+    """The frames of a subtitle at which another page is held than the one that is due: the first
+    such stretch while it is due, and the first after its TCO."""
+
+    def __init__(self) -> None:
+        self.within: Span | None = None
+        self.after: Span | None = None
+        self.first: Span | None = None
+
+    def add(self, span: Span, subtitle: Subtitle) -> None:
+        """Some more frames; the page that is held is the same at all."""
+        self.first = self.first or span
+        if subtitle.begin <= span.first < subtitle.end:
+            self.within = self.within or span
+        elif span.first >= subtitle.end:
+            self.after = self.after or span
+
+
+class Namer:
+    """Names the causes of subtitles by what is held."""
+
+    def __init__(self, programme: Programme, held: Held) -> None:
+        self.programme, self.held = programme, held
+        self.subtitles = programme.subtitles
+
+    # Whose the faults are.
+
+    def split(self, first: int, last: int) -> list[Span]:
+        """Faulty frames, so that in each stretch one page is due and one is held."""
+        begins = {first, *self.programme.edges(first, last)}
+        begins.update(self.held.frames[number] for number in self.held.numbers(first, last + 1)
+                      if self.held.frames[number] > first)
+        rising = sorted(begins)
+        return [Span(begin, end - 1) for begin, end in zip(rising, [*rising[1:], last + 1])]
+
+    def owner(self, frame: int) -> int:
+        """The subtitle whose fault it is that another page is held at a frame than is due: the one
+        that is due or was the last to be, or the one that was sent at another time."""
+        place = self.programme.place_at(frame)
+        number = self.held.number_at(frame)
+        if place < 0 or number < 0:
+            return max(place, 0)
+        page = self.held.pages[number]
+        sent = self.programme.of_page(page, self.held.frames[number])
+        if sent is None or sent == place or self.sending(sent) != self.held.frames[number]:
+            return place
+        is_due = frame < self.subtitles[place].end
+        if is_due and not (sent > place and self.has_come(place)):
+            return place
+        return sent
+
+    def has_come(self, place: int) -> bool:
+        """Whether the page of a subtitle came at its TCI, or before it."""
+        came = self.sending(place)
+        one = self.subtitles[place]
+        return came is not None and came <= one.begin or self.held.page_at(one.begin) == one.rows
+
+    # What was sent.
+
+    def window(self, place: int) -> Span:
+        """The frames in which the sending of a subtitle is looked for."""
+        begin = self.subtitles[place].begin
+        return Span(min(self.programme.before(place), begin - LEAST),
+                    max(self.programme.after(place), begin + LEAST))
+
+    def sending(self, place: int) -> int | None:
+        """The frame at which the page of a subtitle came, the nearest one to its TCI. What comes at
+        just the TCI of another subtitle stands in the place of that one, unless both are moved by
+        as many frames."""
+        begin = self.subtitles[place].begin
+        found = [frame for frame in self.sendings(place) if frame == begin
+                 or not self.is_begin(frame) or self.are_moved(place, frame)]
+        return nearest(found, begin)
+
+    def sendings(self, place: int) -> list[int]:
+        """All frames of those looked at at which the page of a subtitle came as its own."""
+        one, window = self.subtitles[place], self.window(place)
+        frames = self.held.when.get(one.rows)
+        if not frames or one.rows == BLANK_PAGE:
+            return []
+        first, end = (bisect.bisect_left(frames, frame)
+                      for frame in (window.first, window.last + 1))
+        return [frame for frame in frames[first:end]
+                if self.programme.of_page(one.rows, frame) == place]
+
+    def is_begin(self, frame: int) -> bool:
+        """Whether a frame is the TCI of a subtitle."""
+        place = self.programme.place_at(frame)
+        return place >= 0 and self.subtitles[place].begin == frame
+
+    def are_moved(self, place: int, frame: int) -> bool:
+        """Whether the subtitle that is due from a frame on is moved as one is that came then."""
+        other = self.programme.place_at(frame)
+        begin = self.subtitles[other].begin
+        came = nearest(self.sendings(other), begin)
+        return came is not None and came - begin == frame - self.subtitles[place].begin
+
+    def strange(self, place: int, came: int | None) -> int | None:
+        """The number of the page, of no subtitle, that is held for longest of the time of one,
+        or of that up to where its own page came."""
+        one = self.subtitles[place]
+        end = one.end if came is None or came <= one.begin else min(came, one.end)
+        found = [number for number in self.held.numbers(one.begin, end)
+                 if self.is_of_its_time(number, place) and self.is_strange(number, place)]
+        lengths = [self.length(number, one.begin, end) for number in found]
+        return found[lengths.index(max(lengths))] if found else None
+
+    def is_of_its_time(self, number: int, place: int) -> bool:
+        """Whether a page came after the TCO of the subtitle before."""
+        begin = min(self.programme.before(place), self.subtitles[place].begin)
+        return self.held.frames[number] >= begin
+
+    def is_strange(self, number: int, place: int) -> bool:
+        page = self.held.pages[number]
+        return page != BLANK_PAGE and page not in self.programme.by_page and \
+            not is_part(page, self.subtitles[place].rows)
+
+    def length(self, number: int, begin: int, end: int) -> int:
+        """For how many of some frames a page is held."""
+        stretch = self.held.stretch(number)
+        return min(stretch.last + 1, end) - max(stretch.first, begin)
+
+    def other_at(self, frame: int, place: int) -> int | None:
+        """Another subtitle whose page came at just this frame, the TCI of one, unless both are
+        moved by as many frames."""
+        number = self.held.number_at(frame)
+        if number < 0 or self.held.frames[number] != frame:
+            return None
+        other = self.programme.of_page(self.held.pages[number], frame)
+        is_other = other not in (None, place) and not self.are_moved(other or 0, frame)
+        return other if is_other else None
+
+    def others_in(self, place: int) -> int | None:
+        """Another subtitle whose page came in the time of one, but not for its own."""
+        one = self.subtitles[place]
+        for number in self.held.numbers(one.begin, one.end):
+            frame = self.held.frames[number]
+            other = self.programme.of_page(self.held.pages[number], frame)
+            if frame >= one.begin and other not in (None, place) and \
+                    self.sending(other or 0) != frame:
+                return other
+        return None
+
+    # The causes.
+
+    def cause(self, place: int, faulty: Faulty) -> Cause:
+        """The cause of a subtitle."""
+        one, came = self.subtitles[place], self.sending(place)
+        if self.held.page_at(one.begin) == one.rows:
+            if came is not None and came < one.begin:
+                return self.moved(place, came)
+            return self.later(place, faulty)
+        strange = self.strange(place, came)
+        if strange is not None:
+            return self.differs(place, strange)
+        other = self.other_at(one.begin, place)
+        if other is not None:
+            return self.of_other(place, other, self.window(place).last)
+        return self.never(place) if came is None else self.moved(place, came)
+
+    def moved(self, place: int, came: int) -> Cause:
+        """It came late or early."""
+        one = self.subtitles[place]
+        if came > one.begin and not self.held.is_seen(one.begin, came):
+            return self.unknown(place, one.begin, came, UNSEEN)
+        name, frames = (LATE, came - one.begin) if came > one.begin else (EARLY, one.begin - came)
+        return Cause(place, name, frames, one.rows, None, "", max(came, one.begin))
+
+    def never(self, place: int) -> Cause:
+        """Its page came nowhere near."""
+        one, window = self.subtitles[place], self.window(place)
+        other = self.others_in(place)
+        if other is not None:
+            return self.of_other(place, other, window.last)
+        if not self.held.is_seen(one.begin, one.end - 1):
+            return self.unknown(place, one.begin, window.last, UNSEEN)
+        for number in self.held.numbers(one.begin, one.end):
+            page = self.held.pages[number]
+            if page != BLANK_PAGE and self.is_of_its_time(number, place) and \
+                    is_part(page, one.rows):
+                return Cause(place, TEXT, None, page, None, "rows are missing", window.last)
+        sent = self.held.page_at(one.begin)
+        return Cause(place, NEVER, None, None if sent == BLANK_PAGE else sent, None, "",
+                     window.last)
+
+    def differs(self, place: int, number: int) -> Cause:
+        """Another page was sent at its time, which is that of no subtitle."""
+        one, sent = self.subtitles[place], self.held.pages[number]
+        words = words_on(sent)
+        if words != words_on(one.rows):
+            places = self.programme.by_words.get(words)
+            if places and words:
+                other = self.programme.nearest(places, one.begin)
+                return self.of_other(place, other, one.end)._replace(sent=sent)
+            return Cause(place, TEXT, None, sent, None, "", one.end)
+        if is_moved(one.rows, sent):
+            return Cause(place, PLACE, None, sent, None, place_words(one.rows, sent), one.end)
+        return Cause(place, ATTRIBUTE, None, sent, None, attribute_words(one.rows, sent), one.end)
+
+    def of_other(self, place: int, other: int, known: int) -> Cause:
+        return Cause(place, OTHER, None, self.subtitles[other].rows, other, "", known)
+
+    def later(self, place: int, faulty: Faulty) -> Cause:
+        """It came at its TCI; something was wrong after that, or before."""
+        one = self.subtitles[place]
+        if faulty.within:
+            return self.broken(place, faulty.within)
+        if faulty.after is None:
+            return self.unknown(place, one.begin, one.end, "it is sent at another time too")
+        number = self.held.number_at(faulty.after.first)
+        until = self.held.stretch(number).last
+        if self.held.frames[number] >= one.end:
+            return self.unknown(place, faulty.after.first, one.end,
+                                f"sent after its TCO, at {time_of(faulty.after.first)}")
+        if not self.held.is_seen(one.end, until):
+            return self.unknown(place, one.end, one.end, UNSEEN)
+        return Cause(place, NOT_ERASED, None, self.held.pages[number], None, "", one.end)
+
+    def broken(self, place: int, span: Span) -> Cause:
+        """Its page was there, and another one came before its TCO."""
+        one, number = self.subtitles[place], self.held.number_at(span.first)
+        page = self.held.pages[number]
+        other = self.programme.of_page(page, span.first)
+        if not self.held.is_seen(span.first, span.last):
+            return self.unknown(place, span.first, one.end, UNSEEN)
+        if other is not None and other != place:
+            return self.of_other(place, other, one.end)
+        if page == BLANK_PAGE:
+            return self.unknown(place, span.first, one.end,
+                                f"it is gone at {time_of(span.first)}")
+        return self.differs(place, number)
+
+    def unknown(self, place: int, frame: int, known: int, words: str) -> Cause:
+        sent = self.held.page_at(frame)
+        return Cause(place, UNKNOWN, None, None if sent == BLANK_PAGE else sent, None, words,
+                     known)
+
+
+def nearest(frames: list[int], wanted: int) -> int | None:
+    """Which of some frames is the nearest to one."""
+    return min(frames, key=lambda frame: abs(frame - wanted)) if frames else None

@@ -1,0 +1,26 @@
+"""The clock of a part: its origin, where that is from, and the delay that is measured against it."""
+from __future__ import annotations
+
+from typing import NamedTuple
+
+RECORDING, GIVEN, START, TCP = "recording", "given", "start", "tcp"
+FITTED = "the clock was fitted to the recording: a delay that all subtitles share is not seen; " \
+    "give --origin or --start"
+FITTED_LATER = "the clock after a break was fitted to the recording: a delay that all subtitles " \
+    "of that part share is not seen"
+
+
+class Clock(NamedTuple):
+    """An origin and its `source`: fitted to the recording, given as `--origin`, or as `--start` by
+    a time or by the TCP of the GSI block. `delay_frames` is how many frames later than by it the
+    edges of the subtitles came, `None` where nothing can tell: a clock that was fitted to the
+    recording has the delay in it."""
+
+    origin: int
+    source: str
+    delay_frames: int | None = None
+
+    @property
+    def is_fitted(self) -> bool:
+        """Whether it was found in the recording that it judges."""
+        return self.source == RECORDING

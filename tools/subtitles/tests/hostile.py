@@ -1,0 +1,159 @@
+"""tools/qc with names of files that are hostile, with folders that can't be written to, and with
+transport streams that begin as something else."""
+from __future__ import annotations
+
+import csv
+import fcntl
+import json
+import os
+import shutil
+import subprocess
+import xml.etree.ElementTree as tree
+
+from .bench import Case, Done, example, example_bytes, tool_path
+from .muxed import teletext_descriptor
+from .qc import ACCEPTED, RECORDING, STORY, lines_of, qc
+from .warnings import stream
+
+ESC = "\x1b[31m"
+NAMES = {"an escape": f"a{ESC}b", "a dash": "-story", "an equals sign": "=story", "a plus": "+s",
+         "not UTF-8": "caf\udce9", "a new line": "two\nlines", "a quote": "it's \\ \u202e"}
+NOBODY = 65534
+FULL = "64k"  # of a file system
+
+
+def controls(data: bytes) -> list[int]:
+    """What a terminal would obey in some bytes."""
+    return [byte for byte in data if byte < 0x20 and byte != 0x0A or byte == 0x7F]
+
+
+def judges_names_like_any_other(case: Case) -> None:
+    """Both files, also in a list and in a folder; nothing of it reaches a terminal as it is."""
+    for what, name in NAMES.items():
+        folder = what.replace(" ", "-")
+        os.mkdir(case.path(folder))
+        for ending, data in (("stl", example_bytes("story.stl")),
+                             ("ts", example_bytes("recording.ts"))):
+            with open(os.path.join(case.folder, folder, f"{name}.{ending}"), "wb") as file:
+                file.write(data)
+        done = in_folder(case, folder, "--csv", "one.csv", "--json", "one.json", "--junit",
+                         "one.xml", "-o", "out", "--", f"{name}.stl", f"{name}.ts")
+        case.test(what, done.status == 0 and lines_of(done)[-1] == ACCEPTED, done)
+        shown = done.out + "".join(done.told).encode("utf-8", "replace")
+        case.test(f"{what}: is shown escaped", not controls(shown), shown)
+        is_told(case, what, folder)
+        commands_are_right(case, what, folder, lines_of(done))
+        done = in_folder(case, ".", "--batch", folder, "-o", "all")
+        case.test(f"{what}: in a folder", done.status == 0 and " accepted " in lines_of(done)[1]
+                  and not controls(done.out), done)
+
+
+def in_folder(case: Case, folder: str, *words: str) -> Done:
+    """A call of qc there."""
+    found = subprocess.run([tool_path("qc"), "-p", case.bench.program, *words],
+                           cwd=os.path.join(case.folder, folder), stdin=subprocess.DEVNULL,
+                           stdout=subprocess.PIPE, stderr=subprocess.PIPE, check=False)
+    return Done(found.returncode, found.stdout,
+                found.stderr.decode("utf-8", "surrogateescape").splitlines())
+
+
+def is_told(case: Case, what: str, folder: str) -> None:
+    """Tests the files for machines, and the report: they can be read, and nothing in them is a
+    formula."""
+    def read(name: str) -> bytes:
+        return case.read(os.path.join(folder, name))
+
+    verdict = json.loads(read("one.json"))
+    case.test(f"{what}: the object", verdict["verdict"] == "accepted", verdict["asked"])
+    rows = list(csv.reader(read("one.csv").decode().splitlines()))
+    case.test(f"{what}: the lines", len(rows) == 2 and not controls(read("one.csv"))
+              and not any(cell.startswith(("=", "-", "+", "@")) for cell in rows[1]), rows)
+    case.test(f"{what}: for a CI", tree.fromstring(read("one.xml")).get("tests") == "1")
+    kept = [name for name in os.listdir(os.path.join(case.folder, folder, "out"))]
+    report = next((name for name in kept if name.endswith(".html")), "")
+    case.test(f"{what}: its report", len(kept) == 3 and report and not controls(
+        os.fsencode("".join(kept))) and not controls(read(os.path.join("out", report))), kept)
+
+
+def commands_are_right(case: Case, what: str, folder: str, lines: list[str]) -> None:
+    """What is typed again in bash does the same."""
+    commands = [line[2:] for line in lines if line.startswith("+ ")]
+    for command in commands:
+        done = subprocess.run(["bash", "-c", command], cwd=os.path.join(case.folder, folder),
+                              stdin=subprocess.DEVNULL, stdout=subprocess.PIPE,
+                              stderr=subprocess.PIPE, check=False)
+        is_program = " check " in command and what == "not UTF-8"  # it asks for UTF-8
+        is_report = "preview " in command and what == "not UTF-8"
+        case.test(f"{what}: {command}", done.returncode == 0 or is_program or is_report, done)
+
+
+def shows_a_language_escaped(case: Case) -> None:
+    """The bytes of a PMT's language, in the list and in what is not clear."""
+    data = stream(example_bytes("story.pes"), teletext_descriptor(b"\x1b[2"))
+    path = case.write("one.ts", data)
+    done = case.tool("ts2pes", path)
+    case.test("the list", b"888 \\x1b[2 subtitles" in done.out and not controls(done.out), done)
+    done = qc(case, STORY, path, "--page", "801")
+    case.test("not clear", done.status == 2 and not controls("".join(done.told).encode()), done)
+
+
+def says_that_a_folder_is_in_use(case: Case) -> None:
+    """Two runs into one folder: the second one is refused; a third, later, is not."""
+    os.mkdir(case.path("out"))
+    with open(case.path("out/.story.lock"), "wb") as file:
+        fcntl.flock(file, fcntl.LOCK_EX)
+        done = qc(case, STORY, RECORDING, "-o", "out")
+        case.test("two", done.status == 2 and done.told == [
+            "qc: another call is writing the files of story in out"], done)
+        done = qc(case, example("hello.stl"), example("hello.pes"), "-o", "out")
+        case.test("another pair", done.status == 0, done)
+    done = qc(case, STORY, RECORDING, "-o", "out")
+    case.test("later", done.status == 0 and ".story.lock" not in os.listdir(case.path("out")), done)
+
+
+def says_that_a_folder_can_not_be_written_to(case: Case) -> None:
+    if os.geteuid() != 0:
+        case.bench.over.append("a folder of somebody else, since this is not root")
+        return
+    os.mkdir(case.path("theirs"), 0o755)
+    done = case.call([tool_path("qc"), STORY, RECORDING, "-o", case.path("theirs"), "-p",
+                      case.bench.program], user=NOBODY)
+    case.test("theirs", done.status == 2 and done.told == [
+        f"qc: {case.path('theirs')}: Permission denied"], done)
+    done = qc(case, STORY, RECORDING, "-o", case.write("file", b""))
+    case.test("a file", done.status == 2 and len(done.told) == 1 and "file" in done.told[0], done)
+
+
+def says_that_a_disk_is_full(case: Case) -> None:
+    """With -o on a small file system that is full but for some bytes, in turn fuller."""
+    script = ('mount -t tmpfs -o size="$1" none full || exit 77; head -c "$2" /dev/zero '
+              '>full/zeros 2>/dev/null; shift 2; "$@"')
+    words = [tool_path("qc"), STORY, RECORDING, "-o", "full", "-p", case.bench.program]
+    os.mkdir(case.path("full"))
+    for taken in ("64k", "60k", "56k", "48k"):
+        command = ["unshare", "-rm", "sh", "-c", script, "sh", FULL, taken, *words]
+        done = case.call(command) if shutil.which("unshare") else Done(77, b"", [])
+        if done.status in (1, 77) and not any("qc: " in line for line in done.told):
+            case.bench.over.append("a full disk, since no file system can be mounted here")
+            return
+        case.test(f"{taken} taken", done.status == 2 and "No space left" in done.told[-1]
+                  and "full/" in done.told[-1], done)
+
+
+def takes_any_first_time_stamp(case: Case) -> None:
+    """Of packets of 192 bytes, the first four: they may be those of a PES packet."""
+    data = example_bytes("recording.ts")
+    for stamp in (b"\0\0\1\xbd", b"\0\0\1\xe0", b"\0\0\1\0", b"\0\0\0\0", b"G\0\0\0"):
+        long = stamp + b"TIME".join(data[at:at + 188] for at in range(0, len(data), 188))
+        done = qc(case, STORY, case.write("long.ts", long))
+        case.test(stamp.hex(), done.status == 0 and lines_of(done)[-1] == ACCEPTED, done)
+        done = qc(case, STORY, "-", data=long)
+        case.test(f"{stamp.hex()}, a pipe", done.status == 0, done)
+        done = qc(case, case.path("long.ts"), STORY)
+        case.test(f"{stamp.hex()}, the wrong way round", done.status == 2 and
+                  "is a recording" in done.told[0], done)
+
+
+CASES = [judges_names_like_any_other, shows_a_language_escaped, says_that_a_folder_is_in_use,
+         says_that_a_folder_can_not_be_written_to, says_that_a_disk_is_full,
+         takes_any_first_time_stamp]

@@ -1,0 +1,277 @@
+"""tools/qc on feeds that do not end: when the verdict comes, signals, a reader that leaves."""
+from __future__ import annotations
+
+import json
+import os
+import queue
+import signal
+import subprocess
+import threading
+import time
+
+from ..pes import pts_in
+from ..stl import boxed, gsi_block, subtitle_blocks
+from ..times import TICKS, time_of
+from .bench import Case, example, example_bytes, moved, packets, tool_path
+from .muxed import PRIVATE, TELETEXT_PID, Maker, teletext_descriptor
+from .qc import STORY, qc, stream
+
+SOON = 60.0  # seconds within which a verdict has to come, also on a machine that is busy
+BEGIN, EACH, SHOWN = 900_000, 75, 50  # frames: where subtitles come, one after another, how long
+COUNT, EVERY = 8, 25
+LAST = BEGIN + EACH * (COUNT - 1) + SHOWN  # the last TCO
+ORIGIN = 4321
+
+
+class Running:
+    """A call of qc on a feed that is left open; `lines` are what it printed."""
+
+    def __init__(self, case: Case, *words: str) -> None:
+        self.folder = case.path("temporary")
+        os.makedirs(self.folder, exist_ok=True)
+        self.process = subprocess.Popen(
+            [tool_path("qc"), *words, "-p", case.bench.program], cwd=case.folder,
+            env={**os.environ, "TMPDIR": self.folder}, stdin=subprocess.PIPE,
+            stdout=subprocess.PIPE, stderr=subprocess.PIPE)
+        self.lines: list[str] = []
+        self.told: list[str] = []
+        self.queue: queue.Queue[str | None] = queue.Queue()
+        self.threads = [threading.Thread(target=self.hear, daemon=True),
+                        threading.Thread(target=self.hear_told, daemon=True)]
+        for thread in self.threads:
+            thread.start()
+
+    def hear(self) -> None:
+        assert self.process.stdout
+        for data in self.process.stdout:
+            self.lines.append(data.decode().rstrip("\n"))
+            self.queue.put(self.lines[-1])
+        self.queue.put(None)
+
+    def hear_told(self) -> None:
+        assert self.process.stderr
+        for data in self.process.stderr:
+            self.told.append(data.decode().rstrip("\n"))
+
+    def put(self, data: bytes) -> None:
+        assert self.process.stdin
+        self.process.stdin.write(data)
+        self.process.stdin.flush()
+
+    def waits_for(self, begin: str, seconds: float = SOON) -> bool:
+        """Whether a line comes that begins so."""
+        end = time.monotonic() + seconds
+        while (left := end - time.monotonic()) > 0:
+            try:
+                line = self.queue.get(timeout=left)
+            except queue.Empty:
+                return False
+            if line is None:
+                return False
+            if line.startswith(begin):
+                return True
+        return False
+
+    def waits_for_told(self, words: str) -> bool:
+        """Whether a line with some words comes on standard error."""
+        end = time.monotonic() + SOON
+        while time.monotonic() < end:
+            if any(words in line for line in self.told):
+                return True
+            time.sleep(0.05)
+        return False
+
+    def ends(self) -> int | None:
+        """The status, `None` where it does not end by itself."""
+        try:
+            status = self.process.wait(SOON)
+        except subprocess.TimeoutExpired:
+            self.process.kill()
+            return None
+        for thread in self.threads:
+            thread.join()
+        return status
+
+    def close(self) -> None:
+        """Ends the feed."""
+        assert self.process.stdin
+        self.process.stdin.close()
+
+
+def subtitles(case: Case, late: int | None = None) -> tuple[str, list[bytes]]:
+    """A subtitle file and the PES packets of its transmission; one of the subtitles may be sent ten
+    frames late."""
+    def file_of(shift: int) -> bytes:
+        blocks = [subtitle_blocks(number, begin + shift * (number == late), begin + SHOWN, 20, 2,
+                                  boxed(b"Number %d" % number))
+                  for number, begin in enumerate(range(BEGIN, BEGIN + EACH * COUNT, EACH))]
+        return gsi_block(b"Feed", COUNT, COUNT) + b"".join(blocks)
+
+    case.schedule(case.write("sent.stl", file_of(10)), "sent.pes", "--every", str(EVERY),
+                  "--origin", str(ORIGIN))
+    return case.write("own.stl", file_of(0)), packets(case.read("sent.pes"))
+
+
+def frame_of(data: bytes) -> int:
+    return (pts_in(data) - ORIGIN) // TICKS
+
+
+def is_told_once(case: Case, name: str, running: Running) -> None:
+    """Tests that each line of the list comes once, and one command."""
+    listed = [line for line in running.lines[:-1] if line.startswith(("refused ", "trusted "))]
+    case.test(f"{name}: each line once", len(listed) == len({*listed}), running.lines)
+    commands = [line for line in running.lines if line.startswith("+ ")]
+    case.test(f"{name}: one command", len(commands) == 1, running.lines)
+
+
+def ends_at_the_last_tco(case: Case) -> None:
+    """With and without an origin, PES packets and streams, where an edge does not agree: the feed
+    stays open, and nothing comes after the last TCO."""
+    for late, verdict in ((None, "accepted "), (3, "refused 72 ")):
+        stl, pes = subtitles(case, late)
+        data = b"".join(pes)
+        for name, feed in (("PES packets", data), ("a stream", stream(case, "feed", data))):
+            origins: list[list[str]] = [[], ["--origin", str(ORIGIN)]]
+            for words in origins:
+                running = Running(case, stl, "-", "--every", str(EVERY), "--no-complete", *words)
+                running.put(feed)
+                name = f"{name}, {late}, {words}"
+                status = running.ends()
+                case.test(name, status == (1 if late else 0) and running.lines[-1].startswith(
+                    verdict), (status, running.lines, running.told))
+                is_told_once(case, name, running)
+                running.close()
+
+
+def ends_where_nothing_is_sent_at_the_last_tco(case: Case) -> None:
+    """By the PCR, at most `--every` frames later, and not before."""
+    stl, pes = subtitles(case)
+    kept = [one for one in pes if frame_of(one) < LAST]
+    maker = Maker([(TELETEXT_PID, PRIVATE, teletext_descriptor())], TELETEXT_PID)
+    maker.put_tables()
+    for one in kept:
+        maker.put_pcr(pts_in(one) - 9000)
+        maker.put(TELETEXT_PID, one)
+    for frame in range(frame_of(kept[-1]), LAST + EVERY, 5):
+        maker.put_pcr(ORIGIN + frame * TICKS)
+    running = Running(case, stl, "-", "--every", str(EVERY), "--no-complete", "--origin",
+                      str(ORIGIN))
+    running.put(maker.data)
+    case.test("not before", not running.waits_for("refused 74 Late", 3.0), running.lines)
+    maker.data = b""
+    for frame in range(LAST + EVERY, LAST + EVERY + 10, 5):
+        maker.put_pcr(ORIGIN + frame * TICKS)
+    running.put(maker.data)
+    status = running.ends()
+    case.test("the verdict", status == 1 and running.lines[-1].startswith("refused 7"),
+              (status, running.lines, running.told))
+    is_told_once(case, "the verdict", running)
+    running.close()
+
+
+def ends_after_the_last_part(case: Case) -> None:
+    """A programme with a break, of a feed that goes on behind it."""
+    stl, pes = subtitles(case)
+    half = BEGIN + EACH * (COUNT // 2)
+    parted = [one if frame_of(one) < half else moved(one, lambda _, pts: pts + 1000 * TICKS)
+              for one in pes]
+    running = Running(case, stl, "-", "--every", str(EVERY), "--no-complete", "--breaks", "1")
+    for one in parted:
+        running.put(one)
+    time.sleep(7.0)  # the parts are looked for after five seconds
+    status = running.ends()
+    case.test("in two parts", status == 0 and running.lines[-1].endswith(" in 2 parts"),
+              (status, running.lines, running.told))
+    running.close()
+    running = Running(case, stl, "-", "--every", str(EVERY), "--no-complete", "--breaks", "1")
+    for number, one in enumerate([*parted[:-1], *(
+            moved(parted[-1], lambda _, pts: pts + number * TICKS) for number in range(5000))]):
+        try:
+            running.put(one)
+        except BrokenPipeError:
+            break  # it has its verdict
+        time.sleep(0.15 if number >= len(parted) else 0.0)
+    status = running.ends()
+    case.test("where others come", status in (0, 1) and " in 2 parts" in running.lines[-1]
+              or running.lines[-1].startswith("refused "), (status, running.lines))
+    running.close()
+
+
+def is_stopped_by_signals(case: Case) -> None:
+    """What was told so far is written, and no temporary folder is left."""
+    stl, pes = subtitles(case, 3)
+    half = [one for one in pes if frame_of(one) < BEGIN + 5 * EACH]
+    for one in (signal.SIGINT, signal.SIGTERM, signal.SIGHUP):
+        running = Running(case, stl, "-", "--every", str(EVERY), "--no-complete", "--origin",
+                          str(ORIGIN), "--json", "one.json", "-o", "out")
+        running.put(b"".join(half))
+        came = running.waits_for("refused 72 ")
+        os.kill(running.process.pid, one)
+        status = running.ends()
+        name = signal.Signals(one).name
+        case.test(f"{name}: status", came and status == 2, (status, running.lines, running.told))
+        said = [line for line in running.told if "not judged: stopped at " in line]
+        up_to = time_of(frame_of(half[-1]))
+        case.test(f"{name}: said", said == [f"qc: not judged: stopped at {up_to}"], running.told)
+        verdict = json.loads(case.read("one.json"))
+        case.test(f"{name}: its object", verdict["verdict"] == "not judged"
+                  and verdict["status"] == 2 and verdict["reason"] == f"stopped at {up_to}"
+                  and [fault["number"] for fault in verdict["faults"]] == [72], verdict)
+        case.test(f"{name}: nothing is left", os.listdir(running.folder) == []
+                  and sorted(os.listdir(case.path("out"))) == ["own.json", "own.txt"],
+                  (os.listdir(running.folder), os.listdir(case.path("out"))))
+        running.close()
+    running = Running(case, stl, "-", "--json", "one.json")
+    running.put(half[0])
+    time.sleep(1.0)
+    os.kill(running.process.pid, signal.SIGTERM)
+    case.test("before anything is judged", running.ends() == 2 and json.loads(
+        case.read("one.json"))["reason"].startswith("stopped at "), running.told)
+    case.test("nothing is left", os.listdir(running.folder) == [], os.listdir(running.folder))
+    running.close()
+
+
+def lets_a_reader_leave(case: Case) -> None:
+    """`| head -2`: no traceback, and the object is whole."""
+    five = case.write("five.ts", stream(case, "five", example_bytes("five-faults.pes")))
+    command = ('cat "$1" | "$2" "$3" "$4" --origin 0 --every 25 --json one.json -p "$5" 2>told '
+               '| head -2; echo ${PIPESTATUS[1]}')
+    for name, recording in (("a feed", "-"), ("a file", five)):
+        done = case.call(["bash", "-c", command, "bash", five, tool_path("qc"), STORY, recording,
+                          case.bench.program])
+        told = case.read("told").decode()
+        case.test(name, len(done.out.splitlines()) == 3 and "Traceback" not in told
+                  and "Exception" not in told, (done, told))
+        case.test(f"{name}: its object", json.loads(case.read("one.json"))["fault_count"] == 5)
+
+
+def tells_a_stall(case: Case) -> None:
+    """After some seconds, and again when it goes on."""
+    pes = packets(example_bytes("story.pes"))
+    running = Running(case, STORY, "-", "--origin", "0", "--stall", "1")
+    running.put(pes[0])
+    case.test("told", running.waits_for_told("qc: nothing has come for 1 second"), running.told)
+    running.put(b"".join(pes[1:]))
+    case.test("that it goes on", running.waits_for_told("qc: the feed goes on, after "),
+              running.told)
+    case.test("accepted", running.ends() == 0, running.told)
+    running.close()
+    for word in ("x", "-1", "1.5"):
+        done = qc(case, STORY, example("story.pes"), "--stall", word)
+        case.test(f"--stall {word}", done.status == 2 and len(done.told) == 1, done)
+
+
+def ends_where_later_pes_packets_come(case: Case) -> None:
+    """Two of them after the last TCO, as a service sends them."""
+    stl, pes = subtitles(case)
+    later = b"".join(moved(pes[-1], lambda _, pts: pts + number * TICKS) for number in (1, 2))
+    running = Running(case, stl, "-", "--every", str(EVERY), "--no-complete", "--origin",
+                      str(ORIGIN))
+    running.put(b"".join(pes) + later)
+    case.test("accepted", running.ends() == 0, (running.lines, running.told))
+    running.close()
+
+
+CASES = [ends_at_the_last_tco, ends_after_the_last_part,
+         ends_where_nothing_is_sent_at_the_last_tco, is_stopped_by_signals, lets_a_reader_leave,
+         tells_a_stall, ends_where_later_pes_packets_come]

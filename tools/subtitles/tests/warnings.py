@@ -1,0 +1,152 @@
+"""What tools/qc finds strange of a recording: said, in the report and the object, the status stays.
+"""
+from __future__ import annotations
+
+from typing import Any
+
+from ..pes import pts_in
+from ..stl import boxed, gsi_block, subtitle_blocks
+from ..times import TICKS
+from .bench import Case, Done, example, example_bytes, moved, packets
+from .muxed import (
+    AHEAD, MPEG_2, PRIVATE, TELETEXT_PID, VIDEO_PID, Maker, put_teletext, teletext_descriptor)
+from .qc import ACCEPTED, STORY, lines_of, qc
+from .qc_batch import agrees, loaded
+
+SECOND = 90_000
+MINUTES = 2 * 60 * 25  # frames of a long programme
+LONG_EVERY = 25
+
+
+def stream(pes: bytes, descriptor: bytes = teletext_descriptor(), ahead: int = AHEAD) -> bytes:
+    """PES packets beside a video PID that has the PCR."""
+    maker = Maker([(VIDEO_PID, MPEG_2, b""), (TELETEXT_PID, PRIVATE, descriptor)])
+    maker.put_tables()
+    put_teletext(maker, pes, ahead)
+    return maker.data
+
+
+def warnings(case: Case, name: str, done: Done, kinds: list[str]) -> list[Any]:
+    """Tests that these are the kinds of warnings, and that each is said and stands in the report;
+    the object is one.json, the report in the folder out."""
+    verdict = loaded(case, "one.json")
+    agrees(case, verdict, f"{name}: the schema")
+    found: list[Any] = verdict["warnings"]
+    case.test(f"{name}: kinds", [one["kind"] for one in found] == kinds, (found, done))
+    lines = [one["line"] for one in found]
+    said = [line.removeprefix("qc: warning: ") for line in done.told
+            if line.startswith("qc: warning: ")]
+    case.test(f"{name}: said", said == lines, done.told)
+    report = case.read("out/story.html").decode()
+    case.test(f"{name}: in the report", all(
+        f'<p class="note">warning: {line}</p>' in report for line in lines), lines)
+    return found
+
+
+def asked(case: Case, data: bytes, *words: str) -> Done:
+    return qc(case, STORY, case.write("one.ts", data), "-o", "out", "--json", "one.json", *words)
+
+
+def heeds_the_pcr(case: Case) -> None:
+    """PTS behind the PCR, more than a second ahead of it, and just not."""
+    pes = example_bytes("story.pes")
+    cases: list[tuple[int, list[str]]] = [
+        (0, []), (-1, ["pts_behind"]), (SECOND, []), (SECOND + 1, ["pts_early"]), (AHEAD, [])]
+    for ahead, kinds in cases:
+        done = asked(case, stream(pes, ahead=ahead))
+        case.test(f"{ahead}: accepted", done.status == 0 and lines_of(done)[-1] == ACCEPTED, done)
+        found = warnings(case, str(ahead), done, kinds)
+        if ahead == -1:
+            case.test("its time", found[0]["time"] == "20:15:00:00" and found[0]["line"] == (
+                "from 20:15:00:00 on PTS of the Teletext are behind the PCR, by up to 0.00 s: 5 of "
+                "5 that were looked at"), found)
+
+
+def heeds_a_change_against_the_pcr(case: Case) -> None:
+    """By over half a second from the median of the first minute."""
+    begin = 900_000
+    stl = case.write("story.stl", gsi_block(b"Long", 60, 60) + b"".join(
+        subtitle_blocks(number, begin + 50 * number, begin + 50 * number + 40, 20, 2,
+                        boxed(b"Number %d" % number)) for number in range(MINUTES // 50)))
+    case.schedule(stl, "long.pes", "--every", str(LONG_EVERY))
+    pes = case.read("long.pes")
+    cases: list[tuple[int, int, list[str]]] = [
+        (44_999, 45_000, []), (44_999, 45_001, ["pts_changed"]), (50_000, -45_001, ["pts_changed"])]
+    for ahead, ticks, kinds in cases:
+        maker = Maker([(VIDEO_PID, MPEG_2, b""),
+                       (TELETEXT_PID, PRIVATE, teletext_descriptor())])
+        maker.put_tables()
+        for one in packets(pes):
+            late = pts_in(one) >= (begin + MINUTES * 3 // 4) * TICKS
+            maker.put_pcr(pts_in(one) - ahead - (ticks if late else 0))
+            maker.put(TELETEXT_PID, one)
+        done = qc(case, stl, case.write("one.ts", maker.data), "-o", "out", "--json", "one.json",
+                  "--every", str(LONG_EVERY))
+        case.test(f"{ticks}: accepted", done.status == 0, done)
+        found = warnings(case, str(ticks), done, kinds)
+        case.test(f"{ticks}: from when on", [one["time"] for one in found] ==
+                  ["10:01:30:00"] * len(kinds), found)
+
+
+def heeds_the_pmt(case: Case) -> None:
+    """Another page, type or language than was asked."""
+    pes = example_bytes("story.pes")
+    cases: list[tuple[str, bytes, list[str], str]] = [
+        ("as asked", teletext_descriptor(), [], ""),
+        ("hard of hearing", teletext_descriptor(kind=5), [], ""),
+        ("page", teletext_descriptor(page=0x89), ["page"],
+         "the PMT announces 889 eng subtitles, and not page 888"),
+        ("none", b"\x0a\x04eng\0", ["page"],
+         "the PMT announces no page of PID 0x101: receivers do not find page 888"),
+        ("type", teletext_descriptor(kind=1), ["type"],
+         "the PMT announces page 888 as initial page, and not as subtitles"),
+        ("language", teletext_descriptor(b"ger"), ["language"],
+         "the PMT announces page 888 in ger; the LC of the GSI block is 09, eng"),
+        ("not said", teletext_descriptor(b"und"), [], ""),
+        ("two of it", teletext_descriptor(b"ger") + teletext_descriptor(), [], ""),
+        ("hostile", teletext_descriptor(b"\x1b[2"), ["language"],
+         "the PMT announces page 888 in \\x1b[2; the LC of the GSI block is 09, eng")]
+    for name, descriptor, kinds, words in cases:
+        done = asked(case, stream(pes, descriptor))
+        case.test(f"{name}: accepted", done.status == 0 and lines_of(done)[-1] == ACCEPTED, done)
+        found = warnings(case, name, done, kinds)
+        case.test(f"{name}: its line", [one["line"] for one in found] == [words] * len(kinds),
+                  found)
+    story = example_bytes("story.stl")
+    german = case.write("story.stl", story[:14] + b"08" + story[16:])
+    done = qc(case, german, case.write("one.ts", stream(pes, teletext_descriptor(b"deu"))), "-o",
+              "out", "--json", "one.json")
+    warnings(case, "german", done, [])
+    done = qc(case, german, case.path("one.ts"), "-o", "out", "--json", "one.json")
+    case.test("no change of the status", done.status == 0, done)
+
+
+def heeds_the_repeat(case: Case) -> None:
+    """A page that is repeated more than twice as often as `--every` asks."""
+    stl = case.write("story.stl", gsi_block(b"Repeats", 6, 6) + b"".join(
+        subtitle_blocks(number, begin, begin + 190, 20, 2, boxed(b"Number %d" % number))
+        for number, begin in enumerate(range(90_000, 91_200, 200))))
+    case.schedule(stl, "often.pes", "--every", "25")
+    twice = b"".join(one + moved(one, lambda _, pts: pts + TICKS)
+                     for one in packets(case.read("often.pes"))[:-1])
+    twice += packets(case.read("often.pes"))[-1]
+    for name, data in (("once", case.read("often.pes")), ("each twice", twice)):
+        step = 25 if name == "once" else 24
+        for every in (None, 51, 50, 48, 26):
+            is_told = every is None or 2 * step < every
+            words = [] if every is None else ["--every", str(every)]
+            done = qc(case, stl, case.write("often.pes", data), "-o", "out", "--json", "one.json",
+                      *words)
+            case.test(f"{name}, {every}: accepted", done.status == 0, done)
+            found = warnings(case, f"{name}, {every}", done, ["repeat"] * is_told)
+            case.test(f"{name}, {every}: its line", not is_told or found[0]["line"] ==
+                      f"the page is repeated each {step} frames; --every {step} would hold it to "
+                      "that", found)
+    case.schedule(stl, "seldom.pes")
+    done = qc(case, stl, case.path("seldom.pes"), "-o", "out", "--json", "one.json")
+    warnings(case, "as asked", done, [])
+    done = qc(case, example("hello.stl"), example("hello.pes"))
+    case.test("too few repeats", done.status == 0 and not done.told, done)
+
+
+CASES = [heeds_the_pcr, heeds_a_change_against_the_pcr, heeds_the_pmt, heeds_the_repeat]
