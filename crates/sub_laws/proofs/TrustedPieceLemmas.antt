@@ -140,12 +140,13 @@ module _ (g : Task) (frames : Transmission) where
   last_stays kept any h1 = grind (arith, nat_tests, All-nil, each-put, end_low-trusted, run_stays)
 
   -- What is told after them.
+  closing_own : (n : ℕ) → length frames ≡ n → EachTrusted StaysTo (closing_events g frames n)
+  closing_own n all = each-own StaysTo n (closing_events g frames n) (own_closing g frames n all)
+
   closing_plain : (pes n : ℕ) → length frames ≡ n
       → EachTrusted StaysTo (closing_of_pieces g frames pes n)
   unfolding closing_of_pieces
-  closing_plain pes n all =
-      let plain = each-own StaysTo n _ (own_closing g frames n all) in
-      grind (arith, nat_tests, All-nil, All-cons)
+  closing_plain pes n all = grind (arith, nat_tests, All-nil, All-cons, closing_own)
 
   closing_stays : (pes n : ℕ) → length frames ≡ n
       → EachTrusted StaysTo (closing_told g frames pes n)
