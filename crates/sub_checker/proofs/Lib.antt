@@ -1,7 +1,6 @@
 pub mod AnnouncingLemmas
 pub mod EdgeLemmas
 pub mod FollowingLemmas
-pub mod LendingLemmas
 pub mod PieceWaysLemmas
 pub mod ReadsOnLemmas
 pub mod TellingLemmas

@@ -1,7 +1,9 @@
 -- What a printer does that was told several events; main lemma: prints_all.
 use Rattle.std.proofs.Common.{◌≡◌, ◌∙◌, ap, refl, sym, subst, arith, ℕ, ◌+◌, ◌<◌, ◌≤◌, ◌||◌, ◌≢◌}
 use Rattle.std.proofs.Common.{not, List, [], ◌∷◌, ◌++◌, map, Bool, true, false, append_assoc, drop}
-use Rattle.std.proofs.Common.{take}
+use Rattle.std.proofs.Common.{take, inl, inr, Result, Ok, Err}
+use Rattle.std.specs.Prelude.{is_err, is_ok}
+use Rattle.sub_io.specs.HandingOn.{HandsOnIfWaiting}
 use Rattle.std.proofs.lemmas.List.{map-append, take-append-drop}
 use Rattle.std.proofs.lemmas.Bool.{true≢false}
 use Rattle.std.proofs.lemmas.Bool.Decides.{nat_tests}
@@ -12,7 +14,7 @@ use Rattle.sub_io.specs.Telling.{Tells, TellsInTurn, TellsSome}
 use Rattle.sub_rules.specs.declared.event.Event.{Event}
 use Rattle.sub_listing.specs.EventLines.{event_line, event_lines, most_counted, refusal, refusals}
 use Rattle.sub_listing.specs.Printer.{PrinterValue, PrintsEvent, PrintsEvents, StaysPrinted}
-use Rattle.sub_listing.specs.Printer.{can_fail, counted}
+use Rattle.sub_listing.specs.Printer.{HandsOnLines, can_fail, counted}
 
 -- More refusals after some.
 counted-twice : (r m n : ℕ) → counted (counted r m) n ≡ counted r (m + n)
@@ -249,3 +251,42 @@ stopped_fails a b true is goes room stays stopped = is
 stopped_fails a b false is goes room stays stopped =
     absurd (true≢false (sym stopped
     ∙ still_goes b.failed a.count b.count room is (stays.same (is ∙ sym goes))))
+
+-- What stays where a printer is to hand on what waits: whether it has failed says then whether it
+-- could. For the reading of the next PES packet.
+module _ {P N : Type 0} (name : P → N) (value : P → PrinterValue) (is_waiting : P → Bool)
+    (IsHandedOn : P → Bool → P → Type 0)
+    (one : (s t : P) (ok : Bool) → IsHandedOn s ok t
+    → (name t ≡ name s) × HandsOnLines (value s) ok (value t)) where
+  pub handed_same : (s t : P) (ok : Bool) → HandsOnIfWaiting is_waiting IsHandedOn s ok t
+      → name t ≡ name s
+  handed_same s t ok (inl same) = ap name same.1
+  handed_same s t ok (inr on) = (one s t ok on.1).0
+
+  pub handed_stays : (s t : P) (ok : Bool) → HandsOnIfWaiting is_waiting IsHandedOn s ok t
+      → StaysPrinted (value s) (value t)
+  handed_stays s t ok (inl same) = rw same.1 (stays-none (value s))
+  handed_stays s t ok (inr on) = (one s t ok on.1).1.stays
+
+  failed_as : (s t : P) (ok : Bool)
+      → (value s).failed ≡ false
+      → (value s).count < 0xFFFF_FFFF_FFFF_FFFF
+      → HandsOnLines (value s) ok (value t)
+      → (value t).failed ≡ not ok
+  failed_as s t true goes room on = cannot_fail _ _ (λ is. true≢false (sym is ∙ on.stopped))
+  failed_as s t false goes room on =
+      stopped_fails (value s) (value t) (value t).failed refl goes room on.stays on.stopped
+
+  pub handed_failed : (s t : P) (ok : Bool)
+      → (value s).failed ≡ false
+      → (value s).count < 0xFFFF_FFFF_FFFF_FFFF
+      → HandsOnIfWaiting is_waiting IsHandedOn s ok t
+      → (value t).failed ≡ not ok
+  handed_failed s t ok goes room (inl same) =
+      ap (λ p. (value p).failed) same.1 ∙ goes ∙ sym (ap not same.0)
+  handed_failed s t ok goes room (inr on) = failed_as s t ok goes room (one s t ok on.1).1
+
+-- Whether an answer is an error.
+pub not_ok : {X E : Type 0} (r : Result X E) (b : Bool) → is_err r ≡ b → not (is_ok r) ≡ b
+not_ok (Ok x) b is = is
+not_ok (Err e) b is = is

@@ -1,0 +1,47 @@
+-- What stays where lines are handed on: handed_same, handed_stays, handed_failed.
+use Rattle.std.proofs.Common.{◌∙◌, ℕ, List, Option}
+use Rattle.sub_listing.proofs.PrinterLemmas.{handed_failed, handed_same, handed_stays, not_ok}
+use Rattle.sub_listing.specs.Printer.{PrinterValue, printer_value}
+use Rattle.sub_listing.specs.declared.printer.Printer.{Printer}
+use Rattle.sub_listing.proofs.packets.next_followed.Goals as goal
+
+abbrev value_of : {K : Type 0} → (K → Option (List ℕ)) → (K → ℕ) → Printer K → PrinterValue
+value_of contents count p = printer_value (contents p.out.now) (count p.out.now) p.refused p.failed
+
+pub returns-clause-same : goal.returns-clause-same
+returns-clause-same g c =
+    handed_same (λ (p : Printer g.row.K.Denot). p.out.ghost_name)
+    (value_of g.K.Sink.contents g.K.Sink.failure_count) (λ p. p.waiting) _
+    (λ s t ok on. (on.0, on.1)) _ _ _ c.hand_on_first.ensures.call
+
+pub returns-then-is_err-clause-same : goal.returns-then-is_err-clause-same
+returns-then-is_err-clause-same g c =
+    handed_same (λ (p : Printer g.row.K.Denot). p.out.ghost_name)
+    (value_of g.K.Sink.contents g.K.Sink.failure_count) (λ p. p.waiting) _
+    (λ s t ok on. (on.0, on.1)) _ _ _ c.hand_on_first.ensures.call
+
+pub returns-clause-stays : goal.returns-clause-stays
+returns-clause-stays g c =
+    handed_stays (λ (p : Printer g.row.K.Denot). p.out.ghost_name)
+    (value_of g.K.Sink.contents g.K.Sink.failure_count) (λ p. p.waiting) _
+    (λ s t ok on. (on.0, on.1)) _ _ _ c.hand_on_first.ensures.call
+
+pub returns-then-is_err-clause-stays : goal.returns-then-is_err-clause-stays
+returns-then-is_err-clause-stays g c =
+    handed_stays (λ (p : Printer g.row.K.Denot). p.out.ghost_name)
+    (value_of g.K.Sink.contents g.K.Sink.failure_count) (λ p. p.waiting) _
+    (λ s t ok on. (on.0, on.1)) _ _ _ c.hand_on_first.ensures.call
+
+pub returns-clause-failed : goal.returns-clause-failed
+returns-clause-failed g c =
+    handed_failed (λ (p : Printer g.row.K.Denot). p.out.ghost_name)
+    (value_of g.K.Sink.contents g.K.Sink.failure_count) (λ p. p.waiting) _
+    (λ s t ok on. (on.0, on.1)) _ _ _ c.requires.goes_on c.requires.out
+    c.hand_on_first.ensures.call ∙ not_ok _ _ c.if-is_err.false
+
+pub returns-then-is_err-clause-failed : goal.returns-then-is_err-clause-failed
+returns-then-is_err-clause-failed g c =
+    handed_failed (λ (p : Printer g.row.K.Denot). p.out.ghost_name)
+    (value_of g.K.Sink.contents g.K.Sink.failure_count) (λ p. p.waiting) _
+    (λ s t ok on. (on.0, on.1)) _ _ _ c.requires.goes_on c.requires.out
+    c.hand_on_first.ensures.call ∙ not_ok _ _ c.if-is_err.true
