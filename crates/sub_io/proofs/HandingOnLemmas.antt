@@ -1,6 +1,7 @@
 -- What was told stays told where it is handed on. Main lemma: keeps-told.
 use Rattle.std.proofs.Common.{◌≡◌, ◌∙◌, ℕ, Bool, true, false, List, [], ◌∷◌, ap, inl, inr, sym}
-use Rattle.std.proofs.Common.{not, refl, subst}
+use Rattle.std.proofs.Common.{not, refl, subst, Result, Ok, Err}
+use Rattle.std.specs.Prelude.{OnOk, is_err, is_ok}
 use Rattle.std.proofs.lemmas.Bool.{true≢false}
 use Rattle.sub_io.specs.HandingOn.{HandsOnIfWaiting, HoldsWhileWaiting, KeepsTold, StaysTold}
 use Rattle.sub_io.specs.Telling.{Tells, TellsInTurn, TellsSome}
@@ -80,3 +81,15 @@ TellsSome-kept IsTold is_waiting start old new some still keeps = record {
   items = some.items;
   told = keeps.kept start some.items still some.told;
 }
+
+-- ---- whether it could hand on
+
+-- What its answer says.
+pub not_ok : {X E : Type 0} (r : Result X E) (b : Bool) → is_err r ≡ b → not (is_ok r) ≡ b
+not_ok (Ok x) b is = is
+not_ok (Err e) b is = is
+
+-- What holds then.
+pub when_ok : {X E : Type 0} {Q : Type 0} (r : Result X E) → is_err r ≡ false → OnOk r Q → Q
+when_ok (Ok x) is holds = holds
+when_ok (Err e) is holds = absurd (true≢false is)

@@ -45,8 +45,8 @@ pub trait Source {
     fn failures(&self) -> u64
         ensures { result ≡ failure_count self.now };
 
-    /// The bytes that it holds and lends where they stand: those that it gives next. A device that
-    /// holds none, or lends none, says so by an empty slice.
+    /// The bytes that it holds and lends where they stand: those that it gives next, without a call
+    /// of the device below it. A device that holds none, or lends none, says so by an empty slice.
     fn held(&self) -> &[u8]
         ensures bytes { AreNext result.now (remaining self.now) }
         ensures lent { BeginLent result.now (lent self.now) }

@@ -1,13 +1,12 @@
 -- What a printer does that was told several events; main lemma: prints_all.
 use Rattle.std.proofs.Common.{◌≡◌, ◌∙◌, ap, refl, sym, subst, arith, ℕ, ◌+◌, ◌<◌, ◌≤◌, ◌||◌, ◌≢◌}
 use Rattle.std.proofs.Common.{not, List, [], ◌∷◌, ◌++◌, map, Bool, true, false, append_assoc, drop}
-use Rattle.std.proofs.Common.{take, inl, inr, Result, Ok, Err}
-use Rattle.std.specs.Prelude.{is_err, is_ok}
+use Rattle.std.proofs.Common.{take, inl, inr}
 use Rattle.sub_io.specs.HandingOn.{HandsOnIfWaiting}
 use Rattle.std.proofs.lemmas.List.{map-append, take-append-drop}
 use Rattle.std.proofs.lemmas.Bool.{true≢false}
 use Rattle.std.proofs.lemmas.Bool.Decides.{nat_tests}
-use Rattle.std.proofs.KnownBytes.{Appends-nil, Appends-trans, Keeps-refl, Keeps-trans}
+use Rattle.std.proofs.KnownBytes.{Appends-nil, Appends-trans, Keeps-refl}
 use Rattle.sub_io.proofs.DeviceLemmas.{AppendsPrefix-first, AppendsPrefix-second}
 use Rattle.sub_io.specs.Device.{AppendsPrefix}
 use Rattle.sub_io.specs.Telling.{Tells, TellsInTurn, TellsSome}
@@ -214,32 +213,6 @@ stays-none a = record {
   risen = λ other. absurd (other refl);
 }
 
--- Lines were handed on again: whether the sink failed, and its count, before, between and after.
-stays-count : (x y z : Bool) (k m n : ℕ)
-    → (y ≡ x → m ≡ k) → (y ≢ x → (y ≡ true) × (m ≡ k + 1))
-    → (z ≡ y → n ≡ m) → (z ≢ y → (z ≡ true) × (n ≡ m + 1))
-    → (z ≡ x → n ≡ k) × (z ≢ x → (z ≡ true) × (n ≡ k + 1))
-stays-count true true true k m n a b c d = (λ _. c refl ∙ a refl, λ other. absurd (other refl))
-stays-count true true false k m n a b c d = absurd (true≢false (sym (d (λ e. cc)).0))
-stays-count true false z k m n a b c d = absurd (true≢false (sym (b (λ e. cc)).0))
-stays-count false true true k m n a b c d =
-    (λ e. cc, λ other. (refl, c refl ∙ (b other).1))
-stays-count false true false k m n a b c d = absurd (true≢false (sym (d (λ e. cc)).0))
-stays-count false false true k m n a b c d =
-    (λ e. cc, λ other. (refl, (d other).1 ∙ ap (λ i. i + 1) (a refl)))
-stays-count false false false k m n a b c d = (λ _. c refl ∙ a refl, λ other. absurd (other refl))
-
-pub stays-trans : (a b c : PrinterValue) → StaysPrinted a b → StaysPrinted b c → StaysPrinted a c
-stays-trans a b c p q =
-    let counted = stays-count a.failed b.failed c.failed a.count b.count c.count p.same p.risen
-    q.same q.risen in
-    record {
-      kept = Keeps-trans _ _ _ p.kept q.kept;
-      refused = q.refused ∙ p.refused;
-      same = counted.0;
-      risen = counted.1;
-    }
-
 -- One that has said stop, and had not failed, has failed as lines were handed on.
 pub stopped_fails : (a b : PrinterValue) (is : Bool) → b.failed ≡ is
     → a.failed ≡ false
@@ -285,8 +258,3 @@ module _ {P N : Type 0} (name : P → N) (value : P → PrinterValue) (is_waitin
   handed_failed s t ok goes room (inl same) =
       ap (λ p. (value p).failed) same.1 ∙ goes ∙ sym (ap not same.0)
   handed_failed s t ok goes room (inr on) = failed_as s t ok goes room (one s t ok on.1).1
-
--- Whether an answer is an error.
-pub not_ok : {X E : Type 0} (r : Result X E) (b : Bool) → is_err r ≡ b → not (is_ok r) ≡ b
-not_ok (Ok x) b is = is
-not_ok (Err e) b is = is

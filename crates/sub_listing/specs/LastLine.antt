@@ -5,8 +5,8 @@ use Rattle.sub_io.specs.Device.{AppendsPrefix}
 use Rattle.sub_listing.specs.Told.{line_of}
 use Rattle.sub_listing.specs.declared.told.Told.{Told}
 
--- Bytes were put, and nothing was done beside; where `ok` is false the sink failed, and has a prefix
--- of them.
+-- Bytes were put, and nothing was done beside. Where `ok` is false the sink failed, and has a
+-- prefix of them.
 pub record PutsLine
     {K : Type 0} (contents : K → Option (List ℕ)) (IsPush : K → List ℕ → Option ℕ → K → Type 0)
     (old : K) (line : List ℕ) (new : K) : Type 0 where

@@ -1,6 +1,6 @@
 //! How a file is listed: what is read of it is printed, one piece after the other.
-ghost use Rattle.std.specs.Prelude.{◌≡◌, ℕ, Bool, ◌+◌, ◌<◌, ◌≤◌, ◌++◌, [], None, Some, decimal, length};
-ghost use Rattle.std.specs.Prelude.{false, true};
+ghost use Rattle.std.specs.Prelude.{◌≡◌, ℕ, ◌+◌, ◌<◌, ◌≤◌, ◌++◌, [], None, Some, decimal, length};
+ghost use Rattle.std.specs.Prelude.{Bool, false, true};
 ghost use Rattle.sub_io.specs.Device.{CountsIf};
 ghost use Rattle.sub_listing.specs.DeviceCall.{CanFail, CountsFault, sink_call, source_call};
 ghost use Rattle.sub_listing.specs.LastLine.{HoldsLastLine, IsAlone};

@@ -1,5 +1,5 @@
 //! `show STL`: lists subtitles.
-ghost use Rattle.std.specs.Prelude.{◌≡◌, ◌+◌, ◌<◌, [], None};
+ghost use Rattle.std.specs.Prelude.{◌≡◌, ◌+◌, ◌<◌, [], None, false};
 ghost use Rattle.sub_listing.specs.DeviceCall.{CanFail, CountsFault, sink_call, source_call};
 ghost use Rattle.sub_listing.specs.Lines.{subtitle_line};
 ghost use Rattle.sub_listing.specs.Listing.{PrintsListing};

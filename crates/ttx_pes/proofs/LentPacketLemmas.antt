@@ -1,13 +1,15 @@
 -- Bytes that a source lends, taken pull by pull: lent-more. Where they hold a packet, its size is
 -- that of the bytes that are taken first: lent_rest.
 use Rattle.std.proofs.Common.{◌≡◌, ◌≢◌, ℕ, ◌+◌, ◌<◌, ◌≤◌, List, [], ◌++◌, length, take, Some, ap}
-use Rattle.std.proofs.Common.{arith, length-append, length-take-le, ◌∙◌, Ok, Err, Result, true, false, sym, refl, length-take}
+use Rattle.std.proofs.Common.{◌∙◌, Bool, Err, Ok, Result, arith, false, inl, inr, length-append}
+use Rattle.std.proofs.Common.{length-take, length-take-le, refl, sym, true}
+use Rattle.std.proofs.lemmas.Bool.{true≢false}
 use Rattle.std.proofs.lemmas.Bool.Decides.{nat_tests}
 use Rattle.std.proofs.lemmas.List.{take-take}
 use borrow.Rule.Slice.PartMut.{put_mid}
 use lib.Seq.{take-append-le}
 use Rattle.sub_io.proofs.DeviceLemmas.{Consumes-more}
-use Rattle.ttx_pes.specs.LentPacket.{are_all_of, holds_packet}
+use Rattle.ttx_pes.specs.LentPacket.{NothingWaits, are_all_of, holds_packet}
 use Rattle.ttx_pes.specs.declared.fault.PesFault.{PesFault}
 use Rattle.ttx_pes.specs.Reading.{size_at}
 
@@ -110,3 +112,13 @@ pub holds_read : (bytes : List ℕ) (r : Result ℕ PesFault)
     → are_all_of (length bytes) r ≡ holds_packet bytes
 unfolding holds_packet
 holds_read bytes r many is = grind (arith, nat_tests)
+
+-- Where the read of a packet failed, nothing was waiting. For `read_settled` of two crates.
+pub waits_not : (is_waiting fails : Bool) (lent : List ℕ)
+    → NothingWaits is_waiting lent
+    → (holds_packet lent ≡ true → fails ≡ false)
+    → fails ≡ true
+    → is_waiting ≡ false
+waits_not is_waiting fails lent (inl still) lends is = still
+waits_not is_waiting fails lent (inr holds) lends is =
+    absurd (true≢false (sym is ∙ lends holds))

@@ -9,8 +9,8 @@ abbrev pub are_all_of : ℕ → Result ℕ PesFault → Bool
 are_all_of count (Ok size) = nat_le size count
 are_all_of count (Err f) = true
 
--- Bytes hold all that is read of the PES packet at their front: they are as many as its length field
--- says; or that, or its start code, is wrong.
+-- Bytes hold all that is read of the PES packet at their front: they are as many as its length
+-- field says; or that, or its start code, is wrong.
 unfoldable pub holds_packet : List ℕ → Bool
 holds_packet bytes = nat_le 6 (length bytes) && are_all_of (length bytes) (size_at (take 6 bytes))
 

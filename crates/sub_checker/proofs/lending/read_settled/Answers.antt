@@ -1,4 +1,5 @@
--- All that is said of the next piece.
+-- All that is said of the next piece; what waits where its read failed: waits_not.
+use Rattle.ttx_pes.proofs.LentPacketLemmas.{waits_not}
 use Rattle.sub_checker.proofs.lending.read_settled.Goals as goal
 
 pub returns-clause-reads : goal.returns-clause-reads
@@ -16,3 +17,6 @@ returns-clause-reads g c =
       place = e.place;
       within = e.within;
     }
+
+pub returns-clause-asked : goal.returns-clause-asked
+returns-clause-asked g c = waits_not _ _ _ c.requires.settled c.next_piece.ensures.lent

@@ -1,6 +1,7 @@
 -- What stays where lines are handed on: handed_same, handed_stays, handed_failed.
-use Rattle.std.proofs.Common.{◌∙◌, ℕ, List, Option}
-use Rattle.sub_listing.proofs.PrinterLemmas.{handed_failed, handed_same, handed_stays, not_ok}
+use Rattle.std.proofs.Common.{◌∙◌, ℕ, List, Option, sym}
+use Rattle.sub_io.proofs.HandingOnLemmas.{not_ok, when_ok}
+use Rattle.sub_listing.proofs.PrinterLemmas.{handed_failed, handed_same, handed_stays}
 use Rattle.sub_listing.specs.Printer.{PrinterValue, printer_value}
 use Rattle.sub_listing.specs.declared.printer.Printer.{Printer}
 use Rattle.sub_listing.proofs.packets.next_followed.Goals as goal
@@ -37,11 +38,16 @@ returns-clause-failed g c =
     handed_failed (λ (p : Printer g.row.K.Denot). p.out.ghost_name)
     (value_of g.K.Sink.contents g.K.Sink.failure_count) (λ p. p.waiting) _
     (λ s t ok on. (on.0, on.1)) _ _ _ c.requires.goes_on c.requires.out
-    c.hand_on_first.ensures.call ∙ not_ok _ _ c.if-is_err.false
+    c.hand_on_first.ensures.call ∙ not_ok _ _ (sym c.is_err.ensures ∙ c.if-is_err.false)
 
 pub returns-then-is_err-clause-failed : goal.returns-then-is_err-clause-failed
 returns-then-is_err-clause-failed g c =
     handed_failed (λ (p : Printer g.row.K.Denot). p.out.ghost_name)
     (value_of g.K.Sink.contents g.K.Sink.failure_count) (λ p. p.waiting) _
     (λ s t ok on. (on.0, on.1)) _ _ _ c.requires.goes_on c.requires.out
-    c.hand_on_first.ensures.call ∙ not_ok _ _ c.if-is_err.true
+    c.hand_on_first.ensures.call ∙ not_ok _ _ (sym c.is_err.ensures ∙ c.if-is_err.true)
+
+pub returns-clause-asked : goal.returns-clause-asked
+returns-clause-asked g c = λ sound is.
+    when_ok _ (sym c.is_err.ensures ∙ c.if-is_err.false) (c.hand_on_first.ensures.holds sound)
+    (c.read_settled.ensures.asked is)

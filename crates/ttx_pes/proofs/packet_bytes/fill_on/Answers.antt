@@ -37,10 +37,10 @@ pub returns-in_err-n-clause-lent : goal.returns-in_err-n-clause-lent
 returns-in_err-n-clause-lent g c = λ many.
     let old = c.args.room.now in
     let len = length-take-le c.args.held old (omega arith) in
-    lent-fails (take c.args.held old) (g.S.Source.lent c.args.source.now)
+    absurd (lent-fails (take c.args.held old) (g.S.Source.lent c.args.source.now)
     (g.S.Source.lent c.loop-at.source) c.loop-at.room c.args.least c.loop-at.at
     (c.loop-at.invariant.lent many) c.in_err-n.ensures.lent (omega arith) (omega arith)
-    (omega (arith, len, many))
+    (omega (arith, len, many)))
 
 pub returns-then-n-eq0-clause-bytes : goal.returns-then-n-eq0-clause-bytes
 returns-then-n-eq0-clause-bytes g c =
