@@ -462,7 +462,7 @@ ok_keeps : (answer : Result (Option Accepted) CheckFault) (old new : ℕ)
     → old < new
     → ⊥
 ok_keeps (Ok a) old new ok same risen = omega (arith, same, risen)
-ok_keeps (Err f) old new ok same risen = absurd ok
+ok_keeps (Err f) old new ok same risen = absurd (true≢false (sym ok))
 
 -- Then the printer has not failed.
 pub cut_reads : {national : National} {options : OptionsValue} {stl pes : SourceCall}

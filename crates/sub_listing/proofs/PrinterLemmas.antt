@@ -225,36 +225,33 @@ stopped_fails a b false is goes room stays stopped =
     absurd (true≢false (sym stopped
     ∙ still_goes b.failed a.count b.count room is (stays.same (is ∙ sym goes))))
 
--- What stays where a printer is to hand on what waits: whether it has failed says then whether it
--- could. For the reading of the next PES packet.
-module _ {P N : Type 0} (name : P → N) (value : P → PrinterValue) (is_waiting : P → Bool)
-    (IsHandedOn : P → Bool → P → Type 0)
-    (one : (s t : P) (ok : Bool) → IsHandedOn s ok t
-    → (name t ≡ name s) × HandsOnLines (value s) ok (value t)) where
-  pub handed_same : (s t : P) (ok : Bool) → HandsOnIfWaiting is_waiting IsHandedOn s ok t
-      → name t ≡ name s
-  handed_same s t ok (inl same) = ap name same.1
-  handed_same s t ok (inr on) = (one s t ok on.1).0
+-- Whether it has failed says then whether it could.
+failed_as : (a b : PrinterValue) (ok : Bool)
+    → a.failed ≡ false
+    → a.count < 0xFFFF_FFFF_FFFF_FFFF
+    → HandsOnLines a ok b
+    → b.failed ≡ not ok
+failed_as a b true goes room on = cannot_fail _ _ (λ is. true≢false (sym is ∙ on.stopped))
+failed_as a b false goes room on = stopped_fails a b b.failed refl goes room on.stays on.stopped
 
-  pub handed_stays : (s t : P) (ok : Bool) → HandsOnIfWaiting is_waiting IsHandedOn s ok t
-      → StaysPrinted (value s) (value t)
-  handed_stays s t ok (inl same) = rw same.1 (stays-none (value s))
-  handed_stays s t ok (inr on) = (one s t ok on.1).1.stays
+-- What stays where a printer is to hand on what waits. For the reading of the next PES packet.
+module _ {P N : Type 0} (name : P → N) (value : P → PrinterValue) {is_waiting : P → Bool}
+    {IsHandedOn : P → Bool → P → Type 0} (s t : P) (ok : Bool)
+    (call : HandsOnIfWaiting is_waiting IsHandedOn s ok t)
+    (one : IsHandedOn s ok t → (name t ≡ name s) × HandsOnLines (value s) ok (value t)) where
+  pub handed_same : name t ≡ name s
+  handed_same = elim call [ inl same ↦ ap name same.1 | inr on ↦ (one on.1).0 ]
 
-  failed_as : (s t : P) (ok : Bool)
-      → (value s).failed ≡ false
+  pub handed_stays : StaysPrinted (value s) (value t)
+  handed_stays = elim call [
+    | inl same ↦ rw same.1 (stays-none (value s))
+    | inr on ↦ (one on.1).1.stays
+  ]
+
+  pub handed_failed : (value s).failed ≡ false
       → (value s).count < 0xFFFF_FFFF_FFFF_FFFF
-      → HandsOnLines (value s) ok (value t)
       → (value t).failed ≡ not ok
-  failed_as s t true goes room on = cannot_fail _ _ (λ is. true≢false (sym is ∙ on.stopped))
-  failed_as s t false goes room on =
-      stopped_fails (value s) (value t) (value t).failed refl goes room on.stays on.stopped
-
-  pub handed_failed : (s t : P) (ok : Bool)
-      → (value s).failed ≡ false
-      → (value s).count < 0xFFFF_FFFF_FFFF_FFFF
-      → HandsOnIfWaiting is_waiting IsHandedOn s ok t
-      → (value t).failed ≡ not ok
-  handed_failed s t ok goes room (inl same) =
-      ap (λ p. (value p).failed) same.1 ∙ goes ∙ sym (ap not same.0)
-  handed_failed s t ok goes room (inr on) = failed_as s t ok goes room (one s t ok on.1).1
+  handed_failed goes room = elim call [
+    | inl same ↦ ap (λ p. (value p).failed) same.1 ∙ goes ∙ sym (ap not same.0)
+    | inr on ↦ failed_as (value s) (value t) ok goes room (one on.1).1
+  ]

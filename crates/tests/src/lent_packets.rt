@@ -4,7 +4,7 @@ ghost use Rattle.std.specs.Prelude.{◌≡◌, nat_eq, true};
 use crate::asserting::{assert_same, assert_same_in};
 use fixtures::FIRST;
 use std::process::Abort;
-use sub_io::{FailAt, FirstTold, Live, MemSource, Stopped};
+use sub_io::{FailAt, Live, MemSource, Stopped};
 use ttx_pes::{hand_on_first, holds_packet};
 
 // Asserts whether this many bytes hold the packet that they begin.
@@ -24,7 +24,7 @@ fn tells_whether_a_packet_is_lent_whole(rt: HostRuntime) {
     assert_holds(&rt, &[0, 0, 1, 0xBD, 0, 0], true);
 }
 
-// A device that waits, and counts how often it was to hand on.
+// A device that waits until it was to hand on.
 #[derive(Drop)]
 struct Waiting {
     calls: u64,
@@ -55,7 +55,8 @@ fn hands_on_where_a_packet_is_not_lent(rt: HostRuntime) {
     let unknown = FailAt::new(MemSource::new(&FIRST), 9);
     assert_same(&rt, &hand_on_first(&unknown, &mut device), &Ok(()));
     assert_same(&rt, &device.calls, &1);
-    // One that never waits is left as it is, also where it could not hand on.
-    let mut first = FirstTold::<u32>::new();
-    assert_same(&rt, &hand_on_first(&unknown, &mut first), &Ok(()));
+    // One that does not wait is left as it is.
+    device.calls = 7;
+    assert_same(&rt, &hand_on_first(&unknown, &mut device), &Ok(()));
+    assert_same(&rt, &device.calls, &7);
 }
