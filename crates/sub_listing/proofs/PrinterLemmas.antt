@@ -235,8 +235,8 @@ failed_as a b true goes room on = cannot_fail _ _ (λ is. true≢false (sym is �
 failed_as a b false goes room on = stopped_fails a b b.failed refl goes room on.stays on.stopped
 
 -- What stays where a printer is to hand on what waits. For the reading of the next PES packet.
-module _ {P N : Type 0} (name : P → N) (value : P → PrinterValue) {is_waiting : P → Bool}
-    {IsHandedOn : P → Bool → P → Type 0} (s t : P) (ok : Bool)
+module _ {P N : Type 0} (name : P → N) (value : P → PrinterValue) (is_waiting : P → Bool)
+    (IsHandedOn : P → Bool → P → Type 0) (s t : P) (ok : Bool)
     (call : HandsOnIfWaiting is_waiting IsHandedOn s ok t)
     (one : IsHandedOn s ok t → (name t ≡ name s) × HandsOnLines (value s) ok (value t)) where
   pub handed_same : name t ≡ name s

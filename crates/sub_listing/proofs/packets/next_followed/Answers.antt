@@ -12,38 +12,38 @@ value_of contents count p = printer_value (contents p.out.now) (count p.out.now)
 pub returns-clause-same : goal.returns-clause-same
 returns-clause-same g c =
     handed_same (λ (p : Printer g.row.K.Denot). p.out.ghost_name)
-    (value_of g.K.Sink.contents g.K.Sink.failure_count) _ _ _ c.hand_on_first.ensures.call
+    (value_of g.K.Sink.contents g.K.Sink.failure_count) _ _ _ _ _ c.hand_on_first.ensures.call
     (λ on. (on.0, on.1))
 
 pub returns-then-is_err-clause-same : goal.returns-then-is_err-clause-same
 returns-then-is_err-clause-same g c =
     handed_same (λ (p : Printer g.row.K.Denot). p.out.ghost_name)
-    (value_of g.K.Sink.contents g.K.Sink.failure_count) _ _ _ c.hand_on_first.ensures.call
+    (value_of g.K.Sink.contents g.K.Sink.failure_count) _ _ _ _ _ c.hand_on_first.ensures.call
     (λ on. (on.0, on.1))
 
 pub returns-clause-stays : goal.returns-clause-stays
 returns-clause-stays g c =
     handed_stays (λ (p : Printer g.row.K.Denot). p.out.ghost_name)
-    (value_of g.K.Sink.contents g.K.Sink.failure_count) _ _ _ c.hand_on_first.ensures.call
+    (value_of g.K.Sink.contents g.K.Sink.failure_count) _ _ _ _ _ c.hand_on_first.ensures.call
     (λ on. (on.0, on.1))
 
 pub returns-then-is_err-clause-stays : goal.returns-then-is_err-clause-stays
 returns-then-is_err-clause-stays g c =
     handed_stays (λ (p : Printer g.row.K.Denot). p.out.ghost_name)
-    (value_of g.K.Sink.contents g.K.Sink.failure_count) _ _ _ c.hand_on_first.ensures.call
+    (value_of g.K.Sink.contents g.K.Sink.failure_count) _ _ _ _ _ c.hand_on_first.ensures.call
     (λ on. (on.0, on.1))
 
 pub returns-clause-failed : goal.returns-clause-failed
 returns-clause-failed g c =
     handed_failed (λ (p : Printer g.row.K.Denot). p.out.ghost_name)
-    (value_of g.K.Sink.contents g.K.Sink.failure_count) _ _ _ c.hand_on_first.ensures.call
+    (value_of g.K.Sink.contents g.K.Sink.failure_count) _ _ _ _ _ c.hand_on_first.ensures.call
     (λ on. (on.0, on.1)) c.requires.goes_on c.requires.out
     ∙ not_ok _ _ (sym c.is_err.ensures.value ∙ c.if-is_err.false)
 
 pub returns-then-is_err-clause-failed : goal.returns-then-is_err-clause-failed
 returns-then-is_err-clause-failed g c =
     handed_failed (λ (p : Printer g.row.K.Denot). p.out.ghost_name)
-    (value_of g.K.Sink.contents g.K.Sink.failure_count) _ _ _ c.hand_on_first.ensures.call
+    (value_of g.K.Sink.contents g.K.Sink.failure_count) _ _ _ _ _ c.hand_on_first.ensures.call
     (λ on. (on.0, on.1)) c.requires.goes_on c.requires.out
     ∙ not_ok _ _ (sym c.is_err.ensures.value ∙ c.if-is_err.true)
 
