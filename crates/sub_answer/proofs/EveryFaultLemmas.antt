@@ -476,16 +476,18 @@ cut_reads told failing risen =
 
 -- The line of the failure was put, and nothing before it is held back.
 pub last_line : {K : Type 0} (contents : K → Option (List ℕ)) (held : K → ℕ)
-    (IsPush : K → List ℕ → Option ℕ → K → Type 0) (before new : K)
+    (IsPush : K → List ℕ → Option ℕ → K → Type 0) (before new end : K)
     (answer : Result (Option Accepted) CheckFault)
     → failed is_pes_read answer ≡ true
     → held before ≡ 0
     → IfErr answer (λ f. PutsLine contents IsPush before (line_of (check_told f)) new)
-    → HoldsLastLine contents held IsPush new
-last_line contents held IsPush before new (Ok a) is none line = absurd (true≢false (sym is))
-last_line contents held IsPush before new (Err f) is none line = record {
+    → end ≡ new
+    → HoldsLastLine contents held IsPush end
+last_line contents held IsPush before new end (Ok a) is none line same =
+    absurd (true≢false (sym is))
+last_line contents held IsPush before new end (Err f) is none line same = record {
   before = before;
   settled = none;
   told = check_told f;
-  line = line;
+  line = subst (PutsLine contents IsPush before (line_of (check_told f))) (sym same) line;
 }

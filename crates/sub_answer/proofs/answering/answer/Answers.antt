@@ -31,3 +31,7 @@ returns-in-Blank-clause-answers g c =
 
 pub returns-in-Packets-clause-followed : goal.returns-in-Packets-clause-followed
 returns-in-Packets-clause-followed g c = rw c.in-Packets.is c.list_packets.ensures.followed
+
+pub returns-then-all-clause-followed : goal.returns-then-all-clause-followed
+returns-then-all-clause-followed g c =
+    rw (c.in-Check.is, c.if-all.true) c.print_every_fault.ensures.followed

@@ -38,5 +38,6 @@ pub returns-clause-followed : goal.returns-clause-followed
 returns-clause-followed g c = λ none risen.
     let told = c.tell_every_fault-answer.ensures in
     let fails = risen_fails _ _ _ risen told.count in
-    last_line g.K.Sink.contents g.K.Flush.held g.K.Sink.is_push _ _ c.tell_every_fault-answer.result
-    fails (told.asked none fails) c.print_end.ensures.line
+    last_line g.K.Sink.contents g.K.Flush.held g.K.Sink.is_push _ _ _
+    c.tell_every_fault-answer.result fails (told.asked none fails) c.print_end.ensures.line
+    (search rules)
