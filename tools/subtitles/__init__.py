@@ -9,6 +9,12 @@ transport  MPEG transport streams, read (ISO/IEC 13818-1)
 joining    the PES packets of a PID, and what was lost of them
 listing    the PIDs with Teletext, and the pages of these
 extracting the PES packets of one PID, and in words what is missing
+programmes what a PMT says of a programme
+pictures   the first picture of video, found while a stream is read
+codecs     how many pictures begin in a PES packet of video
+timing     PTS against the PCR
+languages  languages of subtitle files as PMTs have them
+repeat     how often a page is repeated
 multiplex  a transport stream with Teletext, written
 units      data units of a PES packet, found by their addresses
 batch      many PES packets, of which all data units are looked at in one step

@@ -50,6 +50,8 @@ class Timing:
         self.piece = piece
         if (before is None or self.is_due(before)) and self.finds_clock():
             self.look(piece)
+        else:
+            self.pcr = None  # the last one of this piece is not known
 
     def is_due(self, pts: int) -> bool:
         """Whether a PTS is a second from the last one that was looked at."""

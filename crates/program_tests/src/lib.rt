@@ -10,6 +10,10 @@ mod answers;
 #[cfg(test)]
 mod asserting;
 #[cfg(test)]
+mod files;
+#[cfg(test)]
+mod files_in_memory;
+#[cfg(test)]
 mod listen;
 #[cfg(test)]
 mod normal;

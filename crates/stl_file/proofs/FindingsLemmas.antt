@@ -74,8 +74,11 @@ findings_at-first (suc room) is begun b = elim (cases_lt (length b) 128) [
       let k : ℕ = 128 * room + 1 in
       let m : 128 * suc room + 1 ≡ 128 + k = omega arith in
       let size : 128 ≤ length (take (128 + k) b) = omega (arith, length-take (128 + k) b) in
-      rw (m, findings_step room is begun (take (128 + k) b) size, findings_step room is begun b long)
-      (rw (take-take 128 (128 + k) b (omega arith), drop-take 128 k b)
+      rw (
+        m,
+        findings_step room is begun (take (128 + k) b) size,
+        findings_step room is begun b long,
+      ) (rw (take-take 128 (128 + k) b (omega arith), drop-take 128 k b)
       (simp (findings_at-first room)))
 ]
 

@@ -1,80 +1,62 @@
--- What a call of a reader takes and answers; main lemmas: plain_leads, answers, takes_subtitle,
--- refuses.
-use Rattle.std.proofs.Common.{◌≡◌, ℕ, Bool, false, true, List, [], ◌∷◌, ◌++◌, refl, sym, ap}
-use Rattle.std.proofs.Common.{◌∙◌, append_assoc, arith, Option, Some, None, Result, Ok, Err, ◌-◌}
-use Rattle.std.proofs.Common.{length}
+-- What a call of a reader takes and answers; main lemmas: takes_subtitle, takes_passed,
+-- refuses; left-then.
+use Rattle.std.proofs.Common.{◌≡◌, ℕ, false, true, List, [], ◌∷◌, ◌++◌, refl, sym, ap, ◌∙◌}
+use Rattle.std.proofs.Common.{append_assoc, arith, Option, Some, None, Result, Ok, Err, ◌-◌, length}
 use Rattle.std.proofs.lemmas.Bool.Decides.{nat_tests}
-use Rattle.std.specs.Prelude.{filter}
+use Rattle.std.specs.Prelude.{filter, option_map}
 use Rattle.std.specs.List.{AllByRecursion, concat, AllZip}
 use Rattle.std.proofs.lemmas.List.{append-nil}
 use Rattle.stl_file.specs.declared.fault.StlFault.{StlFault}
-use Rattle.stl_file.specs.declared.progress.Progress.TheVariants.{Reading}
+use Rattle.stl_file.specs.declared.resuming.Found.{Found}
+use Rattle.stl_file.specs.declared.resuming.Found.TheVariants as found
+use Rattle.stl_file.specs.Fault.{is_cut}
 use Rattle.stl_file.specs.Tti.{is_kept, most_blocks}
 use Rattle.stl_file.specs.SubtitleBlocks.{IsBlock, AreBlocksOf}
-use Rattle.stl_file.specs.Reader.{Leads, LastIsKept, TakesSubtitle, given_subtitle, outcome_by}
-use Rattle.stl_file.specs.Reader.{TakesPassed, Refuses, EndsKept}
-use Rattle.stl_file.specs.Reader.{ReaderValue, GivesNext, progress_after_answer, tells_end}
+use Rattle.stl_file.specs.Reader.{EndsKept, LastIsKept, Refuses, TakesPassed, TakesSubtitle}
 use Rattle.stl_file.specs.Subtitle.{SubtitleValue}
-use Rattle.stl_file.specs.Reading.{Begun, stopped}
+use Rattle.stl_file.specs.Reading.{Begun, fails, findings_from, refused_by, stopped}
 use Rattle.stl_file.specs.Resuming.{LeadsOn, findings_by, finds_end, found_of}
 use Rattle.stl_file.proofs.SubtitleBlocksLemmas.{length-concat}
 use Rattle.stl_file.proofs.FindingsLemmas.{findings_end}
 use Rattle.stl_file.proofs.RestLemmas.{read_complete, read_sound, groups_of}
 
--- ---- a reader that goes on after no fault
+-- What was left is what was found, and what is left after it. For `stl_rows`.
+pub left-then : (old new : Option (List ℕ)) (rest : List ℕ) {from to : ℕ}
+    {refused next : Option Begun} {t : SubtitleValue} {result : Result Found StlFault}
+    → LeadsOn from to refused next old new t result
+    → old ≡ Some rest
+    → (more : List ℕ) × (new ≡ Some more)
+    × (findings_from from refused rest ≡ findings_by to next more t result)
+left-then None new rest l is = absurd cc
+left-then (Some all) None rest l is = absurd l.consumed
+left-then (Some all) (Some more) rest l is =
+    let same : rest ≡ l.bytes ++ more = let whole = l.consumed in cc in
+    (more, refl, rw same (l.findings more l.ended))
 
--- What an answer says of all that was left.
-plain_by : (to : ℕ) (next : Option Begun) (more : List ℕ) (s : SubtitleValue)
-    (r : Result Bool StlFault)
-    → (r ≡ Ok true → next ≡ None)
-    → stopped (findings_by to next more s (found_of false r))
-    ≡ outcome_by to more (given_subtitle r s)
-plain_by to next more s r over = grind arith
+-- ---- what an answer says of a reader that stops at the first fault
 
--- Whether it tells the end.
-plain_end : (s : SubtitleValue) (r : Result Bool StlFault)
-    → finds_end (found_of false r) ≡ tells_end (given_subtitle r s)
-plain_end s r = grind arith
+-- A fault ends what it gives, also where reading could go on behind it.
+by_fault : (to : ℕ) (next : Option Begun) (more : List ℕ) (s : SubtitleValue) (f : StlFault)
+    → stopped (findings_by to next more s (found_of false (Err f))) ≡ fails f to
+by_fault to next more s f = grind arith
 
--- The answer of a reader that has refused nothing is that of one that stops.
-pub plain_leads : {from to : ℕ} {next : Option Begun} {old new : Option (List ℕ)}
-    {s : SubtitleValue} {r : Result Bool StlFault}
-    → (r ≡ Ok true → next ≡ None)
-    → LeadsOn from to None next old new s (found_of false r)
-    → Leads from to old new (given_subtitle r s)
-plain_leads {from} {to} {next} {s = s} {r = r} over l = record {
-  bytes = l.bytes;
-  consumed = l.consumed;
-  block = l.block;
-  outcome = λ more cut.
-      ap stopped (l.findings more (λ e. cut (sym (plain_end s r) ∙ e)))
-      ∙ plain_by to next more s r over;
-  ended = λ cut. l.ended (plain_end s r ∙ cut);
-  kept = λ t is. l.kept (grind arith);
-}
-
--- ---- what an answer says
-
--- The answer of a reader whose fields are known.
-pub answers : (old new : ReaderValue) (bytes : List ℕ) (now : Option (List ℕ))
-    (r : Result (Option SubtitleValue) StlFault)
-    → old.progress ≡ Reading
-    → new.progress ≡ progress_after_answer Reading r
-    → Leads old.block new.block (Some bytes) now r
-    → GivesNext old bytes new now r
-answers old new bytes now r is goes l = grind (arith, nat_tests)
+-- More bytes might cure only a file that is cut.
+is_cut-by : (f : StlFault) → finds_end (found_of false (Err f)) ≡ true → is_cut f ≡ true
+is_cut-by f e = grind arith
 
 -- No file goes on with a first fault.
-pub refuses : (from to : ℕ) (old new : Option (List ℕ)) (x : StlFault)
-    → Leads from to old new (Err x)
+pub refuses : (from to : ℕ) (old new : Option (List ℕ)) (s : SubtitleValue) (next : Option Begun)
+    (x : StlFault)
+    → LeadsOn from to None next old new s (found_of false (Err x))
     → Refuses from to old new x
-refuses from to old new x l = record {
+refuses from to old new s next x l = record {
   bytes = l.bytes;
   consumed = l.consumed;
   block = l.block;
   none = λ more cut bs ts r e.
       let good = read_complete bs (most_blocks - from) ts r in
-      let bad = l.outcome more cut in
+      let bad = ap stopped (l.findings more (λ end. cut (is_cut-by x end)))
+      ∙ by_fault to next more s x in
       grind arith;
 }
 
@@ -108,11 +90,13 @@ ends_group s (b ∷ bs) a h k = ends_kept [] b bs h k
 
 -- A subtitle is that of the blocks that were taken.
 pub takes_subtitle : (from to : ℕ) (old new : Option (List ℕ)) (s : SubtitleValue)
-    → Leads from to old new (Ok (Some s))
+    (kept : Option (List ℕ))
+    → kept ≡ None
+    → LeadsOn from to None (option_map refused_by kept) old new s (Ok found.Subtitle)
     → TakesSubtitle from to old new s
-takes_subtitle from to old new s l =
+takes_subtitle from to old new s kept over l =
     let r = read_sound (most_blocks - from) None [] l.bytes (s ∷ []) refl
-    (let o = l.outcome [] (λ _. refl) in grind (arith, append-nil, findings_end)) in
+    (let o = rw over at (l.findings [] (λ e. refl)) in grind (arith, append-nil, findings_end)) in
     let are_of : AreBlocksOf s (filter is_kept r.blocks) =
     rw r.kept (one_group s r.groups r.are_groups) in
     record {
@@ -120,18 +104,19 @@ takes_subtitle from to old new s l =
       counted = omega (arith, length-concat r.blocks r.each, ap length r.bytes);
       each = r.each;
       are_of = are_of;
-      ends = ends_group s r.blocks are_of r.each (rw r.bytes at (l.kept s refl));
+      ends = ends_group s r.blocks are_of r.each (rw r.bytes at (l.kept refl));
       consumed = rw r.bytes at l.consumed;
     }
 
 -- No subtitle is that of passed blocks alone.
-pub takes_passed : (from to : ℕ) (old new : Option (List ℕ))
-    → Leads from to old new (Ok None)
+pub takes_passed : (from to : ℕ) (old new : Option (List ℕ)) (s : SubtitleValue)
+    (next : Option Begun)
+    → LeadsOn from to None next old new s (Ok found.End)
     → TakesPassed from to old new
-takes_passed from to old new l =
+takes_passed from to old new s next l =
     let r = read_sound (most_blocks - from) None [] l.bytes [] refl
-    (let o = l.outcome [] (λ _. refl) in grind (arith, append-nil)) in
+    (let o = l.findings [] (λ e. refl) in grind (arith, append-nil)) in
     grind (arith, nat_tests, read_sound, append-nil, length-concat, no_group)
 
 -- What bytes that lead to an answer say of it. For `next_into`.
-pub ruleset led = (answers, takes_subtitle, takes_passed, refuses)
+pub ruleset led = (takes_subtitle, takes_passed, refuses)

@@ -1,8 +1,9 @@
 -- `IsRest`: bytes are read without a fault exactly when they are blocks of subtitles; main lemmas:
 -- read_complete, read_sound.
 use Rattle.std.proofs.Common.{◌≡◌, ℕ, Bool, false, cond, List, [], ◌∷◌, ◌++◌, length, refl, sym}
-use Rattle.std.proofs.Common.{ap, ◌∙◌, append_assoc, arith, take, drop, Option, Some, None, Result, Ok, Err}
-use Rattle.std.proofs.Common.{subst, zero, suc, ◌+◌, ◌-◌, ◌<◌, ◌≤◌, length-append, inl, inr}
+use Rattle.std.proofs.Common.{ap, ◌∙◌, append_assoc, arith, take, drop, Option, Some, None, Result}
+use Rattle.std.proofs.Common.{Ok, Err, subst, zero, suc, ◌+◌, ◌-◌, ◌<◌, ◌≤◌, length-append, inl}
+use Rattle.std.proofs.Common.{inr}
 use Rattle.std.specs.Prelude.{filter}
 use Rattle.std.specs.List.{AllByRecursion, flat_map, concat, AllZip}
 use Rattle.std.proofs.lemmas.List.Folds.{concat-append}

@@ -82,37 +82,10 @@ abbrev pub block_by : ℕ → Result (Option SubtitleValue) StlFault → ℕ
 block_by block (Err f) = block_after block f
 block_by block (Ok found) = block
 
--- What an answer that names this block says of all that was left, where `rest` is left after it.
-abbrev pub outcome_by : ℕ → List ℕ → Result (Option SubtitleValue) StlFault → Outcome
-outcome_by block rest (Err f) = fails f block
-outcome_by block rest (Ok None) = ends
-outcome_by block rest (Ok (Some s)) = gives s block (outcome_from block rest)
-
--- The answer is told of the end of the file, and more bytes might change it.
-abbrev pub tells_end : Result (Option SubtitleValue) StlFault → Bool
-tells_end (Err f) = is_cut f
-tells_end (Ok None) = true
-tells_end (Ok (Some s)) = false
-
 -- The last block of these bytes is no passed block.
 abbrev pub LastIsKept : List ℕ → Type 0
 LastIsKept bytes =
     (front last : List ℕ) → bytes ≡ front ++ last → IsBlock last → is_kept last ≡ true
-
--- The bytes that were taken after `from` blocks lead to the answer, which names the block `to`,
--- whatever comes after them; where it tells the end, nothing does. A subtitle is given at a block
--- that is not passed over.
-pub record Leads (from to : ℕ) (old new : Option (List ℕ))
-    (result : Result (Option SubtitleValue) StlFault) : Type 0 where
-  pub bytes : List ℕ
-  pub consumed : Consumes old new bytes
-  pub block : to ≡ from + (length bytes + 127) / 128
-  pub outcome :
-      (more : List ℕ)
-      → (tells_end result ≡ true → more ≡ [])
-      → outcome_from from (bytes ++ more) ≡ outcome_by to more result
-  pub ended : tells_end result ≡ true → IsAtEnd new
-  pub kept : (s : SubtitleValue) → result ≡ Ok (Some s) → LastIsKept bytes
 
 -- ---- what a call takes
 

@@ -10,7 +10,7 @@ ghost use Rattle.sub_io.specs.Reading.{IfTold};
 ghost use Rattle.stl_file.specs.declared.fault.StlFault.TheVariants.{Ended};
 ghost use Rattle.stl_file.specs.Fault.{is_format, is_read};
 ghost use Rattle.stl_file.specs.Gsi.{IsGsi};
-ghost use Rattle.stl_file.specs.Reader.{Leads, block_after, block_by, opened_at, FailsReading};
+ghost use Rattle.stl_file.specs.Reader.{block_after, block_by, opened_at, FailsReading};
 ghost use Rattle.stl_file.specs.Reader.{HasPlace, GivesNext, Refuses, RefusesOpening, TakesPassed};
 ghost use Rattle.stl_file.specs.Reader.{TakesSubtitle, given_subtitle, progress_after_answer};
 ghost use Rattle.stl_file.specs.Reading.{begun_in, refused_by};
@@ -229,7 +229,9 @@ impl StlReader {
             Progress::AtEnd => return Ok(false),
             Progress::Broken => return Err(StlFault::Ended),
         };
-        match read_subtitle(&mut block, source, subtitle) {
+        // A subtitle that is refused is a fault as any other here: reading stops.
+        let mut refused = None;
+        match read_blocks(&mut block, source, subtitle, &mut refused) {
             Ok(true) => {
                 self.block = block;
                 Ok(true)
@@ -246,28 +248,6 @@ impl StlReader {
             }
         }
     }
-}
-
-// The next subtitle of a file of which `block` blocks were read.
-fn read_subtitle<S: Source>(
-    block: &mut u32,
-    source: &mut S,
-    subtitle: &mut Subtitle,
-) -> Result<bool, StlFault>
-    requires few { block.old ≤ most_blocks }
-    requires count { CanFail (S.failure_count source.old) }
-    ensures leads { failed is_read result ≡ false →
-        Leads block.old (block_by block.new (given_subtitle result subtitle.new))
-        (S.remaining source.old) (S.remaining source.new) (given_subtitle result subtitle.new) }
-    ensures failed { failed is_read result ≡ true →
-        FailsReading block.old (block.new + 1) None
-        (S.remaining source.old) (S.remaining source.new) }
-    ensures never { IfErr result (λ fault. fault ≢ Ended) }
-    ensures few { block.new ≤ most_blocks }
-    ensures count { CountsIf S.failure_count source.old (failed is_read result) source.new }
-{
-    let mut refused = None;
-    read_blocks(block, source, subtitle, &mut refused)
 }
 
 // Reads blocks after `block` of a file, up to the last of a subtitle, the end or a fault. `refused`

@@ -49,7 +49,8 @@ faultless n records no_more h = record { all = refl; programme = λ ok each. rw 
 faultless n records (breaks f block) h = absurd cc
 faultless n records (refuses f block left) h = absurd cc
 faultless n records (finds t block left) h =
-    let parts = empty_parts (map (load_fault block) (follow_faults n (times_before records) t)) _ h in
+    let parts =
+    empty_parts (map (load_fault block) (follow_faults n (times_before records) t)) _ h in
     let none = map_empty (load_fault block) (follow_faults n (times_before records) t) parts.0 in
     let rest = faultless n (records ++ t ∷ []) left
     (rw (ap (option_map times_of) (last_of-push records t)) parts.1) in

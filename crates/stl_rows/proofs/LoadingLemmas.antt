@@ -19,13 +19,11 @@ use Rattle.sub_io.specs.Telling.{Tells, first_alone}
 use Rattle.sub_io.proofs.TellingLemmas.{Tells-trans}
 use Rattle.stl_file.specs.declared.fault.StlFault.{StlFault}
 use Rattle.stl_file.specs.declared.fault.StlFault.TheVariants.{Ended}
-use Rattle.stl_file.specs.declared.resuming.Found.{Found}
 use Rattle.stl_file.specs.Fault.{is_of_first, is_read}
-use Rattle.stl_file.specs.Reading.{Begun, Findings, breaks, findings_from, finds, no_more, refuses}
+use Rattle.stl_file.specs.Reading.{Findings, breaks, finds, no_more, refuses}
 use Rattle.stl_file.specs.Gsi.{gsi_size}
 use Rattle.stl_file.specs.Subtitle.{IsSubtitle, SubtitleValue}
 use Rattle.stl_file.specs.Reader.{FindsFrom, ReaderValue, findings_of, findings_opened, opened_at}
-use Rattle.stl_file.specs.Resuming.{LeadsOn, findings_by}
 use Rattle.stl_rows.specs.declared.national.National.{National}
 use Rattle.stl_rows.specs.declared.fault.LoadFault.{LoadFault}
 use Rattle.stl_rows.specs.declared.fault.LoadFaultKind.{LoadFaultKind}
@@ -35,7 +33,7 @@ use Rattle.stl_rows.specs.DrawnPage.{drawn}
 use Rattle.stl_rows.specs.EveryFault.{StopsWithin, TellsFaults, TellsOfFile, faults, faults_behind}
 use Rattle.stl_rows.specs.EveryFault.{is_told_before, is_of_file, is_unfinished, kept_after}
 use Rattle.stl_rows.specs.EveryFault.{load_fault}
-use Rattle.stl_rows.specs.Loading.{EndsAfter, EndsRecord, loaded, records_of}
+use Rattle.stl_rows.specs.Loading.{EndsBehind, EndsRecord, loaded, records_of}
 use Rattle.stl_rows.specs.Programme.{IsProgramme, follow_faults, order_faults, row_faults}
 use Rattle.stl_rows.specs.Programme.{times_before, times_of}
 use Rattle.stl_rows.proofs.ProgrammeLemmas.{IsProgramme-push, last_of-push}
@@ -47,19 +45,6 @@ pub findings_of-opened : (bytes : List ℕ) (r : Result ReaderValue StlFault)
     → findings_of bytes ≡ findings_opened (drop gsi_size bytes) r
 unfolding findings_of
 findings_of-opened bytes r h = ap (findings_opened (drop gsi_size bytes)) h
-
--- What is left is what was found, and what is left after it.
-pub left-then : (old new : Option (List ℕ)) (rest : List ℕ) {from to : ℕ}
-    {refused next : Option Begun} {t : SubtitleValue} {result : Result Found StlFault}
-    → LeadsOn from to refused next old new t result
-    → old ≡ Some rest
-    → (more : List ℕ) × (new ≡ Some more)
-    × (findings_from from refused rest ≡ findings_by to next more t result)
-left-then None new rest l is = absurd cc
-left-then (Some all) None rest l is = absurd l.consumed
-left-then (Some all) (Some more) rest l is =
-    let same : rest ≡ l.bytes ++ more = let whole = l.consumed in cc in
-    (more, refl, rw same (l.findings more l.ended))
 
 -- ---- what was told of subtitles
 
@@ -156,7 +141,7 @@ pub record GoesOn (national : National) (file : List ℕ) (left : Findings) (bef
       → records_of (findings_of file) ≡ records ++ records_of left
   pub ends_record : (records : List SubtitleValue) (at : ℕ)
       → kept ≡ Some records
-      → EndsAfter national before at left
+      → EndsBehind national before at left
       → EndsRecord national file at
 
 -- All subtitles so far are kept: they are a programme, and nothing was told of any.

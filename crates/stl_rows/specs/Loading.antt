@@ -36,17 +36,17 @@ loaded national file =
     (record { national = national; records = records_of (findings_of file) })
 
 -- A subtitle that follows one of these times ends at this block, and up to it nothing is wrong.
-abbrev pub EndsAfter : National → Option Times → ℕ → Findings → Type 0
-EndsAfter national before at no_more = ⊥
-EndsAfter national before at (breaks fault block) = ⊥
-EndsAfter national before at (refuses fault block more) = ⊥
-EndsAfter national before at (finds t block more) =
+abbrev pub EndsBehind : National → Option Times → ℕ → Findings → Type 0
+EndsBehind national before at no_more = ⊥
+EndsBehind national before at (breaks fault block) = ⊥
+EndsBehind national before at (refuses fault block more) = ⊥
+EndsBehind national before at (finds t block more) =
     (follow_faults national before t ≡ [])
-    × ((at ≡ block) ⊎ EndsAfter national (Some (times_of t)) at more)
+    × ((at ≡ block) ⊎ EndsBehind national (Some (times_of t)) at more)
 
 -- A subtitle of the file ends at this block, and up to it nothing is wrong.
 abbrev pub EndsRecord : National → List ℕ → ℕ → Type 0
-EndsRecord national file at = EndsAfter national None at (findings_of file)
+EndsRecord national file at = EndsBehind national None at (findings_of file)
 
 -- A fault of loading. Want of memory is told at the last block of a subtitle alone, where no fault
 -- comes before. That the source failed says nothing of the file.

@@ -2,7 +2,7 @@
 -- lemmas: answers_cut, answers_end, counts.
 use Rattle.std.proofs.Common.{◌≡◌, ◌≢◌, ◌∙◌, ap, refl, sym, subst, arith, inl, inr, ℕ, ◌+◌, ◌==◌}
 use Rattle.std.proofs.Common.{List, [], ◌++◌, Bool, true, false, Option, Some, None, Result, Ok}
-use Rattle.std.proofs.Common.{Err, MatchResult, min, ◌∷◌}
+use Rattle.std.proofs.Common.{Err, min, ◌∷◌}
 use Rattle.std.proofs.lemmas.Bool.{true≢false}
 use Rattle.std.proofs.lemmas.Bool.Decides.{nat_tests}
 use Rattle.std.specs.Prelude.{◌↔◌, IfErr, is_none, ◌<◌}
@@ -16,12 +16,10 @@ use Rattle.stl_rows.proofs.LoadingLaw.{none_of_loaded}
 use Rattle.stl_rows.specs.declared.fault.LoadFaultKind.TheVariants as load
 use Rattle.stl_rows.specs.declared.national.National.{National}
 use Rattle.sub_plan.specs.Options.{OptionsValue}
-use Rattle.sub_check.specs.CheckedFiles.{IsChecked, all_events_of, answer_by, events_of}
+use Rattle.sub_check.specs.CheckedFiles.{IsChecked, answer_by}
 use Rattle.sub_rules.specs.Events.{first_told}
-use Rattle.sub_rules.specs.PesReading.{pes_file_of}
-use Rattle.sub_check.specs.FirstTold.{IsRuleFault}
-use Rattle.sub_check.proofs.FirstToldLemmas.{first_decides}
-use Rattle.sub_check.proofs.ReadOnLemmas.{first_of_pieces}
+use Rattle.sub_check.proofs.FirstFaultLemmas.{first_of_rule}
+use Rattle.sub_check.proofs.FirstToldLemmas.{of_rule}
 use Rattle.sub_rules.specs.declared.event.Event.TheVariants.{Ended, PassedUntil, Told, Trusted}
 use Rattle.sub_rules.specs.Fault.{is_failure, is_pes_read, is_stl_read}
 use Rattle.sub_checker.specs.declared.telling.Accepted.{Accepted}
@@ -130,19 +128,6 @@ memory-alone old new events answer block ended memory text =
     (event_lines es ++ line_of (load_told load.Memory block)))
     (can.alone refl refl) (rw memory at text)
 
--- What is told first is a fault of a rule.
-first-of_rule : (programme : ProgrammeValue) (options : OptionsValue) (bytes : List ℕ)
-    (a : Accepted) (f : CheckFault)
-    → first_told (all_events_of programme options bytes) ≡ Some f
-    → IsRuleFault f
-first-of_rule programme options bytes a f is =
-    let file = pes_file_of options.origin bytes in
-    (subst (λ (o : Option CheckFault). MatchResult (answer_by o a)
-    (λ b. (b ≡ a) × (events_of programme options bytes ≡ []))
-    (λ g. (first_told (events_of programme options bytes) ≡ Some g) × IsRuleFault g))
-    (sym (first_of_pieces programme options bytes) ∙ is)
-    (first_decides programme options bytes file.frames file.unread refl a)).1
-
 -- Where nothing failed, the last line says that the files are accepted exactly where they are.
 done-exactly :
     (national : National) (options : OptionsValue) (file bytes : List ℕ) (pes : Option (List ℕ))
@@ -178,8 +163,8 @@ done-exactly national options file bytes pes events (Ok (Some a)) known runs end
       λ done. cc,
       λ accepted.
           let own =
-          first-of_rule are.programme options bytes a f
-          (ap first_told (sym (are.listed bytes known).0) ∙ is) in
+          of_rule f (first_of_rule are.programme options bytes f
+          (ap first_told (sym (are.listed bytes known).0) ∙ is)) in
           let ok =
           accepted-ok national options file bytes are.programme (Err f) are.loads checked
           own.no_subtitle own.no_source accepted in

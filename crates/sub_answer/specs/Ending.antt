@@ -6,7 +6,8 @@ use Rattle.sub_io.specs.Buffered.{HeldBack, failures_and_refused}
 use Rattle.sub_request.specs.Files.{files_of}
 use Rattle.sub_request.specs.declared.request.Request.{Request}
 use Rattle.sub_request.specs.declared.request.UsageFault.{UsageFault}
-use Rattle.sub_files.specs.Opening.{AreOf}
+use Rattle.sub_files.specs.FileCalls.{FileCall}
+use Rattle.sub_files.specs.Opening.{OpensBy}
 use Rattle.sub_files.specs.declared.opening.Opened.{Opened}
 use Rattle.sub_files.specs.declared.opening.Opened.TheVariants.{Nothing, ReadBoth, ReadPes, ReadStl}
 use Rattle.sub_files.specs.declared.opening.Opened.TheVariants.{Write}
@@ -146,22 +147,23 @@ abbrev pub given_by :
 given_by remaining contents Nothing =
     record { first = Some []; second = Some []; file = Some [] }
 given_by remaining contents (ReadStl stl) =
-    record { first = remaining stl.file; second = Some []; file = Some [] }
+    record { first = remaining stl; second = Some []; file = Some [] }
 given_by remaining contents (ReadPes pes) =
-    record { first = remaining pes.file; second = Some []; file = Some [] }
+    record { first = remaining pes; second = Some []; file = Some [] }
 given_by remaining contents (ReadBoth stl pes) =
-    record { first = remaining stl.file; second = remaining pes.file; file = Some [] }
+    record { first = remaining stl; second = remaining pes; file = Some [] }
 given_by remaining contents (Write stl output) =
-    record { first = remaining stl.file; second = Some []; file = contents output.file }
+    record { first = remaining stl; second = Some []; file = contents output }
 
--- The files that a request names were opened, and it was answered over them, by what a file tells
--- that is read, and one that is written; and then the lines were handed on.
+-- The files that a request names were opened, by the calls that were made, and it was answered over
+-- them, by what a file tells that is read, and one that is written; and then the lines were handed
+-- on.
 pub record Ends
-    {F : Type 0} (remaining contents : F → Option (List ℕ)) (request : Request)
-    (old new : Lines) (result : Status)
+    {F : Type 0} (AreMade : List (FileCall F) → Type 0) (remaining contents : F → Option (List ℕ))
+    (request : Request) (old new : Lines) (result : Status)
     : Type 0 where
   pub files : Opened F
-  pub are_opened : AreOf (files_of request) files
+  pub opened : OpensBy AreMade (files_of request) (Some files)
   pub ends : EndsOver request (given_by remaining contents files) old new result
 
 -- The line of a fault was printed, and then handed on.

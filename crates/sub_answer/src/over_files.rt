@@ -3,61 +3,67 @@
 ghost use Rattle.std.specs.Prelude.{◌≡◌, ◌≤◌, [], IfErr, IfOk, Some, length};
 ghost use Rattle.sub_io.specs.Buffered.{failures_and_refused};
 ghost use Rattle.sub_request.specs.Files.{files_of};
+ghost use Rattle.sub_files.specs.FileCalls.{CallsInTurn};
 ghost use Rattle.sub_files.specs.Opening.{IsUnopened};
 ghost use Rattle.sub_answer.specs.Ending.{Ends, EndsOver, given_by, lines_of};
 
 use crate::ending::{answer_from, answer_pair, answer_with_file};
 use std::alloc::Global;
 use std::io::{Read, Write};
-use std::rt::Files;
-use sub_files::{CreatedFile, Opened, PesFile, StlFile, open, room, size_of_rooms};
+use sub_files::{CreatedFile, FileSystem, Opened, PesFile, StlFile, open, room, size_of_rooms};
 use sub_io::{BufferedSink, BufferedSource, FromRead, IntoFile, MemSource, Sink};
 use sub_listing::Status;
 use sub_request::{Request, UsageFault};
 
 /// Opens the files that the request names, and answers it over them, with room for their buffers;
-/// then the lines are handed on.
+/// then the lines are handed on. `files` is asked for these files alone.
 ///
 /// # Errors
 ///
 /// `Memory` where memory runs out before a file is opened, `Open` where a file can't be opened.
 /// Then nothing is printed.
-pub fn open_and_answer<R: AllocGlobal + Files, K: Sink>(
-    rt: &R,
+pub fn open_and_answer<D: FileSystem, K: Sink>(
+    alloc: Global,
+    files: &mut D,
     request: &Request<'_>,
     out: &mut BufferedSink<'_, K>,
 ) -> Result<Status, UsageFault>
     requires { failures_and_refused (K.failure_count out.old.device) out.old.refused ≡ 0 }
-    ensures ends { IfOk result (Ends R.File.remaining R.File.contents request.now
+    ensures ends { IfOk result (Ends (CallsInTurn D.is_call files.old files.new)
+        D.File.remaining D.File.contents request.now
         (lines_of K.contents K.failure_count out.old)
         (lines_of K.contents K.failure_count out.new)) }
     ensures unanswered { IfErr result (λ _. out.new ≡ out.old) }
-    ensures fault { IfErr result (IsUnopened (files_of request.now)) }
+    ensures fault { IfErr result (IsUnopened (CallsInTurn D.is_call files.old files.new)
+        (files_of request.now)) }
 {
     let names = request.files();
-    let Some(mut rooms) = room(rt.alloc(), size_of_rooms(&names)) else {
+    let Some(mut rooms) = room(alloc, size_of_rooms(&names)) else {
         return Err(UsageFault::Memory);
     };
-    open_in_rooms(rt, request, rooms.as_mut_slice(), out)
+    open_in_rooms(alloc, files, request, rooms.as_mut_slice(), out)
 }
 
 // The same, where the room is there.
-fn open_in_rooms<R: AllocGlobal + Files, K: Sink>(
-    rt: &R,
+fn open_in_rooms<D: FileSystem, K: Sink>(
+    alloc: Global,
+    files: &mut D,
     request: &Request<'_>,
     rooms: &mut [u8],
     out: &mut BufferedSink<'_, K>,
 ) -> Result<Status, UsageFault>
     requires rooms { 2 ≤ length rooms.old }
     requires out { failures_and_refused (K.failure_count out.old.device) out.old.refused ≡ 0 }
-    ensures ends { IfOk result (Ends R.File.remaining R.File.contents request.now
+    ensures ends { IfOk result (Ends (CallsInTurn D.is_call files.old files.new)
+        D.File.remaining D.File.contents request.now
         (lines_of K.contents K.failure_count out.old)
         (lines_of K.contents K.failure_count out.new)) }
     ensures unanswered { IfErr result (λ _. out.new ≡ out.old) }
-    ensures fault { IfErr result (IsUnopened (files_of request.now)) }
+    ensures fault { IfErr result (IsUnopened (CallsInTurn D.is_call files.old files.new)
+        (files_of request.now)) }
 {
-    match open(rt, &request.files()) {
-        Some(files) => Ok(answer_opened(rt.alloc(), request, files, rooms, out)),
+    match open(files, &request.files()) {
+        Some(opened) => Ok(answer_opened(alloc, request, opened, rooms, out)),
         None => Err(UsageFault::Open),
     }
 }
@@ -66,13 +72,13 @@ fn open_in_rooms<R: AllocGlobal + Files, K: Sink>(
 fn answer_opened<F: Read + Write + Drop, K: Sink>(
     alloc: Global,
     request: &Request<'_>,
-    files: Opened<'_, F>,
+    files: Opened<F>,
     rooms: &mut [u8],
     out: &mut BufferedSink<'_, K>,
 ) -> Status
     requires rooms { 2 ≤ length rooms.old }
     requires out { failures_and_refused (K.failure_count out.old.device) out.old.refused ≡ 0 }
-    ensures { EndsOver request.now (given_by F.remaining F.contents files.entry)
+    ensures { EndsOver request.now (given_by F.remaining F.contents files)
         (lines_of K.contents K.failure_count out.old)
         (lines_of K.contents K.failure_count out.new) result }
 {
@@ -123,8 +129,8 @@ fn read_one<F: Read + Drop, K: Sink>(
 fn read_both<F: Read + Drop, K: Sink>(
     alloc: Global,
     request: &Request<'_>,
-    stl: StlFile<'_, F>,
-    pes: PesFile<'_, F>,
+    stl: StlFile<F>,
+    pes: PesFile<F>,
     rooms: &mut [u8],
     out: &mut BufferedSink<'_, K>,
 ) -> Status
@@ -132,8 +138,8 @@ fn read_both<F: Read + Drop, K: Sink>(
     requires out { failures_and_refused (K.failure_count out.old.device) out.old.refused ≡ 0 }
     ensures { EndsOver request.now
         (record {
-          first = F.remaining stl.entry.file;
-          second = F.remaining pes.entry.file;
+          first = F.remaining stl;
+          second = F.remaining pes;
           file = Some [];
         })
         (lines_of K.contents K.failure_count out.old)
@@ -150,8 +156,8 @@ fn read_both<F: Read + Drop, K: Sink>(
 fn read_and_write<F: Read + Write + Drop, K: Sink>(
     alloc: Global,
     request: &Request<'_>,
-    stl: StlFile<'_, F>,
-    output: CreatedFile<'_, F>,
+    stl: StlFile<F>,
+    output: CreatedFile<F>,
     rooms: &mut [u8],
     out: &mut BufferedSink<'_, K>,
 ) -> Status
@@ -159,9 +165,9 @@ fn read_and_write<F: Read + Write + Drop, K: Sink>(
     requires out { failures_and_refused (K.failure_count out.old.device) out.old.refused ≡ 0 }
     ensures { EndsOver request.now
         (record {
-          first = F.remaining stl.entry.file;
+          first = F.remaining stl;
           second = Some [];
-          file = F.contents output.entry.file;
+          file = F.contents output;
         })
         (lines_of K.contents K.failure_count out.old)
         (lines_of K.contents K.failure_count out.new) result }

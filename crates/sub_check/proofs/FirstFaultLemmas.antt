@@ -1,8 +1,9 @@
 -- What the device of `check` kept decides its answer: `nothing_kept`, `fault_kept`, `read_failed`,
 -- `fails_at_packet`.
 use Rattle.std.proofs.lemmas.Bool.Decides.{nat_tests}
-use Rattle.std.proofs.Common.{◌≡◌, ℕ, zero, suc, List, Option, Some, None, Result, Ok, Err, true}
-use Rattle.std.proofs.Common.{false, is_some, refl, sym, ◌∙◌, subst, arith, length, take, replicate}
+use Rattle.std.proofs.Common.{◌≡◌, ◌≤◌, ℕ, zero, suc, List, Option, Some, None, Result, Ok, Err}
+use Rattle.std.proofs.Common.{true, false, is_some, refl, sym, ◌∙◌, subst, arith, length, take}
+use Rattle.std.proofs.Common.{replicate}
 use Rattle.std.proofs.lemmas.List.{length-replicate}
 use Rattle.std.proofs.lemmas.Bool.{true≢false}
 use Rattle.std.specs.List.{AllByRecursion}
@@ -16,18 +17,17 @@ use Rattle.ttx_pes.proofs.PesPacketLemmas.{canonical_is_packet}
 use Rattle.sub_plan.specs.Options.{OptionsValue, IsOptions}
 use Rattle.sub_check.specs.CheckedFiles.{IsChecked, all_events_of, answer_by}
 use Rattle.sub_check.specs.CheckedFiles.{events_of_first_pieces}
-use Rattle.sub_check.specs.FirstTold.{KeepsFirstFault}
+use Rattle.sub_check.specs.FirstTold.{KeepsFirstFault, is_of_rule}
 use Rattle.sub_checker.specs.PieceTelling.{TellsPieces}
-use Rattle.sub_rules.specs.Events.{events_of_first, first_told}
+use Rattle.sub_rules.specs.Events.{first_told}
 use Rattle.sub_rules.specs.FrameRules.{Unread, task_of}
-use Rattle.sub_rules.specs.PesReading.{pes_file_of}
 use Rattle.sub_rules.specs.Pieces.{FailsAtPiece, Piece, ReadsPieces, frames_of, piece_file_of}
 use Rattle.sub_checker.specs.declared.telling.Accepted.{Accepted}
 use Rattle.sub_rules.specs.declared.fault.CheckFault.{CheckFault}
-use Rattle.sub_check.proofs.FirstToldLemmas.{first_named, frames_named, kept_is, none_told, of_rule}
-use Rattle.sub_check.proofs.ReadOnLemmas.{AreSent, are_sent, first_of_front, first_of_pieces}
+use Rattle.sub_check.proofs.FirstToldLemmas.{first_named, kept_is, of_rule}
+use Rattle.sub_check.proofs.ReadOnLemmas.{all_are_sent, first_of_front, first_of_pieces}
 use Rattle.sub_check.proofs.ReadOnLemmas.{first_of_taken}
-use Rattle.sub_rules.specs.Fault.{fault_row, is_pes_read}
+use Rattle.sub_rules.specs.Fault.{is_pes_read}
 use Rattle.ttx_pes.specs.declared.fault.PesFault.TheVariants as Pes
 use Rattle.sub_rules.specs.declared.fault.CheckFault.TheVariants as fault
 use Rattle.sub_check.proofs.VerdictLemmas.{checked_first, checked_from, refused_first}
@@ -42,31 +42,34 @@ TellsFirst programme options bytes empty kept r =
     empty kept r
 
 module _ (programme : ProgrammeValue) (options : OptionsValue) (bytes : List ℕ) where
-  -- What is told first of the pieces is of a rule.
-  first_of_rule : (f : CheckFault)
+  -- What is told first of the pieces is of a rule. Also for `sub_answer`.
+  pub first_of_rule : (f : CheckFault)
       → first_told (all_events_of programme options bytes) ≡ Some f
-      → (fault_row f).is_rule ≡ true
+      → is_of_rule f ≡ true
   first_of_rule f is =
       grind (arith, nat_tests, first_named, first_of_pieces)
 
-  -- The source failed, and the device had kept nothing: all pieces before were sent.
-  sent_before : (empty kept : Option CheckFault) (f : CheckFault) (pes : ℕ)
+  -- The source failed, and the device had kept nothing: no refusal is told of the pieces before.
+  none_before : (empty kept : Option CheckFault) (f : CheckFault) (pes : ℕ)
       → empty ≡ None
       → is_some kept ≡ false
       → TellsFirst programme options bytes empty kept (Err f)
       → f ≡ fault.Pes pes Pes.Read
-      → AreSent programme options bytes pes
-  sent_before (Some x) kept f pes e quiet told failed = cc
-  sent_before None (Some x) f pes e quiet told failed = cc
-  sent_before None None f pes e quiet told failed =
+      → (pes ≤ length (piece_file_of options.origin bytes).pieces)
+      × (first_told (events_of_first_pieces programme options bytes pes) ≡ None)
+  none_before (Some x) kept f pes e quiet told failed = cc
+  none_before None (Some x) f pes e quiet told failed = cc
+  none_before None None f pes e quiet told failed =
       let file = piece_file_of options.origin bytes in
       let (n, l, is, first) = told file.pieces file.unread refl in
       let same : fault.Pes n Pes.Read ≡ fault.Pes pes Pes.Read = sym is ∙ failed in
       let at : n ≡ pes = cc in
-      subst (AreSent programme options bytes) at
-      (are_sent programme options bytes n l
-      (kept_is None (events_of_first_pieces programme options bytes n)
-      (λ g h. first_of_rule g (first_of_front programme options bytes n g h)) first.in_turn))
+      subst (λ (m : ℕ). (m ≤ length file.pieces)
+      × (first_told (events_of_first_pieces programme options bytes m) ≡ None)) at (
+        l,
+        kept_is None (events_of_first_pieces programme options bytes n)
+            (λ g h. first_of_rule g (first_of_front programme options bytes n g h)) first.in_turn,
+      )
 
   module _ (fine : IsOptions options) (p : IsProgramme programme.national programme.records) where
     -- It kept nothing, and all was told. For `check`.
@@ -110,15 +113,7 @@ module _ (programme : ProgrammeValue) (options : OptionsValue) (bytes : List ℕ
     read_failed empty kept f e quiet told own =
         checked_from programme options fine bytes (Err f) p
         (λ looked frames unread reads. absurd (true≢false (sym own ∙ looked)))
-        (λ pes is.
-        let file = pes_file_of options.origin bytes in
-        let sent = sent_before empty kept f pes e quiet told (let same = is in cc) in (
-          sent.within,
-          none_told programme options bytes file.frames file.unread refl
-              (events_of_first (task_of programme options file.unread) file.frames pes)
-              (frames_named programme options bytes file.frames file.unread refl pes sent.within)
-              sent.none,
-        ))
+        (λ pes is. none_before empty kept f pes e quiet told (let same = is in cc))
 
 -- ---- the PES packet at which the source failed
 
@@ -147,5 +142,6 @@ pub fails_at_packet : (programme : ProgrammeValue) (options : OptionsValue)
 fails_at_packet programme options empty kept f pes None new e quiet is at told sent =
     grind (arith, nat_tests, length-replicate pes (canonical_packet empty_value), any_packets pes)
 fails_at_packet programme options empty kept f pes (Some bytes) new e quiet is at told sent =
-    sent bytes refl
-    (sent_before programme options bytes empty kept f pes e quiet (told bytes refl) is).sent
+    let before =
+    none_before programme options bytes empty kept f pes e quiet (told bytes refl) is in
+    sent bytes refl (all_are_sent programme options bytes pes before.0 before.1)

@@ -12,10 +12,9 @@ use Rattle.ttx_pes.specs.declared.fault.PesFault.TheVariants.{Read}
 use Rattle.stl_rows.specs.Programme.{ProgrammeValue}
 use Rattle.sub_plan.specs.Options.{OptionsValue}
 use Rattle.sub_check.specs.CheckedFiles.{first_answer}
-use Rattle.sub_check.specs.FirstTold.{IsRuleFault, KeepsFirstFault}
+use Rattle.sub_check.specs.FirstTold.{IsRuleFault, KeepsFirstFault, is_of_rule}
 use Rattle.sub_checker.specs.declared.telling.Accepted.{Accepted}
-use Rattle.sub_rules.specs.Events.{events, events_of_first, first_told, unread_fault}
-use Rattle.sub_rules.specs.Fault.{fault_row}
+use Rattle.sub_rules.specs.Events.{events, first_told, unread_fault}
 use Rattle.sub_rules.specs.FrameRules.{Task, Unread, task_of}
 use Rattle.sub_rules.specs.FrameRules.Unread.{BadPacket, NoFrame}
 use Rattle.sub_rules.specs.PesReading.{ReadsAs}
@@ -26,9 +25,9 @@ use Rattle.sub_rules.specs.declared.event.Event.TheVariants.{Ended, PassedUntil,
 use Rattle.sub_rules.specs.declared.fault.CheckFault.{CheckFault}
 use Rattle.sub_rules.specs.declared.fault.CheckFault.TheVariants as fault
 use Rattle.sub_laws.proofs.ContentLemmas.{wrong_everywhere}
-use Rattle.sub_laws.proofs.EventLemmas.{FirstOf, all_told, frames_told, is_plain}
+use Rattle.sub_laws.proofs.EventLemmas.{FirstOf, all_told, is_plain}
 use Rattle.sub_laws.specs.BrokenPlaces.{WrongFirst}
-use Rattle.sub_laws.proofs.FrameByFrame.{AllOk, AreOk, IsReadTo}
+use Rattle.sub_laws.proofs.FrameByFrame.{AllOk, IsReadTo}
 use Rattle.sub_laws.proofs.ReadFileLemmas.{IsSoundFile, file_sound}
 
 -- Each packet that is read is whole.
@@ -41,11 +40,11 @@ each_whole (s ∷ frames) h =
     (All-from_recursion IsPacket s.packets h.0, each_whole frames h.1)
 
 -- A fault that is neither one of PES packets or the subtitle file nor a wrong cell is of a rule.
-plain_is : (f : CheckFault) → is_plain f ≡ true → (fault_row f).is_rule ≡ true
+plain_is : (f : CheckFault) → is_plain f ≡ true → is_of_rule f ≡ true
 plain_is f e = grind (arith, nat_tests)
 
 -- What the test says.
-pub of_rule : (f : CheckFault) → (fault_row f).is_rule ≡ true → IsRuleFault f
+pub of_rule : (f : CheckFault) → is_of_rule f ≡ true → IsRuleFault f
 of_rule f e = grind (arith, nat_tests)
 
 -- A rule tells no failed read. For `check`.
@@ -66,7 +65,7 @@ kept_last f new (x ∷ xs) (mid, keeps, rest) = let none = keeps.0 in cc
 
 -- Of events it keeps the refusal that is told first, if that is of a rule.
 pub kept_is : (new : Option CheckFault) (xs : List Event)
-    → ((f : CheckFault) → first_told xs ≡ Some f → (fault_row f).is_rule ≡ true)
+    → ((f : CheckFault) → first_told xs ≡ Some f → is_of_rule f ≡ true)
     → TellsInTurn KeepsFirstFault None new xs
     → first_told xs ≡ new
 kept_is new [] named told = sym told
@@ -98,7 +97,7 @@ module _ (programme : ProgrammeValue) (options : OptionsValue) (bytes : List ℕ
     -- there than is due.
     abbrev Named : CheckFault → Type 0
     Named f =
-        ((fault_row f).is_rule ≡ true)
+        (is_of_rule f ≡ true)
         × ((frame row column : ℕ)
         → f ≡ fault.Content frame row column
         → IsWrongEverywhere programme options frames frame row column)
@@ -124,10 +123,6 @@ module _ (programme : ProgrammeValue) (options : OptionsValue) (bytes : List ℕ
     all_named : FirstOf Named (AllOk g frames) (events g frames)
     all_named = all_told g frames Named plain of_unread of_wrong packets_whole
 
-    pub frames_named : (n : ℕ) → n ≤ length frames
-        → FirstOf Named (AreOk g frames n) (events_of_first g frames n)
-    frames_named = frames_told g frames Named plain of_unread of_wrong packets_whole
-
     -- What is told first.
     pub first_named : (f : CheckFault) → first_told (events g frames) ≡ Some f → Named f
     first_named f e = go (events g frames) all_named e
@@ -136,7 +131,7 @@ module _ (programme : ProgrammeValue) (options : OptionsValue) (bytes : List ℕ
             → Named f
         go [] told e = cc
         go (x ∷ xs) told e =
-            grind (arith, nat_tests)
+            let (first, is, named) = told.at x refl in grind (arith, nat_tests)
 
     -- Where the page is refused at a cell. For `check`.
     pub wrong_of_first : (frame row column : ℕ)
@@ -145,13 +140,13 @@ module _ (programme : ProgrammeValue) (options : OptionsValue) (bytes : List ℕ
     wrong_of_first frame row column e = (first_named _ e).1 frame row column refl
 
     -- Where no fault is told first, nothing is told.
-    pub none_told : {Holds : Type 0} (xs : List Event)
+    none_told : {Holds : Type 0} (xs : List Event)
         → FirstOf Named Holds xs
         → first_told xs ≡ None
         → xs ≡ []
     none_told [] told e = refl
     none_told (x ∷ xs) told e =
-        let (first, is, named) = told.first x xs refl in let s = rw is at e in cc
+        let (first, is, named) = told.at x refl in let s = rw is at e in cc
 
     -- ---- the answer of `check` by all events
 

@@ -18,25 +18,26 @@ use Rattle.ttx_pes.specs.PesPacket.{IsPesPacket}
 use Rattle.sub_plan.specs.Options.{OptionsValue, IsOptions}
 use Rattle.sub_plan.specs.Schedule.{plan}
 use Rattle.sub_check.specs.CheckedFiles.{AreAccepted, IsChecked, Mean, HasCounts, TellsEvents}
-use Rattle.sub_check.specs.CheckedFiles.{all_events_of, answer_by, events_of, first_answer}
+use Rattle.sub_check.specs.CheckedFiles.{all_events_of, answer_by, events_of_first_pieces}
+use Rattle.sub_check.specs.CheckedFiles.{first_answer}
 use Rattle.sub_check.specs.FirstTold.{IsRuleFault}
 use Rattle.sub_checker.specs.PieceTelling.{IsReadOn, TellsPieces}
-use Rattle.sub_checker.specs.Telling.{IsRead}
-use Rattle.sub_rules.specs.Events.{events, events_of_first, first_told}
+use Rattle.sub_checker.specs.Telling.{AreTaken, CountsRead}
+use Rattle.sub_rules.specs.Events.{events, first_told}
 use Rattle.sub_rules.specs.FrameRules.{Unread, task_of}
 use Rattle.sub_rules.specs.Good.{Good}
 use Rattle.sub_laws.specs.OnScreen.{Complete}
 use Rattle.sub_laws.specs.Stretch.{HasPromises}
 use Rattle.sub_rules.specs.PesFrames.{Carries, IsSentAs}
-use Rattle.sub_rules.specs.PesReading.{PesFileValue, ReadsAs, pes_file_of}
-use Rattle.sub_rules.specs.Pieces.{Piece, ReadsPieces, piece_file_of}
+use Rattle.sub_rules.specs.PesReading.{ReadsAs, pes_file_of}
+use Rattle.sub_rules.specs.Pieces.{PesFileValue, Piece, ReadsPieces, piece_file_of}
 use Rattle.sub_laws.specs.Planned.{planned}
 use Rattle.sub_rules.specs.Transmission.{Transmission}
 use Rattle.sub_checker.specs.declared.telling.Accepted.{Accepted}
 use Rattle.sub_rules.specs.declared.event.Event.{Event}
 use Rattle.sub_rules.specs.declared.fault.CheckFault.{CheckFault}
 use Rattle.sub_check.proofs.FirstToldLemmas.{first_decides, no_read, packets_whole, wrong_of_first}
-use Rattle.sub_check.proofs.ReadOnLemmas.{first_of_pieces, read_whole}
+use Rattle.sub_check.proofs.ReadOnLemmas.{events_of, first_of_pieces, read_whole}
 use Rattle.sub_laws.proofs.EventLemmas.{law_of_nothing_told}
 use Rattle.sub_laws.proofs.GoodLemmas.{rises_each, whole-is}
 use Rattle.sub_laws.proofs.PrefixLemmas.{first-same, last-same}
@@ -48,6 +49,12 @@ use Rattle.sub_rules.specs.Fault.{is_failure, is_failure_kind, is_pes_read, is_s
 use Rattle.ttx_pes.specs.declared.fault.PesFault.TheVariants as Pes
 use Rattle.sub_rules.specs.declared.fault.CheckFault.TheVariants as fault
 
+-- All pieces of the bytes were read.
+abbrev IsAllRead : ProgrammeValue → OptionsValue → List ℕ → Accepted → Type 0
+IsAllRead programme options bytes a =
+    let file = piece_file_of options.origin bytes in
+    IsReadOn (task_of programme options file.unread) options.origin bytes file.pieces a
+
 -- What the steps show of a file that is read as frames, up to this: nothing is told of what is
 -- accepted, and a refusal is told first.
 abbrev Decides : ProgrammeValue → OptionsValue → List ℕ → Result Accepted CheckFault → Type 0
@@ -55,7 +62,7 @@ Decides programme options bytes result =
     (frames : Transmission) (unread : Option Unread)
     → ReadsAs options.origin 0 bytes frames unread
     → MatchResult result
-    (λ a. IsRead (task_of programme options unread) options.origin bytes frames a
+    (λ a. IsAllRead programme options bytes a
     × (events (task_of programme options unread) frames ≡ []))
     (λ f. first_told (events (task_of programme options unread) frames) ≡ Some f)
 
@@ -80,26 +87,32 @@ module _ (programme : ProgrammeValue) (options : OptionsValue) (is : IsOptions o
     -- The bytes carry them then.
     carried_from :
         (a : Accepted)
-        → IsRead (task_of programme options unread) options.origin bytes frames a
+        → IsAllRead programme options bytes a
         → Good programme frames options
         → unread ≡ None
         → Carries options.origin bytes frames
     carried_from a read good none =
-        let taken = read.taken none in
+        let whole = read_whole options.origin bytes frames unread reads none in
+        let taken =
+        subst (λ (fs : Transmission). AreTaken options.origin bytes fs []) whole.0
+        (read.taken whole.1 whole.2) in
         let few = read.few in
-        let sizes = AllZip-long IsPesPacket taken.values taken.packets taken.each in
-        let sent = AllZip-long (IsSentAs options.origin) taken.values frames taken.sent in
-        grind (
-          arith,
-          nat_tests,
-          taken.values,
-          taken.packets,
-          taken.each,
-          taken.joined,
-          append-nil (concat taken.packets),
-          taken.sent,
-          good.rising,
-        )
+        record {
+          values = taken.values;
+          packets = taken.packets;
+          each = taken.each;
+          few = omega (
+            arith,
+            few,
+            whole.1,
+            ap length whole.0,
+            AllZip-long IsPesPacket taken.values taken.packets taken.each,
+            AllZip-long (IsSentAs options.origin) taken.values frames taken.sent,
+          );
+          joined = taken.joined ∙ append-nil (concat taken.packets);
+          sent = taken.sent;
+          rising = good.rising;
+        }
 
   -- What the bytes carry is accepted where it is good.
   not_refused :
@@ -164,7 +177,9 @@ module _ (programme : ProgrammeValue) (options : OptionsValue) (is : IsOptions o
       let (read, quiet) = decides refl frames None reads in
       let (good, complete, none) = (told_none bytes None frames reads).0 quiet in
       let some = good.not_empty in
-      let counts = read.counts in
+      let whole = read_whole options.origin bytes frames None reads refl in
+      let counts =
+      subst (λ (fs : Transmission). CountsRead options.page fs a) whole.0 read.counts in
       grind (
         arith,
         nat_tests,
@@ -179,10 +194,11 @@ module _ (programme : ProgrammeValue) (options : OptionsValue) (is : IsOptions o
   first_from :
       (bytes : List ℕ) (result : Result Accepted CheckFault)
       → Decides programme options bytes result
-      → IfErr result (λ f. first_told (events_of programme options bytes) ≡ Some f)
+      → IfErr result (λ f. first_told (all_events_of programme options bytes) ≡ Some f)
   first_from bytes (Ok a) decides = tt
   first_from bytes (Err f) decides =
-      let file = pes_file_of options.origin bytes in decides file.frames file.unread refl
+      let file = pes_file_of options.origin bytes in
+      first_of_pieces programme options bytes ∙ decides file.frames file.unread refl
 
   -- A schedule is accepted.
   plan_accepted :
@@ -208,10 +224,8 @@ module _ (programme : ProgrammeValue) (options : OptionsValue) (is : IsOptions o
       → (failed is_pes_read result ≡ false → Decides programme options bytes result)
       → ((pes : ℕ)
       → result ≡ Err (fault.Pes pes Pes.Read)
-      → (pes ≤ length (pes_file_of options.origin bytes).frames)
-      × (events_of_first (task_of programme options (pes_file_of options.origin bytes).unread)
-      (pes_file_of options.origin bytes).frames pes
-      ≡ []))
+      → (pes ≤ length (piece_file_of options.origin bytes).pieces)
+      × (first_told (events_of_first_pieces programme options bytes pes) ≡ None))
       → IsChecked programme options bytes result
   checked_from bytes result p decides so_far = record {
     accepted = λ looked fine. accepted_from bytes result (decides fine);
@@ -224,7 +238,8 @@ module _ (programme : ProgrammeValue) (options : OptionsValue) (is : IsOptions o
     content = λ frame row column e.
         wrong_of_first programme options bytes (pes_file_of options.origin bytes).frames
         (pes_file_of options.origin bytes).unread refl frame row column
-        (subst (λ r. IfErr r (λ f. first_told (events_of programme options bytes) ≡ Some f)) e
+        (sym (first_of_pieces programme options bytes)
+        ∙ subst (λ r. IfErr r (λ f. first_told (all_events_of programme options bytes) ≡ Some f)) e
         (first_from bytes result (decides (ap (failed is_pes_read) e))));
     schedule = λ serial planned some looked fine.
         plan_accepted serial result p some
@@ -270,20 +285,16 @@ checked_first programme options bytes IsTold old new (Ok (Some a)) fine p told =
     (by_first (first_answer (events_of programme options bytes) a) read first)
   where
     by_first : (r : Result Accepted CheckFault)
-        → IsReadOn (task_of programme options (piece_file_of options.origin bytes).unread)
-        options.origin bytes (piece_file_of options.origin bytes).pieces a
+        → IsAllRead programme options bytes a
         → MatchResult r (λ b. (b ≡ a) × (events_of programme options bytes ≡ []))
         (λ f. (first_told (events_of programme options bytes) ≡ Some f) × IsRuleFault f)
         → IsChecked programme options bytes r
     by_first (Ok b) read (same, none) =
         checked_from programme options fine bytes (Ok b) p
-        (λ own frames unread reads.
-        let empty = ap (λ (f : PesFileValue). events (task_of programme options f.unread) f.frames)
-        (sym reads) ∙ none in
-        let end = (told_none programme options fine bytes unread frames reads).0 empty in (
-          subst (IsRead (task_of programme options unread) options.origin bytes frames) (sym same)
-              (read_whole programme options bytes frames unread a reads end.2 read),
-          empty,
+        (λ own frames unread reads. (
+          subst (IsAllRead programme options bytes) (sym same) read,
+          ap (λ (f : PesFileValue). events (task_of programme options f.unread) f.frames)
+              (sym reads) ∙ none,
         )) (λ pes is. cc)
     by_first (Err f) read (first, own) = refused_first programme options fine bytes f p first own
 checked_first programme options bytes IsTold old new (Ok None) fine p told = tt

@@ -18,7 +18,7 @@ use Rattle.sub_io.specs.Telling.{Tells, TellsPrefix}
 use Rattle.std.specs.Prelude.{◌+◌, flat_map, ⊤}
 use Rattle.ttx_packet.specs.PageId.{PageIdValue}
 use Rattle.stl_rows.specs.Loading.{TellsFault}
-use Rattle.sub_rules.specs.Events.{events, events_of_first, first_told}
+use Rattle.sub_rules.specs.Events.{first_told}
 use Rattle.sub_rules.specs.FrameRules.{task_of}
 use Rattle.sub_rules.specs.PacketRules.{header_count}
 use Rattle.sub_rules.specs.Transmission.{SentFrame, first_frame, last_frame, Transmission}
@@ -96,14 +96,8 @@ pub record AreAccepted
 
 -- ---- a PES file, against a programme
 
--- All that is told of the bytes of a PES file, checked against a programme.
-abbrev pub events_of : ProgrammeValue → OptionsValue → List ℕ → List Event
-events_of programme options bytes =
-    let file = pes_file_of options.origin bytes in
-    events (task_of programme options file.unread) file.frames
-
--- All that is told of them where reading goes on after a piece that is passed over, and which
--- frames may be trusted.
+-- All that is told of the bytes of a PES file, checked against a programme: reading goes on after a
+-- piece that is passed over; and which frames may be trusted.
 abbrev pub all_events_of : ProgrammeValue → OptionsValue → List ℕ → List Event
 all_events_of programme options bytes =
     let file = piece_file_of options.origin bytes in
@@ -153,16 +147,14 @@ pub record IsChecked
   pub first :
       failed is_subtitle_fault answer ≡ false
       → failed is_pes_read answer ≡ false
-      → IfErr answer (λ f. first_told (events_of programme options bytes) ≡ Some f)
+      → IfErr answer (λ f. first_told (all_events_of programme options bytes) ≡ Some f)
   -- That the source failed is told at the PES packet that could not be read: those before it were
-  -- read, and nothing is told of their frames.
+  -- read, and no refusal is told of them.
   pub read :
       (pes : ℕ)
       → answer ≡ Err (fault.Pes pes Read)
-      → (pes ≤ length (pes_file_of options.origin bytes).frames)
-      × (events_of_first (task_of programme options (pes_file_of options.origin bytes).unread)
-      (pes_file_of options.origin bytes).frames pes
-      ≡ [])
+      → (pes ≤ length (piece_file_of options.origin bytes).pieces)
+      × (first_told (events_of_first_pieces programme options bytes pes) ≡ None)
   -- Where the page is refused at a cell, every receiver that starts at the first packet, with no
   -- bit wrong, shows another code there than is due.
   pub content :

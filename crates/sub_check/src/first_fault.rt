@@ -2,13 +2,13 @@
 ghost use Rattle.std.specs.Prelude.{◌≡◌, Option, None, Some, IfSome, is_some, not, true};
 ghost use Rattle.std.proofs.Common.{subst, sym};
 ghost use Rattle.sub_io.specs.Telling.{Tells};
-ghost use Rattle.sub_check.specs.FirstTold.{IsRuleFault, KeepsFirstFault};
-ghost use Rattle.sub_rules.specs.Fault.{fault_row};
+ghost use Rattle.sub_check.specs.FirstTold.{IsRuleFault, KeepsFirstFault, is_of_rule};
 ghost use Rattle.sub_rules.specs.declared.fault.CheckFault.{CheckFault};
 
 use std::marker::Model;
 use sub_io::{Audience, Live, LiveAudience, Stopped};
 use sub_rules::{CheckFault, Event};
+use ttx_pes::PesFault;
 
 /// Keeps the first fault that a rule tells, and says stop at it. All else passes.
 ///
@@ -89,8 +89,15 @@ impl LiveAudience<Event> for FirstFault {
 
 // Rules tell all faults but those of the subtitle file and of failed devices.
 fn is_of_rule(fault: &CheckFault) -> bool
-    ensures is { result ≡ (fault_row fault.now).is_rule }
+    ensures is { result ≡ is_of_rule fault.now }
     ensures own { result ≡ true → IsRuleFault fault.now }
 {
-    (*fault).row().is_rule
+    match fault {
+        CheckFault::Subtitles(_)
+        | CheckFault::Pes {
+            fault: PesFault::Read | PesFault::Write,
+            ..
+        } => false,
+        _ => true,
+    }
 }

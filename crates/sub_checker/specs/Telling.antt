@@ -34,11 +34,3 @@ pub record AreTaken (origin : ℕ) (bytes : List ℕ) (frames : Transmission) (r
     pub each : AllZip IsPesPacket values packets
     pub sent : AllZip (IsSentAs origin) values frames
     pub joined : bytes ≡ concat packets ++ rest
-
--- The bytes were read up to what is unread: where nothing is, they are a PES file of the frames.
-pub record IsRead (g : Task) (origin : ℕ) (bytes : List ℕ) (frames : Transmission) (a : Accepted)
-    : Type 0 where
-  pub few : length frames ≤ most_packets
-  pub taken : g.unread ≡ None → AreTaken origin bytes frames []
-  pub whole : AreWhole frames
-  pub counts : CountsRead g.watched.page frames a

@@ -29,7 +29,7 @@ use Rattle.sub_laws.specs.Robust.{IsListening, Robust}
 use Rattle.sub_examples.specs.Examples.{IsNeeded, IsUntoldBut, each, no_subtitles, number_of}
 use Rattle.sub_rules.proofs.TestLemmas.{all_below, at_most, each_below, each_of, fails, holds}
 use Rattle.sub_rules.proofs.TestLemmas.{implied, same_bit}
-use Rattle.sub_laws.proofs.BrokenRuleLemmas.{each_rule}
+use Rattle.sub_laws.proofs.FirstFoundLemmas.{each_rule}
 use Rattle.sub_laws.proofs.StretchLemmas.{robust_of_recovers}
 
 -- It has heard nothing, and holds a page of question marks.

@@ -12,12 +12,12 @@ use Rattle.stl_rows.specs.Programme.{ProgrammeValue}
 use Rattle.sub_plan.specs.Examples.{page_888}
 use Rattle.sub_plan.specs.Options.{OptionsValue}
 use Rattle.sub_rules.specs.Transmission.{IsRising, Transmission, first_frame, last_frame}
-use Rattle.sub_rules.specs.Events.{standing_at}
+use Rattle.sub_rules.specs.Events.{packet_fault, standing_at}
+use Rattle.sub_rules.specs.Fault.{check_code}
 use Rattle.sub_rules.specs.FrameRules.{Task, task_of}
 use Rattle.sub_rules.specs.Good.{Good}
 use Rattle.sub_rules.specs.PacketTests.{breaks}
 use Rattle.sub_rules.specs.declared.packet_rule.PacketRule.{PacketRule}
-use Rattle.sub_rules.specs.declared.packet_rule.PacketRule.TheVariants as rule
 use Rattle.sub_laws.specs.CleanStretch.{AtEnds, AtPackets, IsUntold, is_needed}
 use Rattle.sub_laws.specs.Recovery.{RecoversWithin}
 use Rattle.sub_laws.specs.Robust.{Robust}
@@ -121,13 +121,7 @@ ExampleOfGood =
 
 -- The number of the refusal that tells that a packet breaks the rule.
 abbrev pub number_of : PacketRule → ℕ
-number_of rule.Address = 64
-number_of rule.HeaderCode = 65
-number_of rule.Mode = 66
-number_of rule.Control = 67
-number_of rule.Parity = 68
-number_of rule.RowChanged = 69
-number_of rule.Enhancement = 70
+number_of r = (check_code (packet_fault r 0 0)).number
 
 -- Of the frames from a to b nothing is told that a receiver depends on, as in `IsUntold`, but this
 -- number perhaps.

@@ -1,3 +1,3 @@
 pub mod Apart
-pub mod OpenedFiles
+pub mod FileCalls
 pub mod Opening

@@ -2,136 +2,119 @@
 //!
 //! A subtitle file that is read, a file of PES packets that is read and a file that was created are
 //! made here alone, by the names that a request has for each: so none of them can be taken for
-//! another. What the system opens by a name no clause can say.
-ghost use Rattle.std.specs.Prelude.{◌≡◌, IfSome};
-ghost use Rattle.sub_files.specs.OpenedFiles.{IsCreatedOver};
+//! another.
+ghost use Rattle.std.specs.Prelude.{◌≡◌, None, false, true};
+ghost use Rattle.sub_files.specs.Apart.{is_apart};
+ghost use Rattle.sub_files.specs.FileCalls.{FileCall};
 
-use crate::apart::{LookedUp, is_apart};
-use std::fs;
+use crate::apart::{Found, is_apart};
+use crate::file_system::FileSystem;
 use std::marker::Model;
-use std::rt::Files;
-use sub_request::{PesInput, StlInput};
+use sub_request::{Output, PesInput, StlInput};
 
-/// A subtitle file that was opened to be read. Contracts see it as its name and the file.
+/// A subtitle file that was opened to be read. Contracts see it as the file.
 #[derive(Drop)]
-pub struct StlFile<'a, F> {
-    name: &'a str,
+pub struct StlFile<F> {
     file: F,
 }
 
-impl<'a, F> Model for StlFile<'a, F> {
-    ghost use Rattle.sub_files.specs.OpenedFiles.{NamedFile};
+impl<F> Model for StlFile<F> {
+    ghost Value = { F };
 
-    ghost Value = { NamedFile F };
-
-    ghost view = { λ f. record { name = f.name.now; file = f.file } };
+    ghost view = { λ f. f.file };
 }
 
-impl<'a, F> StlFile<'a, F> {
-    /// The name by which it was opened.
-    pub fn name(&self) -> &'a str
-        ensures { result.now ≡ self.now.name }
-    {
-        self.name
-    }
-
+impl<F> StlFile<F> {
     /// The file.
     pub fn into_file(self) -> F
-        ensures { result ≡ self.entry.file }
+        ensures { result ≡ self }
     {
-        let StlFile { file, .. } = self;
+        let StlFile { file } = self;
         file
     }
 }
 
-/// A file of PES packets that was opened to be read. Contracts see it as its name and the file.
+/// A file of PES packets that was opened to be read. Contracts see it as the file.
 #[derive(Drop)]
-pub struct PesFile<'a, F> {
-    name: &'a str,
+pub struct PesFile<F> {
     file: F,
 }
 
-impl<'a, F> Model for PesFile<'a, F> {
-    ghost use Rattle.sub_files.specs.OpenedFiles.{NamedFile};
+impl<F> Model for PesFile<F> {
+    ghost Value = { F };
 
-    ghost Value = { NamedFile F };
-
-    ghost view = { λ f. record { name = f.name.now; file = f.file } };
+    ghost view = { λ f. f.file };
 }
 
-impl<'a, F> PesFile<'a, F> {
+impl<F> PesFile<F> {
     /// The file.
     pub fn into_file(self) -> F
-        ensures { result ≡ self.entry.file }
+        ensures { result ≡ self }
     {
-        let PesFile { file, .. } = self;
+        let PesFile { file } = self;
         file
     }
 }
 
-/// A file that was created to be written. Contracts see it as the file, with what was found at the
-/// name of the file that is read and at its own before it was created.
+/// A file that was created to be written. Contracts see it as the file.
 #[derive(Drop)]
-pub struct CreatedFile<'a, F> {
-    input: LookedUp<'a>,
-    there: LookedUp<'a>,
+pub struct CreatedFile<F> {
     file: F,
 }
 
-impl<'a, F> Model for CreatedFile<'a, F> {
-    ghost use Rattle.sub_files.specs.OpenedFiles.{CreatedFileValue};
+impl<F> Model for CreatedFile<F> {
+    ghost Value = { F };
 
-    ghost Value = { CreatedFileValue F };
-
-    ghost view = { λ f. record { input = f.input; there = f.there; file = f.file } };
+    ghost view = { λ f. f.file };
 }
 
-impl<'a, F> CreatedFile<'a, F> {
+impl<F> CreatedFile<F> {
     /// The file.
     pub fn into_file(self) -> F
-        ensures { result ≡ self.entry.file }
+        ensures { result ≡ self }
     {
-        let CreatedFile { file, .. } = self;
+        let CreatedFile { file } = self;
         file
     }
 }
 
 /// Opens a subtitle file to be read.
-pub fn open_stl<'a, R: Files>(rt: &R, stl: &StlInput<'a>) -> Option<StlFile<'a, R::File>>
-    ensures { IfSome result (λ file. file.name ≡ stl.now) }
+pub fn open_stl<D: FileSystem>(files: &mut D, stl: &StlInput<'_>) -> Option<StlFile<D::File>>
+    ensures { D.is_call files.old (FileCall.Open stl.now result) files.new }
 {
-    let name = stl.name();
-    match fs::open(rt, name) {
-        Ok(file) => Some(StlFile { name, file }),
-        Err(_) => None,
+    match files.open(stl.name()) {
+        Some(file) => Some(StlFile { file }),
+        None => None,
     }
 }
 
 /// Opens a file of PES packets to be read.
-pub fn open_pes<'a, R: Files>(rt: &R, pes: &PesInput<'a>) -> Option<PesFile<'a, R::File>>
-    ensures { IfSome result (λ file. file.name ≡ pes.now) }
+pub fn open_pes<D: FileSystem>(files: &mut D, pes: &PesInput<'_>) -> Option<PesFile<D::File>>
+    ensures { D.is_call files.old (FileCall.Open pes.now result) files.new }
 {
-    let name = pes.name();
-    match fs::open(rt, name) {
-        Ok(file) => Some(PesFile { name, file }),
-        Err(_) => None,
+    match files.open(pes.name()) {
+        Some(file) => Some(PesFile { file }),
+        None => None,
     }
 }
 
 /// Creates a file to be written, where by what was found at both names that can't empty the one
-/// that is read.
-pub fn create_apart<'a, R: Files>(
-    rt: &R,
-    input: LookedUp<'a>,
-    there: LookedUp<'a>,
-) -> Option<CreatedFile<'a, R::File>>
-    ensures { IfSome result (IsCreatedOver input.entry there.entry) }
+/// that is read; else nothing is asked for.
+pub fn create_apart<D: FileSystem>(
+    files: &mut D,
+    output: &Output<'_>,
+    input: Found,
+    there: Found,
+) -> Option<CreatedFile<D::File>>
+    ensures apart { is_apart input there ≡ true
+        → D.is_call files.old (FileCall.Create output.now result) files.new }
+    ensures over { is_apart input there ≡ false → (result ≡ None) × (files.new ≡ files.old) }
 {
-    if !is_apart(input.found(), there.found()) {
+    if !is_apart(input, there) {
         return None;
     }
-    match fs::create(rt, there.name()) {
-        Ok(file) => Some(CreatedFile { input, there, file }),
-        Err(_) => None,
+    match files.create(output.name()) {
+        Some(file) => Some(CreatedFile { file }),
+        None => None,
     }
 }

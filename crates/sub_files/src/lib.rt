@@ -4,13 +4,16 @@
 //! beside what answers a request. `sub_answer` reads and writes what is opened here.
 //!
 //! ```text
-//! let files = open(rt, &request.files()); // Opened::ReadStl: film.stl
+//! open(&mut SystemFiles::new(rt), &request.files()); // Opened::ReadStl: film.stl
 //! ```
 #![tactic(auto)]
 
 mod apart;
+mod file_system;
 mod files;
 mod opening;
 
+pub use apart::Found;
+pub use file_system::{FileSystem, SystemFiles};
 pub use files::{CreatedFile, PesFile, StlFile};
 pub use opening::{BUFFER, Opened, open, room, size_of_rooms};

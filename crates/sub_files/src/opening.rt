@@ -1,15 +1,14 @@
 //! Opens the files that a request names.
 //!
-//! What is opened is handed on as files alone, so that no function that asks the system for files
-//! has a device or the lines in it.
-ghost use Rattle.std.specs.Prelude.{◌≡◌, ◌≤◌, IfNone, IfSome, true, vec_len};
-ghost use Rattle.sub_request.specs.Files.{reads_one};
-ghost use Rattle.sub_files.specs.Opening.{AreOf};
+//! What is opened is handed on as files alone, so that no function that asks for files has another
+//! device or the lines in it.
+ghost use Rattle.std.specs.Prelude.{◌≡◌, ◌≤◌, IfSome, vec_len};
+ghost use Rattle.sub_files.specs.FileCalls.{CallsInTurn};
+ghost use Rattle.sub_files.specs.Opening.{OpensBy};
 
-use crate::apart::look_up;
+use crate::file_system::FileSystem;
 use crate::files::{CreatedFile, PesFile, StlFile, create_apart, open_pes, open_stl};
 use std::alloc::Global;
-use std::rt::Files;
 use sub_request::{FileNames, Output, PesInput, StlInput};
 
 /// Bytes of each buffer: what a system call reads or writes at once.
@@ -17,17 +16,17 @@ pub const BUFFER: usize = 0x1_0000;
 
 /// The files of a request, opened.
 #[derive(Drop)]
-pub enum Opened<'a, F> {
+pub enum Opened<F> {
     /// It names none.
     Nothing,
     /// A subtitle file is read.
-    ReadStl(StlFile<'a, F>),
+    ReadStl(StlFile<F>),
     /// A file of PES packets is read.
-    ReadPes(PesFile<'a, F>),
+    ReadPes(PesFile<F>),
     /// Both are read.
-    ReadBoth(StlFile<'a, F>, PesFile<'a, F>),
+    ReadBoth(StlFile<F>, PesFile<F>),
     /// A subtitle file is read, and another file was created, which is written.
-    Write(StlFile<'a, F>, CreatedFile<'a, F>),
+    Write(StlFile<F>, CreatedFile<F>),
 }
 
 /// Room of so many bytes, `None` where memory runs out.
@@ -48,47 +47,59 @@ pub fn size_of_rooms(names: &FileNames<'_>) -> usize
 }
 
 /// Opens the files, in the order of the words, and creates the one that is written. At the first
-/// that fails it opens no more, and answers `None`.
-pub fn open<'a, R: Files>(rt: &R, names: &FileNames<'a>) -> Option<Opened<'a, R::File>>
-    ensures files { IfSome result (AreOf names.now) }
-    ensures none { IfNone result (reads_one names.now ≡ true) }
+/// that fails it asks for no more, and answers `None`.
+pub fn open<D: FileSystem>(files: &mut D, names: &FileNames<'_>) -> Option<Opened<D::File>>
+    ensures { OpensBy (CallsInTurn D.is_call files.old files.new) names.now result }
 {
     match names {
         FileNames::None => Some(Opened::Nothing),
-        FileNames::ReadStl(stl) => Some(Opened::ReadStl(open_stl(rt, stl)?)),
-        FileNames::ReadPes(pes) => Some(Opened::ReadPes(open_pes(rt, pes)?)),
-        FileNames::ReadBoth(stl, pes) => open_both(rt, stl, pes),
-        FileNames::Write(stl, output) => open_and_create(rt, stl, output),
+        FileNames::ReadStl(stl) => match open_stl(files, stl) {
+            Some(file) => Some(Opened::ReadStl(file)),
+            None => None,
+        },
+        FileNames::ReadPes(pes) => match open_pes(files, pes) {
+            Some(file) => Some(Opened::ReadPes(file)),
+            None => None,
+        },
+        FileNames::ReadBoth(stl, pes) => open_both(files, stl, pes),
+        FileNames::Write(stl, output) => open_and_create(files, stl, output),
     }
 }
 
 // Opens a subtitle file and a file of PES packets.
-fn open_both<'a, R: Files>(
-    rt: &R,
-    stl: &StlInput<'a>,
-    pes: &PesInput<'a>,
-) -> Option<Opened<'a, R::File>>
-    ensures { IfSome result (AreOf (FileNames.ReadBoth stl.now pes.now)) }
+fn open_both<D: FileSystem>(
+    files: &mut D,
+    stl: &StlInput<'_>,
+    pes: &PesInput<'_>,
+) -> Option<Opened<D::File>>
+    ensures { OpensBy (CallsInTurn D.is_call files.old files.new)
+        (FileNames.ReadBoth stl.now pes.now) result }
 {
-    let first = open_stl(rt, stl)?;
-    match open_pes(rt, pes) {
+    let Some(first) = open_stl(files, stl) else {
+        return None;
+    };
+    match open_pes(files, pes) {
         Some(second) => Some(Opened::ReadBoth(first, second)),
         None => None,
     }
 }
 
 // Opens a subtitle file, and creates the one that is written.
-fn open_and_create<'a, R: Files>(
-    rt: &R,
-    stl: &StlInput<'a>,
-    output: &Output<'a>,
-) -> Option<Opened<'a, R::File>>
-    ensures { IfSome result (AreOf (FileNames.Write stl.now output.now)) }
+fn open_and_create<D: FileSystem>(
+    files: &mut D,
+    stl: &StlInput<'_>,
+    output: &Output<'_>,
+) -> Option<Opened<D::File>>
+    ensures { OpensBy (CallsInTurn D.is_call files.old files.new)
+        (FileNames.Write stl.now output.now) result }
 {
-    let first = open_stl(rt, stl)?;
-    let (input, there) = (look_up(rt, first.name()), look_up(rt, output.name()));
-    match create_apart(rt, input, there) {
-        Some(second) => Some(Opened::Write(first, second)),
+    let Some(input) = open_stl(files, stl) else {
+        return None;
+    };
+    let here = files.look_up(stl.name());
+    let there = files.look_up(output.name());
+    match create_apart(files, output, here, there) {
+        Some(created) => Some(Opened::Write(input, created)),
         None => None,
     }
 }

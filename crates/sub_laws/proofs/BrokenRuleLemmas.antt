@@ -34,7 +34,6 @@ use Rattle.sub_rules.specs.PacketRules.{AreClean, KeepsAllRules, KeepsRule, code
 use Rattle.sub_rules.specs.PacketTests.{are_code_words, breaks, is_of_header, is_of_enhancement}
 use Rattle.sub_rules.specs.PacketTests.{is_other_mode, is_other_row, is_other_text}
 use Rattle.sub_rules.specs.PacketTests.{is_subtitle_header, first_of_row, is_wrong_header}
-use Rattle.sub_rules.specs.PacketTests.{packet_rules}
 use Rattle.sub_rules.specs.declared.packet_rule.PacketRule.{PacketRule}
 use Rattle.sub_rules.specs.declared.packet_rule.PacketRule.TheVariants as rule
 use Rattle.sub_rules.specs.declared.packet_rule.Watched.{Watched}
@@ -45,18 +44,6 @@ use Rattle.sub_rules.proofs.CodesLemmas.{same_packet}
 use Rattle.sub_rules.proofs.PacketLists.{Each-find, Each-join, Each-map, Each-none, Each-push}
 use Rattle.sub_rules.proofs.PacketLists.{no_row}
 use Rattle.sub_rules.proofs.CodeWordLemmas.{address_decided, header_decided}
-
--- ---- all rules
-
--- What is so of each rule in their list is so of any.
-pub each_rule : (P : PacketRule → Type 0) → AllByRecursion P packet_rules → (r : PacketRule) → P r
-unfolding packet_rules
-each_rule P h r = grind arith
-
--- And back.
-pub of_each_rule : (P : PacketRule → Type 0) → ((r : PacketRule) → P r)
-    → AllByRecursion P packet_rules
-of_each_rule P all = recursion_from_All P packet_rules (λ k d l. all (get_or packet_rules k d))
 
 -- ---- each rule
 
@@ -290,14 +277,10 @@ module _ (w : Watched) (before : List (List ℕ)) (p : List ℕ) where
   rule_decided rule.Enhancement comparable = grind (arith, nat_tests, opened, no_enhancement)
 
   -- After packets that keep all rules it keeps all exactly where it breaks none.
-  abbrev Unbroken : List PacketRule → Type 0
-  Unbroken rs = AllByRecursion (λ r. breaks r w before p ≡ false) rs
-
   pub clean_decided : AreClean w before → IsPacket p
-      → Unbroken packet_rules ↔ KeepsAllRules w before p
+      → ((r : PacketRule) → breaks r w before p ≡ false) ↔ KeepsAllRules w before p
   clean_decided clean whole = (
-    λ fine r.
-        let none = each_rule (λ r. breaks r w before p ≡ false) fine in
+    λ none r.
         let kept : (r : PacketRule) → (r ≡ rule.RowChanged → ⊥) → KeepsRule r w before p =
         λ r other. (refuted _ (rule_decided r (λ e. absurd (other e)))).0 (none r) in
         (refuted _ (rule_decided r (λ e. record {
@@ -306,10 +289,10 @@ module _ (w : Watched) (before : List (List ℕ)) (p : List ℕ) where
           exact = kept rule.Address (λ e. cc);
           odd = kept rule.Parity (λ e. cc);
         }))).0 (none r),
-    λ keeps. of_each_rule _ (λ r. (refuted _ (rule_decided r (λ e. record {
+    λ keeps r. (refuted _ (rule_decided r (λ e. record {
       clean = clean;
       whole = whole;
       exact = keeps rule.Address;
       odd = keeps rule.Parity;
-    }))).1 (keeps r)),
+    }))).1 (keeps r),
   )

@@ -2,43 +2,38 @@
 -- `trusted_in_run`, and what is left of a run, `over-some`.
 use Rattle.std.proofs.lemmas.Bool.Decides.{nat_tests}
 use Rattle.std.proofs.Common.{◌≡◌, ℕ, ◌-◌, ◌<◌, Bool, true, false, List, [], ◌∷◌, map, ◌++◌, All}
-use Rattle.std.proofs.Common.{Contains, Option, Some, None, is_some, refl, ap, ◌∙◌, subst}
-use Rattle.std.proofs.Common.{zero, suc, arith, cond}
+use Rattle.std.proofs.Common.{Contains, Option, Some, None, is_some, refl, ap, ◌∙◌, zero, suc}
+use Rattle.std.proofs.Common.{arith, cond}
 use Rattle.std.proofs.lemmas.Bool.{lt-ltb, ltb-true}
 use Rattle.std.proofs.lemmas.List.{get_or-map, length-map}
-use Rattle.std.proofs.lemmas.List.Elements.{All-append, All-cons, All-head, All-map, All-nil}
-use Rattle.std.proofs.lemmas.List.Elements.{All-push, All-tail, All-weaker, Contains-append_left}
-use Rattle.std.proofs.lemmas.List.Elements.{Contains-append_right, Contains-push}
+use Rattle.std.proofs.lemmas.List.Elements.{All-append, All-cons, All-from_recursion, All-head}
+use Rattle.std.proofs.lemmas.List.Elements.{All-map, All-nil, All-push, All-tail, All-weaker}
+use Rattle.std.proofs.lemmas.List.Elements.{Contains-append_left, Contains-append_right}
+use Rattle.std.proofs.lemmas.List.Elements.{Contains-push}
 use Rattle.std.specs.List.{list_any}
 use Rattle.std.specs.Option.{option_or}
 use Rattle.std.specs.Prelude.{⊤}
-use Rattle.sub_rules.specs.PieceEvents.{PassedRun, all_announced, announced, at_pes, ended_run}
+use Rattle.sub_rules.specs.PieceEvents.{all_announced, announced, ended_run}
 use Rattle.sub_rules.specs.PieceEvents.{joins, passed_after}
-use Rattle.sub_rules.specs.Trusted.{doubted, kept, run_over, trusted, trusted_before, with_run}
+use Rattle.sub_rules.specs.Trusted.{doubted, kept, trusted, trusted_before}
 use Rattle.sub_rules.specs.declared.event.Event.{Event}
-use Rattle.sub_rules.specs.declared.event.Event.TheVariants.{Ended, PassedUntil, Told, Trusted}
-use Rattle.sub_rules.proofs.TrustedLemmas.{IsPlain, untrusted}
+use Rattle.sub_rules.specs.declared.event.Event.TheVariants.{Trusted}
+use Rattle.sub_rules.proofs.AnyToldLemmas.{is_foreign}
+use Rattle.sub_laws.proofs.FirstFoundLemmas.{first_found}
+use Rattle.sub_rules.proofs.PacketLists.{Each-map, Each-none}
+use Rattle.sub_rules.specs.declared.passed_run.PassedRun.{PassedRun}
+use Rattle.sub_rules.specs.Trusted.{at_pes}
+use Rattle.sub_rules.proofs.TrustedLemmas.{run_over, with_run}
 
 -- The frame that is quiet no more by the first of these that says so.
 abbrev pub first_doubt : ℕ → List Event → Option ℕ
-first_doubt last [] = None
-first_doubt last (e ∷ es) = option_or (doubted last e) (first_doubt last es)
-
--- The first of two lists that says so.
-pub doubt-append : (last : ℕ) (xs ys : List Event)
-    → first_doubt last (xs ++ ys) ≡ option_or (first_doubt last xs) (first_doubt last ys)
-doubt-append last [] ys = refl
-doubt-append last (x ∷ xs) ys = let rest = doubt-append last xs ys in grind arith
+first_doubt last es = first_found (doubted last) es
 
 -- Whether any says so.
 pub any_doubt : (last : ℕ) (es : List Event)
     → list_any (λ e. is_some (doubted last e)) es ≡ is_some (first_doubt last es)
 any_doubt last [] = refl
 any_doubt last (e ∷ es) = let rest = any_doubt last es in grind (arith, nat_tests)
-
--- Of two that say nothing neither does.
-pub or_none : (a b : Option ℕ) → option_or a b ≡ None → (a ≡ None) × (b ≡ None)
-or_none a b e = grind arith
 
 -- A run is left where none of these says so.
 pub over-is : (last : ℕ) (run : Option ℕ) (es : List Event)
@@ -66,15 +61,15 @@ module _ (P : ℕ → ℕ → Type 0) where
   EachTrusted es = All (OnTrusted P) es
 
   -- So it does where none tells that.
-  pub each-plain : (es : List Event) → IsPlain es → EachTrusted es
-  each-plain es plain = subst EachTrusted plain (each es)
+  pub each-own : (pes : ℕ) (es : List Event) → list_any (is_foreign pes) es ≡ false
+      → EachTrusted es
+  each-own pes es own =
+      All-from_recursion (OnTrusted P) es
+      (Each-map (λ e. is_foreign pes e ≡ false) (OnTrusted P) other es
+      (Each-none (is_foreign pes) es own))
     where
-      each : (es : List Event) → EachTrusted (untrusted es)
-      each [] = All-nil (OnTrusted P)
-      each (Trusted from to ∷ es) = each es
-      each (Told f ∷ es) = All-cons (OnTrusted P) _ _ tt (each es)
-      each (PassedUntil f ∷ es) = All-cons (OnTrusted P) _ _ tt (each es)
-      each (Ended rule f ∷ es) = All-cons (OnTrusted P) _ _ tt (each es)
+      other : (e : Event) → is_foreign pes e ≡ false → OnTrusted P e
+      other e own = grind (arith, nat_tests)
 
   -- Which PES packet is told changes nothing.
   pub each-at : (pes : ℕ) (es : List Event) → EachTrusted es → EachTrusted (map (at_pes pes) es)

@@ -1,10 +1,9 @@
 -- Nothing is told exactly where all that is asked holds, and what is told first is a refusal:
 -- `all_told`. Part by part, `law_of_broken_places`; and of the whole, `law_of_nothing_told`.
 use Rattle.std.proofs.Common.{◌≡◌, ℕ, zero, suc, ◌+◌, ◌-◌, ◌<◌, ◌≤◌, ◌⊎◌, inl, inr, Bool, true}
-use Rattle.std.proofs.Common.{false, not, List, [], ◌∷◌, ◌++◌, length, Option, Some, None, refl}
-use Rattle.std.proofs.Common.{sym, ap, subst, arith, append_assoc, map, if◌then◌else◌}
+use Rattle.std.proofs.Common.{false, not, List, [], ◌∷◌, length, Option, Some, None, refl, ◌↔◌, sym}
+use Rattle.std.proofs.Common.{ap, subst, arith, append_assoc, if◌then◌else◌}
 use Rattle.std.specs.Bool.{Decides}
-use Rattle.std.specs.List.{AllByRecursion, filter}
 use Rattle.std.proofs.lemmas.Bool.{cases_lt}
 use Rattle.std.proofs.lemmas.Bool.Decides.{nat_tests, Decides-ltb}
 use Rattle.std.proofs.lemmas.List.{append-nil}
@@ -19,7 +18,6 @@ use Rattle.sub_rules.specs.Events.{standing_before, unread_fault, wrong_cell}
 use Rattle.sub_rules.specs.FrameRules.{HasHeader, Task, Unread, end_frame, frame_at, packets_before}
 use Rattle.sub_rules.specs.FrameRules.{packets_of_frame, task_of}
 use Rattle.sub_rules.specs.PacketRules.{AreClean, KeepsAllRules}
-use Rattle.sub_rules.specs.PacketTests.{breaks, broken_rules, packet_rules}
 use Rattle.sub_rules.specs.Transmission.{EachPacket, Transmission}
 use Rattle.sub_rules.specs.declared.event.Event.{Event}
 use Rattle.sub_rules.specs.declared.event.Event.TheVariants.{Told}
@@ -29,6 +27,8 @@ use Rattle.sub_rules.specs.declared.packet_rule.PacketRule.{PacketRule}
 use Rattle.sub_rules.proofs.EndLemmas.{gap_length-is, standing_before_is}
 use Rattle.sub_laws.specs.BrokenPlaces.{LawOfBrokenPlaces, LawOfNothingTold, WrongFirst}
 use Rattle.sub_laws.proofs.BrokenRuleLemmas.{clean_decided, refuted, rule_decided}
+use Rattle.sub_laws.proofs.FirstFoundLemmas.{Finds, Finds-append, Finds-like, Finds-none}
+use Rattle.sub_laws.proofs.FirstFoundLemmas.{first_found, found_so_far, packet_found}
 use Rattle.sub_laws.proofs.FrameByFrame.{AllOk, AreOk, FrameOk, IsQuiet, IsReadTo, OrderOk}
 use Rattle.sub_laws.proofs.FrameByFrame.{PacketsOk}
 use Rattle.sub_laws.proofs.PlaceLemmas.{Complete-from_holds, Good-from_holds, holds-from_good}
@@ -39,58 +39,43 @@ use Rattle.sub_laws.proofs.StandingLemmas.{first_wrong, quiet_decided, stands_br
 
 -- ---- what is told first
 
+-- Whatever event it is, it is looked for.
+abbrev pub any_event : Event → Option Event
+any_event event = Some event
+
+-- An event is a refusal, so named.
+abbrev pub IsNamed : (CheckFault → Type 0) → Event → Type 0
+IsNamed Named event = (f : CheckFault) × (event ≡ Told f) × Named f
+
 -- Of a list of events: nothing is told exactly where this holds; what is told first is a refusal,
 -- so named.
-pub record FirstOf (Named : CheckFault → Type 0) (Holds : Type 0) (told : List Event) : Type 0
-  where
-    pub none : told ≡ [] → Holds
-    pub holds : Holds → told ≡ []
-    pub first :
-        (event : Event) (rest : List Event)
-        → told ≡ event ∷ rest
-        → (f : CheckFault) × (event ≡ Told f) × Named f
+abbrev pub FirstOf : (CheckFault → Type 0) → Type 0 → List Event → Type 0
+FirstOf Named Holds told = Finds any_event (IsNamed Named) Holds Holds told
 
 module _ {Named : CheckFault → Type 0} where
-  -- Nothing is told.
-  nothing_told : {A : Type 0} → A → FirstOf Named A []
-  nothing_told a = grind (arith, nat_tests)
+  -- Nothing is told exactly there.
+  pub told_none : {A : Type 0} (xs : List Event) → FirstOf Named A xs → (xs ≡ []) ↔ A
+  told_none xs a = (λ e. a.quiet (rw e refl), λ h. empty xs (a.calm h))
+    where
+      empty : (xs : List Event) → first_found any_event xs ≡ None → xs ≡ []
+      empty [] e = refl
+      empty (x ∷ xs) e = absurd (none-some x (sym e))
 
   -- A refusal is told.
   rule_told : {A : Type 0} {rest : List Event} (f : CheckFault) → Named f → (A → ⊥)
       → FirstOf Named A (Told f ∷ rest)
-  rule_told f is broken = grind (arith, nat_tests)
-
-  -- One list after another.
-  FirstOf-append : {A B : Type 0} {xs ys : List Event} → FirstOf Named A xs
-      → (A → FirstOf Named B ys) → (B → A) → FirstOf Named B (xs ++ ys)
-  FirstOf-append {xs = []} a next back = next (a.none refl)
-  FirstOf-append {xs = x ∷ xs} a next back = grind (arith, nat_tests)
-
-  -- The same fact in other words.
-  FirstOf-like : {A B : Type 0} {xs : List Event} → (A → B) → (B → A) → FirstOf Named A xs
-      → FirstOf Named B xs
-  FirstOf-like to back a = grind (arith, nat_tests)
-
-  -- What is told of n things, and then of the next.
-  FirstOf-next : {P : ℕ → Type 0} {xs ys : List Event} (n : ℕ)
-      → FirstOf Named ((j : ℕ) → j < n → P j) xs
-      → (((j : ℕ) → j < n → P j) → FirstOf Named (P n) ys)
-      → FirstOf Named ((j : ℕ) → j < suc n → P j) (xs ++ ys)
-  FirstOf-next {P} n before next =
-      FirstOf-append before
-      (λ past. grind (arith, nat_tests, FirstOf-like, cases_lt))
-      (λ all j l. all j (omega arith))
+  rule_told f is broken = grind (arith, nat_tests, same_Some)
 
   -- A refusal, where a test says so.
   told_if : {A : Type 0} (b : Bool) (f : CheckFault) → Named f → Decides (not b) A
       → FirstOf Named A (if b then Told f ∷ [] else [])
   told_if true f named decided = rule_told f named (λ a. let no = decided.1 a in cc)
-  told_if false f named decided = nothing_told (decided.0 refl)
+  told_if false f named decided = Finds-none (decided.0 refl)
 
   -- A refusal, where a test does not say that it holds.
   told_unless : {A : Type 0} (b : Bool) (f : CheckFault) → Named f → Decides b A
       → FirstOf Named A (if b then [] else Told f ∷ [])
-  told_unless true f named decided = nothing_told (decided.0 refl)
+  told_unless true f named decided = Finds-none (decided.0 refl)
   told_unless false f named decided = rule_told f named (λ a. let no = decided.1 a in cc)
 
 -- ---- a transmission
@@ -126,9 +111,9 @@ module _ (g : Task) (frames : Transmission) (Named : CheckFault → Type 0)
   rise_told i = told_unless _ _ (plain _ refl) (Decides-ltb _ _)
 
   order_told : (n : ℕ) → Tells (OrderOk g frames n) (order_events g frames n)
-  order_told zero = grind (arith, nat_tests, FirstOf-like, start_told)
+  order_told zero = grind (arith, nat_tests, Finds-like, start_told)
   order_told (suc i) =
-      grind (arith, nat_tests, FirstOf-like, rise_told i)
+      grind (arith, nat_tests, Finds-like, rise_told i)
 
   -- ---- an end
 
@@ -142,7 +127,7 @@ module _ (g : Task) (frames : Transmission) (Named : CheckFault → Type 0)
   standing_told prior f (Some x) late unended named = grind (arith, nat_tests, rule_told, none-some)
   standing_told prior f None true unended named = grind (arith, nat_tests, rule_told)
   standing_told prior f None false true named = grind (arith, nat_tests, rule_told)
-  standing_told prior f None false false named = nothing_told refl
+  standing_told prior f None false false named = Finds-none refl
 
   quiet_told : (n f prior : ℕ) → IsReadTo g frames n f
       → Tells (IsQuiet g frames n f)
@@ -150,7 +135,7 @@ module _ (g : Task) (frames : Transmission) (Named : CheckFault → Type 0)
   unfolding standing_at
   quiet_told n f prior read =
       let quiet = quiet_decided g frames n f read.fits in
-      FirstOf-like quiet.0 quiet.1
+      Finds-like quiet.1 quiet.0
       (standing_told prior f (wrong_cell g frames n f) (is_gap g frames n f)
       (is_incomplete g frames n)
       (λ x e. wrong n f x.0 x.1 read (first_wrong g frames n f x e)))
@@ -208,8 +193,10 @@ module _ (g : Task) (frames : Transmission) (Named : CheckFault → Type 0)
     -- The ends one after another.
     gap_told : (m : ℕ) → m ≤ gap_length frames n → Tells (QuietFor m) (gap_events g frames n m)
     unfolding gap_events
-    gap_told zero l = nothing_told (λ d l. absurd (omega arith))
-    gap_told (suc m) l = FirstOf-next m (gap_told m (omega arith)) (gap_next m l)
+    gap_told m l =
+        found_so_far (gap_events g frames n) (λ d. events_at_end g frames n n (last + suc d))
+        (λ d. IsQuiet g frames n (last + suc d)) m refl (λ d. refl)
+        (λ d below. gap_next d (omega arith))
 
     -- All of them.
     abbrev GapOk : Type 0
@@ -223,13 +210,13 @@ module _ (g : Task) (frames : Transmission) (Named : CheckFault → Type 0)
 
     gap_part : Tells GapOk (gap_events g frames n (gap_length frames n))
     gap_part =
-        FirstOf-like
+        Finds-like quiet_all
         (λ quiet f gap.
         let is = last_is in
         let long = gap_length-is frames n some in
         let e : last + suc (f - (last + 1)) ≡ f = omega (arith, gap.2) in
         subst (IsQuiet g frames n) e (quiet (f - (last + 1)) (omega (arith, gap.2))))
-        quiet_all (gap_told (gap_length frames n) (omega arith))
+        (gap_told (gap_length frames n) (omega arith))
 
     -- What stood broken at the end before the frame's own.
     pub nothing_stood : GapOk → standing_before g frames n (frame_at frames n) ≡ nothing_stands
@@ -244,7 +231,7 @@ module _ (g : Task) (frames : Transmission) (Named : CheckFault → Type 0)
       → Tells ((f : ℕ) → IsInGap frames n f → IsQuiet g frames n f)
       (gap_events g frames n (gap_length frames n))
   unfolding gap_length gap_events
-  gap_of zero past there order = nothing_told (λ f gap. absurd (omega (arith, gap.0)))
+  gap_of zero past there order = Finds-none (λ f gap. absurd (omega (arith, gap.0)))
   gap_of (suc i) past there order = gap_part (suc i) past there (omega arith) order
 
   stood_before : (n : ℕ) → AreOk g frames n → n < length frames → OrderOk g frames n
@@ -257,25 +244,14 @@ module _ (g : Task) (frames : Transmission) (Named : CheckFault → Type 0)
 
   -- ---- its packets
 
-  -- The rules of one.
-  module _ (test : PacketRule → Bool) (frame k : ℕ) where
-    -- None of these is broken.
-    abbrev Untold : List PacketRule → Type 0
-    Untold rs = AllByRecursion (λ r. test r ≡ false) rs
-
-    abbrev told_of : List PacketRule → List Event
-    told_of rs = map (λ (r : PacketRule). Told (packet_fault r frame k)) rs
-
-    rule_one : (r : PacketRule) (rs : List PacketRule) (b : Bool) → test r ≡ b
-        → Tells (Untold rs) (told_of (filter test rs))
-        → Tells ((test r ≡ false) × Untold rs)
-        (told_of (if b then r ∷ filter test rs else filter test rs))
-    rule_one r rs true e rest = grind (arith, nat_tests, rule_told)
-    rule_one r rs false e rest = FirstOf-like (λ h. (e, h)) (λ h. h.1) rest
-
-    rules_one : (rs : List PacketRule) → Tells (Untold rs) (told_of (filter test rs))
-    rules_one [] = nothing_told tt
-    rules_one (r ∷ rs) = rule_one r rs (test r) refl (rules_one rs)
+  rule_named : (r : PacketRule) (frame k : ℕ) (x : Event)
+      → any_event (Told (packet_fault r frame k)) ≡ Some x
+      → IsNamed Named x
+  rule_named r frame k x e = (
+    packet_fault r frame k,
+    sym (same_Some _ _ e),
+    plain (packet_fault r frame k) (grind (arith, nat_tests)),
+  )
 
   module _ (whole : EachPacket IsPacket frames) (n : ℕ) (past : AreOk g frames n)
       (there : n < length frames) where
@@ -306,23 +282,28 @@ module _ (g : Task) (frames : Transmission) (Named : CheckFault → Type 0)
     packet_told : (k : ℕ) → k < length ps → PacketsOk g frames n k
         → Tells (KeepsAllRules g.watched (before frames n k) (packet_at frames n k))
         (rules_told g.watched (frame_at frames n) k (before frames n k) (packet_at frames n k))
-    unfolding rules_told broken_rules
     packet_told k l ok =
         let clean = clean_before k (omega arith) ok in
         let is = each_at IsPacket frames n k whole there l in
         let keeps = clean_decided g.watched (before frames n k) (packet_at frames n k) clean is in
-        FirstOf-like keeps.0 keeps.1
-        (rules_one (λ r. breaks r g.watched (before frames n k) (packet_at frames n k))
-        (frame_at frames n) k packet_rules)
+        Finds-like (λ ok r passes. let keep = keeps.1 ok r in cc)
+        (λ none. keeps.0 (λ r. fails _ (none r)))
+        (packet_found any_event (IsNamed Named) (frame_at frames n) k
+        (λ r x. rule_named r (frame_at frames n) k x) g.watched _ _)
+      where
+        fails : {told : Event} (b : Bool) → (b ≡ true → any_event told ≡ None) → b ≡ false
+        fails b silent = grind (arith, nat_tests, none-some)
 
     -- All of them.
     packets_told : (k : ℕ) → k ≤ length ps
         → Tells (PacketsOk g frames n k)
         (packet_events g.watched (frame_at frames n) (packets_before frames n) ps k)
     unfolding packet_events
-    packets_told zero l = nothing_told (λ j m. absurd (omega arith))
-    packets_told (suc k) l =
-        FirstOf-next k (packets_told k (omega arith)) (packet_told k (omega arith))
+    packets_told k l =
+        found_so_far (packet_events g.watched (frame_at frames n) (packets_before frames n) ps)
+        (λ j. rules_told g.watched (frame_at frames n) j (before frames n j) (packet_at frames n j))
+        (λ j. KeepsAllRules g.watched (before frames n j) (packet_at frames n j)) k refl (λ j. refl)
+        (λ j below. packet_told j (omega arith))
 
   -- ---- its header, its end, and all of it
 
@@ -332,8 +313,8 @@ module _ (g : Task) (frames : Transmission) (Named : CheckFault → Type 0)
 
   header_told : (n : ℕ) → Tells (n ≡ 0 → HasHeader g frames 0) (first_header_events g frames n)
   unfolding first_header_events
-  header_told zero = FirstOf-like (λ h z. h) (λ h. h refl) first_header_told
-  header_told (suc i) = nothing_told (λ z. absurd (omega arith))
+  header_told zero = Finds-like (λ h. h refl) (λ h z. h) first_header_told
+  header_told (suc i) = Finds-none (λ z. absurd (omega arith))
 
   -- The end of a frame, of which all else holds.
   end_told : (n : ℕ) → AreOk g frames n → n < length frames → OrderOk g frames n
@@ -350,9 +331,7 @@ module _ (g : Task) (frames : Transmission) (Named : CheckFault → Type 0)
       (λ s. Tells (FrameOk g frames n)
       (end_events s (end_before frames n f) (standing_at g frames (n + 1) f) f))
       (sym (stood_before n past there order gap))
-      (FirstOf-like
-      (λ quiet. grind (arith, nat_tests))
-      (λ ok. ok.end)
+      (Finds-like (λ ok. ok.end) (λ quiet. grind (arith, nat_tests))
       (quiet_told (n + 1) f (end_before frames n f) (record {
         some = omega arith;
         fits = omega arith;
@@ -383,11 +362,11 @@ module _ (g : Task) (frames : Transmission) (Named : CheckFault → Type 0)
     unfolding frame_events
     frame_told n past there =
         rw (append_assoc, append_assoc, append_assoc)
-        (FirstOf-append (order_told n)
-        (λ order. FirstOf-append (gap_of n past there order)
-        (λ gap. FirstOf-append
+        (Finds-append (order_told n)
+        (λ order. Finds-append (gap_of n past there order)
+        (λ gap. Finds-append
         (packets_told whole n past there (length (packets_of_frame frames n)) (omega arith))
-        (λ packets. FirstOf-append (header_told n)
+        (λ packets. Finds-append (header_told n)
         (λ header. end_told n past there order gap packets header) (λ ok. ok.header))
         (λ ok. ok.packets))
         (λ ok. ok.gap))
@@ -397,21 +376,21 @@ module _ (g : Task) (frames : Transmission) (Named : CheckFault → Type 0)
     pub frames_told : (n : ℕ) → n ≤ length frames
         → Tells (AreOk g frames n) (events_of_first g frames n)
     unfolding events_of_first
-    frames_told zero l = nothing_told (λ j m. absurd (omega arith))
-    frames_told (suc n) l =
-        FirstOf-next n (frames_told n (omega arith)) (λ past. frame_told n past (omega arith))
+    frames_told n l =
+        found_so_far (events_of_first g frames) (frame_events g frames) (FrameOk g frames) n refl
+        (λ i. refl) (λ i below past. frame_told i past (omega arith))
 
   -- ---- the whole
 
   late_told : Tells ((last : ℕ) → g.last_out ≡ Some last → last ≤ end_frame frames)
       (late_events g.last_out (end_frame frames))
-  late_told = grind (arith, nat_tests, nothing_told, none-some, told_unless, same_Some)
+  late_told = grind (arith, nat_tests, Finds-none, none-some, told_unless, same_Some)
 
   -- What follows the last frame.
   rest_told : AreOk g frames (length frames) → 0 < length frames → (o : Option Unread)
       → g.unread ≡ o → Tells (AllOk g frames) (rest_events g frames o)
   rest_told past some (Some u) e = grind (arith, nat_tests, rule_told, none-some)
-  rest_told past some None e = grind (arith, nat_tests, FirstOf-like, late_told)
+  rest_told past some None e = grind (arith, nat_tests, Finds-like, late_told)
 
   closing_told : (n : ℕ) → n ≡ length frames → AreOk g frames (length frames)
       → Tells (AllOk g frames) (closing_events g frames n)
@@ -424,7 +403,7 @@ module _ (g : Task) (frames : Transmission) (Named : CheckFault → Type 0)
   pub all_told : EachPacket IsPacket frames → Tells (AllOk g frames) (events g frames)
   unfolding events
   all_told whole =
-      FirstOf-append (frames_told whole (length frames) (omega arith))
+      Finds-append (frames_told whole (length frames) (omega arith))
       (λ past. closing_told (length frames) refl past) (λ all. all.each)
 
 -- ---- the laws
@@ -442,13 +421,19 @@ law_of_broken_places g frames = record {
   header = grind (arith, nat_tests);
   ends = λ n f l. stands_broken g frames n f l;
   late = grind (arith, nat_tests, same_Some);
-  first = grind (arith, nat_tests, all_told g frames Any);
+  first = λ event rest whole is.
+      let told =
+      all_told g frames Any (λ f e. tt) (λ u e. tt) (λ n f row column read wrong. tt) whole in
+      let (f, named, any) = told.at event (rw is refl) in
+      (f, named);
 }
 
 pub law_of_nothing_told : LawOfNothingTold
 law_of_nothing_told programme options unread frames some whole =
     let g = task_of programme options unread in
-    let told = all_told g frames Any (λ f e. tt) (λ u e. tt) (λ n f r c a b. tt) whole in
+    let told =
+    told_none (events g frames)
+    (all_told g frames Any (λ f e. tt) (λ u e. tt) (λ n f r c a b. tt) whole) in
     grind (
       arith,
       nat_tests,

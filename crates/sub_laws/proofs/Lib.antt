@@ -5,6 +5,7 @@ pub mod CleanStretchLemmas
 pub mod ContentLemmas
 pub mod DoubtLemmas
 pub mod EventLemmas
+pub mod FirstFoundLemmas
 pub mod FrameByFrame
 pub mod FrameDoubtLemmas
 pub mod GoodLemmas

@@ -17,10 +17,11 @@ use Rattle.ttx_pes.proofs.ReadingLemmas.{rest_after-packet}
 use Rattle.stl_file.specs.TimeCode.{day}
 use Rattle.sub_rules.specs.PacketRules.{packets_of_units}
 use Rattle.sub_rules.specs.PesFrames.{Carries, IsSentAs}
-use Rattle.sub_rules.specs.PesReading.{LawOfPesFiles, PesFileValue, ReadsAs, file_at, frame_of_pts}
+use Rattle.sub_rules.specs.PesReading.{LawOfPesFiles, ReadsAs, file_at}
+use Rattle.sub_rules.specs.Pieces.{PesFileValue, frame_of_pts}
 use Rattle.sub_rules.specs.Transmission.{Transmission}
-use Rattle.sub_rules.proofs.PesReadingLemmas.{file_at-next, file_by, found_below, reads-below}
 use Rattle.sub_rules.proofs.PesReadingLemmas.{reads_ended, reads_more}
+use Rattle.sub_rules.proofs.PieceFileLemmas.{file_at-next, file_by, found_below, reads-below}
 use Rattle.ttx_pes.proofs.ReaderLemmas.{answers_say, nothing}
 
 -- Where a value is read, a packet of it begins the bytes. For `sent_of`.

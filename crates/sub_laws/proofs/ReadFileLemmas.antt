@@ -4,7 +4,7 @@ use Rattle.std.proofs.lemmas.Bool.Decides.{nat_tests}
 use Rattle.std.proofs.Common.{◌≡◌, ℕ, zero, suc, ◌+◌, ◌-◌, ◌*◌, ◌/◌, ◌<◌, ◌≤◌, Bool, true, false}
 use Rattle.std.proofs.Common.{List, [], ◌∷◌, length, map, take, drop, slice_index, Option, None}
 use Rattle.std.proofs.Common.{Some, Result, Ok, Err, MatchResult, IfSome, cond, nat_lt}
-use Rattle.std.proofs.Common.{if◌then◌else◌, ◌∙◌, arith, length-take, length-drop}
+use Rattle.std.proofs.Common.{if◌then◌else◌, ◌∙◌, sym, subst, arith, length-take, length-drop}
 use Rattle.std.proofs.lemmas.List.{length-map}
 use Rattle.std.specs.List.{AllByRecursion}
 use Rattle.std.specs.Prelude.{⊤}
@@ -13,18 +13,20 @@ use Rattle.ttx_packet.specs.BitOrder.{mirror}
 use Rattle.ttx_packet.specs.PacketAddress.{IsPacket}
 use Rattle.ttx_pes.specs.DataUnit.{UnitValue}
 use Rattle.ttx_pes.specs.Fault.{is_read, is_write}
-use Rattle.ttx_pes.specs.Outcome.{packets_from}
 use Rattle.ttx_pes.specs.PesPacket.{PesValue}
-use Rattle.ttx_pes.specs.Reading.{answer_at, most_packets, packet_at, pts_at, rest_after, size_at}
+use Rattle.ttx_pes.specs.Pieces.{behind_piece, pieces_from}
+use Rattle.ttx_pes.specs.Reading.{answer_at, most_packets, packet_at, pts_at, size_at}
 use Rattle.ttx_pes.specs.Reading.{teletext_at, unit_at, unit_of, units_at, value_at, with_unit}
 use Rattle.ttx_pes.specs.declared.fault.PesFault.{PesFault}
 use Rattle.ttx_pes.specs.declared.fault.PesFault.TheVariants as fault
 use Rattle.sub_rules.specs.FrameRules.Unread.{BadPacket}
 use Rattle.sub_rules.specs.PacketRules.{packets_of_units}
-use Rattle.sub_rules.specs.PesReading.{PesFileValue, file_at, file_of}
+use Rattle.sub_rules.specs.PesReading.{file_at}
+use Rattle.sub_rules.specs.Pieces.{PesFileValue, file_of_pieces, pieces_at, read_until_passed}
+use Rattle.sub_rules.specs.Pieces.{until_passed_over}
 use Rattle.sub_rules.specs.Transmission.{SentFrame}
 use Rattle.sub_rules.proofs.PacketLists.{Each-push}
-use Rattle.sub_rules.proofs.PesReadingLemmas.{file_by, file_of-then}
+use Rattle.sub_rules.proofs.PieceFileLemmas.{file_by, until_then}
 
 -- ---- answers
 
@@ -178,15 +180,16 @@ by_sound : (origin : ℕ) (r : Result (Option PesValue) PesFault) (rest : PesFil
 by_sound origin r rest h sound = grind (arith, packets_whole)
 
 -- What comes of bytes.
-outcome_sound : (origin room given : ℕ) (b : List ℕ)
-    → IsSoundFile (file_of origin (packets_from room given b))
-unfolding packets_from
-outcome_sound origin zero given [] = record { whole = tt; fault = λ g e. cc }
-outcome_sound origin zero given (x ∷ b) = grind (arith, nat_tests, by_sound, refused)
-outcome_sound origin (suc room) given b =
-    let rest = outcome_sound origin room (given + 1) (rest_after b) in
-    grind (arith, nat_tests, file_of-then, by_sound, answer_sound)
+pieces_sound : (origin room given : ℕ) (b : List ℕ)
+    → IsSoundFile (until_passed_over (file_of_pieces origin (pieces_from room given b)))
+unfolding pieces_from read_until_passed
+pieces_sound origin zero given [] = record { whole = tt; fault = λ g e. cc }
+pieces_sound origin zero given (x ∷ b) = grind (arith, nat_tests, by_sound, refused)
+pieces_sound origin (suc room) given b =
+    subst IsSoundFile (sym (until_then origin (answer_at given b) _))
+    (by_sound origin (answer_at given b) _ (answer_sound given b)
+    (pieces_sound origin room (given + 1) (behind_piece b)))
 
 pub file_sound : (origin given : ℕ) (b : List ℕ) → IsSoundFile (file_at origin given b)
-unfolding file_at
-file_sound origin given b = outcome_sound origin (most_packets - given) given b
+unfolding file_at pieces_at
+file_sound origin given b = pieces_sound origin (most_packets - given) given b

@@ -1,17 +1,17 @@
 -- A clean stretch: frames of which nothing is told that a receiver depends on, where frames rise,
 -- whatever else is told of them, and whatever is told outside of them.
-use Rattle.std.specs.Prelude.{Bool, true, false, None, Option, IsFalse, IsTrue}
+use Rattle.std.specs.Prelude.{Bool, None, Option, IsFalse, IsTrue}
 use Rattle.std.specs.Prelude.{◌≡◌, ℕ, ◌-◌, ◌<◌, ◌≤◌, ◌⊎◌, List, [], ◌++◌, length, take}
 use Rattle.std.specs.Prelude.{slice_index_or}
 use Rattle.stl_rows.specs.Programme.{ProgrammeValue}
 use Rattle.sub_plan.specs.Options.{OptionsValue}
-use Rattle.sub_rules.specs.Events.{standing_at}
+use Rattle.sub_rules.specs.Events.{packet_fault, standing_at}
+use Rattle.sub_rules.specs.Fault.{fault_row}
 use Rattle.sub_rules.specs.FrameRules.{Task, Unread, frame_at, packets_before, packets_of_frame}
 use Rattle.sub_rules.specs.FrameRules.{task_of}
 use Rattle.sub_rules.specs.PacketTests.{breaks}
 use Rattle.sub_rules.specs.Transmission.{IsRising, Transmission, first_frame, last_frame}
 use Rattle.sub_rules.specs.declared.packet_rule.PacketRule.{PacketRule}
-use Rattle.sub_rules.specs.declared.packet_rule.PacketRule.TheVariants as rule
 use Rattle.sub_laws.specs.OnScreen.{CompleteWithin}
 use Rattle.sub_laws.specs.Sufficient.{IsSufficient}
 
@@ -55,15 +55,9 @@ pub record IsStretch (frames : Transmission) (a b : ℕ) : Type 0 where
 
 -- ---- what is told of it
 
--- A receiver depends on the rule of a packet.
+-- A receiver depends on the rule of a packet: a frame is quiet no more where that is told.
 abbrev pub is_needed : PacketRule → Bool
-is_needed rule.Address = true
-is_needed rule.HeaderCode = true
-is_needed rule.Mode = false
-is_needed rule.Control = true
-is_needed rule.Parity = true
-is_needed rule.RowChanged = true
-is_needed rule.Enhancement = false
+is_needed r = (fault_row (packet_fault r 0 0)).doubts
 
 -- Of a stretch nothing is told that a receiver depends on: where frames rise, as is asked of the
 -- whole transmission, no packet at a frame of it breaks one of these rules, and at no end of it

@@ -1,5 +1,3 @@
-pub mod HeardAgainLemmas
+pub mod ReceptionLemmas
 pub mod RunningLemmas
-pub mod UntouchedLemmas
 pub mod WaysOutLemmas
-pub mod PassedLemmas

@@ -1,11 +1,10 @@
 -- What each way out of the loop of `listen` shows of the whole file.
 use Rattle.std.proofs.lemmas.Bool.Decides.{nat_tests}
-use Rattle.std.proofs.Common.{◌≡◌, ◌∙◌, ap, refl, subst, arith, ℕ, ◌+◌, ◌<◌, ◌≤◌, inl}
-use Rattle.std.proofs.Common.{inr, true, false, not, List, [], ◌∷◌, ◌++◌, length, drop}
-use Rattle.std.proofs.Common.{MatchResult, Option, Result, Some, None, option_map, Ok, Err}
+use Rattle.std.proofs.Common.{◌≡◌, ◌∙◌, ap, refl, subst, arith, ℕ, ◌+◌, ◌<◌, ◌≤◌, inl, inr}
+use Rattle.std.proofs.Common.{true, List, ◌++◌, length, drop}
+use Rattle.std.proofs.Common.{MatchResult, Option, Result, Some, None, Ok, Err}
 use Rattle.std.proofs.lemmas.List.{length-append, length-map}
-use Rattle.std.proofs.lemmas.List.Elements.{filter-append}
-use Rattle.std.proofs.lemmas.Bool.{and_right, cases_lt}
+use Rattle.std.proofs.lemmas.Bool.{cases_lt}
 use Rattle.sub_io.specs.Reading.{IfTold}
 use Rattle.ttx_packet.specs.PageId.{PageIdValue}
 use Rattle.ttx_page.specs.Screen.{Display}
@@ -22,61 +21,18 @@ use Rattle.sub_rules.specs.PacketRules.{packets_of_units}
 use Rattle.sub_rules.specs.PesReading.{ReadsAs}
 use Rattle.sub_rules.specs.Transmission.{Transmission}
 use Rattle.sub_rules.specs.declared.fault.CheckFault.{CheckFault}
-use Rattle.sub_rules.proofs.PesReadingLemmas.{ReadsNext, reads-below, reads_end, reads_next}
+use Rattle.sub_rules.proofs.PesReadingLemmas.{ReadsNext, reads_end, reads_next}
+use Rattle.sub_rules.proofs.PieceFileLemmas.{reads-below}
 use Rattle.sub_rules.proofs.FrameLists.{joined_more}
 use Rattle.sub_listen.specs.Run.{AreHeard, EndsAfter, FailsListening, HearsFile, IsHeard}
 use Rattle.sub_listen.specs.Run.{RefusesAfter, least_frame}
-use Rattle.sub_listen.specs.Reception.{Reception, RunsThrough, as_heard, as_received}
-use Rattle.sub_listen.specs.Reception.{first_lost_header, reception_of}
+use Rattle.sub_listen.specs.Reception.{RunsThrough, as_heard, first_lost_header, reception_of}
+use Rattle.sub_listen.proofs.ReceptionLemmas.{as_heard-append}
 use Rattle.sub_request.specs.declared.listening.Listening.{Listening}
 use Rattle.ttx_pes.specs.declared.fault.PesFault.TheVariants as pes
 use Rattle.sub_rules.specs.declared.fault.CheckFault.TheVariants as check
 use Rattle.sub_listen.specs.declared.listening.ListenFault.{ListenFault}
 use Rattle.sub_listen.specs.declared.listening.ListenFault.TheVariants as fault
-
--- ---- lists of packets
-
--- Where no packet is listed as lost, none is lost that may not be. For `first_lost_header`.
-pub first_lost_header-none : (r : Reception) (number : ℕ) (packets : List (List ℕ))
-    → r.lost ≡ []
-    → first_lost_header r number packets ≡ None
-first_lost_header-none r number [] e = refl
-first_lost_header-none r number (packet ∷ packets) e =
-    grind (
-      arith,
-      nat_tests,
-      false,
-      and_right,
-      not,
-      Some,
-      option_map,
-      first_lost_header-none r (number + 1) packets e,
-    )
-
--- What is received of two lists of packets, one after the other.
-pub as_received-append : (r : Reception) (number : ℕ) (first more : List (List ℕ))
-    → as_received r number (first ++ more)
-    ≡ as_received r number first ++ as_received r (number + length first) more
-as_received-append r number [] more = ap (λ n. as_received r n more) (omega arith)
-as_received-append r number (p ∷ ps) more =
-    grind (
-      arith,
-      nat_tests,
-      length ps,
-      length (p ∷ ps),
-      as_received-append r (number + 1) ps more,
-      true,
-      false,
-    )
-
--- What is heard of two lists of packets, one after the other.
-as_heard-append : (l : Listening) (number : ℕ) (first more : List (List ℕ))
-    → as_heard l number (first ++ more)
-    ≡ as_heard l number first ++ as_heard l (number + length first) more
-as_heard-append l number first more =
-    grind (arith, as_received-append, filter-append)
-
--- ---- what is reached after n frames
 
 -- The run up to n frames, and what is left of the file.
 pub record Reaches

@@ -1,4 +1,3 @@
 pub mod Fault
 pub mod Reception
 pub mod Run
-pub mod Untouched

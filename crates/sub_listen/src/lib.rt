@@ -8,7 +8,6 @@
 //! ```
 #![tactic(auto)]
 
-mod hearing;
 mod laws;
 mod listening;
 mod reception;

@@ -10,8 +10,7 @@ ghost use Rattle.sub_rules.specs.PesReading.{ReadsAs};
 ghost use Rattle.sub_rules.specs.Transmission.{Transmission};
 ghost use Rattle.sub_listen.specs.declared.listening.ListenFault.TheVariants.{File};
 
-use crate::hearing::hear_sending;
-use crate::reception::first_lost_header;
+use crate::reception::{first_lost_header, hear_units};
 use sub_io::{FaultCode, Source};
 use sub_request::Listening;
 use sub_rules::{CheckFault, next_sending};
@@ -90,7 +89,6 @@ pub fn listen<R: Receiver, S: Source>(
     let mut reader = ComparingReader::new();
     let mut least = 0;
     let mut number = 0u64;
-    let mut kept = false;
     let mut index = 0;
     'packets: loop {
         let next = next_sending(&mut reader, pes, &listening.options, index)?;
@@ -109,8 +107,7 @@ pub fn listen<R: Receiver, S: Source>(
         if let Some(packet) = first_lost_header(listening, number, &units) {
             return Err(ListenFault::LostHeader { frame, packet });
         }
-        let again = sending.again;
-        kept = hear_sending(receiver, screen, listening, number, &units, again, kept);
+        hear_units(receiver, screen, listening, number, &units);
         number += units.len() as u64;
         least = frame + 1;
         index += 1;

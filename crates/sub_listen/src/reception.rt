@@ -1,21 +1,18 @@
 //! What a receiver gets of the packets of a file, and hears: packets passed over, lost packets,
 //! flips, dropped rows.
-ghost use Rattle.std.specs.Prelude.{◌≡◌, ◌≢◌, ℕ, ◌+◌, ◌-◌, ◌^◌, ◌<◌, ◌≤◌, ◌&&◌, [], ◌∷◌, List};
-ghost use Rattle.std.specs.Prelude.{◌==◌, IsTrue, false, length, not, slice_index_or, true};
+ghost use Rattle.std.specs.Prelude.{◌≡◌, ℕ, ◌+◌, ◌-◌, ◌^◌, ◌<◌, ◌≤◌, ◌&&◌, ◌∷◌, List};
+ghost use Rattle.std.specs.Prelude.{length, not};
 ghost use Rattle.std.specs.List.{filter};
 ghost use Rattle.ttx_packet.specs.PacketAddress.{address};
-ghost use Rattle.ttx_packet.specs.PageHeader.{c11, coded_header};
 ghost use Rattle.ttx_page.specs.Screen.{Display, display};
 ghost use Rattle.ttx_pes.specs.PesPacket.{most_units};
 ghost use Rattle.sub_rules.specs.PacketRules.{packets_of_units};
 ghost use Rattle.sub_listen.specs.Reception.{RunsThrough, as_heard, first_lost_header, is_heard};
 ghost use Rattle.sub_listen.specs.Reception.{is_lost, is_taken, may_be_lost_at, reception_of};
-ghost use Rattle.sub_listen.specs.Untouched.{LeavesAll, is_passed_header};
 ghost use Rattle.sub_request.specs.Flips.{with_flip, with_flips};
 
-use bitflags::Flags;
 use sub_request::{Flip, Listening, ReceiverKind};
-use ttx_packet::{Control, Header, Packet, PageId, SentPacket};
+use ttx_packet::{Packet, SentPacket};
 use ttx_page::{Page, Receiver, is_dropped, show};
 use ttx_pes::SentUnits;
 
@@ -58,117 +55,6 @@ pub fn hear_units<R: Receiver>(
     for k in 0..units.len() {
         let packet = units.packet(k).packet();
         hear_packet(receiver, screen, listening, number + k as u64, &packet);
-    }
-}
-
-/// Lets a receiver hear the packets of a PES packet of which none is passed over or lost or has a
-/// flip: as they are, but for the rows that it drops.
-pub fn hear_untouched<R: Receiver>(
-    receiver: &mut R,
-    screen: &mut Option<Page>,
-    listening: &Listening,
-    units: &SentUnits<'_>,
-)
-    ensures run { RunsThrough listening.now.options.asks_complete R.leaves
-        (R.tuned_to receiver.old) (display (R.state receiver.old) screen.old)
-        (filter (is_taken listening.now.receiver listening.now.options.page)
-        (packets_of_units units.now))
-        (display (R.state receiver.new) screen.new) }
-    ensures tuned { R.tuned_to receiver.new ≡ R.tuned_to receiver.old }
-{
-    let mut k = 0;
-    while k < units.len() {
-        let sent = units.packet(k);
-        if is_passed(receiver.watched(), receiver.open(), &sent) {
-            k = next_heard(receiver.watched(), receiver.open(), units, k + 1);
-        } else {
-            take(receiver, screen, listening, &sent.packet());
-            k += 1;
-        }
-    }
-}
-
-// The number of the first packet that does not leave a receiver of a page as it is, from a number
-// on; how many packets there are, where each does.
-//
-// Most packets of a service do. So they are passed in a function of its own, which keeps all that
-// it asks in registers, and are not turned round.
-#[inline(never)]
-fn next_heard(page: PageId, is_open: bool, units: &SentUnits<'_>, from: usize) -> usize
-    requires { from ≤ length units.now }
-    ensures from { from ≤ result }
-    ensures within { result ≤ length units.now }
-    ensures passed { (k : ℕ) → from ≤ k → k < result
-        → LeavesAll page is_open (slice_index_or (packets_of_units units.now) k []) }
-{
-    for k in from..units.len() {
-        if !is_passed(page, is_open, &units.packet(k)) {
-            return k;
-        }
-    }
-    units.len()
-}
-
-// Whether a packet leaves a receiver of a page as it is, as its first two bytes tell, or of a page
-// header the first ten.
-#[inline(always)]
-fn is_passed(page: PageId, is_open: bool, packet: &SentPacket<'_>) -> bool
-    ensures { result ≡ true → LeavesAll page is_open packet.now }
-{
-    let Some((magazine, packet_number)) = packet.exact_address() else {
-        return false;
-    };
-    if packet_number != 0 {
-        return is_closed_to(page, is_open, magazine);
-    }
-    if is_for_page(page, is_open, magazine, packet) {
-        return false;
-    }
-    passes_header(page, is_open, magazine, packet)
-}
-
-// Whether a page header, by its magazine and its page number alone, is one of the page or ends it:
-// it is heard, so nothing else of it is looked at before.
-#[inline(always)]
-fn is_for_page(page: PageId, is_open: bool, magazine: u8, packet: &SentPacket<'_>) -> bool
-    ensures { magazine ≢ page.magazine → result ≡ false }
-{
-    magazine == page.magazine() && (is_open || packet.exact_page() == Some(page.page()))
-}
-
-// Whether the page is not open, or a packet is of another magazine.
-#[inline(always)]
-fn is_closed_to(page: PageId, is_open: bool, magazine: u8) -> bool
-    ensures { result ≡ not (is_open && magazine == page.magazine) }
-{
-    !(is_open && magazine == page.magazine())
-}
-
-// Whether a page header of a magazine, in code words, is none of the page, and does not end it
-// while it is open.
-//
-// Apart from `is_passed`, which would else keep less in registers for packets of other kinds.
-#[inline(never)]
-fn passes_header(page: PageId, is_open: bool, magazine: u8, packet: &SentPacket<'_>) -> bool
-    ensures { IsTrue result → (h : Header) × (coded_header packet.now ≡ Some h)
-        × (is_passed_header page is_open magazine h ≡ true) }
-{
-    match packet.exact_header() {
-        Some(header) => is_passed_header(page, is_open, magazine, &header),
-        None => false,
-    }
-}
-
-// The same, of what the header says.
-#[inline(always)]
-fn is_passed_header(page: PageId, is_open: bool, magazine: u8, header: &Header) -> bool
-    ensures { result ≡ is_passed_header page is_open magazine header.now }
-{
-    let is_magazine = magazine == page.magazine();
-    if is_open {
-        !is_magazine && !is_serial(header)
-    } else {
-        !(is_magazine && header.page == page.page())
     }
 }
 
@@ -277,13 +163,6 @@ fn flipped(flips: &[Flip], number: u64, packet: &Packet) -> Packet
         flip_bit(flip, number, &mut bytes);
     }
     Packet::new(bytes)
-}
-
-// C11, magazine serial.
-fn is_serial(header: &Header) -> bool
-    ensures { result ≡ c11 header.now }
-{
-    header.control.contains(Control::C11)
 }
 
 // Changes the bit of a flip, where it is one of this packet.

@@ -23,6 +23,7 @@ use Rattle.stl_file.specs.Reader.{findings_of, outcome_left, outcome_of}
 use Rattle.stl_file.specs.Reading.{ends, fails}
 use Rattle.stl_file.specs.Subtitle.{SubtitleValue}
 use Rattle.stl_file.specs.declared.fault.StlFault.{StlFault}
+use Rattle.stl_file.specs.declared.progress.Progress.TheVariants as progress
 use Rattle.sub_listing.specs.Faults.{kind_by, stl_told}
 use Rattle.sub_listing.specs.DeviceCall.{Counts, SinkCall, SourceCall}
 use Rattle.sub_listing.specs.Listing.{Gives, IsCut, IsListed, Listing, Lists, PrintsListing}
@@ -320,17 +321,22 @@ kind_by-failed false = refl
 pub gives-opened :
     (count : ℕ) (r : ReaderValue) (told left : Option (List ℕ))
     → r.block ≡ 0
+    → r.progress ≡ progress.Reading
     → IsGsi r.gsi
     → Consumes told left r.gsi
     → IfTold told (λ bytes. left ≡ Some (drop gsi_size bytes))
     → IfTold told (λ bytes. opened_at bytes ≡ Ok r)
     → Gives (ListsFrom None count) (ListsFrom (Some r) count) told left [] None
 unfolding findings_of
-gives-opened count r told left start gsi taken rest opened =
+gives-opened count r told left start reading gsi taken rest opened =
     gives-next _ (subtitles_listing count) (subtitles_listing count) outcome_of (outcome_left r)
     ReadsFile (λ failed. ReadsSubtitles failed r.block) (λ o. o) told left [] (λ o. refl)
     (λ o failed end reads. inr (left, r.gsi, gsi, taken, rw start at reads))
-    (λ bytes is. (drop gsi_size bytes, rest bytes is, rw (opened bytes is) refl))
+    (λ bytes is. (
+      drop gsi_size bytes,
+      rest bytes is,
+      rw (opened bytes is, start, reading) refl,
+    ))
     ends
 
 -- It was refused, or its source failed.

@@ -1,3 +1,4 @@
+pub mod AnyToldLemmas
 pub mod CodeWordLemmas
 pub mod CodesLemmas
 pub mod EndLemmas
@@ -8,5 +9,6 @@ pub mod PesReadingLemmas
 pub mod PieceEventLemmas
 pub mod PieceFileLemmas
 pub mod PrefixEventLemmas
+pub mod RunLemmas
 pub mod TestLemmas
 pub mod TrustedLemmas

@@ -1,26 +1,23 @@
 -- One PES packet read, in terms of the value of the whole file: `reads_next`, `reads_end`; and put
 -- together, `reads_more`, `reads_ended`.
 use Rattle.std.proofs.lemmas.Bool.Decides.{nat_tests}
-use Rattle.std.proofs.Common.{◌≡◌, ◌≢◌, ℕ, zero, suc, ◌+◌, ◌<◌}
-use Rattle.std.proofs.Common.{◌≤◌, List, [], ◌∷◌, length, drop, get_or, MatchOption}
-use Rattle.std.proofs.Common.{Option, Some, None, Result, Ok, Err, refl, sym, ap, ◌∙◌, arith}
+use Rattle.std.proofs.Common.{◌≡◌, ℕ, suc, ◌+◌, ◌<◌, ◌≤◌, List, [], ◌∷◌, length, drop, get_or}
+use Rattle.std.proofs.Common.{Option, Some, Result, Ok, sym, ap, ◌∙◌, arith}
 use Rattle.std.specs.Prelude.{OnOk}
 use Rattle.std.proofs.lemmas.List.{get_or-map, get_or-drop, length-drop, drop-drop}
-use Rattle.ttx_pes.specs.Outcome.{PesOutcome, answer_then, outcome_after}
 use Rattle.ttx_pes.specs.PesPacket.{PesValue}
 use Rattle.ttx_pes.specs.Reading.{answer_at, rest_after, most_packets}
-use Rattle.ttx_pes.specs.declared.fault.PesFault.{PesFault}
-use Rattle.ttx_pes.proofs.OutcomeLemmas.{outcome_after-next}
-use Rattle.sub_rules.specs.Sendings.{IsFrameOf, IsSentFrame}
-use Rattle.sub_rules.specs.FrameRules.{Unread}
 use Rattle.ttx_pes.specs.SentUnits.{packets_of_units}
 use Rattle.stl_file.specs.TimeCode.{day}
 use Rattle.sub_plan.specs.FrameTime.{pts_of}
+use Rattle.sub_rules.specs.FrameRules.{Unread}
 use Rattle.sub_rules.specs.PesFrames.{IsSentAs}
-use Rattle.sub_rules.specs.FrameRules.Unread.{BadPacket}
-use Rattle.sub_rules.specs.PesReading.{EndsReading, PesFileValue, ReadsAs, file_at, file_of}
-use Rattle.sub_rules.specs.PesReading.{file_with, frame_below, frame_of_pts}
+use Rattle.sub_rules.specs.PesReading.{ReadsAs, file_at}
+use Rattle.sub_rules.specs.Pieces.{PesFileValue}
+use Rattle.sub_rules.specs.Sendings.{EndsReading, IsFrameOf, IsSentFrame}
 use Rattle.sub_rules.specs.Transmission.{SentFrame, Transmission}
+use Rattle.sub_rules.proofs.PieceFileLemmas.{file_at-next, file_by, file_with, frame_found}
+use Rattle.sub_rules.proofs.PieceFileLemmas.{no_frame_found}
 
 -- What holds in any case holds where there is a value. For `next_sending`.
 pub where_ok : {X E P : Type 0} (r : Result X E) → P → OnOk r P
@@ -37,64 +34,7 @@ is_sent frames n s others e =
     let at : get_or frames n s ≡ s = grind (arith, nat_tests, get_or-drop n frames 0 s) in
     grind (arith, nat_tests, get_or-map)
 
--- ---- the frame of a PTS
-
--- What is told of the frames below a number: the frame that is found has the PTS, or none has.
-pub found_below :
-    (origin pts n : ℕ) (r : Option ℕ)
-    → frame_below origin pts n ≡ r
-    → MatchOption r ((f : ℕ) → f < n → pts_of origin f ≢ pts)
-    (λ f. (f < n) × (pts_of origin f ≡ pts))
-unfolding frame_below
-found_below origin pts zero (Some f) e = cc
-found_below origin pts zero None e = λ f l. absurd (omega arith)
-found_below origin pts (suc n) (Some f) e =
-    let ih = found_below origin pts n (Some f) in grind (arith, nat_tests)
-found_below origin pts (suc n) None e =
-    let ih = found_below origin pts n None in grind (arith, nat_tests)
-
--- The frame of the day that has a PTS is found.
-pub frame_found :
-    (origin pts frame : ℕ)
-    → frame < day
-    → pts_of origin frame ≡ pts
-    → frame_of_pts origin pts ≡ Some frame
-frame_found origin pts frame in_day e =
-    grind (arith, nat_tests, found_below origin pts day (frame_of_pts origin pts))
-
--- Where no frame of the day has a PTS, none is found.
-pub no_frame_found :
-    (origin pts : ℕ)
-    → ((frame : ℕ) → frame < day → pts_of origin frame ≢ pts)
-    → frame_of_pts origin pts ≡ None
-no_frame_found origin pts none =
-    let all = found_below origin pts day (frame_of_pts origin pts) refl in grind arith
-
 -- ---- the value of a file, one PES packet on
-
--- What a reader of PES packets answers, and then a file.
-abbrev pub file_by : ℕ → Result (Option PesValue) PesFault → PesFileValue → PesFileValue
-file_by origin (Err f) rest = record { frames = []; unread = Some (BadPacket f) }
-file_by origin (Ok None) rest = record { frames = []; unread = None }
-file_by origin (Ok (Some v)) rest =
-    file_with (frame_of_pts origin v.pts) (packets_of_units v.units) rest
-
--- The file of an answer and of what comes then.
-pub file_of-then :
-    (origin : ℕ) (answer : Result (Option PesValue) PesFault) (more : PesOutcome)
-    → file_of origin (answer_then answer more) ≡ file_by origin answer (file_of origin more)
-file_of-then origin answer more = grind (arith, nat_tests)
-
--- A file is what its first PES packet is, and then the file of the others.
-pub file_at-next :
-    (origin given : ℕ) (bytes : List ℕ)
-    → given ≤ most_packets
-    → file_at origin given bytes
-    ≡ file_by origin (answer_at given bytes) (file_at origin (given + 1) (rest_after bytes))
-unfolding file_at
-file_at-next origin given bytes few =
-    ap (file_of origin) (outcome_after-next given bytes (answer_at given bytes) few refl)
-    ∙ file_of-then origin (answer_at given bytes) (outcome_after (given + 1) (rest_after bytes))
 
 -- What a file is of which no frame is read.
 ended :
@@ -110,14 +50,6 @@ pub reads_ended :
     → EndsReading origin given bytes u
     → ReadsAs origin given bytes [] u
 reads_ended origin given bytes u few ends = grind (arith, nat_tests, file_at-next, ended)
-
--- A PES packet is read only after fewer than the most.
-pub reads-below :
-    (given : ℕ) (bytes : List ℕ) (v : PesValue)
-    → answer_at given bytes ≡ Ok (Some v)
-    → given ≢ most_packets
-unfolding answer_at
-reads-below given bytes v e at = grind arith
 
 -- A file that begins with a PES packet of a frame: that frame, and then the others.
 begins :

@@ -1,10 +1,10 @@
--- One piece read, in terms of the value of the whole file: `reads_sent`, `reads_off`, `reads_bad`,
--- `pieces_end`; and that a file is read up to the first piece that is passed over: `file_until`.
+-- The frame of a PTS: `frame_found`; one piece read, in terms of the value of the whole file:
+-- `reads_sent`, `reads_off`, `reads_bad`, `pieces_end`; and a file up to the first piece that is
+-- passed over, one PES packet on: `file_at-next`.
 use Rattle.std.proofs.lemmas.Bool.Decides.{nat_tests}
 use Rattle.std.proofs.Common.{◌≡◌, ◌≢◌, ℕ, zero, suc, ◌+◌, ◌<◌, ◌≤◌, true, false, List, []}
-use Rattle.std.proofs.Common.{◌∷◌, Option, Some, None, Result, Ok, Err, refl, ap, ◌∙◌, arith}
-use Rattle.std.proofs.Common.{cond}
-use Rattle.std.proofs.Common.{◌++◌, length-append}
+use Rattle.std.proofs.Common.{◌∷◌, ◌++◌, length-append, Option, Some, None, Result, Ok, Err, refl}
+use Rattle.std.proofs.Common.{sym, ap, ◌∙◌, arith, cond, MatchOption}
 use Rattle.std.proofs.KnownBytes.{Consumes-nil, Consumes-trans}
 use Rattle.std.proofs.lemmas.List.{append-nil}
 use Rattle.std.proofs.lemmas.List.Folds.{concat-append}
@@ -17,20 +17,62 @@ use Rattle.ttx_pes.specs.PesPacket.{PesValue, IsPesPacket}
 use Rattle.ttx_pes.specs.Pieces.{IsPiece, PiecesValue, behind_piece, piece_then}
 use Rattle.ttx_pes.specs.Pieces.{pieces_after}
 use Rattle.ttx_pes.specs.Reading.{answer_at, most_packets, rest_after}
+use Rattle.ttx_pes.specs.SentUnits.{packets_of_units}
 use Rattle.ttx_pes.specs.declared.fault.PesFault.{PesFault}
 use Rattle.stl_file.specs.TimeCode.{day}
 use Rattle.sub_plan.specs.FrameTime.{pts_of}
 use Rattle.sub_rules.specs.FrameRules.{Unread}
 use Rattle.sub_rules.specs.FrameRules.Unread.{BadPacket, NoFrame}
-use Rattle.ttx_pes.specs.SentUnits.{packets_of_units}
-use Rattle.sub_rules.specs.Pieces.{Piece, PieceFileValue, ReadsPiece, ReadsPieces, file_of_pieces}
-use Rattle.sub_rules.specs.PesReading.{PesFileValue, file_at}
-use Rattle.sub_rules.specs.Pieces.{TakesOnePiece, TakesPieces, piece_of, pieces_at}
-use Rattle.sub_rules.specs.Pieces.{read_until_passed}
+use Rattle.sub_rules.specs.PesReading.{file_at}
+use Rattle.sub_rules.specs.Pieces.{PesFileValue, Piece, PieceFileValue, ReadsPiece, ReadsPieces}
+use Rattle.sub_rules.specs.Pieces.{TakesOnePiece, TakesPieces, file_of_pieces, frame_below}
+use Rattle.sub_rules.specs.Pieces.{frame_of_pts, piece_of, pieces_at, read_until_passed}
+use Rattle.sub_rules.specs.Pieces.{until_passed_over}
 use Rattle.sub_rules.specs.Pieces.Piece.{Passed, Sent}
 use Rattle.sub_rules.specs.Sendings.{IsFrameOf}
-use Rattle.sub_rules.proofs.PesReadingLemmas.{file_at-next, file_by, frame_found, no_frame_found}
-use Rattle.sub_rules.proofs.PesReadingLemmas.{reads-below}
+
+-- ---- the frame of a PTS
+
+-- What is told of the frames below a number: the frame that is found has the PTS, or none has.
+pub found_below :
+    (origin pts n : ℕ) (r : Option ℕ)
+    → frame_below origin pts n ≡ r
+    → MatchOption r ((f : ℕ) → f < n → pts_of origin f ≢ pts)
+    (λ f. (f < n) × (pts_of origin f ≡ pts))
+unfolding frame_below
+found_below origin pts zero (Some f) e = cc
+found_below origin pts zero None e = λ f l. absurd (omega arith)
+found_below origin pts (suc n) (Some f) e =
+    let ih = found_below origin pts n (Some f) in grind (arith, nat_tests)
+found_below origin pts (suc n) None e =
+    let ih = found_below origin pts n None in grind (arith, nat_tests)
+
+-- The frame of the day that has a PTS is found.
+pub frame_found :
+    (origin pts frame : ℕ)
+    → frame < day
+    → pts_of origin frame ≡ pts
+    → frame_of_pts origin pts ≡ Some frame
+frame_found origin pts frame in_day e =
+    grind (arith, nat_tests, found_below origin pts day (frame_of_pts origin pts))
+
+-- Where no frame of the day has a PTS, none is found.
+pub no_frame_found :
+    (origin pts : ℕ)
+    → ((frame : ℕ) → frame < day → pts_of origin frame ≢ pts)
+    → frame_of_pts origin pts ≡ None
+no_frame_found origin pts none =
+    let all = found_below origin pts day (frame_of_pts origin pts) refl in grind arith
+
+-- A PES packet is read only after fewer than the most.
+pub reads-below :
+    (given : ℕ) (bytes : List ℕ) (v : PesValue)
+    → answer_at given bytes ≡ Ok (Some v)
+    → given ≢ most_packets
+unfolding answer_at
+reads-below given bytes v e at = grind arith
+
+-- ---- the value of a file, one piece on
 
 -- A piece, and then a file.
 abbrev pub before : Piece → PieceFileValue → PieceFileValue
@@ -137,61 +179,62 @@ no_failure f kind = grind (arith, nat_tests)
 
 -- ---- up to the first piece that is passed over
 
--- A file that is read on, and one that is not, by one answer.
+-- ---- up to the first piece that is passed over
+
+-- A PES packet of this frame and these packets, and then a file; no frame where its PTS is that of
+-- none.
+abbrev pub file_with : Option ℕ → List (List ℕ) → PesFileValue → PesFileValue
+file_with None packets rest = record { frames = []; unread = Some NoFrame }
+file_with (Some frame) packets rest = record {
+  frames = record { frame = frame; packets = packets } ∷ rest.frames;
+  unread = rest.unread;
+}
+
+-- What a reader of PES packets answers, and then a file.
+abbrev pub file_by : ℕ → Result (Option PesValue) PesFault → PesFileValue → PesFileValue
+file_by origin (Err f) rest = record { frames = []; unread = Some (BadPacket f) }
+file_by origin (Ok None) rest = record { frames = []; unread = None }
+file_by origin (Ok (Some v)) rest =
+    file_with (frame_of_pts origin v.pts) (packets_of_units v.units) rest
+
+-- One answer on.
 until_by : (origin : ℕ) (answer : Result (Option PesValue) PesFault) (rest : PieceFileValue)
-    → file_by origin answer (read_until_passed rest.pieces rest.unread)
-    ≡ read_until_passed (pieces_by origin answer rest).pieces (pieces_by origin answer rest).unread
+    → until_passed_over (pieces_by origin answer rest)
+    ≡ file_by origin answer (until_passed_over rest)
 unfolding read_until_passed piece_of
 until_by origin answer rest = grind (arith, nat_tests)
 
--- One answer on.
-until_step : (origin given : ℕ) (bytes : List ℕ) (r : Result (Option PesValue) PesFault)
-    (rest : PesFileValue)
+-- The file of an answer and of what comes then.
+pub until_then : (origin : ℕ) (answer : Result (Option PesValue) PesFault) (more : PiecesValue)
+    → until_passed_over (file_of_pieces origin (piece_then answer more))
+    ≡ file_by origin answer (until_passed_over (file_of_pieces origin more))
+until_then origin answer more =
+    ap until_passed_over (file_of-then origin answer more)
+    ∙ until_by origin answer (file_of_pieces origin more)
+
+-- After a PES packet the same bytes are left as after a piece.
+same_rest : (origin given : ℕ) (bytes : List ℕ) (answer : Result (Option PesValue) PesFault)
+    → answer_at given bytes ≡ answer
+    → file_by origin answer (file_at origin (given + 1) (behind_piece bytes))
+    ≡ file_by origin answer (file_at origin (given + 1) (rest_after bytes))
+same_rest origin given bytes (Err f) is = refl
+same_rest origin given bytes (Ok None) is = refl
+same_rest origin given bytes (Ok (Some v)) is =
+    ap (λ (b : List ℕ). file_by origin (Ok (Some v)) (file_at origin (given + 1) b))
+    (sym (behind_packet given bytes v is))
+
+-- A file is what its first PES packet is, and then the file of the others.
+pub file_at-next :
+    (origin given : ℕ) (bytes : List ℕ)
     → given ≤ most_packets
-    → answer_at given bytes ≡ r
-    → file_by origin r rest
-    ≡ file_by origin r (read_until_passed
-    (pieces_at origin (given + 1) (behind_piece bytes)).pieces
-    (pieces_at origin (given + 1) (behind_piece bytes)).unread)
-    → rest ≡ file_at origin (given + 1) (rest_after bytes)
     → file_at origin given bytes
-    ≡ read_until_passed (pieces_at origin given bytes).pieces
-    (pieces_at origin given bytes).unread
-until_step origin given bytes r rest few is same rest_is =
-    grind (arith, nat_tests, file_at-next, file_by, until_by, pieces_at-next)
-
--- A file is read up to the first piece that is passed over, by what is read after a PES packet.
-until_one : (origin given : ℕ) (bytes : List ℕ)
-    → given ≤ most_packets
-    → ((v : PesValue)
-    → answer_at given bytes ≡ Ok (Some v)
-    → file_at origin (given + 1) (rest_after bytes)
-    ≡ read_until_passed (pieces_at origin (given + 1) (behind_piece bytes)).pieces
-    (pieces_at origin (given + 1) (behind_piece bytes)).unread)
-    → file_at origin given bytes
-    ≡ read_until_passed (pieces_at origin given bytes).pieces
-    (pieces_at origin given bytes).unread
-until_one origin given bytes few sent = grind (arith, nat_tests, until_step, file_by)
-
--- What is read up to the first piece that is passed over is what is read where reading stops
--- there.
-until_from : (origin room given : ℕ) (bytes : List ℕ)
-    → given + room ≡ most_packets
-    → file_at origin given bytes
-    ≡ read_until_passed (pieces_at origin given bytes).pieces
-    (pieces_at origin given bytes).unread
-until_from origin zero given bytes e =
-    grind (arith, nat_tests, until_one origin given bytes, reads-below given bytes)
-until_from origin (suc room) given bytes e =
-    until_one origin given bytes (omega arith) (λ v is.
-    ap (file_at origin (given + 1)) (behind_packet given bytes v is)
-    ∙ until_from origin room (given + 1) (behind_piece bytes) (omega arith))
-
--- A whole file is read up to the first piece that is passed over.
-pub file_until : (origin : ℕ) (bytes : List ℕ)
-    → file_at origin 0 bytes
-    ≡ read_until_passed (pieces_at origin 0 bytes).pieces (pieces_at origin 0 bytes).unread
-file_until origin bytes = until_from origin most_packets 0 bytes refl
+    ≡ file_by origin (answer_at given bytes) (file_at origin (given + 1) (rest_after bytes))
+unfolding file_at pieces_at
+file_at-next origin given bytes few =
+    ap (λ (p : PiecesValue). until_passed_over (file_of_pieces origin p))
+    (pieces_after-next given bytes (answer_at given bytes) few refl)
+    ∙ until_then origin (answer_at given bytes) (pieces_after (given + 1) (behind_piece bytes))
+    ∙ same_rest origin given bytes (answer_at given bytes) refl
 
 -- ---- what was taken
 

@@ -1,7 +1,7 @@
 -- A PES file as pieces: those that are sent as frames of the day, and those that are passed over,
 -- since they are no PES packets of the grammar or their PTS is that of no frame of the day (own).
-use Rattle.std.specs.Prelude.{◌≡◌, ℕ, ◌+◌, List, [], ◌∷◌, length, map, Option, Some, None, Result}
-use Rattle.std.specs.Prelude.{Ok, Err}
+use Rattle.std.specs.Prelude.{◌≡◌, ℕ, zero, suc, ◌+◌, ◌==◌, if◌then◌else◌, List, [], ◌∷◌, length}
+use Rattle.std.specs.Prelude.{map, Option, Some, None, Result, Ok, Err}
 use Rattle.std.specs.Io.KnownBytes.{Consumes}
 use Rattle.std.specs.List.{AllByRecursion, concat}
 use Rattle.ttx_pes.specs.declared.fault.PesFault.{PesFault}
@@ -9,10 +9,11 @@ use Rattle.ttx_pes.specs.PesPacket.{PesValue}
 use Rattle.ttx_pes.specs.Pieces.{IsPiece, PiecesValue, behind_piece, pieces_after}
 use Rattle.ttx_pes.specs.Reader.{FailsWithin}
 use Rattle.ttx_pes.specs.SentUnits.{packets_of_units}
+use Rattle.stl_file.specs.TimeCode.{day}
+use Rattle.sub_plan.specs.FrameTime.{pts_of}
 use Rattle.sub_rules.specs.Events.{unread_fault}
 use Rattle.sub_rules.specs.FrameRules.{Unread}
 use Rattle.sub_rules.specs.FrameRules.Unread.{BadPacket, NoFrame}
-use Rattle.sub_rules.specs.PesReading.{PesFileValue, frame_of_pts}
 use Rattle.sub_rules.specs.Sendings.{IsFrameOf}
 use Rattle.sub_rules.specs.Transmission.{SentFrame, Transmission}
 use Rattle.sub_rules.specs.declared.fault.CheckFault.{CheckFault}
@@ -28,6 +29,16 @@ pub data Piece : Type 0 where
 pub record PieceFileValue : Type 0 where
   pub pieces : List Piece
   pub unread : Option Unread
+
+-- Of the frames below a number, the one that has this PTS.
+unfoldable pub frame_below : ℕ → ℕ → ℕ → Option ℕ
+frame_below origin pts zero = None
+frame_below origin pts (suc n) =
+    if pts_of origin n == pts then Some n else frame_below origin pts n
+
+-- The frame of the day that has this PTS.
+abbrev pub frame_of_pts : ℕ → ℕ → Option ℕ
+frame_of_pts origin pts = frame_below origin pts day
 
 -- A PES packet of this frame and these packets; passed over where its PTS is that of none.
 abbrev pub piece_with : Option ℕ → List (List ℕ) → Piece
@@ -115,6 +126,12 @@ frames_of [] = []
 frames_of (Sent s ∷ pieces) = s ∷ frames_of pieces
 frames_of (Passed u ∷ pieces) = frames_of pieces
 
+-- The frames of a PES file, one for each PES packet, up to what keeps it from being read to its
+-- end, if anything does.
+pub record PesFileValue : Type 0 where
+  pub frames : Transmission
+  pub unread : Option Unread
+
 -- What is read of pieces up to the first one that is passed over.
 unfoldable pub read_until_passed : List Piece → Option Unread → PesFileValue
 read_until_passed [] unread = record { frames = []; unread = unread }
@@ -122,3 +139,7 @@ read_until_passed (Sent s ∷ pieces) unread =
     let rest = read_until_passed pieces unread in
     record { frames = s ∷ rest.frames; unread = rest.unread }
 read_until_passed (Passed u ∷ pieces) unread = record { frames = []; unread = Some u }
+
+-- A file, up to there.
+abbrev pub until_passed_over : PieceFileValue → PesFileValue
+until_passed_over file = read_until_passed file.pieces file.unread

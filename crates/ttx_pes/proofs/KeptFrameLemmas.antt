@@ -3,7 +3,7 @@
 use Rattle.std.proofs.Common.{◌≡◌, ℕ, ◌/◌, ◌<◌, List, ◌+◌, ◌%◌, ◌≤◌, ◌++◌, [], length, drop}
 use Rattle.std.proofs.Common.{take, Ok, Err, refl, sym, ap, subst, arith, length-drop}
 use Rattle.std.proofs.Common.{◌∙◌}
-use Rattle.std.proofs.lemmas.List.{drop-drop, drop-take}
+use Rattle.std.proofs.lemmas.List.{drop-drop, drop-take, length-take-le}
 use Rattle.sub_io.specs.Reading.{AreBytes}
 use Rattle.ttx_pes.specs.declared.fault.PesFault.{PesFault}
 use Rattle.ttx_pes.specs.PesPacket.{IsPesValue, PesValue}
@@ -97,10 +97,14 @@ held_again body field before old h is time same kept held count places =
 -- The data field in a packet's room, by the packet's bytes from byte 6 on. For `read_compared`.
 pub field_of_body : (size count : ℕ) (room body : List ℕ)
     → body ≡ drop 6 (take size room)
-    → count + 45 ≡ size
+    → count + 39 ≡ length body
+    → 6 ≤ size
+    → size ≤ length room
     → field_in count room ≡ drop 39 body
-field_of_body size count room body is e =
-    let sum : 45 + count ≡ size = omega arith in
+field_of_body size count room body is all long fits =
+    let taken = length-take-le size room fits in
+    let left = length-drop 6 (take size room) in
+    let sum : 45 + count ≡ size = omega (arith, ap length is, all, taken, left) in
     sym (ap (drop 39) is ∙ drop-drop 39 6 (take size room)
     ∙ ap (λ n. drop 45 (take n room)) (sym sum) ∙ drop-take 45 count room)
 

@@ -1,19 +1,35 @@
 -- What comes of PES packets is the next answer and what comes then: outcome_after-next.
-use Rattle.std.proofs.Common.{◌≡◌, ℕ, ◌+◌, ◌-◌, ◌≤◌, List, Option, Result, arith}
+use Rattle.std.proofs.Common.{◌≡◌, ℕ, ◌+◌, ◌≤◌, List, Option, Some, None, Result, Ok, Err, refl}
+use Rattle.std.proofs.Common.{sym, ap, ◌∙◌, arith}
 use Rattle.std.proofs.lemmas.Bool.Decides.{nat_tests}
 use Rattle.ttx_pes.specs.declared.fault.PesFault.{PesFault}
-use Rattle.ttx_pes.specs.Outcome.{answer_then, outcome_after, packets_from}
+use Rattle.ttx_pes.specs.Outcome.{PesOutcome, ends, fails, gives, outcome_after, until_refused}
 use Rattle.ttx_pes.specs.PesPacket.{PesValue}
+use Rattle.ttx_pes.specs.Pieces.{PiecesValue, behind_piece, piece_then, pieces_after}
 use Rattle.ttx_pes.specs.Reading.{answer_at, most_packets, rest_after}
+use Rattle.ttx_pes.proofs.PieceListLemmas.{behind_packet, pieces_after-next}
 
--- The next answer, by the packets that may still come.
-packets_from-room : (room given : ℕ) (bytes : List ℕ)
-    → given + room ≡ most_packets
-    → packets_from room given bytes
-    ≡ answer_then (answer_at given bytes)
-    (packets_from (room - 1) (given + 1) (rest_after bytes))
-unfolding packets_from answer_at
-packets_from-room room given bytes e = grind (arith, nat_tests)
+-- What a reader answers, and after a packet what comes then.
+abbrev pub answer_then : Result (Option PesValue) PesFault → PesOutcome → PesOutcome
+answer_then (Ok (Some v)) more = gives v more
+answer_then (Ok None) more = ends
+answer_then (Err f) more = fails f
+
+-- Up to the first piece that is refused.
+until_then : (answer : Result (Option PesValue) PesFault) (more : PiecesValue)
+    → until_refused (piece_then answer more).pieces (piece_then answer more).left
+    ≡ answer_then answer (until_refused more.pieces more.left)
+until_then answer more = grind (arith, nat_tests)
+
+-- After a packet the same bytes are left as after a piece.
+same_rest : (given : ℕ) (bytes : List ℕ) (answer : Result (Option PesValue) PesFault)
+    → answer_at given bytes ≡ answer
+    → answer_then answer (outcome_after (given + 1) (behind_piece bytes))
+    ≡ answer_then answer (outcome_after (given + 1) (rest_after bytes))
+same_rest given bytes (Err f) is = refl
+same_rest given bytes (Ok None) is = refl
+same_rest given bytes (Ok (Some v)) is =
+    ap (λ (b : List ℕ). gives v (outcome_after (given + 1) b)) (sym (behind_packet given bytes v is))
 
 -- What the bytes that are left after `given` PES packets give, by the next answer.
 pub outcome_after-next : (given : ℕ) (bytes : List ℕ) (answer : Result (Option PesValue) PesFault)
@@ -21,4 +37,9 @@ pub outcome_after-next : (given : ℕ) (bytes : List ℕ) (answer : Result (Opti
     → answer_at given bytes ≡ answer
     → outcome_after given bytes
     ≡ answer_then answer (outcome_after (given + 1) (rest_after bytes))
-outcome_after-next given bytes answer few is = grind (arith, nat_tests, packets_from-room)
+unfolding outcome_after
+outcome_after-next given bytes answer few is =
+    ap (λ (p : PiecesValue). until_refused p.pieces p.left)
+    (pieces_after-next given bytes answer few is)
+    ∙ until_then answer (pieces_after (given + 1) (behind_piece bytes))
+    ∙ same_rest given bytes answer is

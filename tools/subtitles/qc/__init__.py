@@ -7,6 +7,7 @@ pair          a pair judged, from a recording to a verdict
 steps         the steps, each of which runs a command and says it
 verdict       a verdict, its parts, and what is missing
 unclear       why a pair can't be judged
+claim         the files of a pair in a folder belong to one call
 
 recording     a recording as a file of PES packets
 kinds         what a recording is, by its first bytes
@@ -14,6 +15,9 @@ source        its bytes, read once
 carriers      the PES packets of a transport stream, one file for a PID
 feed          a recording that comes through a pipe
 live          `check --all` that hears a feed
+stall         a feed that stands still
+start         the clock by the first picture
+warned        what is strange of a recording
 
 checking      `check --all`, and what it comes to
 told          its lines as values

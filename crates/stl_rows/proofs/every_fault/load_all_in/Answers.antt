@@ -12,11 +12,12 @@ use Rattle.stl_rows.specs.EveryFault.{load_fault}
 use Rattle.stl_rows.specs.Loading.{loaded}
 use Rattle.stl_rows.specs.Programme.{follow_faults}
 use Rattle.std.proofs.lemmas.List.Elements.{All-nil, All-weaker}
+use Rattle.stl_file.proofs.ReaderLemmas.{left-then}
 use Rattle.stl_rows.proofs.FailedReadLemmas.{fails-next, has_taken-next, reads-nothing}
 use Rattle.stl_rows.proofs.LoadingLemmas.{are_kept-next, ends-here, goes_on-next, goes_on-start}
 use Rattle.stl_rows.proofs.LoadingLemmas.{if_kept, of_file-end, of_file-stopped, findings_of-opened}
 use Rattle.stl_rows.proofs.LoadingLemmas.{IsToldBy, some-next, some_items, tells-end, told-none}
-use Rattle.stl_rows.proofs.LoadingLemmas.{first_kind, goes_on-refused, left-then, loads-all}
+use Rattle.stl_rows.proofs.LoadingLemmas.{first_kind, goes_on-refused, loads-all}
 use Rattle.stl_rows.proofs.LoadingLemmas.{tells-none, tells-refused, tells-stop, told-next}
 use Rattle.stl_rows.proofs.LoadingLemmas.{told-of_file, told-refused}
 use Rattle.stl_rows.proofs.ProgrammeLemmas.{IsProgramme-none}

@@ -13,8 +13,8 @@ use Rattle.sub_rules.specs.FrameRules.{task_of}
 use Rattle.sub_rules.specs.Pieces.{Piece, frames_of}
 use Rattle.sub_rules.specs.PieceEvents.{events_of_pieces}
 use Rattle.sub_checker.proofs.PieceWaysLemmas.{front, list_long, next_sent, none_of_pieces}
-use Rattle.sub_checker.proofs.PieceWaysLemmas.{passed_as, passed_told}
-use Rattle.sub_checker.proofs.PieceWaysLemmas.{sent_told, step_passed, step_sent, told_before}
+use Rattle.sub_checker.proofs.PieceWaysLemmas.{passed_marks, sent_marks}
+use Rattle.sub_checker.proofs.PieceWaysLemmas.{step_passed, step_sent, told_before}
 use Rattle.sub_checker.proofs.PieceWaysLemmas.{told_stop, told_whole, tracks_none}
 use Rattle.std.proofs.Common.{◌<◌, ◌++◌}
 use Rattle.std.proofs.lemmas.Bool.{true≢false}
@@ -26,15 +26,16 @@ use Rattle.sub_rules.proofs.PieceFileLemmas.{takes_more_pieces}
 use Rattle.sub_rules.specs.Events.{unread_fault}
 use Rattle.sub_rules.specs.FrameRules.{packets_of_frame}
 use Rattle.sub_rules.specs.PacketRules.{packets_of_units}
-use Rattle.sub_rules.specs.PieceEvents.{all_announced}
 use Rattle.sub_rules.specs.Pieces.{ReadsPiece}
 use Rattle.sub_rules.specs.Pieces.Piece.{Passed, Sent}
 use Rattle.sub_rules.specs.Sendings.{IsSentFrame}
 use Rattle.sub_rules.specs.Transmission.{SentFrame}
-use Rattle.sub_rules.specs.declared.event.Event.{Event}
+use Rattle.sub_rules.specs.Trusted.{Mark}
+use Rattle.sub_rules.specs.Trusted.Mark.{AtPes, Says}
+use Rattle.sub_rules.specs.declared.event.Event.TheVariants.{Told}
 use Rattle.sub_rules.specs.declared.piece.NextPiece.{NextPiece}
-use Rattle.sub_checker.specs.Announcing.{as_run}
-use Rattle.sub_checker.specs.declared.trusting.Trust.{Trust}
+use Rattle.sub_checker.specs.Passing.{passed_on}
+use Rattle.sub_checker.specs.declared.passing.Passing.{Passing}
 use Rattle.sub_checker.proofs.ReadsOnLemmas.{again_is, named_pes, packets_taken, reads_on_none}
 use Rattle.sub_checker.proofs.telling_pieces.tell_pieces.Goals.{
   in-Passed+in-Ok-tell_passed,
@@ -52,16 +53,17 @@ pieces-init g c = rw c.new-kept.ensures.frames (record {
   pulls = PullsSome-none c.args.source.now;
   failures = refl;
   goes_on = c.requires.goes_on;
-  day = omega (arith, c.new-kept.ensures.last);
+  day =
+      let none = ap (λ (p : Passing). p.trust.last) c.new-kept.ensures.passing in
+      omega (arith, none);
   some = TellsSome-none c.args.audience.now;
   headers = omega (arith, c.new-checker.ensures.none);
   told = λ pieces unread bytes told reads.
       let task = task_of c.args.programme.now c.args.options.now unread in (
         [],
         reads_on_none c.args.options.now pieces unread _ bytes told reads,
-        tracks_none task pieces _ _ _
-            (c.new-checker.ensures.follows (frames_of pieces) unread)
-            (c.new-kept.ensures.judges task (frames_of pieces)) c.new-kept.ensures.passed,
+        tracks_none task pieces _ _
+            (c.new-checker.ensures.follows (frames_of pieces) unread) c.new-kept.ensures.passing,
         λ no some. absurd (omega arith),
         all_same _ _ _ _ (none_of_pieces task (frames_of pieces)) (Tells-none _),
       );
@@ -112,7 +114,7 @@ returns-in-Err-clause-exact g c = λ pieces unread bytes told reads.
     (sym c.is_source_failure.ensures ∙ c.if-is_source_failure.false) i.1.left in
     told_whole c.args.programme.now i.1 i.2 c.pieces.invariant.few end.0 _ _ _
     c.finish.result so_far
-    (c.finish.ensures.told task (frames_of pieces) _ _ i.2.follows i.2.judges
+    (c.finish.ensures.told task (frames_of pieces) i.2.follows
     (list_long c.args.programme.now i.1 i.2 c.pieces.invariant.few end.0)
     (ap (λ (f : CheckFault). Some f) end.3
     ∙ ap (ending_fault c.pieces.pes) (sym end.2)))
@@ -129,7 +131,7 @@ returns-in_default-next-clause-exact g c = λ pieces unread bytes told reads.
     (here.exact i.1.ahead unread i.1.rest i.1.rest_is refl i.1.left) in
     told_whole c.args.programme.now i.1 i.2 c.pieces.invariant.few end.0 _ _ _
     c.finish-in_default-next.result so_far
-    (c.finish-in_default-next.ensures.told task (frames_of pieces) _ _ i.2.follows i.2.judges
+    (c.finish-in_default-next.ensures.told task (frames_of pieces) i.2.follows
     (list_long c.args.programme.now i.1 i.2 c.pieces.invariant.few end.0)
     (ap (ending_fault c.pieces.pes) (sym end.1)))
     c.finish-in_default-next.ensures.counts
@@ -146,13 +148,12 @@ returns-in-Err-tell_passed-clause-exact g c = λ pieces unread bytes told reads.
     let is : c.in-Passed.fault ≡ unread_fault c.pieces.pes (Some at.0) = at.1 in
     let next : ReadsPiece c.args.options.now.origin c.pieces.pes i.1.rest i.1.ahead unread
     (Passed at.0) = at.2 in
-    let same = passed_as task pieces i.0 c.pieces.pes c.pieces.kept.frames c.pieces.checker
-    c.pieces.kept.trust c.pieces.kept.run c.in-Passed.fault at.0 i.2 is in
+    let same = ap (λ (f : CheckFault). AtPes c.pieces.pes ∷ Says (Told f) ∷ []) is in
     told_stop c.args.programme.now i.1 i.2 (Passed at.0) next.more _ _ _ _ next.first
-    (passed_told task pieces i.0 c.pieces.pes c.pieces.kept.frames i.1.count i.2.sent_is at.0)
+    (passed_marks task pieces i.0 c.pieces.pes c.pieces.kept.frames i.1.count i.2.sent_is at.0)
     so_far
-    (subst (λ (es : List Event). TellsPrefix g.A.Audience.is_told c.next_live.new.audience
-    c.tell_passed.new.audience (all_announced (as_run c.pieces.kept.run) es)) same
+    (subst (λ (l : List Mark). TellsPrefix g.A.Audience.is_told c.next_live.new.audience
+    c.tell_passed.new.audience (passed_on c.pieces.kept.passing l)) same
     c.in-Err-tell_passed.ensures.told.told)
 
 pub returns-in-Err-tell_sent-clause-exact : goal.returns-in-Err-tell_sent-clause-exact
@@ -176,12 +177,12 @@ returns-in-Err-tell_sent-clause-exact g c = λ pieces unread bytes told reads.
     let sent =
     subst (λ (us : List UnitValue). IsSentFrame (frames_of pieces) c.pieces.kept.frames
     c.in-Sent.sending.frame (packets_of_units us)) (sym c.units_of-units.ensures.value) first in
-    let go = c.in-Err-tell_sent.ensures.told task (frames_of pieces) _ _ i.2.follows i.2.judges sent
+    let go = c.in-Err-tell_sent.ensures.told task (frames_of pieces) i.2.follows sent
     (λ again no. again_is (frames_of pieces) c.pieces.kept.frames _ _ _ sent (i.3 no)
     (ap packets_of_units
     (sym (here.again c.in-Sent.sending given again) ∙ sym c.units_of-units.ensures.value))) in
     told_stop c.args.programme.now i.1 i.2 (Sent s) next.more _ _ _ _ next.first
-    (sent_told task pieces i.0 c.pieces.pes c.pieces.kept.frames i.1.count i.2.sent_is s)
+    (sent_marks task pieces i.0 c.pieces.pes c.pieces.kept.frames i.1.count i.2.sent_is s)
     so_far go.0.told
 
 pub pieces-preserved : goal.pieces-preserved
@@ -207,7 +208,7 @@ pieces-preserved g c =
             failures = omega (arith, counted, before);
             goes_on = w.in-Ok-tell_passed.ensures.stopped;
             day =
-                subst (λ (t : Trust). t.last < day) (sym w.in-Ok-tell_passed.ensures.trust) inv.day;
+                subst (λ (n : ℕ). n < day) (sym w.in-Ok-tell_passed.ensures.day) inv.day;
             some = TellsSome-trans _ _ _ some w.in-Ok-tell_passed.ensures.some;
             headers = inv.headers;
             told = λ pieces unread bytes told reads.
@@ -218,9 +219,8 @@ pieces-preserved g c =
                 (here.exact i.1.ahead unread i.1.rest i.1.rest_is refl i.1.left) in
                 let left = (rw c.in-Some-next.is at (here.left i.1.rest i.1.rest_is)) refl in
                 let s = step_passed c.args.programme.now i.1 i.2 g.A.Audience.is_told _ at.0
-                w.in-Passed.fault w.tell_passed.new.kept.trust w.tell_passed.new.kept.run _ _ _
-                left at.2 at.1 w.in-Ok-tell_passed.ensures.trust
-                w.in-Ok-tell_passed.ensures.told.run_is so_far
+                w.in-Passed.fault w.tell_passed.new.kept.passing _ _ _ left at.2 at.1
+                w.in-Ok-tell_passed.ensures.told.kept so_far
                 w.in-Ok-tell_passed.ensures.told.told in (
                   i.0 ++ Passed at.0 ∷ [],
                   s.reads,
@@ -262,17 +262,16 @@ pieces-preserved g c =
                 subst (λ (us : List UnitValue). IsSentFrame (frames_of pieces)
                 c.pieces.kept.frames w.in-Sent.sending.frame (packets_of_units us))
                 (sym w.units_of-units.ensures.value) first in
-                let go = w.in-Ok-tell_sent.ensures.told task (frames_of pieces) _ _ i.2.follows
-                i.2.judges sent
+                let go = w.in-Ok-tell_sent.ensures.told task (frames_of pieces) i.2.follows sent
                 (λ again no. again_is (frames_of pieces) c.pieces.kept.frames _ _ _ sent (i.3 no)
                 (ap packets_of_units
                 (sym (here.again w.in-Sent.sending given again)
                 ∙ sym w.units_of-units.ensures.value))) in
                 let step = step_sent c.args.programme.now i.1 i.2 g.A.Audience.is_told _
                 c.next_live.new.reader.frame w.in-Sent.sending.frame w.tell_sent.new.checker
-                w.tell_sent.new.kept.trust w.tell_sent.new.kept.run _ _ _ left next at.1
+                w.tell_sent.new.kept.passing _ _ _ left next at.1
                 (here.sent w.in-Sent.sending given) w.units_of-units.ensures.frame
-                go.1.0 go.1.1 go.0.run_is so_far go.0.told in (
+                go.1 go.0.kept so_far go.0.told in (
                   i.0 ++ Sent s ∷ [],
                   step.reads,
                   step.kept,

@@ -22,7 +22,7 @@ invariant-pieces g l = record {
   pulls : PullsSome g.S.Source.is_pull l.fn.source l.source;
   failures : g.S.Source.failure_count l.source ≡ g.S.Source.failure_count l.fn.source;
   goes_on : g.A.Audience.has_stopped l.audience ≡ false;
-  day : l.kept.trust.last < day;
+  day : l.kept.passing.trust.last < day;
   some : TellsSome g.A.Audience.is_told l.fn.audience l.audience;
   headers : l.checker.headers ≤ 255 * l.kept.frames;
   told :
@@ -32,7 +32,7 @@ invariant-pieces g l = record {
       → (done : List Piece)
       × ReadsOn l.options bytes pieces unread (g.S.Source.remaining l.source) l.pes done
       × Tracks (task_of l.programme l.options unread) pieces done l.kept.frames l.checker
-      l.kept.trust l.kept.run
+      l.kept.passing
       × (l.kept.passed ≡ false
       → 0 < l.kept.frames
       → packets_of_frame (frames_of pieces) (l.kept.frames - 1)

@@ -1,6 +1,6 @@
 -- Each way out of the loop tells what the file is; by WaysOutLemmas.
 use Rattle.std.proofs.Common.{◌+◌, ◌≤◌, ◌∙◌, List, Option, Result, Ok, ap, arith, length}
-use Rattle.std.proofs.Common.{refl, subst, sym, true, ◌≡◌}
+use Rattle.std.proofs.Common.{refl, subst, sym}
 use Rattle.std.proofs.lemmas.Result.{err_from_is_err_and}
 use Rattle.ttx_packet.specs.PageId.{PageIdValue}
 use Rattle.ttx_page.specs.Screen.{display}
@@ -10,7 +10,6 @@ use Rattle.ttx_pes.proofs.TakenPackets.{takes-more}
 use Rattle.sub_rules.specs.PacketRules.{packets_of_units}
 use Rattle.sub_rules.specs.declared.fault.CheckFault.{CheckFault}
 use Rattle.sub_rules.specs.declared.sending.Sending.{Sending}
-use Rattle.sub_listen.specs.Untouched.{HeardLast}
 use Rattle.sub_listen.specs.Reception.{RunsThrough, as_heard, first_lost_header, reception_of}
 use Rattle.sub_listen.proofs.WaysOutLemmas.{Reaches, ends_at_end, ends_late, ends_lost, ends_order}
 use Rattle.sub_listen.proofs.WaysOutLemmas.{ends_unread, fails_listening, reaches_next}
@@ -105,31 +104,21 @@ packets-preserved g c =
     c.packets.number (packets_of_units us)) (sym value)
     ∙ sym c.first_lost_header.ensures
     ∙ c.in_default-first_lost_header.is in
-    let last = packets_of_units c.packets.reader.frame.units in
-    let again : c.in-Some.sending.again ≡ true → last ≡ packets_of_units c.units-units.result =
-    λ e. ap packets_of_units
-    (sym (c.in_ok-next.ensures.again c.in-Some.sending given e) ∙ sym value) in
     let run =
     subst (λ (us : List UnitValue). RunsThrough l.options.asks_complete g.R.Receiver.leaves
     (g.R.Receiver.tuned_to c.packets.receiver)
     (display (g.R.Receiver.state c.packets.receiver) c.packets.screen)
     (as_heard l c.packets.number (packets_of_units us))
-    (display (g.R.Receiver.state c.hear_sending-kept.new.receiver)
-    c.hear_sending-kept.new.screen)) value
-    (c.hear_sending-kept.ensures.run last c.packets.invariant.kept again) in
+    (display (g.R.Receiver.state c.hear_units.new.receiver)
+    c.hear_units.new.screen)) value
+    c.hear_units.ensures.run in
     record {
       reading = c.in_ok-next.ensures.progress c.in-Some.sending given;
       few_packets = omega (arith, packets);
       taken = taken;
       failures = omega (arith, counted, before);
-      tuned = c.hear_sending-kept.ensures.tuned ∙ c.packets.invariant.tuned;
+      tuned = c.hear_units.ensures.tuned ∙ c.packets.invariant.tuned;
       few = omega (arith, few, units, c.len.ensures.value);
-      kept = λ e.
-          subst (λ (us : List UnitValue). HeardLast g.R.Receiver.leaves l
-          (g.R.Receiver.tuned_to c.hear_sending-kept.new.receiver) (packets_of_units us)
-          (display (g.R.Receiver.state c.hear_sending-kept.new.receiver)
-          c.hear_sending-kept.new.screen)) value
-          (c.hear_sending-kept.ensures.kept last c.packets.invariant.kept again e);
       day = omega (arith, day);
       told = λ frames unread bytes told reads.
           let i = c.packets.invariant.told frames unread bytes told reads in
@@ -139,8 +128,8 @@ packets-preserved g c =
           (display (g.R.Receiver.state c.args.receiver.now) c.args.screen.now)
           (g.S.Source.remaining c.next_sending.new.source) (c.packets.index + 1)
           (c.packets.number + length us) (c.in-Some.sending.frame + 1)
-          (display (g.R.Receiver.state c.hear_sending-kept.new.receiver)
-          c.hear_sending-kept.new.screen))
+          (display (g.R.Receiver.state c.hear_units.new.receiver)
+          c.hear_units.new.screen))
           (sym value)
           (reaches_next _ l frames unread (g.S.Source.remaining c.args.pes.now) _ _
           c.packets.index _ _ _ _ i _
@@ -151,7 +140,7 @@ packets-preserved g c =
           (subst (λ (w : PageIdValue). RunsThrough l.options.asks_complete g.R.Receiver.leaves w
           (display (g.R.Receiver.state c.packets.receiver) c.packets.screen)
           (as_heard l c.packets.number (packets_of_units c.next_sending.new.reader.frame.units))
-          (display (g.R.Receiver.state c.hear_sending-kept.new.receiver)
-          c.hear_sending-kept.new.screen))
+          (display (g.R.Receiver.state c.hear_units.new.receiver)
+          c.hear_units.new.screen))
           c.packets.invariant.tuned run)));
     }

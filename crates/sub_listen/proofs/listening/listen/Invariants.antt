@@ -1,5 +1,5 @@
 -- After `index` PES packets the receiver ran through what it hears of their packets.
-use Rattle.std.proofs.Common.{◌≡◌, ◌*◌, ◌-◌, ◌≤◌, true, ℕ, List, Option, Some}
+use Rattle.std.proofs.Common.{◌≡◌, ◌*◌, ◌-◌, ◌≤◌, ℕ, List, Option, Some}
 use Rattle.ttx_page.specs.Screen.{display}
 use Rattle.ttx_pes.specs.PesPacket.{most_units}
 use Rattle.ttx_pes.specs.Reader.{TakesPackets}
@@ -7,10 +7,8 @@ use Rattle.ttx_pes.specs.Reading.{most_packets}
 use Rattle.ttx_pes.specs.declared.progress.Progress.TheVariants.{Reading}
 use Rattle.stl_file.specs.TimeCode.{day}
 use Rattle.sub_rules.specs.FrameRules.{Unread}
-use Rattle.sub_rules.specs.PacketRules.{packets_of_units}
 use Rattle.sub_rules.specs.PesReading.{ReadsAs}
 use Rattle.sub_rules.specs.Transmission.{Transmission}
-use Rattle.sub_listen.specs.Untouched.{HeardLast}
 use Rattle.sub_listen.proofs.WaysOutLemmas.{Reaches}
 use Rattle.sub_listen.proofs.listening.listen.Given as goal
 
@@ -19,10 +17,6 @@ invariant-packets g l = record {
   reading : l.reader.progress ≡ Reading l.index;
   few_packets : l.index ≤ most_packets;
   taken : TakesPackets l.index (g.S.Source.remaining l.fn.pes) (g.S.Source.remaining l.pes);
-  kept :
-      l.kept ≡ true
-      → HeardLast g.R.Receiver.leaves l.listening (g.R.Receiver.tuned_to l.receiver)
-      (packets_of_units l.reader.frame.units) (display (g.R.Receiver.state l.receiver) l.screen);
   failures : g.S.Source.failure_count l.pes ≡ g.S.Source.failure_count l.fn.pes;
   tuned : g.R.Receiver.tuned_to l.receiver ≡ g.R.Receiver.tuned_to l.fn.receiver;
   few : l.number ≤ most_units * l.index;

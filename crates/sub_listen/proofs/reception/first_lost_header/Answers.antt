@@ -6,8 +6,7 @@ use Rattle.std.proofs.lemmas.List.{length-map, nil_from_length}
 use Rattle.ttx_pes.specs.DataUnit.{UnitValue}
 use Rattle.sub_rules.specs.PacketRules.{packets_of_units}
 use Rattle.sub_listen.specs.Reception.{reception_of}
-use Rattle.sub_listen.proofs.PassedLemmas.{lost_here, lost_later}
-use Rattle.sub_listen.proofs.WaysOutLemmas.{first_lost_header-none}
+use Rattle.sub_listen.proofs.ReceptionLemmas.{first_lost_header-none, lost_here, lost_later}
 use Rattle.sub_listen.proofs.reception.first_lost_header.Goals as goal
 
 pub returns-then-is_empty : goal.returns-then-is_empty

@@ -6,7 +6,7 @@ use Rattle.ttx_page.specs.Screen.{display}
 use Rattle.ttx_pes.specs.DataUnit.{UnitValue}
 use Rattle.sub_rules.specs.PacketRules.{packets_of_units}
 use Rattle.sub_listen.specs.Reception.{RunsThrough, as_heard}
-use Rattle.sub_listen.proofs.PassedLemmas.{next_packet}
+use Rattle.sub_listen.proofs.ReceptionLemmas.{next_packet}
 use Rattle.sub_listen.proofs.reception.hear_units.Goals as goal
 
 pub loop-k-preserved : goal.loop-k-preserved

@@ -1,9 +1,7 @@
 -- What was taken of a packet settles the answer: by TakingLemmas. What is known of it then is so of
 -- its data field in the room: by KeptFrameLemmas.
-use Rattle.std.proofs.Common.{◌≡◌, length, take, drop, arith, refl, sym, ap, ◌∙◌, rules}
-use Rattle.std.proofs.Common.{length-drop}
+use Rattle.std.proofs.Common.{arith, refl, sym, ◌∙◌, rules}
 use Rattle.std.proofs.lemmas.List.{length-take-le}
-use Rattle.ttx_pes.specs.Taking.{field_in}
 use Rattle.ttx_pes.proofs.DataUnitLemmas.{AreBytes-take}
 use Rattle.ttx_pes.proofs.KeptFrameLemmas.{field_of_body, none_held}
 use Rattle.ttx_pes.proofs.PieceLemmas.{taken_piece}
@@ -25,33 +23,17 @@ returns-in-Err-take-clause-held g c = rw c.clear-in-Err-take.ensures none_held
 pub returns-in-Ok-true-clause-held : goal.returns-in-Ok-true-clause-held
 returns-in-Ok-true-clause-held g c =
     let range = rw c.in-Ok-Some.field-0-is at c.in-Ok-Some.ensures.range in
-    let len = length-take-le c.in-Ok-Some.size c.take_packet.new.room (omega arith) in
-    let there : field_in c.take.new.self.count c.take_packet.new.room
-    ≡ drop 39 c.body_of.result.now =
-    field_of_body c.in-Ok-Some.size c.take.new.self.count c.take_packet.new.room
-    c.body_of.result.now c.body_of.ensures.value
-    (omega (
-      arith,
-      c.in-Ok-true.ensures.count,
-      ap length c.body_of.ensures.value,
-      length-drop 6 (take c.in-Ok-Some.size c.take_packet.new.room),
-    )) in
+    let there =
+    field_of_body c.in-Ok-Some.size _ _ _ c.body_of.ensures.value c.in-Ok-true.ensures.count
+    (omega arith) (omega arith) in
     rw there c.in-Ok-true.ensures.held
 
 pub returns-in-Ok-true-clause-tells : goal.returns-in-Ok-true-clause-tells
 returns-in-Ok-true-clause-tells g c =
     let range = rw c.in-Ok-Some.field-0-is at c.in-Ok-Some.ensures.range in
-    let len = length-take-le c.in-Ok-Some.size c.take_packet.new.room (omega arith) in
-    let there : field_in c.take.new.self.count c.take_packet.new.room
-    ≡ drop 39 c.body_of.result.now =
-    field_of_body c.in-Ok-Some.size c.take.new.self.count c.take_packet.new.room
-    c.body_of.result.now c.body_of.ensures.value
-    (omega (
-      arith,
-      c.in-Ok-true.ensures.count,
-      ap length c.body_of.ensures.value,
-      length-drop 6 (take c.in-Ok-Some.size c.take_packet.new.room),
-    )) in
+    let there =
+    field_of_body c.in-Ok-Some.size _ _ _ c.body_of.ensures.value c.in-Ok-true.ensures.count
+    (omega arith) (omega arith) in
     let whole = rw c.in-Ok-Some.field-0-is at c.in-Ok-Some.ensures.taken in
     let few = rw c.in-Ok-Some.field-0-is at c.in-Ok-Some.ensures.below in
     rw there (tells_settled c.args.given _ _ _ _
@@ -61,17 +43,9 @@ returns-in-Ok-true-clause-tells g c =
 pub returns-in-Ok-true-clause-taken : goal.returns-in-Ok-true-clause-taken
 returns-in-Ok-true-clause-taken g c = λ _.
     let range = rw c.in-Ok-Some.field-0-is at c.in-Ok-Some.ensures.range in
-    let len = length-take-le c.in-Ok-Some.size c.take_packet.new.room (omega arith) in
-    let there : field_in c.take.new.self.count c.take_packet.new.room
-    ≡ drop 39 c.body_of.result.now =
-    field_of_body c.in-Ok-Some.size c.take.new.self.count c.take_packet.new.room
-    c.body_of.result.now c.body_of.ensures.value
-    (omega (
-      arith,
-      c.in-Ok-true.ensures.count,
-      ap length c.body_of.ensures.value,
-      length-drop 6 (take c.in-Ok-Some.size c.take_packet.new.room),
-    )) in
+    let there =
+    field_of_body c.in-Ok-Some.size _ _ _ c.body_of.ensures.value c.in-Ok-true.ensures.count
+    (omega arith) (omega arith) in
     let whole = rw c.in-Ok-Some.field-0-is at c.in-Ok-Some.ensures.taken in
     rw there (settled_field _ _ _ _ _ _
     (settles_as _ _ _ _ _ whole c.body_of.ensures.value c.in-Ok-true.ensures.value)
@@ -80,65 +54,33 @@ returns-in-Ok-true-clause-taken g c = λ _.
 pub returns-in-Ok-true-clause-same : goal.returns-in-Ok-true-clause-same
 returns-in-Ok-true-clause-same g c = λ _.
     let range = rw c.in-Ok-Some.field-0-is at c.in-Ok-Some.ensures.range in
-    let len = length-take-le c.in-Ok-Some.size c.take_packet.new.room (omega arith) in
-    let there : field_in c.take.new.self.count c.take_packet.new.room
-    ≡ drop 39 c.body_of.result.now =
-    field_of_body c.in-Ok-Some.size c.take.new.self.count c.take_packet.new.room
-    c.body_of.result.now c.body_of.ensures.value
-    (omega (
-      arith,
-      c.in-Ok-true.ensures.count,
-      ap length c.body_of.ensures.value,
-      length-drop 6 (take c.in-Ok-Some.size c.take_packet.new.room),
-    )) in
+    let there =
+    field_of_body c.in-Ok-Some.size _ _ _ c.body_of.ensures.value c.in-Ok-true.ensures.count
+    (omega arith) (omega arith) in
     let same = c.in-Ok-true.ensures.same in there ∙ same.0 (search rules)
 
 pub returns-in-Ok-true-clause-units : goal.returns-in-Ok-true-clause-units
 returns-in-Ok-true-clause-units g c = λ _.
     let range = rw c.in-Ok-Some.field-0-is at c.in-Ok-Some.ensures.range in
-    let len = length-take-le c.in-Ok-Some.size c.take_packet.new.room (omega arith) in
-    let there : field_in c.take.new.self.count c.take_packet.new.room
-    ≡ drop 39 c.body_of.result.now =
-    field_of_body c.in-Ok-Some.size c.take.new.self.count c.take_packet.new.room
-    c.body_of.result.now c.body_of.ensures.value
-    (omega (
-      arith,
-      c.in-Ok-true.ensures.count,
-      ap length c.body_of.ensures.value,
-      length-drop 6 (take c.in-Ok-Some.size c.take_packet.new.room),
-    )) in
+    let there =
+    field_of_body c.in-Ok-Some.size _ _ _ c.body_of.ensures.value c.in-Ok-true.ensures.count
+    (omega arith) (omega arith) in
     rw there (c.in-Ok-true.ensures.units (search rules))
 
 pub returns-in-Ok-false-clause-held : goal.returns-in-Ok-false-clause-held
 returns-in-Ok-false-clause-held g c =
     let range = rw c.in-Ok-Some.field-0-is at c.in-Ok-Some.ensures.range in
-    let len = length-take-le c.in-Ok-Some.size c.take_packet.new.room (omega arith) in
-    let there : field_in c.take.new.self.count c.take_packet.new.room
-    ≡ drop 39 c.body_of.result.now =
-    field_of_body c.in-Ok-Some.size c.take.new.self.count c.take_packet.new.room
-    c.body_of.result.now c.body_of.ensures.value
-    (omega (
-      arith,
-      c.in-Ok-false.ensures.count,
-      ap length c.body_of.ensures.value,
-      length-drop 6 (take c.in-Ok-Some.size c.take_packet.new.room),
-    )) in
+    let there =
+    field_of_body c.in-Ok-Some.size _ _ _ c.body_of.ensures.value c.in-Ok-false.ensures.count
+    (omega arith) (omega arith) in
     rw there c.in-Ok-false.ensures.held
 
 pub returns-in-Ok-false-clause-tells : goal.returns-in-Ok-false-clause-tells
 returns-in-Ok-false-clause-tells g c =
     let range = rw c.in-Ok-Some.field-0-is at c.in-Ok-Some.ensures.range in
-    let len = length-take-le c.in-Ok-Some.size c.take_packet.new.room (omega arith) in
-    let there : field_in c.take.new.self.count c.take_packet.new.room
-    ≡ drop 39 c.body_of.result.now =
-    field_of_body c.in-Ok-Some.size c.take.new.self.count c.take_packet.new.room
-    c.body_of.result.now c.body_of.ensures.value
-    (omega (
-      arith,
-      c.in-Ok-false.ensures.count,
-      ap length c.body_of.ensures.value,
-      length-drop 6 (take c.in-Ok-Some.size c.take_packet.new.room),
-    )) in
+    let there =
+    field_of_body c.in-Ok-Some.size _ _ _ c.body_of.ensures.value c.in-Ok-false.ensures.count
+    (omega arith) (omega arith) in
     let whole = rw c.in-Ok-Some.field-0-is at c.in-Ok-Some.ensures.taken in
     let few = rw c.in-Ok-Some.field-0-is at c.in-Ok-Some.ensures.below in
     rw there (tells_settled c.args.given _ _ _ _
@@ -148,17 +90,9 @@ returns-in-Ok-false-clause-tells g c =
 pub returns-in-Ok-false-clause-taken : goal.returns-in-Ok-false-clause-taken
 returns-in-Ok-false-clause-taken g c = λ _.
     let range = rw c.in-Ok-Some.field-0-is at c.in-Ok-Some.ensures.range in
-    let len = length-take-le c.in-Ok-Some.size c.take_packet.new.room (omega arith) in
-    let there : field_in c.take.new.self.count c.take_packet.new.room
-    ≡ drop 39 c.body_of.result.now =
-    field_of_body c.in-Ok-Some.size c.take.new.self.count c.take_packet.new.room
-    c.body_of.result.now c.body_of.ensures.value
-    (omega (
-      arith,
-      c.in-Ok-false.ensures.count,
-      ap length c.body_of.ensures.value,
-      length-drop 6 (take c.in-Ok-Some.size c.take_packet.new.room),
-    )) in
+    let there =
+    field_of_body c.in-Ok-Some.size _ _ _ c.body_of.ensures.value c.in-Ok-false.ensures.count
+    (omega arith) (omega arith) in
     let whole = rw c.in-Ok-Some.field-0-is at c.in-Ok-Some.ensures.taken in
     rw there (settled_field _ _ _ _ _ _
     (settles_as _ _ _ _ _ whole c.body_of.ensures.value c.in-Ok-false.ensures.value)
@@ -167,17 +101,9 @@ returns-in-Ok-false-clause-taken g c = λ _.
 pub returns-in-Ok-false-clause-other : goal.returns-in-Ok-false-clause-other
 returns-in-Ok-false-clause-other g c = λ _ e.
     let range = rw c.in-Ok-Some.field-0-is at c.in-Ok-Some.ensures.range in
-    let len = length-take-le c.in-Ok-Some.size c.take_packet.new.room (omega arith) in
-    let there : field_in c.take.new.self.count c.take_packet.new.room
-    ≡ drop 39 c.body_of.result.now =
-    field_of_body c.in-Ok-Some.size c.take.new.self.count c.take_packet.new.room
-    c.body_of.result.now c.body_of.ensures.value
-    (omega (
-      arith,
-      c.in-Ok-false.ensures.count,
-      ap length c.body_of.ensures.value,
-      length-drop 6 (take c.in-Ok-Some.size c.take_packet.new.room),
-    )) in
+    let there =
+    field_of_body c.in-Ok-Some.size _ _ _ c.body_of.ensures.value c.in-Ok-false.ensures.count
+    (omega arith) (omega arith) in
     let same = c.in-Ok-false.ensures.same in
     let yes = same.1 (sym there ∙ e) in absurd (search rules)
 

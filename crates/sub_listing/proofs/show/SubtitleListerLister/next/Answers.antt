@@ -19,7 +19,7 @@ returns-in-Ok-clause-gives g c =
     let none : c.args.self.now.reader ≡ None = search rules in
     rw (none, c.requires.empty) (λ _.
     gives-opened c.args.self.now.count c.in-Ok.reader _ _ c.in-Ok.ensures.start.0
-    c.in-Ok.ensures.taken.0 c.in-Ok.ensures.taken.1 c.in-Ok.ensures.left
+    c.in-Ok.ensures.start.1 c.in-Ok.ensures.taken.0 c.in-Ok.ensures.taken.1 c.in-Ok.ensures.left
     (λ bytes told. c.in-Ok.ensures.exact bytes told refl))
 
 pub returns-in-Err-clause-gives : goal.returns-in-Err-clause-gives

@@ -1,0 +1,135 @@
+//! A device in memory that is asked for files: its files are a list.
+ghost use Rattle.std.specs.Prelude.{None};
+
+use std::io::{self, ErrorKind, Read, Write};
+use sub_files::{FileSystem, Found};
+
+/// What is at a name.
+#[derive(Clone, Copy)]
+pub struct Entry<'a> {
+    /// The name.
+    pub name: &'a str,
+    /// What is found there.
+    pub found: Found,
+    /// What is read of the file; `None` where it can't be opened.
+    pub bytes: Option<&'a [u8]>,
+}
+
+/// Files by their names, room for one that is created, and the calls that were made.
+#[derive(Drop)]
+pub struct FilesInMemory<'a> {
+    entries: &'a [Entry<'a>],
+    // Until a file is created, or where none can be.
+    room: Option<&'a mut [u8]>,
+    calls: [u8; 10],
+    len: usize,
+}
+
+/// One of them that was opened, or created.
+#[derive(Drop)]
+pub enum MemoryFile<'a> {
+    /// What is left to be read.
+    Opened(&'a [u8]),
+    /// The room, and how many bytes were written into it.
+    Created(&'a mut [u8], usize),
+}
+
+impl<'a> FilesInMemory<'a> {
+    /// These files; `room` is that of a file that is created, `None` where none can be.
+    pub fn new(entries: &'a [Entry<'a>], room: Option<&'a mut [u8]>) -> Self {
+        FilesInMemory {
+            entries,
+            room,
+            calls: [0; 10],
+            len: 0,
+        }
+    }
+
+    /// The calls that were made, two bytes for each: `l`, `o` or `c` for a look-up, an open or a
+    /// create, and the number of the file in the list, or `?`.
+    pub fn calls(&self) -> &[u8] {
+        &self.calls[..self.len.min(10)]
+    }
+
+    // Notes a call, and gives what is at the name.
+    fn ask(&mut self, call: u8, name: &str) -> Option<Entry<'a>> {
+        self.note(call);
+        let entries = self.entries;
+        for k in 0..entries.len().min(10) {
+            if entries[k].name == name {
+                self.note(b'0' + k as u8);
+                return Some(entries[k]);
+            }
+        }
+        self.note(b'?');
+        None
+    }
+
+    fn note(&mut self, byte: u8) {
+        if self.len < 10 {
+            self.calls[self.len] = byte;
+            self.len += 1;
+        }
+    }
+}
+
+impl<'a> FileSystem for FilesInMemory<'a> {
+    type File = MemoryFile<'a>;
+
+    fn look_up(&mut self, name: &str) -> Found {
+        match self.ask(b'l', name) {
+            Some(entry) => entry.found,
+            None => Found::Unknown,
+        }
+    }
+
+    fn open(&mut self, name: &str) -> Option<MemoryFile<'a>> {
+        match self.ask(b'o', name) {
+            Some(entry) => entry.bytes.map(MemoryFile::Opened),
+            None => None,
+        }
+    }
+
+    fn create(&mut self, name: &str) -> Option<MemoryFile<'a>> {
+        self.ask(b'c', name);
+        match self.room.take() {
+            Some(room) => Some(MemoryFile::Created(room, 0)),
+            None => None,
+        }
+    }
+}
+
+impl Read for MemoryFile<'_> {
+    ghost remaining = { λ _. None };
+
+    fn read(&mut self, to: &mut [u8]) -> io::Result<usize> {
+        let MemoryFile::Opened(left) = self else {
+            return Err(ErrorKind::PermissionDenied.into());
+        };
+        let n = left.len().min(to.len());
+        let (given, rest) = left.split_at(n);
+        to[..n].copy_from_slice(given);
+        *left = rest;
+        Ok(n)
+    }
+}
+
+impl Write for MemoryFile<'_> {
+    ghost contents = { λ _. None };
+
+    fn write(&mut self, from: &[u8]) -> io::Result<usize> {
+        let MemoryFile::Created(room, len) = self else {
+            return Err(ErrorKind::PermissionDenied.into());
+        };
+        let at = room.len().min(*len);
+        let (_, free) = room.split_at_mut(at);
+        let n = free.len().min(from.len());
+        free[..n].copy_from_slice(&from[..n]);
+        *len = at + n;
+        Ok(n)
+    }
+
+    fn flush(&mut self) -> io::Result<()> {
+        Ok(())
+    }
+}

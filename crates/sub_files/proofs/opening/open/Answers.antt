@@ -1,0 +1,36 @@
+-- One file that is read: one call.
+use Rattle.std.proofs.Common.{◌∷◌, [], None, Some, refl}
+use Rattle.sub_files.specs.FileCalls.FileCall.{Open}
+use Rattle.sub_files.proofs.opening.open.Goals as goal
+
+pub returns-in-Some : goal.returns-in-Some
+returns-in-Some g c =
+    rw c.in-ReadStl.is (record {
+      calls = Open c.in-ReadStl.stl (Some c.in-Some.file) ∷ [];
+      are_made = (c.open_stl.new.files, rw c.in-Some.is at c.open_stl.ensures, refl);
+      opens = (refl, refl);
+    })
+
+pub returns-in-None-open_stl : goal.returns-in-None-open_stl
+returns-in-None-open_stl g c =
+    rw c.in-ReadStl.is (record {
+      calls = Open c.in-ReadStl.stl None ∷ [];
+      are_made = (c.open_stl.new.files, rw c.in-None-open_stl.is at c.open_stl.ensures, refl);
+      opens = (refl, refl);
+    })
+
+pub returns-in-Some-open_pes : goal.returns-in-Some-open_pes
+returns-in-Some-open_pes g c =
+    rw c.in-ReadPes.is (record {
+      calls = Open c.in-ReadPes.pes (Some c.in-Some-open_pes.file) ∷ [];
+      are_made = (c.open_pes.new.files, rw c.in-Some-open_pes.is at c.open_pes.ensures, refl);
+      opens = (refl, refl);
+    })
+
+pub returns-in-None-open_pes : goal.returns-in-None-open_pes
+returns-in-None-open_pes g c =
+    rw c.in-ReadPes.is (record {
+      calls = Open c.in-ReadPes.pes None ∷ [];
+      are_made = (c.open_pes.new.files, rw c.in-None-open_pes.is at c.open_pes.ensures, refl);
+      opens = (refl, refl);
+    })

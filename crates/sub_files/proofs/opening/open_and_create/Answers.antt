@@ -1,0 +1,33 @@
+-- The input is not opened: one call. Else the calls for the output: creates.
+use Rattle.std.proofs.Common.{◌∷◌, [], None, Some, refl}
+use Rattle.sub_files.specs.FileCalls.FileCall.{Open}
+use Rattle.sub_files.proofs.CreatingLemmas.{creates}
+use Rattle.sub_files.proofs.opening.open_and_create.Goals as goal
+
+pub returns-in_default : goal.returns-in_default
+returns-in_default g c = record {
+  calls = Open c.args.stl.now None ∷ [];
+  are_made = (c.open_stl.new.files, rw c.in_default.is at c.open_stl.ensures, refl);
+  opens = (refl, refl);
+}
+
+pub returns-in-Some-create_apart : goal.returns-in-Some-create_apart
+returns-in-Some-create_apart g c =
+    creates g.D.FileSystem.is_call c.args.files.now c.open_stl.new.files c.look_up-here.new.self
+    c.look_up-there.new.self c.create_apart.new.files c.args.stl.now c.args.output.now
+    c.in-Some.input c.look_up-here.result c.look_up-there.result
+    (Some c.in-Some-create_apart.created)
+    (rw c.in-Some.is at c.open_stl.ensures)
+    (rw c.name.ensures at c.look_up-here.ensures)
+    (rw c.name-2.ensures at c.look_up-there.ensures)
+    c.in-Some-create_apart.ensures.apart c.in-Some-create_apart.ensures.over
+
+pub returns-in-None : goal.returns-in-None
+returns-in-None g c =
+    creates g.D.FileSystem.is_call c.args.files.now c.open_stl.new.files c.look_up-here.new.self
+    c.look_up-there.new.self c.create_apart.new.files c.args.stl.now c.args.output.now
+    c.in-Some.input c.look_up-here.result c.look_up-there.result None
+    (rw c.in-Some.is at c.open_stl.ensures)
+    (rw c.name.ensures at c.look_up-here.ensures)
+    (rw c.name-2.ensures at c.look_up-there.ensures)
+    c.in-None.ensures.apart c.in-None.ensures.over

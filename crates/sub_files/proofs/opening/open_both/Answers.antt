@@ -1,0 +1,36 @@
+-- The calls, one after another.
+use Rattle.std.proofs.Common.{◌∷◌, [], None, Some, refl}
+use Rattle.sub_files.specs.FileCalls.FileCall.{Open}
+use Rattle.sub_files.proofs.opening.open_both.Goals as goal
+
+pub returns-in_default : goal.returns-in_default
+returns-in_default g c = record {
+  calls = Open c.args.stl.now None ∷ [];
+  are_made = (c.open_stl.new.files, rw c.in_default.is at c.open_stl.ensures, refl);
+  opens = (refl, refl);
+}
+
+pub returns-in-Some-open_pes : goal.returns-in-Some-open_pes
+returns-in-Some-open_pes g c = record {
+  calls =
+      Open c.args.stl.now (Some c.in-Some.first)
+      ∷ Open c.args.pes.now (Some c.in-Some-open_pes.second)
+      ∷ [];
+  are_made = (
+    c.open_stl.new.files,
+    rw c.in-Some.is at c.open_stl.ensures,
+    (c.open_pes.new.files, rw c.in-Some-open_pes.is at c.open_pes.ensures, refl),
+  );
+  opens = (refl, refl, refl);
+}
+
+pub returns-in-None : goal.returns-in-None
+returns-in-None g c = record {
+  calls = Open c.args.stl.now (Some c.in-Some.first) ∷ Open c.args.pes.now None ∷ [];
+  are_made = (
+    c.open_stl.new.files,
+    rw c.in-Some.is at c.open_stl.ensures,
+    (c.open_pes.new.files, rw c.in-None.is at c.open_pes.ensures, refl),
+  );
+  opens = (refl, refl, refl);
+}

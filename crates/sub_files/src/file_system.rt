@@ -1,0 +1,83 @@
+//! The device that a program asks for files: the system, or what stands in for it in a test.
+ghost use Rattle.std.specs.Prelude.{◌≡◌, ◌≢◌, IfErr, IfOk, Option, true};
+ghost use Rattle.std.specs.IoError.{error_kind};
+ghost use Rattle.sub_files.specs.Apart.{is_there};
+ghost use Rattle.sub_files.specs.FileCalls.{FileCall, any_file_call};
+
+use crate::apart::Found;
+use std::fs::Metadata;
+use std::io::{ErrorKind, Read, Write};
+use std::os::unix::fs::MetadataExt;
+use std::rt::Files;
+use std::{fs, io};
+
+/// A device that is asked for files by their names.
+pub trait FileSystem {
+    /// A file that it has opened or created. It is closed where its value ends.
+    type File: Read + Write + Drop;
+
+    // Which calls go so, where it says that: its state before, what it is asked for and answers,
+    // its state after.
+    ghost is_call: { Self → FileCall Self.File → Self → Type 0 } = { any_file_call };
+
+    /// What is at a name.
+    fn look_up(&mut self, name: &str) -> Found
+        ensures { is_call self.old (FileCall.LookUp name.now result) self.new };
+
+    /// Opens a file to be read. `None` where it can't be opened.
+    fn open(&mut self, name: &str) -> Option<Self::File>
+        ensures { is_call self.old (FileCall.Open name.now result) self.new };
+
+    /// Creates a file to be written; one that is there is emptied. `None` where it can't be
+    /// created.
+    fn create(&mut self, name: &str) -> Option<Self::File>
+        ensures { is_call self.old (FileCall.Create name.now result) self.new };
+}
+
+/// The files of the system. No contract says what it answers, so each call is one of `std::fs`
+/// with the same name, and no more.
+#[derive(Drop)]
+pub struct SystemFiles<'a, R> {
+    rt: &'a R,
+}
+
+impl<'a, R: Files> SystemFiles<'a, R> {
+    /// The files that this runtime opens.
+    pub fn new(rt: &'a R) -> Self {
+        SystemFiles { rt }
+    }
+}
+
+impl<R: Files> FileSystem for SystemFiles<'_, R> {
+    type File = R::File;
+
+    fn look_up(&mut self, name: &str) -> Found {
+        found_by(fs::metadata(self.rt, name))
+    }
+
+    fn open(&mut self, name: &str) -> Option<R::File> {
+        fs::open(self.rt, name).ok()
+    }
+
+    fn create(&mut self, name: &str) -> Option<R::File> {
+        fs::create(self.rt, name).ok()
+    }
+}
+
+// What is at a name that was looked up so. One that can't be looked up is never taken for one at
+// which nothing is.
+fn found_by(looked_up: io::Result<Metadata>) -> Found
+    ensures there { IfOk looked_up (λ _. is_there result ≡ true) }
+    ensures nothing { IfErr looked_up (λ error.
+        error_kind error ≡ ErrorKind.NotFound → result ≡ Found.Nothing) }
+    ensures unknown { IfErr looked_up (λ error.
+        error_kind error ≢ ErrorKind.NotFound → result ≡ Found.Unknown) }
+{
+    match looked_up {
+        Ok(there) => Found::At(there.dev(), there.ino()),
+        Err(error) => match error.kind() {
+            ErrorKind::NotFound => Found::Nothing,
+            _ => Found::Unknown,
+        },
+    }
+}

@@ -1,0 +1,101 @@
+-- What is found first in a list of events, whatever is looked for in them, and where it is nothing:
+-- `Finds`. Of one list after another, `Finds-append`; of lists that grow, `found_so_far`; and of
+-- what is told of a packet, `packet_found`.
+use Rattle.std.proofs.lemmas.Bool.Decides.{nat_tests}
+use Rattle.std.proofs.Common.{◌≡◌, ℕ, zero, suc, ◌<◌, Bool, true, List, [], ◌∷◌, ◌++◌, map, filter}
+use Rattle.std.proofs.Common.{Option, Some, None, refl, arith, get_or}
+use Rattle.std.specs.List.{AllByRecursion}
+use Rattle.std.specs.Option.{option_or}
+use Rattle.std.proofs.lemmas.Bool.{cases_lt}
+use Rattle.std.proofs.lemmas.List.Elements.{recursion_from_All}
+use Rattle.sub_rules.specs.Events.{packet_fault, rules_told}
+use Rattle.sub_rules.specs.PacketTests.{breaks, broken_rules, packet_rules}
+use Rattle.sub_rules.specs.declared.event.Event.{Event}
+use Rattle.sub_rules.specs.declared.event.Event.TheVariants.{Told}
+use Rattle.sub_rules.specs.declared.packet_rule.PacketRule.{PacketRule}
+use Rattle.sub_rules.specs.declared.packet_rule.Watched.{Watched}
+
+module _ {X : Type 0} where
+  -- What is looked for, in the first of these events that has it.
+  abbrev pub first_found : (Event → Option X) → List Event → Option X
+  first_found look [] = None
+  first_found look (e ∷ es) = option_or (look e) (first_found look es)
+
+  pub found-append : (look : Event → Option X) (xs ys : List Event)
+      → first_found look (xs ++ ys) ≡ option_or (first_found look xs) (first_found look ys)
+  found-append look [] ys = refl
+  found-append look (x ∷ xs) ys = let rest = found-append look xs ys in grind arith
+
+  -- What is found first is so. Where nothing is found, the one holds; and where the other is given,
+  -- nothing is.
+  pub record Finds (look : Event → Option X) (At : X → Type 0) (Given Holds : Type 0)
+      (es : List Event) : Type 0 where
+    pub at : (x : X) → first_found look es ≡ Some x → At x
+    pub quiet : first_found look es ≡ None → Holds
+    pub calm : Given → first_found look es ≡ None
+
+module _ {X : Type 0} {look : Event → Option X} {At : X → Type 0} where
+  pub Finds-none : {A B : Type 0} → B → Finds look At A B []
+  Finds-none b = record { at = λ x e. cc; quiet = λ e. b; calm = λ h. refl }
+
+  -- One list after another: what holds where nothing is found in the first is there for the second.
+  pub Finds-append : {A B C D : Type 0} {xs ys : List Event} → Finds look At A B xs
+      → (B → Finds look At C D ys) → (C → A) → Finds look At C D (xs ++ ys)
+  Finds-append {xs = xs} {ys = ys} one next back =
+      let both = found-append look xs ys in grind (arith, nat_tests)
+
+  -- The same facts in other words.
+  pub Finds-like : {A B C D : Type 0} {xs : List Event} → (C → A) → (B → D)
+      → Finds look At A B xs → Finds look At C D xs
+  Finds-like from to h = grind (arith, nat_tests)
+
+  -- Lists, each of which is the one before and what is told of one thing more.
+  pub found_so_far : (so_far one : ℕ → List Event) (P : ℕ → Type 0) (m : ℕ)
+      → so_far 0 ≡ []
+      → ((n : ℕ) → so_far (suc n) ≡ so_far n ++ one n)
+      → ((n : ℕ) → n < m → ((j : ℕ) → j < n → P j) → Finds look At (P n) (P n) (one n))
+      → Finds look At ((j : ℕ) → j < m → P j) ((j : ℕ) → j < m → P j) (so_far m)
+  found_so_far so_far one P zero none more each =
+      rw none (Finds-none (λ j l. absurd (omega arith)))
+  found_so_far so_far one P (suc m) none more each =
+      rw (more m)
+      (Finds-append (found_so_far so_far one P m none more (λ n l. each n (omega arith)))
+      (λ before. Finds-like (λ all. all m (omega arith))
+      (λ here j l. grind (arith, nat_tests, cases_lt)) (each m (omega arith) before))
+      (λ all j l. all j (omega arith)))
+
+-- ---- the rules that a packet breaks
+
+-- What is so of each rule in their list is so of any.
+pub each_rule : (P : PacketRule → Type 0) → AllByRecursion P packet_rules → (r : PacketRule) → P r
+unfolding packet_rules
+each_rule P h r = grind arith
+
+-- And back.
+of_each_rule : (P : PacketRule → Type 0) → ((r : PacketRule) → P r) → AllByRecursion P packet_rules
+of_each_rule P all = recursion_from_All P packet_rules (λ k d l. all (get_or packet_rules k d))
+
+module _ {X : Type 0} (look : Event → Option X) (At : X → Type 0) (frame k : ℕ)
+    (at : (r : PacketRule) (x : X) → look (Told (packet_fault r frame k)) ≡ Some x → At x) where
+  -- Of rules that pass a test.
+  abbrev NonePass : (PacketRule → Bool) → List PacketRule → Type 0
+  NonePass test rs =
+      AllByRecursion (λ r. test r ≡ true → look (Told (packet_fault r frame k)) ≡ None) rs
+
+  rules_found : (test : PacketRule → Bool) (rs : List PacketRule)
+      → Finds look At (NonePass test rs) (NonePass test rs)
+      (map (λ (r : PacketRule). Told (packet_fault r frame k)) (filter test rs))
+  rules_found test [] = Finds-none tt
+  rules_found test (r ∷ rs) =
+      let found = at r in let rest = rules_found test rs in grind (arith, nat_tests)
+
+  -- In what is told of packet k of a frame.
+  pub packet_found : (w : Watched) (before : List (List ℕ)) (p : List ℕ)
+      → Finds look At
+      ((r : PacketRule) → breaks r w before p ≡ true → look (Told (packet_fault r frame k)) ≡ None)
+      ((r : PacketRule) → breaks r w before p ≡ true → look (Told (packet_fault r frame k)) ≡ None)
+      (rules_told w frame k before p)
+  unfolding rules_told broken_rules
+  packet_found w before p =
+      Finds-like (of_each_rule _) (each_rule _)
+      (rules_found (λ r. breaks r w before p) packet_rules)
