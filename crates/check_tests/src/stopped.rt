@@ -44,12 +44,7 @@ fn fills_an_output_that_has_less_room(rt: HostRuntime) {
 // Asserts that an output that fails at a call, of which each is a line but that one by which the
 // lines are handed on, has so many lines, and that it is left alone then; and how often the PES
 // source was asked: it gives a PES packet a call, and last the end.
-fn assert_stops(
-    rt: &(impl Abort + Alloc<A = Global>),
-    call: u64,
-    count: usize,
-    pulls: u64,
-) {
+fn assert_stops(rt: &(impl Abort + Alloc<A = Global>), call: u64, count: usize, pulls: u64) {
     let (stl, pes) = (file_of_hi(), schedule_of_hi());
     let inner = MemSource::new(&stl);
     let mut stl = Counting { inner, pulls: 0 };

@@ -50,7 +50,11 @@ impl Live for Waiting {
 #[test]
 fn hands_on_where_a_packet_is_not_lent(rt: HostRuntime) {
     let mut device = Waiting { calls: 0 };
-    assert_same(&rt, &hand_on_first(&MemSource::new(&FIRST), &mut device), &Ok(()));
+    assert_same(
+        &rt,
+        &hand_on_first(&MemSource::new(&FIRST), &mut device),
+        &Ok(()),
+    );
     assert_same(&rt, &device.calls, &0);
     let unknown = FailAt::new(MemSource::new(&FIRST), 9);
     assert_same(&rt, &hand_on_first(&unknown, &mut device), &Ok(()));

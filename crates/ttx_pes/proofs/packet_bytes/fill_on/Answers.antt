@@ -16,11 +16,11 @@ loop-at-preserved g c =
     let old = c.args.room.now in
     let len = length-take-le c.args.held old (omega arith) in
     let lent = λ (many : c.args.least ≤ c.args.held + length (g.S.Source.lent c.args.source.now)).
-        lent-more (take c.args.held old) (g.S.Source.lent c.args.source.now)
-        (g.S.Source.lent c.loop-at.source) (g.S.Source.lent c.pull.new.self) c.loop-at.room
-        c.pull.new.to c.args.least at (c.args.most - at) c.in_ok-n.n
-        (c.loop-at.invariant.lent many) c.in_ok-n.ensures.lent (omega arith) (omega arith)
-        (omega (arith, c.in_ok-n.ensures.bound)) (omega (arith, len, many)) in
+    lent-more (take c.args.held old) (g.S.Source.lent c.args.source.now)
+    (g.S.Source.lent c.loop-at.source) (g.S.Source.lent c.pull.new.self) c.loop-at.room
+    c.pull.new.to c.args.least at (c.args.most - at) c.in_ok-n.n
+    (c.loop-at.invariant.lent many) c.in_ok-n.ensures.lent (omega arith) (omega arith)
+    (omega (arith, c.in_ok-n.ensures.bound)) (omega (arith, len, many)) in
     grind (arith, nat_tests, take-put_mid_below, Consumes-more)
 
 pub returns-in_err-n-clause-err : goal.returns-in_err-n-clause-err

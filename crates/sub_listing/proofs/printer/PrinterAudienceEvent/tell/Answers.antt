@@ -6,8 +6,7 @@ use Rattle.sub_listing.proofs.printer.PrinterAudienceEvent.tell.Goals as goal
 
 pub returns-clause-told : goal.returns-clause-told
 returns-clause-told g c =
-    Tells-one c.args.self.now c.print.new.self c.args.item
-    (
+    Tells-one c.args.self.now c.print.new.self c.args.item (
       c.print.ensures.same,
       c.print.ensures.prints,
       λ still. absurd (true≢false (sym c.print.ensures.waits ∙ still)),
