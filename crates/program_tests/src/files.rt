@@ -36,8 +36,8 @@ fn second(found: Found) -> Entry<'static> {
 fn assert_asks<'a>(
     rt: &(impl Abort + Alloc<A = Global>),
     words: &'a [&'a str],
-    entries: &[Entry<'_>],
-    room: Option<&mut [u8]>,
+    entries: &'a [Entry<'a>],
+    room: Option<&'a mut [u8]>,
     calls: &str,
     is_opened: bool,
 ) {
@@ -102,8 +102,8 @@ fn creates_no_file_over_the_input(rt: HostRuntime) {
 fn answers<'a>(
     alloc: Global,
     words: &'a [&'a str],
-    entries: &[Entry<'_>],
-    room: Option<&mut [u8]>,
+    entries: &'a [Entry<'a>],
+    room: Option<&'a mut [u8]>,
     text: &mut [u8],
 ) -> bool {
     let mut held = [0; 20];
@@ -122,8 +122,8 @@ fn answers<'a>(
 fn assert_answers<'a>(
     rt: &(impl Abort + Alloc<A = Global>),
     words: &'a [&'a str],
-    entries: &[Entry<'_>],
-    room: Option<&mut [u8]>,
+    entries: &'a [Entry<'a>],
+    room: Option<&'a mut [u8]>,
     want: &str,
 ) {
     let mut text = [0; 128];
