@@ -33,11 +33,11 @@ fn second(found: Found) -> Entry<'static> {
 
 // Asserts the calls for the files of words, and whether they are opened. A file can be created
 // where there is room.
-fn assert_asks<'a>(
+fn assert_asks<'a, 'f>(
     rt: &(impl Abort + Alloc<A = Global>),
     words: &'a [&'a str],
-    entries: &[Entry<'_>],
-    room: Option<&mut [u8]>,
+    entries: &'f [Entry<'f>],
+    room: Option<&'f mut [u8]>,
     calls: &str,
     is_opened: bool,
 ) {
@@ -99,11 +99,11 @@ fn creates_no_file_over_the_input(rt: HostRuntime) {
 }
 
 // Whether words are answered over files, and what is printed.
-fn answers<'a>(
+fn answers<'a, 'f>(
     alloc: Global,
     words: &'a [&'a str],
-    entries: &[Entry<'_>],
-    room: Option<&mut [u8]>,
+    entries: &'f [Entry<'f>],
+    room: Option<&'f mut [u8]>,
     text: &mut [u8],
 ) -> bool {
     let mut held = [0; 20];
@@ -119,11 +119,11 @@ fn answers<'a>(
 }
 
 // Asserts that this is printed of words over files, where there is memory and nothing fails.
-fn assert_answers<'a>(
+fn assert_answers<'a, 'f>(
     rt: &(impl Abort + Alloc<A = Global>),
     words: &'a [&'a str],
-    entries: &[Entry<'_>],
-    room: Option<&mut [u8]>,
+    entries: &'f [Entry<'f>],
+    room: Option<&'f mut [u8]>,
     want: &str,
 ) {
     let mut text = [0; 128];
