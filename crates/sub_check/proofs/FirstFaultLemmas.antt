@@ -17,7 +17,7 @@ use Rattle.ttx_pes.proofs.PesPacketLemmas.{canonical_is_packet}
 use Rattle.sub_plan.specs.Options.{OptionsValue, IsOptions}
 use Rattle.sub_check.specs.CheckedFiles.{IsChecked, all_events_of, answer_by}
 use Rattle.sub_check.specs.CheckedFiles.{events_of_first_pieces}
-use Rattle.sub_check.specs.FirstTold.{KeepsFirstFault}
+use Rattle.sub_check.specs.FirstTold.{KeepsFirstFault, is_of_rule}
 use Rattle.sub_checker.specs.PieceTelling.{TellsPieces}
 use Rattle.sub_rules.specs.Events.{first_told}
 use Rattle.sub_rules.specs.FrameRules.{Unread, task_of}
@@ -27,7 +27,7 @@ use Rattle.sub_rules.specs.declared.fault.CheckFault.{CheckFault}
 use Rattle.sub_check.proofs.FirstToldLemmas.{first_named, kept_is, of_rule}
 use Rattle.sub_check.proofs.ReadOnLemmas.{all_are_sent, first_of_front, first_of_pieces}
 use Rattle.sub_check.proofs.ReadOnLemmas.{first_of_taken}
-use Rattle.sub_rules.specs.Fault.{fault_row, is_pes_read}
+use Rattle.sub_rules.specs.Fault.{is_pes_read}
 use Rattle.ttx_pes.specs.declared.fault.PesFault.TheVariants as Pes
 use Rattle.sub_rules.specs.declared.fault.CheckFault.TheVariants as fault
 use Rattle.sub_check.proofs.VerdictLemmas.{checked_first, checked_from, refused_first}
@@ -45,7 +45,7 @@ module _ (programme : ProgrammeValue) (options : OptionsValue) (bytes : List ℕ
   -- What is told first of the pieces is of a rule. Also for `sub_answer`.
   pub first_of_rule : (f : CheckFault)
       → first_told (all_events_of programme options bytes) ≡ Some f
-      → (fault_row f).is_rule ≡ true
+      → is_of_rule f ≡ true
   first_of_rule f is =
       grind (arith, nat_tests, first_named, first_of_pieces)
 

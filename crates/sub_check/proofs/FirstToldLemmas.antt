@@ -12,10 +12,9 @@ use Rattle.ttx_pes.specs.declared.fault.PesFault.TheVariants.{Read}
 use Rattle.stl_rows.specs.Programme.{ProgrammeValue}
 use Rattle.sub_plan.specs.Options.{OptionsValue}
 use Rattle.sub_check.specs.CheckedFiles.{first_answer}
-use Rattle.sub_check.specs.FirstTold.{IsRuleFault, KeepsFirstFault}
+use Rattle.sub_check.specs.FirstTold.{IsRuleFault, KeepsFirstFault, is_of_rule}
 use Rattle.sub_checker.specs.declared.telling.Accepted.{Accepted}
 use Rattle.sub_rules.specs.Events.{events, first_told, unread_fault}
-use Rattle.sub_rules.specs.Fault.{fault_row}
 use Rattle.sub_rules.specs.FrameRules.{Task, Unread, task_of}
 use Rattle.sub_rules.specs.FrameRules.Unread.{BadPacket, NoFrame}
 use Rattle.sub_rules.specs.PesReading.{ReadsAs}
@@ -41,11 +40,11 @@ each_whole (s ∷ frames) h =
     (All-from_recursion IsPacket s.packets h.0, each_whole frames h.1)
 
 -- A fault that is neither one of PES packets or the subtitle file nor a wrong cell is of a rule.
-plain_is : (f : CheckFault) → is_plain f ≡ true → (fault_row f).is_rule ≡ true
+plain_is : (f : CheckFault) → is_plain f ≡ true → is_of_rule f ≡ true
 plain_is f e = grind (arith, nat_tests)
 
 -- What the test says.
-pub of_rule : (f : CheckFault) → (fault_row f).is_rule ≡ true → IsRuleFault f
+pub of_rule : (f : CheckFault) → is_of_rule f ≡ true → IsRuleFault f
 of_rule f e = grind (arith, nat_tests)
 
 -- A rule tells no failed read. For `check`.
@@ -66,7 +65,7 @@ kept_last f new (x ∷ xs) (mid, keeps, rest) = let none = keeps.0 in cc
 
 -- Of events it keeps the refusal that is told first, if that is of a rule.
 pub kept_is : (new : Option CheckFault) (xs : List Event)
-    → ((f : CheckFault) → first_told xs ≡ Some f → (fault_row f).is_rule ≡ true)
+    → ((f : CheckFault) → first_told xs ≡ Some f → is_of_rule f ≡ true)
     → TellsInTurn KeepsFirstFault None new xs
     → first_told xs ≡ new
 kept_is new [] named told = sym told
@@ -98,7 +97,7 @@ module _ (programme : ProgrammeValue) (options : OptionsValue) (bytes : List ℕ
     -- there than is due.
     abbrev Named : CheckFault → Type 0
     Named f =
-        ((fault_row f).is_rule ≡ true)
+        (is_of_rule f ≡ true)
         × ((frame row column : ℕ)
         → f ≡ fault.Content frame row column
         → IsWrongEverywhere programme options frames frame row column)

@@ -9,13 +9,10 @@ use Rattle.sub_plan.specs.Options.{OptionsValue}
 use Rattle.sub_rules.specs.Events.{events, first_told, unread_fault}
 use Rattle.sub_rules.specs.FrameRules.{Task, Unread, task_of}
 use Rattle.sub_rules.specs.PesReading.{ReadsAs, file_at, pes_file_of}
-use Rattle.sub_rules.specs.PieceEvents.{at_pes, events_of_pieces, run_at, told_of_each}
-use Rattle.sub_rules.specs.PieceEvents.{told_of_frame, told_of_passed}
 use Rattle.sub_rules.specs.Pieces.{PesFileValue, Piece, frames_of, piece_file_of}
 use Rattle.sub_rules.specs.Pieces.{read_until_passed}
 use Rattle.sub_rules.specs.Pieces.Piece.{Passed, Sent}
 use Rattle.sub_rules.specs.Transmission.{Transmission}
-use Rattle.sub_rules.specs.Trusted.{frame_before}
 use Rattle.sub_rules.specs.declared.event.Event.{Event}
 use Rattle.sub_rules.specs.declared.event.Event.TheVariants.{Told}
 use Rattle.sub_rules.specs.declared.fault.CheckFault.{CheckFault}
@@ -23,6 +20,9 @@ use Rattle.sub_rules.proofs.PieceEventLemmas.{announced_first, first_of_two, fir
 use Rattle.sub_rules.proofs.PieceEventLemmas.{with_run_first}
 use Rattle.sub_checker.proofs.PieceWaysLemmas.{front_of}
 use Rattle.sub_check.specs.CheckedFiles.{all_events_of, events_of_first_pieces}
+use Rattle.sub_rules.specs.Trusted.{at_pes}
+use Rattle.sub_rules.proofs.RunLemmas.{events_are, frame_before, run_at, told_of_each}
+use Rattle.sub_rules.proofs.RunLemmas.{told_of_frame, told_of_passed}
 
 -- What is told of the bytes of a PES file up to the first piece that is passed over.
 abbrev pub events_of : ProgrammeValue → OptionsValue → List ℕ → List Event
@@ -115,11 +115,12 @@ pub all_are_sent : (programme : ProgrammeValue) (options : OptionsValue) (bytes 
     → n ≤ length (piece_file_of options.origin bytes).pieces
     → first_told (events_of_first_pieces programme options bytes n) ≡ None
     → length (frames_of (take n (piece_file_of options.origin bytes).pieces)) ≡ n
-unfolding events_of_pieces
 all_are_sent programme options bytes n l none =
     let file = piece_file_of options.origin bytes in
     let g = task_of programme options file.unread in
     let done = take n file.pieces in
     none_passed g (frames_of file.pieces) 0 0 None done
-    (sym (announced_first (told_of_each g (frames_of file.pieces) 0 0 None done)) ∙ none)
+    (sym (announced_first (told_of_each g (frames_of file.pieces) 0 0 None done))
+    ∙ ap first_told (sym (events_are g (frames_of file.pieces) done))
+    ∙ none)
     ∙ length-take-le n file.pieces l

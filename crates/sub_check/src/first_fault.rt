@@ -1,14 +1,13 @@
 //! The device that `check` tells what is broken to.
-ghost use Rattle.std.specs.Prelude.{◌≡◌, Option, None, Some, IfSome, is_some, not, true};
-ghost use Rattle.std.proofs.Common.{subst, sym};
-ghost use Rattle.sub_io.specs.Telling.{Tells};
-ghost use Rattle.sub_check.specs.FirstTold.{IsRuleFault, KeepsFirstFault};
-ghost use Rattle.sub_rules.specs.Fault.{fault_row};
+ghost use Rattle.std.specs.Prelude.{◌≡◌, Option, None, Some, IfSome, is_some, false, not, true};
+ghost use Rattle.std.proofs.Common.{refl, subst, sym};
+ghost use Rattle.sub_check.specs.FirstTold.{IsRuleFault, KeepsFirstFault, is_of_rule};
 ghost use Rattle.sub_rules.specs.declared.fault.CheckFault.{CheckFault};
 
 use std::marker::Model;
 use sub_io::{Audience, Live, LiveAudience, Stopped};
 use sub_rules::{CheckFault, Event};
+use ttx_pes::PesFault;
 
 /// Keeps the first fault that a rule tells, and says stop at it. All else passes.
 ///
@@ -66,11 +65,18 @@ impl Audience<Event> for FirstFault {
 }
 
 impl Live for FirstFault {
-    ghost is_settled = { λ _. true };
+    ghost is_waiting = { λ _. false };
+
+    ghost held = { λ _. 0 };
 
     ghost is_handed_on = { λ old ok new. (new ≡ old) × (is_some new ≡ not ok) };
 
-    // Nothing: it keeps what it was told.
+    // Never: it keeps what it was told.
+    fn waits(&self) -> bool {
+        false
+    }
+
+    // Nothing is done.
     fn hand_on(&mut self) -> Result<(), Stopped> {
         if self.fault.is_some() {
             return Err(Stopped);
@@ -81,16 +87,24 @@ impl Live for FirstFault {
 
 impl LiveAudience<Event> for FirstFault {
     ghost stays_told = { record {
-      told = λ start old new ok items settled told on.
-          subst (λ d. Tells KeepsFirstFault start d items) (sym on.0) told;
+      told = λ before old new item ok told waits on.
+          subst (λ d. KeepsFirstFault before item d) (sym on.0) told;
       stopped = λ old new ok on. on.1;
+      waits = λ before new item told still. refl;
     } };
 }
 
 // Rules tell all faults but those of the subtitle file and of failed devices.
 fn is_of_rule(fault: &CheckFault) -> bool
-    ensures is { result ≡ (fault_row fault.now).is_rule }
+    ensures is { result ≡ is_of_rule fault.now }
     ensures own { result ≡ true → IsRuleFault fault.now }
 {
-    (*fault).row().is_rule
+    match fault {
+        CheckFault::Subtitles(_)
+        | CheckFault::Pes {
+            fault: PesFault::Read | PesFault::Write,
+            ..
+        } => false,
+        _ => true,
+    }
 }

@@ -2,6 +2,7 @@
 use Rattle.std.proofs.lemmas.Bool.Decides.{nat_tests}
 use Rattle.std.proofs.Common.{◌≡◌, ℕ, zero, suc, ◌+◌, ◌-◌, ◌<◌, ◌≤◌, Bool, ◌&&◌, nat_le, nat_lt}
 use Rattle.std.proofs.Common.{cond, List, [], ◌∷◌, ◌++◌, length, Option, refl, sym, ap}
+use Rattle.std.proofs.Common.{◌||◌, not, is_some}
 use Rattle.std.proofs.Common.{◌∙◌, subst, arith, append_assoc, ◌==◌}
 use Rattle.std.proofs.lemmas.Bool.{cases_lt}
 use Rattle.std.proofs.lemmas.List.{get_or-map}
@@ -19,11 +20,12 @@ use Rattle.sub_rules.specs.Events.{gap_events, gap_length, is_early, is_gap, is_
 use Rattle.sub_rules.specs.Events.{nothing_stands, order_events, packet_events, rest_events}
 use Rattle.sub_rules.specs.Events.{rule_events, standing_at, standing_before}
 use Rattle.sub_checker.specs.Following.{Arrives, Follows, HasBegun, Remembers, Waits}
-use Rattle.sub_checker.specs.Following.{arriving_events, ending_events, taking_events}
+use Rattle.sub_checker.specs.Following.{ending_events, taking_events}
 use Rattle.sub_rules.specs.FrameRules.{Task, Unread, frame_at, packets_before, packets_of_frame}
 use Rattle.sub_rules.specs.FrameRules.{end_frame, task_with}
 use Rattle.sub_packets.specs.Listener.{Knows, KnowsLast}
 use Rattle.sub_rules.specs.PacketRules.{header_count}
+use Rattle.sub_rules.specs.PieceEvents.{arriving_events}
 use Rattle.sub_rules.specs.Transmission.{SentFrame, Transmission}
 use Rattle.sub_rules.specs.declared.end_rule.EndRule.TheVariants as end
 use Rattle.sub_rules.specs.declared.event.Event.{Event}
@@ -35,6 +37,8 @@ use Rattle.sub_rules.proofs.EndLemmas.{standing_before_is}
 use Rattle.sub_rules.proofs.GrowingLists.{grows_to}
 use Rattle.sub_rules.proofs.PacketLists.{header_count-append, holds-count}
 use Rattle.sub_rules.proofs.FrameLists.{joined_more}
+use Rattle.sub_rules.proofs.TrustedLemmas.{tells_none-two}
+use Rattle.sub_rules.specs.Trusted.{stands_none, tells_none}
 
 -- ---- the definitions, opened
 
@@ -332,13 +336,6 @@ module _ (g : Task) (frames : Transmission) (n : ℕ) (c : CheckerValue)
             last_is = λ l. arrives.frame_is ∙ ap (frame_at frames) (sym here);
           })
 
--- All that is told of a frame, in the parts in which it is told.
-pub frame_events_are :
-    (g : Task) (frames : Transmission) (i : ℕ)
-    → frame_events g frames i ≡ arriving_events g frames i ++ taking_events g frames i
-unfolding frame_events
-frame_events_are g frames i = grind (arith, append_assoc)
-
 -- ---- the end of the file
 
 -- What is told after the last frame. For `close`.
@@ -376,3 +373,42 @@ pub closing_some :
 unfolding closing_events
 closing_some g frames pes c given last out none follows all is some from e nothing =
     grind (arith, nat_tests, rest_are)
+
+-- Whether anything is told of a change.
+tells_end : (s : Standing) (f : ℕ) → tells_none (end_events s f nothing_stands f) ≡ stands_none s
+unfolding end_events
+tells_end s f = grind (arith, nat_tests)
+
+-- Whether anything is told then. For `tells_last`.
+pub tells_closing :
+    (g : Task) (frames : Transmission) (pes : ℕ) (c : CheckerValue)
+    (given last : Option CheckFault) (out : Option ℕ)
+    → Follows g frames pes c
+    → length frames ≡ pes
+    → given ≡ ending_fault pes g.unread
+    → out ≡ last_out c.programme.records
+    → last ≡ last_fault given out pes c.last
+    → (is_some last || not (stands_none (as_standing c.standing)))
+    ≡ not (tells_none (closing_events g frames pes))
+tells_closing g frames zero c given last out follows all is from e =
+    let none = closing_none g frames zero given last out c.last is refl e in
+    rw none grind (arith, nat_tests)
+tells_closing g frames (suc n) c given last out follows all is from e =
+    let some =
+    closing_some g frames (suc n) c given last out nothing_stands follows all is (omega arith) from
+    e refl in
+    rw some grind (arith, nat_tests, tells_none-two, tells_end)
+
+-- A frame has a header of the page where their count has risen. For `go_on`.
+pub header_more :
+    (g : Task) (frames : Transmission) (n : ℕ) (c d : CheckerValue)
+    → n < length frames
+    → Follows g frames n c
+    → Follows g frames (n + 1) d
+    → nat_lt c.headers d.headers
+    ≡ holds_header (kind g.watched.page) (packets_of_frame frames n)
+header_more g frames n c d there before after =
+    let more = joined_more frames n there in
+    let one = before.known.count in
+    let two = after.known.count in
+    grind (arith, nat_tests, header_count-append, holds-count)

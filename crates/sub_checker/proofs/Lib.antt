@@ -1,8 +1,6 @@
-pub mod AnnouncingLemmas
 pub mod EdgeLemmas
 pub mod FollowingLemmas
-pub mod LendingLemmas
+pub mod PassingLemmas
 pub mod PieceWaysLemmas
 pub mod ReadsOnLemmas
 pub mod TellingLemmas
-pub mod TrustingLemmas

@@ -1,5 +1,5 @@
 -- Events that are told in parts, one part after another: `told_whole`, `told_same`, `told_then`,
--- `stopped_first`, `stopped_then`, `all_same`, `prefix_same`; `ok_map`.
+-- `stopped_first`, `stopped_then`, `all_same`, `prefix_same`; `ok_map`, `on_ok`.
 use Rattle.std.proofs.Common.{arith, ◌≡◌, List, ◌++◌, Result, Ok, Err, sym, subst}
 use Rattle.std.proofs.lemmas.Bool.Decides.{nat_tests}
 use Rattle.sub_io.proofs.TellingLemmas.{TellsPrefix-first, TellsPrefix-second}
@@ -50,3 +50,7 @@ module _ {A D : Type 0} {IsTold : D → A → D → Type 0} where
 pub ok_map : {X E : Type 0} (P Q : Type 0) (r : Result X E) → OnOk r P → (P → Q) → OnOk r Q
 ok_map P Q (Ok x) p f = f p
 ok_map P Q (Err e) p f = tt
+
+pub on_ok : {X E : Type 0} (P : Type 0) (r : Result X E) → P → OnOk r P
+on_ok P (Ok x) p = p
+on_ok P (Err e) p = tt

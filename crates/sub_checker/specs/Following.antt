@@ -3,9 +3,8 @@
 use Rattle.std.specs.Prelude.{◌≡◌, ℕ, suc, ◌+◌, ◌-◌, ◌<◌, List, ◌++◌, length, nat_le}
 use Rattle.sub_rules.specs.Transmission.{Transmission}
 use Rattle.sub_checker.specs.Checker.{CheckerValue, as_standing}
-use Rattle.sub_rules.specs.Events.{end_before, events_at_end, first_header_events, gap_events}
-use Rattle.sub_rules.specs.Events.{gap_length, is_gap, latest, nothing_stands, order_events}
-use Rattle.sub_rules.specs.Events.{packet_events, standing_at, standing_before}
+use Rattle.sub_rules.specs.Events.{end_before, events_at_end, first_header_events, is_gap, latest}
+use Rattle.sub_rules.specs.Events.{nothing_stands, packet_events, standing_at, standing_before}
 use Rattle.sub_rules.specs.declared.event.Event.{Event}
 use Rattle.sub_packets.specs.Listener.{KnowsLast}
 use Rattle.sub_rules.specs.FrameRules.{Task, frame_at, packets_of_frame, packets_before, task_with}
@@ -49,11 +48,6 @@ pub record Arrives (g : Task) (frames : Transmission) (n : ℕ) (c : CheckerValu
   pub latest_is : c.latest ≡ latest frames (suc n)
 
 -- ---- what is told
-
--- What is told of frame i of the list before its packets.
-abbrev pub arriving_events : Task → Transmission → ℕ → List Event
-arriving_events g frames i =
-    order_events g frames i ++ gap_events g frames i (gap_length frames i)
 
 -- What is told of frame i of the list after its packets.
 abbrev pub ending_events : Task → Transmission → ℕ → List Event

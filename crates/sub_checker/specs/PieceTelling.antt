@@ -1,21 +1,20 @@
 -- What the checker tells of a PES file that is read on behind the pieces that are passed over.
-use Rattle.std.specs.Prelude.{◌≡◌, ℕ, zero, suc, ◌≤◌, ◌||◌, Bool, not, List, [], ◌++◌, length, take}
-use Rattle.std.specs.Prelude.{Option, Some, None, Result, Ok, Err}
+use Rattle.std.specs.Prelude.{◌≡◌, ℕ, ◌≤◌, List, [], ◌++◌, length, take, Option, Some, None}
+use Rattle.std.specs.Prelude.{Result, Ok, Err}
 use Rattle.sub_io.specs.Telling.{Tells, TellsPrefix}
+use Rattle.ttx_pes.specs.Reading.{most_packets}
 use Rattle.ttx_pes.specs.declared.fault.PesFault.TheVariants.{Read}
-use Rattle.sub_rules.specs.Events.{closing_events}
+use Rattle.sub_rules.specs.Fault.{fault_at_pes}
 use Rattle.sub_rules.specs.FrameRules.{Task}
-use Rattle.sub_rules.specs.PieceEvents.{PassedRun, all_announced, all_of_pieces, ended_run}
-use Rattle.sub_rules.specs.PieceEvents.{events_of_pieces, fault_at_pes, last_of_run}
-use Rattle.sub_rules.specs.PieceEvents.{passed_after_all, told_of_unread}
+use Rattle.sub_rules.specs.PieceEvents.{all_of_pieces, ended_run, events_of_pieces}
 use Rattle.sub_rules.specs.Pieces.{Piece, frames_of}
-use Rattle.sub_rules.specs.Transmission.{Transmission}
-use Rattle.sub_rules.specs.Trusted.{tells_none}
+use Rattle.sub_rules.specs.Trusted.{Mark}
 use Rattle.sub_rules.specs.declared.event.Event.{Event}
 use Rattle.sub_rules.specs.declared.fault.CheckFault.{CheckFault}
 use Rattle.sub_rules.specs.declared.fault.CheckFault.TheVariants as fault
-use Rattle.ttx_pes.specs.Reading.{most_packets}
+use Rattle.sub_checker.specs.Passing.{passed_on, passing_after}
 use Rattle.sub_checker.specs.Telling.{AreTaken, AreWhole, CountsRead}
+use Rattle.sub_checker.specs.declared.passing.Passing.{Passing}
 use Rattle.sub_checker.specs.declared.telling.Accepted.{Accepted}
 
 -- The bytes were read as pieces, and what these send is counted: where each is sent, and nothing is
@@ -52,15 +51,6 @@ abbrev pub ending_at : ℕ → Option CheckFault → Option CheckFault
 ending_at pes None = None
 ending_at pes (Some f) = Some (fault_at_pes pes f)
 
--- What is told after `pes` pieces that send n frames, where these are counted alone: what is
--- trusted of the last run, and what the checker tells last.
-unfoldable pub closing_raw :
-    Task → Transmission → ℕ → ℕ → Option ℕ → Bool → List Event
-closing_raw g frames (suc pes) zero run told = told_of_unread (suc pes) g.unread
-closing_raw g frames pes n run told =
-    last_of_run g frames run (told || not (tells_none (closing_events g frames n)))
-    ++ closing_events g frames n
-
--- These are told after a run of pieces that were passed over, and then up to which one a run goes.
-abbrev pub finished : PassedRun → List Event → List Event
-finished run es = all_announced run es ++ ended_run (passed_after_all run es)
+-- What is told with marks, and then up to which piece a run goes.
+abbrev pub finished : Passing → List Mark → List Event
+finished p marks = passed_on p marks ++ ended_run (passing_after p marks).run

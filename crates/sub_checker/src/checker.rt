@@ -19,9 +19,9 @@ ghost use Rattle.ttx_pes.specs.PesPacket.{most_units};
 ghost use Rattle.sub_rules.specs.PacketRules.{packets_of_units};
 ghost use Rattle.sub_rules.specs.Transmission.{Transmission};
 
+use crate::passing::Stage;
 use crate::standing::StandingRules;
 use crate::telling::Accepted;
-use crate::trusting::Trusting;
 use std::marker::Model;
 use stl_rows::Programme;
 use sub_io::{Audience, Stopped};
@@ -79,14 +79,13 @@ impl<'a> Model for Checker<'a> {
 impl<'a> Checker<'a> {
     ghost use Rattle.sub_checker.specs.Checker.{after_end, as_standing, at_first, at_frame};
     ghost use Rattle.sub_checker.specs.Checker.{at_next, none_stands, stands};
-    ghost use Rattle.sub_checker.specs.Following.{Arrives, Follows, Waits, arriving_events};
+    ghost use Rattle.sub_checker.specs.Following.{Arrives, Follows, Waits};
     ghost use Rattle.sub_checker.specs.Following.{ending_events, taking_events, Remembers};
     ghost use Rattle.sub_rules.specs.Sendings.{IsSentFrame};
     ghost use Rattle.sub_packets.specs.Listener.{Knows, KnowsLast};
     ghost use Rattle.sub_checker.specs.Steps.{AreCounted};
-    ghost use Rattle.sub_checker.specs.Trusting.{JudgesWith};
-    ghost use Rattle.sub_rules.specs.Events.{frame_events};
-    ghost use Rattle.sub_rules.specs.PieceEvents.{run_at, told_of_frame};
+    ghost use Rattle.sub_checker.specs.Passing.{PassesMarks};
+    ghost use Rattle.sub_rules.specs.PieceEvents.{arriving_events, marks_of_frame};
     ghost use Rattle.sub_rules.specs.Trusted.{tells_none};
 
     /// Before the first PES packet: nothing was heard.
@@ -371,8 +370,7 @@ impl<'a> Checker<'a> {
         self.end_of_frame(audience)
     }
 
-    /// A PES packet: its number, what is sent, and its units; and which frames are trusted where it
-    /// ends a run of them.
+    /// A PES packet: its number, what is sent, and its units.
     ///
     /// # Errors
     ///
@@ -382,35 +380,32 @@ impl<'a> Checker<'a> {
         pes: u32,
         sending: Sending,
         units: &SentUnits<'_>,
-        trusting: &mut Trusting<'_, A>,
+        stage: &mut Stage<'_, A>,
     ) -> Result<(), Stopped>
-        requires goes_on { A.has_stopped trusting.old.device.now ≡ false }
+        requires goes_on { A.has_stopped stage.old.device.now ≡ false }
         requires few { length units.now ≤ most_units }
         requires room { self.old.headers ≤ 255 * pes }
         requires day { sending.frame < day }
-        ensures same { trusting.new.device.ghost_name ≡ trusting.old.device.ghost_name }
-        ensures stopped { A.has_stopped trusting.new.device.now ≡ is_err result }
-        ensures some { TellsSome A.is_told trusting.old.device.now trusting.new.device.now }
+        ensures same { stage.new.device.ghost_name ≡ stage.old.device.ghost_name }
+        ensures stopped { A.has_stopped stage.new.device.now ≡ is_err result }
+        ensures some { TellsSome A.is_told stage.old.device.now stage.new.device.now }
         ensures headers { OnOk result (self.new.headers ≤ 255 * (pes + 1)) }
-        ensures day { OnOk result (trusting.new.trust.last < day) }
-        ensures told { (g : Task) (frames : Transmission) (run : Option ℕ) (told : Bool)
+        ensures day { OnOk result (stage.new.passing.trust.last < day) }
+        ensures told { (g : Task) (frames : Transmission)
             → Follows g frames pes self.old
-            → JudgesWith g frames pes run told trusting.old.trust
             → IsSentFrame frames pes sending.frame (packets_of_units units.now)
             → (sending.again ≡ true
             → packets_of_frame frames (pes - 1) ≡ packets_of_units units.now)
-            → TellsUntilStopped A.is_told trusting.old.device.now trusting.new.device.now
-            (told_of_frame g frames pes run) result
-            × OnOk result (Follows g frames (pes + 1) self.new
-            × JudgesWith g frames (pes + 1) (run_at g frames pes run)
-            (told || not (tells_none (frame_events g frames pes))) trusting.new.trust) }
+            → PassesMarks A.is_told stage.old.device.now stage.old.passing
+            (marks_of_frame g frames pes) stage.new.device.now stage.new.passing result
+            × OnOk result (Follows g frames (pes + 1) self.new) }
     {
         let before = self.headers;
-        self.reach(pes, sending.frame, trusting)?;
-        trusting.arrive();
-        self.take(pes, sending.again, units, trusting)?;
+        self.reach(pes, sending.frame, stage)?;
+        stage.begin_frame();
+        self.take(pes, sending.again, units, stage)?;
         let has_header = before < self.headers;
-        trusting.end_frame(sending.frame, has_header, self.standing.has_none());
+        stage.end_frame(sending.frame, has_header, self.standing.has_none());
         Ok(())
     }
 
@@ -446,12 +441,16 @@ impl<'a> Checker<'a> {
         tell_fault(last, audience)
     }
 
-    /// Whether a fault is told after the last PES packet, where this one ended reading, if one did.
+    /// Whether anything is told after the last PES packet, where this fault ended reading, if one
+    /// did.
     pub fn tells_last(&self, pes: u32, fault: Option<CheckFault>) -> bool
-        ensures { result
-            ≡ is_some (last_fault fault (last_out self.now.programme.records) pes self.now.last) }
+        ensures { (g : Task) (frames : Transmission)
+            → Follows g frames pes self.now
+            → length frames ≡ pes → fault ≡ ending_fault pes g.unread
+            → result ≡ not (tells_none (closing_events g frames pes)) }
     {
-        last_fault(fault, self.programme.last_out(), pes, self.last).is_some()
+        let is_told = last_fault(fault, self.programme.last_out(), pes, self.last).is_some();
+        is_told || !self.standing.has_none()
     }
 
     /// What was read: the frames of the day from the first PES packet's to the latest one's, and

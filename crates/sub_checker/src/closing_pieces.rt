@@ -1,22 +1,20 @@
 //! What is told after the last piece of a PES file.
-ghost use Rattle.std.specs.Prelude.{◌≡◌, ℕ, ◌<◌, Bool, Option, IfSome, false, is_err, is_none};
-ghost use Rattle.std.specs.Prelude.{length, map};
+ghost use Rattle.std.specs.Prelude.{◌≡◌, ◌<◌, IfSome, false, is_err, is_none, length, not};
 ghost use Rattle.sub_io.specs.Telling.{TellsSome, TellsUntilStopped};
 ghost use Rattle.stl_file.specs.TimeCode.{day};
 ghost use Rattle.sub_rules.specs.FrameRules.{Task};
-ghost use Rattle.sub_rules.specs.PieceEvents.{at_pes};
+ghost use Rattle.sub_rules.specs.PieceEvents.{closing_of_pieces, marks_of_closing};
 ghost use Rattle.sub_rules.specs.Transmission.{Transmission};
-ghost use Rattle.sub_checker.specs.Announcing.{IsToldOf, as_run};
+ghost use Rattle.sub_rules.specs.Trusted.{tells_none};
 ghost use Rattle.sub_checker.specs.Following.{Follows};
-ghost use Rattle.sub_checker.specs.PieceTelling.{closing_raw, ending_at, finished};
+ghost use Rattle.sub_checker.specs.Passing.{PassesMarks};
+ghost use Rattle.sub_checker.specs.PieceTelling.{ending_at, finished};
 ghost use Rattle.sub_checker.specs.Steps.{AreCounted, FinishesTelling, ending_fault};
-ghost use Rattle.sub_checker.specs.Trusting.{JudgesWith};
 
-use crate::announcing::{Announcing, fault_at_pes, tell_ended};
 use crate::checker::{Checker, tell_fault};
-use crate::telling::{Accepted, tell_last};
+use crate::passing::{Stage, tell_some};
+use crate::telling::Accepted;
 use crate::telling_pieces::Kept;
-use crate::trusting::{Trust, Trusting};
 use sub_io::{Audience, Stopped};
 use sub_rules::{CheckFault, Event};
 
@@ -30,16 +28,14 @@ pub(crate) fn finish<A: Audience<Event>>(
     audience: &mut A,
 ) -> Option<Accepted>
     requires goes_on { A.has_stopped audience.old ≡ false }
-    requires day { kept.old.trust.last < day }
+    requires day { kept.old.passing.trust.last < day }
     ensures stopped { A.has_stopped audience.new ≡ is_none result }
     ensures some { TellsSome A.is_told audience.old audience.new }
-    ensures told { (g : Task) (list : Transmission) (run : Option ℕ) (told : Bool)
+    ensures told { (g : Task) (list : Transmission)
         → Follows g list kept.old.frames checker.now
-        → JudgesWith g list kept.old.frames run told kept.old.trust
         → length list ≡ kept.old.frames → fault ≡ ending_fault pes g.unread
         → FinishesTelling A.is_told audience.old audience.new
-        (finished (as_run kept.old.run)
-        (map (at_pes pes) (closing_raw g list pes kept.old.frames run told))) result }
+        (finished kept.old.passing (marks_of_closing g list pes kept.old.frames)) result }
     ensures counts { IfSome result (AreCounted checker.now kept.old.frames) }
 {
     let frames = kept.frames;
@@ -49,7 +45,7 @@ pub(crate) fn finish<A: Audience<Event>>(
     }
 }
 
-// Tells it.
+// Tells it, and then up to which piece a run goes that were passed over.
 #[tactic(auto, using(sub_io::proofs::TellingLemmas::some))]
 fn tell_end<A: Audience<Event>>(
     checker: &Checker<'_>,
@@ -59,22 +55,20 @@ fn tell_end<A: Audience<Event>>(
     audience: &mut A,
 ) -> Result<(), Stopped>
     requires goes_on { A.has_stopped audience.old ≡ false }
-    requires day { kept.old.trust.last < day }
+    requires day { kept.old.passing.trust.last < day }
     ensures stopped { A.has_stopped audience.new ≡ is_err result }
     ensures some { TellsSome A.is_told audience.old audience.new }
-    ensures told { (g : Task) (list : Transmission) (run : Option ℕ) (told : Bool)
+    ensures told { (g : Task) (list : Transmission)
         → Follows g list kept.old.frames checker.now
-        → JudgesWith g list kept.old.frames run told kept.old.trust
         → length list ≡ kept.old.frames → fault ≡ ending_fault pes g.unread
         → TellsUntilStopped A.is_told audience.old audience.new
-        (finished (as_run kept.old.run)
-        (map (at_pes pes) (closing_raw g list pes kept.old.frames run told))) result }
+        (finished kept.old.passing (marks_of_closing g list pes kept.old.frames)) result }
 {
     tell_closing(checker, pes, fault, kept, audience)?;
-    tell_ended(&kept.run, audience)
+    tell_some(kept.passing.run.ended(), audience)
 }
 
-// Tells what is told after so many pieces and frames, where this fault ended reading, if one did.
+// Tells what is told after so many pieces, where this fault ended reading, if one did.
 fn tell_closing<A: Audience<Event>>(
     checker: &Checker<'_>,
     pes: u32,
@@ -83,102 +77,84 @@ fn tell_closing<A: Audience<Event>>(
     audience: &mut A,
 ) -> Result<(), Stopped>
     requires goes_on { A.has_stopped audience.old ≡ false }
-    requires day { kept.old.trust.last < day }
+    requires day { kept.old.passing.trust.last < day }
     ensures stopped { A.has_stopped audience.new ≡ is_err result }
     ensures some { TellsSome A.is_told audience.old audience.new }
-    ensures told { (g : Task) (list : Transmission) (run : Option ℕ) (told : Bool)
+    ensures told { (g : Task) (list : Transmission)
         → Follows g list kept.old.frames checker.now
-        → JudgesWith g list kept.old.frames run told kept.old.trust
         → length list ≡ kept.old.frames → fault ≡ ending_fault pes g.unread
-        → IsToldOf A.is_told audience.old audience.new pes (as_run kept.old.run)
-        (closing_raw g list pes kept.old.frames run told) result (as_run kept.new.run) }
+        → PassesMarks A.is_told audience.old kept.old.passing
+        (marks_of_closing g list pes kept.old.frames) audience.new kept.new.passing result }
 {
-    let mut announcing = Announcing {
-        audience,
-        pes,
-        run: kept.run,
+    let mut stage = Stage {
+        device: audience,
+        passing: kept.passing,
     };
-    let (frames, trust) = (kept.frames, kept.trust);
-    let told = announce_closing(checker, pes, frames, fault, trust, &mut announcing);
-    kept.run = announcing.run;
+    let told = close(checker, pes, kept.frames, fault, &mut stage);
+    kept.passing = stage.passing;
     told
 }
 
-// Tells what comes after the last piece to a device that announces it.
-fn announce_closing<A: Audience<Event>>(
-    checker: &Checker<'_>,
-    pes: u32,
-    frames: u32,
-    fault: Option<CheckFault>,
-    trust: Trust,
-    announcing: &mut Announcing<'_, A>,
-) -> Result<(), Stopped>
-    requires goes_on { A.has_stopped announcing.old.audience.now ≡ false }
-    requires day { trust.last < day }
-    ensures same { announcing.new.audience.ghost_name ≡ announcing.old.audience.ghost_name }
-    ensures stopped { A.has_stopped announcing.new.audience.now ≡ is_err result }
-    ensures some { TellsSome A.is_told announcing.old.audience.now announcing.new.audience.now }
-    ensures told { (g : Task) (list : Transmission) (run : Option ℕ) (told : Bool)
-        → Follows g list frames checker.now → JudgesWith g list frames run told trust
-        → length list ≡ frames → fault ≡ ending_fault pes g.unread
-        → IsToldOf A.is_told announcing.old.audience.now announcing.new.audience.now
-        announcing.old.pes (as_run announcing.old.run)
-        (closing_raw g list pes frames run told) result (as_run announcing.new.run) }
-{
-    hand_closing(checker, pes, frames, fault, trust, announcing)
-}
-
-// Tells what comes after the last piece to any device, with what is trusted.
-fn hand_closing<A: Audience<Event>>(
-    checker: &Checker<'_>,
-    pes: u32,
-    frames: u32,
-    fault: Option<CheckFault>,
-    trust: Trust,
-    audience: &mut A,
-) -> Result<(), Stopped>
-    requires goes_on { A.has_stopped audience.old ≡ false }
-    requires day { trust.last < day }
-    ensures stopped { A.has_stopped audience.new ≡ is_err result }
-    ensures some { TellsSome A.is_told audience.old audience.new }
-    ensures told { (g : Task) (list : Transmission) (run : Option ℕ) (told : Bool)
-        → Follows g list frames checker.now → JudgesWith g list frames run told trust
-        → length list ≡ frames → fault ≡ ending_fault pes g.unread
-        → TellsUntilStopped A.is_told audience.old audience.new
-        (closing_raw g list pes frames run told) result }
-{
-    let mut trusting = Trusting {
-        device: audience,
-        trust,
-    };
-    close(checker, pes, frames, fault, &mut trusting)
-}
-
-// Tells what comes after the last piece to a device that tells which frames may be trusted: where
-// there are pieces and none is sent, the fault alone.
+// Passes it on.
 fn close<A: Audience<Event>>(
     checker: &Checker<'_>,
     pes: u32,
     frames: u32,
     fault: Option<CheckFault>,
-    trusting: &mut Trusting<'_, A>,
+    stage: &mut Stage<'_, A>,
 ) -> Result<(), Stopped>
-    requires goes_on { A.has_stopped trusting.old.device.now ≡ false }
-    requires day { trusting.old.trust.last < day }
-    ensures same { trusting.new.device.ghost_name ≡ trusting.old.device.ghost_name }
-    ensures stopped { A.has_stopped trusting.new.device.now ≡ is_err result }
-    ensures some { TellsSome A.is_told trusting.old.device.now trusting.new.device.now }
-    ensures told { (g : Task) (list : Transmission) (run : Option ℕ) (told : Bool)
+    requires goes_on { A.has_stopped stage.old.device.now ≡ false }
+    requires day { stage.old.passing.trust.last < day }
+    ensures same { stage.new.device.ghost_name ≡ stage.old.device.ghost_name }
+    ensures stopped { A.has_stopped stage.new.device.now ≡ is_err result }
+    ensures some { TellsSome A.is_told stage.old.device.now stage.new.device.now }
+    ensures told { (g : Task) (list : Transmission)
         → Follows g list frames checker.now
-        → JudgesWith g list frames run told trusting.old.trust
         → length list ≡ frames → fault ≡ ending_fault pes g.unread
-        → TellsUntilStopped A.is_told trusting.old.device.now trusting.new.device.now
-        (closing_raw g list pes frames run told) result }
+        → PassesMarks A.is_told stage.old.device.now stage.old.passing
+        (marks_of_closing g list pes frames) stage.new.device.now stage.new.passing result }
+{
+    stage.go_to(pes);
+    let more = tells_more(checker, pes, frames, fault);
+    stage.close(fault.is_some(), more)?;
+    tell_rest(checker, pes, frames, fault, stage)
+}
+
+// Whether anything is told after the last piece.
+fn tells_more(checker: &Checker<'_>, pes: u32, frames: u32, fault: Option<CheckFault>) -> bool
+    ensures { (g : Task) (list : Transmission)
+        → Follows g list frames checker.now
+        → length list ≡ frames → fault ≡ ending_fault pes g.unread
+        → result ≡ not (tells_none (closing_of_pieces g list pes frames)) }
 {
     if frames == 0 && pes > 0 {
-        return tell_fault(fault, trusting);
+        return fault.is_some();
     }
-    tell_last(checker, frames, ending_at(frames, fault), trusting)
+    checker.tells_last(frames, ending_at(frames, fault))
+}
+
+// Tells it: where there are pieces and none is sent, the fault alone.
+#[tactic(auto, using(sub_io::proofs::TellingLemmas::some))]
+fn tell_rest<A: Audience<Event>>(
+    checker: &Checker<'_>,
+    pes: u32,
+    frames: u32,
+    fault: Option<CheckFault>,
+    audience: &mut A,
+) -> Result<(), Stopped>
+    requires goes_on { A.has_stopped audience.old ≡ false }
+    ensures stopped { A.has_stopped audience.new ≡ is_err result }
+    ensures some { TellsSome A.is_told audience.old audience.new }
+    ensures told { (g : Task) (list : Transmission)
+        → Follows g list frames checker.now
+        → length list ≡ frames → fault ≡ ending_fault pes g.unread
+        → TellsUntilStopped A.is_told audience.old audience.new
+        (closing_of_pieces g list pes frames) result }
+{
+    if frames == 0 && pes > 0 {
+        return tell_fault(fault, audience);
+    }
+    checker.close(frames, ending_at(frames, fault), audience)
 }
 
 // The fault that ended reading, if one did, after so many PES packets.
@@ -186,7 +162,7 @@ fn ending_at(pes: u32, fault: Option<CheckFault>) -> Option<CheckFault>
     ensures { result ≡ ending_at pes fault }
 {
     match fault {
-        Some(fault) => Some(fault_at_pes(pes, fault)),
+        Some(fault) => Some(fault.at_pes(pes)),
         None => None,
     }
 }

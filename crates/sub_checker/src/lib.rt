@@ -9,14 +9,13 @@
 //! ```
 #![tactic(auto)]
 
-mod announcing;
 mod checker;
 mod closing_pieces;
 mod lending;
+mod passing;
 mod standing;
 mod telling;
 mod telling_pieces;
-mod trusting;
 
 pub use telling::Accepted;
 pub use telling_pieces::tell_pieces;

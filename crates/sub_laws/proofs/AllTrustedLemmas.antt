@@ -13,15 +13,13 @@ use Rattle.sub_rules.specs.Events.{frame_events, standing_at, unread_fault}
 use Rattle.sub_rules.specs.FrameRules.{Task, Unread, end_frame, frame_at, packets_of_frame}
 use Rattle.sub_rules.specs.PacketTests.{breaks}
 use Rattle.sub_rules.specs.Transmission.{Transmission}
-use Rattle.sub_rules.specs.Trusted.{begun, frame_before, is_quiet, own_events, run_over}
-use Rattle.sub_rules.specs.Trusted.{stands_none, tells_none, trust_end, with_run}
+use Rattle.sub_rules.specs.Trusted.{begun}
+use Rattle.sub_rules.specs.Trusted.{stands_none, tells_none}
 use Rattle.sub_rules.specs.declared.event.Event.{Event}
 use Rattle.sub_rules.specs.declared.event.Event.TheVariants.{Trusted, Told}
 use Rattle.sub_rules.specs.declared.packet_rule.PacketRule.{PacketRule}
-use Rattle.sub_rules.specs.PieceEvents.{all_announced, all_of_pieces, at_pes, closing_of_pieces}
-use Rattle.sub_rules.specs.PieceEvents.{ended_run, last_of_run, no_run, passed_after_all}
-use Rattle.sub_rules.specs.PieceEvents.{run_after_each, run_at, told_of_each, told_of_frame}
-use Rattle.sub_rules.specs.PieceEvents.{told_of_passed, told_of_pieces}
+use Rattle.sub_rules.specs.PieceEvents.{all_announced, all_of_pieces}
+use Rattle.sub_rules.specs.PieceEvents.{ended_run, no_run, passed_after_all}
 use Rattle.sub_rules.specs.Pieces.{Piece, frames_of}
 use Rattle.sub_rules.specs.Pieces.Piece.{Passed, Sent}
 use Rattle.sub_laws.proofs.DoubtLemmas.{any_doubt, contains-announced, contains-at, first_doubt}
@@ -36,6 +34,13 @@ use Rattle.sub_laws.proofs.PassedOutsideLemmas.{IsOutside, is_outside}
 use Rattle.sub_laws.proofs.PrefixLemmas.{before, frame_at-take, packet_at, packets-take, rises_to}
 use Rattle.sub_laws.proofs.TrustedFrameLemmas.{count_most, part_last, part_length, part_rises}
 use Rattle.sub_laws.proofs.TrustedFrameLemmas.{risen, risen_low, rises_more, standing-take}
+use Rattle.sub_rules.proofs.RunLemmas.{all_are, all_in_runs, closing_told, frame_before, is_quiet}
+use Rattle.sub_rules.proofs.RunLemmas.{last_of_run}
+use Rattle.sub_rules.proofs.RunLemmas.{run_after_each, run_at, told_in_runs, told_of_each}
+use Rattle.sub_rules.proofs.RunLemmas.{told_of_frame, told_of_passed, trust_end}
+use Rattle.sub_rules.specs.PieceEvents.{own_events}
+use Rattle.sub_rules.proofs.TrustedLemmas.{run_over, with_run}
+use Rattle.sub_rules.specs.Trusted.{at_pes}
 
 -- What is told of the pieces, or of the run at their end, is told among all.
 told_among : {R : Type 0} (from b : ℕ) (each last closing : List Event)
@@ -357,12 +362,12 @@ module _ (g : Task) (pieces : List Piece) (a b : ℕ) (can : CanStay g pieces a 
 
       -- What goes on from the first piece is told among all, where anything is told.
       among_all : (from : ℕ) → from ≤ frame_at frames i → Goes from 0 0 None pieces
-          → all_of_pieces g pieces ≢ []
-          → IsTold from (all_of_pieces g pieces)
-      unfolding all_of_pieces told_of_pieces
+          → all_in_runs g pieces ≢ []
+          → IsTold from (all_in_runs g pieces)
+      unfolding all_in_runs told_in_runs
       among_all from from_low going told =
           let each : List Event = told_of_each g frames 0 0 None pieces in
-          let closing : List Event = closing_of_pieces g frames (length pieces) (length frames) in
+          let closing : List Event = closing_told g frames (length pieces) (length frames) in
           let kept : Option ℕ = run_after_each g frames 0 None pieces in
           let any : Bool = not (tells_none each) || not (tells_none closing) in
           told_among from b each (last_of_run g frames kept any) closing
@@ -386,7 +391,10 @@ module _ (g : Task) (pieces : List Piece) (a b : ℕ) (can : CanStay g pieces a 
               × (b ≤ to)
               × Contains (all_of_pieces g pieces) (Trusted from to)
           of_found (from, from_low, going) =
-              let whole = among_all from from_low going told in
+              let whole =
+              subst (IsTold from) (sym (all_are g pieces))
+              (among_all from from_low going
+              (λ none. told (all_are g pieces ∙ none))) in
               (from, whole.0, from_low, whole.1, whole.2)
 
 -- ---- the law

@@ -13,14 +13,17 @@ use Rattle.std.proofs.lemmas.List.Elements.{Contains-push}
 use Rattle.std.specs.List.{list_any}
 use Rattle.std.specs.Option.{option_or}
 use Rattle.std.specs.Prelude.{⊤}
-use Rattle.sub_rules.specs.PieceEvents.{PassedRun, all_announced, announced, at_pes, ended_run}
+use Rattle.sub_rules.specs.PieceEvents.{all_announced, announced, ended_run}
 use Rattle.sub_rules.specs.PieceEvents.{joins, passed_after}
-use Rattle.sub_rules.specs.Trusted.{doubted, kept, run_over, trusted, trusted_before, with_run}
+use Rattle.sub_rules.specs.Trusted.{doubted, kept, trusted, trusted_before}
 use Rattle.sub_rules.specs.declared.event.Event.{Event}
 use Rattle.sub_rules.specs.declared.event.Event.TheVariants.{Trusted}
 use Rattle.sub_rules.proofs.AnyToldLemmas.{is_foreign}
 use Rattle.sub_laws.proofs.FirstFoundLemmas.{first_found}
 use Rattle.sub_rules.proofs.PacketLists.{Each-map, Each-none}
+use Rattle.sub_rules.specs.declared.passed_run.PassedRun.{PassedRun}
+use Rattle.sub_rules.specs.Trusted.{at_pes}
+use Rattle.sub_rules.proofs.TrustedLemmas.{run_over, with_run}
 
 -- The frame that is quiet no more by the first of these that says so.
 abbrev pub first_doubt : ℕ → List Event → Option ℕ

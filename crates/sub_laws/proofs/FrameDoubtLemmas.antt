@@ -12,7 +12,7 @@ use Rattle.sub_rules.specs.Events.{standing_at, standing_before}
 use Rattle.sub_rules.specs.FrameRules.{Task, frame_at, packets_before, packets_of_frame}
 use Rattle.sub_rules.specs.PacketTests.{breaks}
 use Rattle.sub_rules.specs.Transmission.{Transmission}
-use Rattle.sub_rules.specs.Trusted.{doubted, frame_before, own_events, stands_none}
+use Rattle.sub_rules.specs.Trusted.{doubted, stands_none}
 use Rattle.sub_rules.specs.declared.event.Event.{Event}
 use Rattle.sub_rules.specs.declared.event.Event.TheVariants.{Told}
 use Rattle.sub_rules.specs.declared.packet_rule.PacketRule.{PacketRule}
@@ -22,6 +22,8 @@ use Rattle.sub_laws.specs.CleanStretch.{is_needed}
 use Rattle.sub_laws.proofs.DoubtLemmas.{first_doubt}
 use Rattle.sub_laws.proofs.FirstFoundLemmas.{Finds, Finds-append, Finds-like, found-append}
 use Rattle.sub_laws.proofs.FirstFoundLemmas.{found_so_far, packet_found}
+use Rattle.sub_rules.proofs.RunLemmas.{frame_before}
+use Rattle.sub_rules.specs.PieceEvents.{own_events}
 
 -- By these events no other frame than f is quiet no more. Where none is, the one holds; and where
 -- the other is given, none is.

@@ -2,17 +2,15 @@
 use Rattle.std.proofs.lemmas.Bool.Decides.{nat_tests}
 use Rattle.std.proofs.Common.{◌≡◌, ℕ, zero, suc, ◌+◌, ◌-◌, ◌<◌, ◌≤◌, ◌⊎◌, Bool, true, not}
 use Rattle.std.proofs.Common.{◌||◌, List, [], ◌∷◌, ◌++◌, length, map, Option, Some, None, refl}
-use Rattle.std.proofs.Common.{subst, arith, ◌≢◌}
+use Rattle.std.proofs.Common.{subst, sym, arith, ◌≢◌}
 use Rattle.sub_rules.specs.Events.{closing_events, frame_events, unread_fault}
 use Rattle.sub_rules.specs.FrameRules.{Task, end_frame, frame_at, Unread}
-use Rattle.sub_rules.specs.PieceEvents.{ended_run, all_announced, all_of_pieces, at_pes}
-use Rattle.sub_rules.specs.PieceEvents.{closing_of_pieces, last_of_run, no_run, passed_after_all}
-use Rattle.sub_rules.specs.PieceEvents.{run_after_each, run_at, told_of_each, told_of_frame}
-use Rattle.sub_rules.specs.PieceEvents.{told_of_passed, told_of_pieces}
+use Rattle.sub_rules.specs.PieceEvents.{all_announced, all_of_pieces, closing_of_pieces, ended_run}
+use Rattle.sub_rules.specs.PieceEvents.{no_run, passed_after_all}
 use Rattle.sub_rules.specs.Pieces.{Piece, frames_of}
 use Rattle.sub_rules.specs.Pieces.Piece.{Passed, Sent}
 use Rattle.sub_rules.specs.Transmission.{Transmission}
-use Rattle.sub_rules.specs.Trusted.{doubted, frame_before, tells_none, trust_end}
+use Rattle.sub_rules.specs.Trusted.{doubted, tells_none}
 use Rattle.sub_rules.specs.declared.event.Event.{Event}
 use Rattle.sub_rules.specs.declared.event.Event.TheVariants.{Told}
 use Rattle.sub_rules.proofs.AnyToldLemmas.{own_closing, own_frame}
@@ -20,6 +18,11 @@ use Rattle.std.proofs.lemmas.List.Elements.{All-append, All-cons, All-nil}
 use Rattle.sub_laws.proofs.DoubtLemmas.{EachTrusted, OnTrusted, each-announced, each-at, each-ended}
 use Rattle.sub_laws.proofs.DoubtLemmas.{each-own, each-put, first_doubt, trusted_in_run}
 use Rattle.sub_laws.proofs.TrustedRunLemmas.{EndsQuiet, IsRun, Run, ended, run_next}
+use Rattle.sub_rules.specs.Trusted.{at_pes}
+use Rattle.sub_rules.proofs.RunLemmas.{all_are, all_in_runs, closing_told, frame_before}
+use Rattle.sub_rules.proofs.RunLemmas.{last_of_run, run_after_each}
+use Rattle.sub_rules.proofs.RunLemmas.{run_at, told_in_runs, told_of_each, told_of_frame}
+use Rattle.sub_rules.proofs.RunLemmas.{told_of_passed, trust_end}
 
 -- A piece that is passed over makes the frame before it quiet no more.
 pub passed_doubt : (last pes : ℕ) (u : Unread)
@@ -137,27 +140,29 @@ module _ (g : Task) (frames : Transmission) where
   last_stays kept any h1 = grind (arith, nat_tests, All-nil, each-put, end_low-trusted, run_stays)
 
   -- What is told after them.
-  plain_stays : (pes n : ℕ) → length frames ≡ n
-      → EachTrusted StaysTo (map (at_pes pes) (closing_events g frames n))
-  plain_stays pes n all =
-      each-at StaysTo pes (closing_events g frames n)
-      (each-own StaysTo n _ (own_closing g frames n all))
+  closing_own : (n : ℕ) → length frames ≡ n → EachTrusted StaysTo (closing_events g frames n)
+  closing_own n all = each-own StaysTo n (closing_events g frames n) (own_closing g frames n all)
 
-  closing_stays : (pes n : ℕ) → length frames ≡ n
+  closing_plain : (pes n : ℕ) → length frames ≡ n
       → EachTrusted StaysTo (closing_of_pieces g frames pes n)
   unfolding closing_of_pieces
-  closing_stays pes n all = grind (arith, nat_tests, All-nil, All-cons, plain_stays)
+  closing_plain pes n all = grind (arith, nat_tests, All-nil, All-cons, closing_own)
+
+  closing_stays : (pes n : ℕ) → length frames ≡ n
+      → EachTrusted StaysTo (closing_told g frames pes n)
+  closing_stays pes n all =
+      each-at StaysTo pes (closing_of_pieces g frames pes n) (closing_plain pes n all)
 
 -- All that is told as trusted of pieces.
-pub all_stay : (g : Task) (pieces : List Piece)
-    → EachTrusted (StaysTo g (frames_of pieces)) (all_of_pieces g pieces)
-unfolding all_of_pieces told_of_pieces
-all_stay g pieces =
+runs_stay : (g : Task) (pieces : List Piece)
+    → EachTrusted (StaysTo g (frames_of pieces)) (all_in_runs g pieces)
+unfolding all_in_runs told_in_runs
+runs_stay g pieces =
     let frames : Transmission = frames_of pieces in
     let P : ℕ → ℕ → Type 0 = StaysTo g frames in
-    let told : List Event = told_of_pieces g pieces in
+    let told : List Event = told_in_runs g pieces in
     let each : List Event = told_of_each g frames 0 0 None pieces in
-    let closing : List Event = closing_of_pieces g frames (length pieces) (length frames) in
+    let closing : List Event = closing_told g frames (length pieces) (length frames) in
     let kept : Option ℕ = run_after_each g frames 0 None pieces in
     let any : Bool = not (tells_none each) || not (tells_none closing) in
     All-append (OnTrusted P) (all_announced no_run told) _
@@ -168,6 +173,11 @@ all_stay g pieces =
     (last_stays g frames kept any (kept_after g frames 0 None pieces (omega arith) (λ from e. cc))))
     (closing_stays g frames (length pieces) (length frames) refl)))
     (each-ended P (passed_after_all no_run told))
+
+pub all_stay : (g : Task) (pieces : List Piece)
+    → EachTrusted (StaysTo g (frames_of pieces)) (all_of_pieces g pieces)
+all_stay g pieces =
+    subst (EachTrusted (StaysTo g (frames_of pieces))) (sym (all_are g pieces)) (runs_stay g pieces)
 
 -- Where anything is told, something is told of a piece, or after the last one.
 pub any_told : (g : Task) (sent : Transmission) (kept : Option ℕ) (each closing : List Event)

@@ -10,9 +10,8 @@ use Rattle.sub_rules.specs.Events.{events_of_first, frame_events, gap_events, ga
 use Rattle.sub_rules.specs.Events.{order_events, standing_at}
 use Rattle.sub_rules.specs.FrameRules.{HasHeader, Task, frame_at, packets_of_frame}
 use Rattle.sub_rules.specs.PacketTests.{breaks}
-use Rattle.sub_rules.specs.PieceEvents.{run_at}
 use Rattle.sub_rules.specs.Transmission.{Transmission}
-use Rattle.sub_rules.specs.Trusted.{frame_before, is_order, is_quiet, own_events, stands_none}
+use Rattle.sub_rules.specs.Trusted.{is_order, stands_none}
 use Rattle.sub_rules.specs.declared.event.Event.{Event}
 use Rattle.sub_rules.specs.declared.packet_rule.PacketRule.{PacketRule}
 use Rattle.sub_rules.proofs.EndLemmas.{gap_length-is}
@@ -23,6 +22,8 @@ use Rattle.sub_laws.proofs.FrameDoubtLemmas.{own_doubt}
 use Rattle.sub_laws.proofs.OrderToldLemmas.{rises_of}
 use Rattle.sub_laws.proofs.PrefixLemmas.{RiseTo, before, packet_at, rises_to}
 use Rattle.sub_laws.proofs.RisingEndLemmas.{latest_at}
+use Rattle.sub_rules.proofs.RunLemmas.{frame_before, is_quiet, run_at}
+use Rattle.sub_rules.specs.PieceEvents.{own_events}
 
 module _ (g : Task) (frames : Transmission) where
   -- No end of a frame from one up to another, that one left out, up to which n frames of the list

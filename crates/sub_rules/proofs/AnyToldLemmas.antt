@@ -12,8 +12,8 @@ use Rattle.sub_rules.specs.Events.{first_header_events, frame_events, gap_events
 use Rattle.sub_rules.specs.Events.{order_events, packet_events, packet_fault, rest_events}
 use Rattle.sub_rules.specs.Events.{rules_told, standing_at}
 use Rattle.sub_rules.specs.FrameRules.{Task, Unread, end_frame}
-use Rattle.sub_rules.specs.PieceEvents.{at_pes}
 use Rattle.sub_rules.specs.Transmission.{Transmission}
+use Rattle.sub_rules.specs.Trusted.{at_pes}
 use Rattle.sub_rules.specs.declared.event.Event.{Event}
 use Rattle.sub_rules.specs.declared.event.Event.TheVariants.{Told, Trusted}
 use Rattle.sub_rules.specs.declared.fault.CheckFault.TheVariants as fault

@@ -9,5 +9,6 @@ pub mod PesReadingLemmas
 pub mod PieceEventLemmas
 pub mod PieceFileLemmas
 pub mod PrefixEventLemmas
+pub mod RunLemmas
 pub mod TestLemmas
 pub mod TrustedLemmas

@@ -9,22 +9,25 @@ use Rattle.std.specs.Prelude.{option_map}
 use Rattle.sub_rules.specs.Events.{Standing, closing_events, end_events, endings, events}
 use Rattle.sub_rules.specs.Events.{events_of_first, first_told, frame_events}
 use Rattle.sub_rules.specs.Events.{unread_fault}
+use Rattle.sub_rules.specs.Fault.{fault_at_pes}
 use Rattle.sub_rules.specs.FrameRules.{Task, Unread}
-use Rattle.sub_rules.specs.PieceEvents.{LawOfFirstTold, PassedRun, all_announced, all_of_pieces}
-use Rattle.sub_rules.specs.PieceEvents.{announced, at_pes, closing_of_pieces, ended_run}
-use Rattle.sub_rules.specs.PieceEvents.{fault_at_pes, joins, last_of_run, no_run}
-use Rattle.sub_rules.specs.PieceEvents.{passed_after, passed_after_all, run_after_each, run_at}
-use Rattle.sub_rules.specs.PieceEvents.{told_of_each, told_of_frame}
-use Rattle.sub_rules.specs.PieceEvents.{told_of_pieces, until_passed}
+use Rattle.sub_rules.specs.PieceEvents.{LawOfFirstTold, all_announced, announced}
+use Rattle.sub_rules.specs.PieceEvents.{closing_of_pieces, ended_run, joins, marks_of_each, no_run}
+use Rattle.sub_rules.specs.PieceEvents.{passed_after, passed_after_all, until_passed}
 use Rattle.sub_rules.specs.Pieces.{Piece, frames_of, read_until_passed}
 use Rattle.sub_rules.specs.Pieces.Piece.{Passed, Sent}
 use Rattle.sub_rules.specs.Transmission.{Transmission}
-use Rattle.sub_rules.specs.Trusted.{doubted, kept, tells_none, trusted, trusted_before, with_run}
+use Rattle.sub_rules.specs.Trusted.{at_pes, doubted, kept, tells_none, trusted, trusted_before}
 use Rattle.sub_rules.specs.declared.event.Event.{Event}
 use Rattle.sub_rules.specs.declared.event.Event.TheVariants.{Ended, PassedUntil, Told, Trusted}
 use Rattle.sub_rules.specs.declared.fault.CheckFault.{CheckFault}
+use Rattle.sub_rules.specs.declared.passed_run.PassedRun.{PassedRun}
 use Rattle.sub_rules.proofs.PrefixEventLemmas.{frame_events-prefix}
 use Rattle.sub_rules.proofs.AnyToldLemmas.{own_closing, own_frame, own_names}
+use Rattle.sub_rules.proofs.RunLemmas.{all_are, all_in_runs, closing_told, last_of_run}
+use Rattle.sub_rules.proofs.RunLemmas.{run_after_each, run_at, told_in_runs, told_of_each}
+use Rattle.sub_rules.proofs.RunLemmas.{told_of_frame}
+use Rattle.sub_rules.proofs.TrustedLemmas.{with_run}
 
 -- ---- what is told first of two lists
 
@@ -162,7 +165,7 @@ walk g done all first n run (Sent s ∷ pieces) u after size all_is first_is u_i
 
 -- After pieces that are all sent.
 closing_same : (g : Task) (frames : Transmission) (n : ℕ) → length frames ≡ n
-    → closing_of_pieces g frames n n ≡ closing_events g frames n
+    → closing_told g frames n n ≡ closing_events g frames n
 unfolding closing_of_pieces
 closing_same g frames n h1 =
     let same = own_names n (closing_events g frames n) (own_closing g frames n h1) in
@@ -176,16 +179,17 @@ last_of_first g frames run any =
 
 -- The refusal that is told first: the law.
 pub first_told_is : LawOfFirstTold
-unfolding all_of_pieces told_of_pieces events events_of_first
+unfolding all_in_runs told_in_runs events events_of_first
 first_told_is g pieces =
     let frames = frames_of pieces in
     let stop = read_until_passed pieces g.unread in
     let h : Task = until_passed g pieces in
     let each = told_of_each g frames 0 0 None pieces in
-    let closing = closing_of_pieces g frames (length pieces) (length frames) in
+    let closing = closing_told g frames (length pieces) (length frames) in
     let any = not (tells_none each) || not (tells_none closing) in
     let last = last_of_run g frames (run_after_each g frames 0 None pieces) any in
-    first_of_two (all_announced no_run (each ++ last ++ closing)) _
+    ap first_told (all_are g pieces)
+    ∙ first_of_two (all_announced no_run (each ++ last ++ closing)) _
     ∙ ap (or_else (first_told (all_announced no_run (each ++ last ++ closing)))) (ended_first _)
     ∙ or_else_none _
     ∙ announced_first (each ++ last ++ closing)
@@ -226,66 +230,18 @@ frames_of-append [] ys = refl
 frames_of-append (Sent s ∷ xs) ys = ap (λ (fs : Transmission). s ∷ fs) (frames_of-append xs ys)
 frames_of-append (Passed u ∷ xs) ys = frames_of-append xs ys
 
--- The run after them.
-pub run_after_each-append : (g : Task) (frames : Transmission) (i k : ℕ) (run : Option ℕ)
-    (xs ys : List Piece)
-    → k ≡ i + length (frames_of xs)
-    → run_after_each g frames i run (xs ++ ys)
-    ≡ run_after_each g frames k (run_after_each g frames i run xs) ys
-unfolding run_after_each frames_of
-run_after_each-append g frames i k run [] ys e =
-    ap (λ (n : ℕ). run_after_each g frames n run ys) (let is : i ≡ k = omega arith in is)
-run_after_each-append g frames i k run (Sent s ∷ xs) ys e =
-    run_after_each-append g frames (suc i) k (run_at g frames i run) xs ys (omega arith)
-run_after_each-append g frames i k run (Passed u ∷ xs) ys e =
-    run_after_each-append g frames i k None xs ys e
-
--- What is told of them.
-pub told_of_each-append : (g : Task) (frames : Transmission) (pes n i k : ℕ) (run : Option ℕ)
-    (xs ys : List Piece)
+-- What comes of the one, and then of the other.
+pub marks_of_each-append : (g : Task) (frames : Transmission) (pes n i k : ℕ) (xs ys : List Piece)
     → n ≡ pes + length xs
     → k ≡ i + length (frames_of xs)
-    → told_of_each g frames pes i run (xs ++ ys)
-    ≡ told_of_each g frames pes i run xs
-    ++ told_of_each g frames n k (run_after_each g frames i run xs) ys
-unfolding told_of_each run_after_each frames_of
-told_of_each-append g frames pes n i k run [] ys d e = grind (arith, nat_tests)
-told_of_each-append g frames pes n i k run (Sent s ∷ xs) ys d e =
-    let rest =
-    told_of_each-append g frames (suc pes) n (suc i) k (run_at g frames i run) xs ys (omega arith)
+    → marks_of_each g frames pes i (xs ++ ys)
+    ≡ marks_of_each g frames pes i xs ++ marks_of_each g frames n k ys
+unfolding marks_of_each frames_of
+marks_of_each-append g frames pes n i k [] ys d e = grind (arith, nat_tests)
+marks_of_each-append g frames pes n i k (Sent s ∷ xs) ys d e =
+    let rest = marks_of_each-append g frames (suc pes) n (suc i) k xs ys (omega arith)
     (omega arith) in
     grind (arith, nat_tests, append_assoc)
-told_of_each-append g frames pes n i k run (Passed u ∷ xs) ys d e =
-    let rest = told_of_each-append g frames (suc pes) n i k None xs ys (omega arith) e in
+marks_of_each-append g frames pes n i k (Passed u ∷ xs) ys d e =
+    let rest = marks_of_each-append g frames (suc pes) n i k xs ys (omega arith) e in
     grind (arith, nat_tests, append_assoc)
-
--- ---- where nothing is told
-
-pub tells_none-two : (xs ys : List Event) → tells_none (xs ++ ys) ≡ (tells_none xs && tells_none ys)
-tells_none-two xs ys = grind (arith, nat_tests)
-
-pub tells_none-at : (pes : ℕ) (es : List Event) → tells_none (map (at_pes pes) es) ≡ tells_none es
-tells_none-at pes es = grind (arith, nat_tests)
-
--- Nothing is trusted where nothing is told.
-pub tells_none-run : (last : ℕ) (run : Option ℕ) (es : List Event)
-    → tells_none (with_run last run es) ≡ tells_none es
-unfolding with_run
-tells_none-run last run es = grind (arith, nat_tests, tells_none-two)
-
--- What is trusted names no PES packet.
-trusted_at : (pes : ℕ) (run : Option ℕ) (f : ℕ) → map (at_pes pes) (trusted run f) ≡ trusted run f
-unfolding at_pes
-trusted_at pes run f = grind (arith, nat_tests)
-
-pub last_of_run-at : (pes : ℕ) (g : Task) (frames : Transmission) (run : Option ℕ) (any : Bool)
-    → map (at_pes pes) (last_of_run g frames run any) ≡ last_of_run g frames run any
-unfolding last_of_run
-last_of_run-at pes g frames run any = grind (arith, nat_tests, trusted_at)
-
--- The fault of a piece names it already.
-pub passed_at : (pes last : ℕ) (run : Option ℕ) (u : Option Unread)
-    → map (at_pes pes) (with_run last run (Told (unread_fault pes u) ∷ []))
-    ≡ with_run last run (Told (unread_fault pes u) ∷ [])
-unfolding with_run at_pes
-passed_at pes last run u = grind (arith, nat_tests, map-append, trusted_at)

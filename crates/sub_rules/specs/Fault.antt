@@ -2,7 +2,7 @@
 -- where it is, and what follows where it is told; and which of them are those of a device, of memory
 -- or of the one file.
 use Rattle.std.specs.Prelude.{ℕ, List, Bool, true, false, not, ◌||◌, Option, Some, None}
-use Rattle.std.specs.Prelude.{codes, if◌then◌else◌}
+use Rattle.std.specs.Prelude.{codes}
 use Rattle.sub_io.specs.FaultCode.{FaultCodeValue, fault_code}
 use Rattle.stl_file.specs.declared.fault.StlFault.TheVariants as stl
 use Rattle.stl_rows.specs.Fault as load
@@ -33,29 +33,21 @@ load_place _ block = place.Block block
 
 -- ---- a row for each fault
 
--- The row of a fault that a rule tells, by whether receivers depend on that rule.
+-- The row of a fault for which no PES packet is passed over.
 abbrev pub coded_row : FaultCodeValue → FaultPlace → Bool → FaultRow
-coded_row code place doubts = record {
-  code = code;
-  place = place;
-  doubts = doubts;
-  is_passed = false;
-  is_rule = true;
-}
+coded_row code place doubts =
+    record { code = code; place = place; doubts = doubts; is_passed = false }
 
 abbrev pub rule_row : ℕ → List ℕ → FaultPlace → Bool → FaultRow
 rule_row number name place doubts = coded_row (fault_code number name) place doubts
 
 -- The row of a fault of a pair of files: its number and name, and its place; whether a frame is
--- quiet no more where it is told; whether a PES packet is passed over for it; whether a rule tells
--- it. Receivers depend neither on C11 nor on packets X/25 to X/28.
+-- quiet no more where it is told; and whether a PES packet is passed over for it. Receivers depend
+-- neither on C11 nor on packets X/25 to X/28.
 abbrev pub fault_row : CheckFault → FaultRow
-fault_row (fault.Subtitles f) =
-    record (coded_row (load_code f.kind) (load_place f.kind f.block) false) { is_rule = false }
-fault_row (fault.Pes n f) = record (coded_row (pes_code f) (place.Pes n) true) {
-  is_passed = is_of_piece f;
-  is_rule = not (pes.is_read f || pes.is_write f);
-}
+fault_row (fault.Subtitles f) = coded_row (load_code f.kind) (load_place f.kind f.block) false
+fault_row (fault.Pes n f) =
+    record (coded_row (pes_code f) (place.Pes n) true) { is_passed = is_of_piece f }
 fault_row fault.Empty = rule_row 60 (codes "Empty") place.Nowhere false
 fault_row (fault.OffFrame n) =
     record (rule_row 61 (codes "OffFrame") (place.Pes n) true) { is_passed = true }
@@ -81,18 +73,21 @@ check_code f = (fault_row f).code
 abbrev pub place_of : CheckFault → FaultPlace
 place_of f = (fault_row f).place
 
--- The frame of a place in a transmission, if it is one: of a PES packet that of the one before it,
--- `last`, in which it may have been sent too.
-abbrev pub frame_of_place : ℕ → FaultPlace → Option ℕ
-frame_of_place last (place.Pes n) = Some last
-frame_of_place last (place.Frame f) = Some f
-frame_of_place last (place.Packet f k) = Some f
-frame_of_place last (place.Cell f r c) = Some f
-frame_of_place last _ = None
+-- The frame that is quiet no more where a fault is told, if one is, by its place: of a PES packet
+-- that of the one before it, `last`, in which it may have been sent too.
+abbrev pub doubted_frame : ℕ → Bool → FaultPlace → Option ℕ
+doubted_frame last true (place.Pes n) = Some last
+doubted_frame last true (place.Frame f) = Some f
+doubted_frame last true (place.Packet f k) = Some f
+doubted_frame last true (place.Cell f r c) = Some f
+doubted_frame last _ _ = None
 
--- The frame that is quiet no more where a fault with this row is told, if one is.
-abbrev pub doubted_frame : ℕ → FaultRow → Option ℕ
-doubted_frame last row = if row.doubts then frame_of_place last row.place else None
+-- A refusal that names a PES packet names this one.
+abbrev pub fault_at_pes : ℕ → CheckFault → CheckFault
+fault_at_pes pes (fault.Order index) = fault.Order pes
+fault_at_pes pes (fault.Pes index f) = fault.Pes pes f
+fault_at_pes pes (fault.OffFrame index) = fault.OffFrame pes
+fault_at_pes pes refusal = refusal
 
 -- ---- what it comes of
 

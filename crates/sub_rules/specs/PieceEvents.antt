@@ -2,75 +2,61 @@
 -- frames that are sent what is told of a transmission, and in its place the number of each piece
 -- that is passed over. Of such pieces one directly after the other with one number the first is
 -- told, and up to which one they go, directly before whatever is told next.
-use Rattle.std.specs.Prelude.{ℕ, zero, suc, ◌&&◌, ◌||◌, ◌==◌, ◌≡◌, Bool, false, not}
-use Rattle.std.specs.Prelude.{List, [], ◌∷◌, ◌++◌, length, map, Option, Some, None, if◌then◌else◌}
+use Rattle.std.specs.Prelude.{ℕ, zero, suc, ◌&&◌, ◌==◌, ◌≡◌, Bool, true, false, not, List, []}
+use Rattle.std.specs.Prelude.{◌∷◌, ◌++◌, length, map, Option, Some, None, is_some, if◌then◌else◌}
 use Rattle.ttx_page.specs.PacketKind.{kind}
 use Rattle.ttx_page.specs.Span.{holds_header}
-use Rattle.sub_rules.specs.Events.{closing_events, events, first_told, frame_events, unread_fault}
+use Rattle.sub_rules.specs.Events.{closing_events, events, events_at_end, first_header_events}
+use Rattle.sub_rules.specs.Events.{first_told, gap_events, gap_length, order_events, packet_events}
+use Rattle.sub_rules.specs.Events.{standing_at, unread_fault}
 use Rattle.sub_rules.specs.Fault.{check_code, fault_row, place_of}
-use Rattle.sub_rules.specs.FrameRules.{Task, Unread, end_frame, frame_at, packets_of_frame}
+use Rattle.sub_rules.specs.FrameRules.{Task, Unread, frame_at, packets_before, packets_of_frame}
 use Rattle.sub_rules.specs.Pieces.{Piece, frames_of, read_until_passed}
 use Rattle.sub_rules.specs.Pieces.Piece.{Passed, Sent}
 use Rattle.sub_rules.specs.Transmission.{Transmission}
-use Rattle.sub_rules.specs.Trusted.{begun, frame_before, is_quiet, run_over, tells_none, trust_end}
-use Rattle.sub_rules.specs.Trusted.{trusted, with_run}
+use Rattle.sub_rules.specs.Trusted.{Mark, no_trust, stands_none, tells_none, told_by}
+use Rattle.sub_rules.specs.Trusted.Mark.{AtPes, Begins, Closes, Ends, Says}
 use Rattle.sub_rules.specs.declared.event.Event.{Event}
 use Rattle.sub_rules.specs.declared.event.Event.TheVariants.{PassedUntil, Told}
 use Rattle.sub_rules.specs.declared.fault.CheckFault.{CheckFault}
-use Rattle.sub_rules.specs.declared.fault.CheckFault.TheVariants as fault
 use Rattle.sub_rules.specs.declared.fault_place.FaultPlace.{FaultPlace}
 use Rattle.sub_rules.specs.declared.fault_place.FaultPlace.TheVariants as place
+use Rattle.sub_rules.specs.declared.passed_run.PassedRun.{PassedRun}
 
 -- ---- each piece by itself
 
--- A refusal that names a PES packet names this one.
-abbrev pub fault_at_pes : ℕ → CheckFault → CheckFault
-fault_at_pes pes (fault.Order index) = fault.Order pes
-fault_at_pes pes (fault.Pes index f) = fault.Pes pes f
-fault_at_pes pes (fault.OffFrame index) = fault.OffFrame pes
-fault_at_pes pes refusal = refusal
+-- What is told of frame i of the list before its packets: of its number, and of the frames of the
+-- day before it.
+abbrev pub arriving_events : Task → Transmission → ℕ → List Event
+arriving_events g frames i =
+    order_events g frames i ++ gap_events g frames i (gap_length frames i)
 
--- What is told of a frame, told of PES packet `pes`, which sends it: pieces that are passed over
--- are counted too.
-unfoldable pub at_pes : ℕ → Event → Event
-at_pes pes (Told refusal) = Told (fault_at_pes pes refusal)
-at_pes pes event = event
+-- What is told of its packets, and at its end.
+abbrev pub own_events : Task → Transmission → ℕ → List Event
+own_events g frames i =
+    packet_events g.watched (frame_at frames i) (packets_before frames i)
+    (packets_of_frame frames i) (length (packets_of_frame frames i))
+    ++ first_header_events g frames i
+    ++ events_at_end g frames i (suc i) (frame_at frames i)
 
--- The run of quiet frames at the end of frame i of the list, by that at the end of the PES packet
--- before it.
-unfoldable pub run_at : Task → Transmission → ℕ → Option ℕ → Option ℕ
-run_at g frames i run =
-    if is_quiet g frames i
-    then begun (run_over (frame_before frames i) run (frame_events g frames i))
-    (holds_header (kind g.watched.page) (packets_of_frame frames i)) (frame_at frames i)
-    else None
+-- Both, and where its packets and its end are.
+abbrev pub marks_of_frame : Task → Transmission → ℕ → List Mark
+marks_of_frame g frames i =
+    map Says (arriving_events g frames i)
+    ++ Begins ∷ []
+    ++ map Says (own_events g frames i)
+    ++ Ends (frame_at frames i) (holds_header (kind g.watched.page) (packets_of_frame frames i))
+    (stands_none (standing_at g frames (suc i) (frame_at frames i))) ∷ []
 
--- What is told of frame i of the list, with what is trusted of the run before it.
-abbrev pub told_of_frame : Task → Transmission → ℕ → Option ℕ → List Event
-told_of_frame g frames i run = with_run (frame_before frames i) run (frame_events g frames i)
-
--- What is told of a piece that is passed over: with it the run before it is over.
-abbrev pub told_of_passed : Transmission → ℕ → ℕ → Option ℕ → Unread → List Event
-told_of_passed frames pes i run u =
-    with_run (frame_before frames i) run (Told (unread_fault pes (Some u)) ∷ [])
-
--- What is told of pieces, the first of them PES packet `pes` and, if it is sent, frame i of the
--- list, after a run of quiet frames. What a piece that is passed over puts on air is not known: the
--- frame before it is not quiet, and no run goes on over it.
-unfoldable pub told_of_each : Task → Transmission → ℕ → ℕ → Option ℕ → List Piece → List Event
-told_of_each g frames pes i run [] = []
-told_of_each g frames pes i run (Sent s ∷ pieces) =
-    map (at_pes pes) (told_of_frame g frames i run)
-    ++ told_of_each g frames (suc pes) (suc i) (run_at g frames i run) pieces
-told_of_each g frames pes i run (Passed u ∷ pieces) =
-    told_of_passed frames pes i run u ++ told_of_each g frames (suc pes) i None pieces
-
--- The run of quiet frames after them.
-unfoldable pub run_after_each : Task → Transmission → ℕ → Option ℕ → List Piece → Option ℕ
-run_after_each g frames i run [] = run
-run_after_each g frames i run (Sent s ∷ pieces) =
-    run_after_each g frames (suc i) (run_at g frames i run) pieces
-run_after_each g frames i run (Passed u ∷ pieces) = run_after_each g frames i None pieces
+-- What comes of pieces, the first of them PES packet `pes` and, if it is sent, frame i of the list.
+-- What a piece that is passed over puts on air is not known: its fault doubts the frame before.
+unfoldable pub marks_of_each : Task → Transmission → ℕ → ℕ → List Piece → List Mark
+marks_of_each g frames pes i [] = []
+marks_of_each g frames pes i (Sent s ∷ pieces) =
+    AtPes pes ∷ marks_of_frame g frames i ++ marks_of_each g frames (suc pes) (suc i) pieces
+marks_of_each g frames pes i (Passed u ∷ pieces) =
+    AtPes pes ∷ Says (Told (unread_fault pes (Some u)))
+    ∷ marks_of_each g frames (suc pes) i pieces
 
 -- What is told where there are pieces and none is sent: nothing but what keeps the bytes from being
 -- read on.
@@ -81,12 +67,19 @@ told_of_unread pes (Some u) = Told (unread_fault pes (Some u)) ∷ []
 -- What is told after the last one, of `pes` pieces that send n frames.
 unfoldable pub closing_of_pieces : Task → Transmission → ℕ → ℕ → List Event
 closing_of_pieces g frames (suc pes) zero = told_of_unread (suc pes) g.unread
-closing_of_pieces g frames pes n = map (at_pes pes) (closing_events g frames n)
+closing_of_pieces g frames pes n = closing_events g frames n
 
--- What is trusted of the last run, where anything is told.
-unfoldable pub last_of_run : Task → Transmission → Option ℕ → Bool → List Event
-last_of_run g frames run any =
-    if any then trusted run (trust_end g.unread (end_frame frames)) else []
+-- What comes then.
+abbrev pub marks_of_closing : Task → Transmission → ℕ → ℕ → List Mark
+marks_of_closing g frames pes n =
+    AtPes pes ∷ Closes (is_some g.unread) (not (tells_none (closing_of_pieces g frames pes n)))
+    ∷ map Says (closing_of_pieces g frames pes n)
+
+-- What comes of all pieces of a file.
+abbrev pub marks_of_pieces : Task → List Piece → List Mark
+marks_of_pieces g pieces =
+    marks_of_each g (frames_of pieces) 0 0 pieces
+    ++ marks_of_closing g (frames_of pieces) (length pieces) (length (frames_of pieces))
 
 -- ---- pieces that are passed over one directly after the other
 
@@ -102,13 +95,7 @@ goes_on last refusal =
     && is_behind (place_of last) (place_of refusal)
     && ((check_code refusal).number == (check_code last).number)
 
--- Pieces that are passed over one directly after the other with one number: the refusal of the last
--- of them, if nothing else was told since, and whether there are more than one.
-pub record PassedRun : Type 0 where
-  pub last : Option CheckFault
-  pub many : Bool
-
--- None was passed over.
+-- No piece was passed over.
 abbrev pub no_run : PassedRun
 no_run = record { last = None; many = false }
 
@@ -162,16 +149,12 @@ passed_after_all run (e ∷ es) = passed_after_all (passed_after run e) es
 
 -- What is told of pieces, where nothing is told after them.
 unfoldable pub events_of_pieces : Task → Transmission → List Piece → List Event
-events_of_pieces g frames pieces = all_announced no_run (told_of_each g frames 0 0 None pieces)
+events_of_pieces g frames pieces =
+    all_announced no_run (told_by no_trust (marks_of_each g frames 0 0 pieces))
 
 -- What is told of each piece, and after the last one.
 unfoldable pub told_of_pieces : Task → List Piece → List Event
-told_of_pieces g pieces =
-    let frames = frames_of pieces in
-    let each = told_of_each g frames 0 0 None pieces in
-    let closing = closing_of_pieces g frames (length pieces) (length frames) in
-    let any = not (tells_none each) || not (tells_none closing) in
-    each ++ last_of_run g frames (run_after_each g frames 0 None pieces) any ++ closing
+told_of_pieces g pieces = told_by no_trust (marks_of_pieces g pieces)
 
 -- All that is told of a PES file that is read on after the pieces that are passed over.
 unfoldable pub all_of_pieces : Task → List Piece → List Event

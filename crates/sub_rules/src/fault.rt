@@ -125,7 +125,7 @@ pub enum CheckFault {
 }
 
 impl CheckFault {
-    ghost use Rattle.sub_rules.specs.Fault.{check_code, place_of};
+    ghost use Rattle.sub_rules.specs.Fault.{check_code, fault_at_pes, place_of};
 
     /// Its row.
     pub fn row(self) -> FaultRow
@@ -180,6 +180,18 @@ impl CheckFault {
     {
         self.row().place
     }
+
+    /// The same of this PES packet, where it names one.
+    pub fn at_pes(self, pes: u32) -> CheckFault
+        ensures { result ≡ fault_at_pes pes self }
+    {
+        match self {
+            CheckFault::Order { .. } => CheckFault::Order { pes },
+            CheckFault::Pes { fault, .. } => CheckFault::Pes { pes, fault },
+            CheckFault::OffFrame { .. } => CheckFault::OffFrame { pes },
+            _ => self,
+        }
+    }
 }
 
 // The row of a fault of the subtitle file.
@@ -191,10 +203,7 @@ fn load_row(fault: LoadFault) -> FaultRow
         LoadFaultKind::Row(row) => FaultPlace::Text { block, at: row.at },
         _ => FaultPlace::Block { block },
     };
-    FaultRow {
-        is_rule: false,
-        ..coded_row(fault.kind.code(), place, false)
-    }
+    coded_row(fault.kind.code(), place, false)
 }
 
 // The row of a fault of a PES packet.
@@ -203,12 +212,11 @@ fn pes_row(pes: u32, fault: PesFault) -> FaultRow
 {
     FaultRow {
         is_passed: fault.is_of_piece(),
-        is_rule: fault != PesFault::Read && fault != PesFault::Write,
         ..coded_row(fault.code(), FaultPlace::Pes { pes }, true)
     }
 }
 
-// The row of a fault that a rule tells, by whether receivers depend on that rule.
+// The row of a fault for which no PES packet is passed over.
 fn coded_row(code: FaultCode, place: FaultPlace, doubts: bool) -> FaultRow
     ensures { result ≡ coded_row code place doubts }
 {
@@ -217,7 +225,6 @@ fn coded_row(code: FaultCode, place: FaultPlace, doubts: bool) -> FaultRow
         place,
         doubts,
         is_passed: false,
-        is_rule: true,
     }
 }
 

@@ -18,15 +18,13 @@ pub struct FaultRow {
     pub doubts: bool,
     /// Whether reading goes on behind the PES packet.
     pub is_passed: bool,
-    /// Whether a rule tells it: it is none of the subtitle file, and no device failed.
-    pub is_rule: bool,
 }
 
 impl FaultRow {
     /// The frame that may not stay as it is where the fault is told after a PES packet of frame
     /// `last`: that of its place. What is told of a PES packet may have been sent in the last one.
     pub fn doubted(&self, last: u32) -> Option<u32>
-        ensures { result ≡ doubted_frame last self.now }
+        ensures { result ≡ doubted_frame last self.now.doubts self.now.place }
     {
         match self.place {
             _ if !self.doubts => None,

@@ -1,21 +1,24 @@
 -- What is told last, and then up to which piece a run goes.
-use Rattle.std.proofs.Common.{subst}
+use Rattle.std.proofs.Common.{◌∙◌, ap, subst, sym, List}
 use Rattle.std.proofs.lemmas.Result.{err_from_is_err_and}
 use Rattle.sub_io.proofs.TellingLemmas.{TellsPrefix-first, TellsUntilStopped-after}
-use Rattle.sub_rules.specs.PieceEvents.{PassedRun, ended_run}
 use Rattle.sub_io.specs.Telling.{TellsUntilStopped}
+use Rattle.sub_rules.specs.PieceEvents.{ended_run}
+use Rattle.sub_rules.specs.declared.event.Event.{Event}
+use Rattle.sub_checker.specs.declared.passing.Passing.{Passing}
 use Rattle.sub_checker.proofs.closing_pieces.tell_end.Goals as goal
 
 pub returns-in_err-tell_closing-clause-told : goal.returns-in_err-tell_closing-clause-told
-returns-in_err-tell_closing-clause-told g c = λ task list run told follows judges all is.
+returns-in_err-tell_closing-clause-told g c = λ task list follows all is.
     let p = err_from_is_err_and c.from_residual.result c.from_residual.ensures.1 in
-    let first = c.in_err-tell_closing.ensures.told task list run told follows judges all is in
+    let first = c.in_err-tell_closing.ensures.told task list follows all is in
     rw p.1 (TellsPrefix-first _ _ _ _ first.told)
 
 pub returns-clause-told : goal.returns-clause-told
-returns-clause-told g c = λ task list run told follows judges all is.
-    let first = c.in_ok-tell_closing.ensures.told task list run told follows judges all is in
-    TellsUntilStopped-after _ _ _ _ _ c.tell_ended.result first.told
-    (subst (λ (r : PassedRun). TellsUntilStopped g.A.Audience.is_told c.tell_closing.new.audience
-    c.tell_ended.new.audience (ended_run r) c.tell_ended.result) first.run_is
-    c.tell_ended.ensures.told)
+returns-clause-told g c = λ task list follows all is.
+    let first = c.in_ok-tell_closing.ensures.told task list follows all is in
+    TellsUntilStopped-after _ _ _ _ _ c.tell_some.result first.told
+    (subst (λ (es : List Event). TellsUntilStopped g.A.Audience.is_told c.tell_closing.new.audience
+    c.tell_some.new.audience es c.tell_some.result)
+    (c.ended.ensures ∙ ap (λ (p : Passing). ended_run p.run) first.kept)
+    c.tell_some.ensures.told)

@@ -2,8 +2,9 @@
 use Rattle.std.proofs.Common.{◌∙◌, ap, sym, subst}
 use Rattle.std.specs.Prelude.{OnOk}
 use Rattle.sub_io.specs.Telling.{TellsUntilStopped}
-use Rattle.sub_checker.specs.Following.{Arrives, Follows, arriving_events}
+use Rattle.sub_checker.specs.Following.{Arrives, Follows}
 use Rattle.sub_rules.specs.FrameRules.{frame_at}
+use Rattle.sub_rules.specs.PieceEvents.{arriving_events}
 use Rattle.sub_checker.proofs.checker.Checker.reach.Goals as goal
 
 pub returns-then-pes-eq0-clause-told : goal.returns-then-pes-eq0-clause-told

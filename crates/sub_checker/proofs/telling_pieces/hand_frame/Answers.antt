@@ -1,8 +1,0 @@
--- What the checker tells.
-use Rattle.std.proofs.Common.{rules}
-use Rattle.sub_checker.proofs.telling_pieces.hand_frame.Goals as goal
-
-pub returns-clause-told : goal.returns-clause-told
-returns-clause-told g c = λ task list run told follows judges sent again.
-    let t = c.go_on-told.ensures.told task list run told follows judges sent again in
-    search rules

@@ -1,0 +1,163 @@
+//! What is kept of the frames that may stay on air as they are, from one mark to the next.
+ghost use Rattle.std.specs.Prelude.{◌≡◌, ◌<◌};
+ghost use Rattle.stl_file.specs.TimeCode.{day};
+ghost use Rattle.sub_io.specs.Telling.{first_alone};
+ghost use Rattle.sub_rules.specs.Trusted.{after_mark, at_pes, doubted, is_order, no_trust};
+ghost use Rattle.sub_rules.specs.Trusted.{told_with, trusted, trusted_before};
+ghost use Rattle.sub_rules.specs.Trusted.Mark.{AtPes, Begins, Closes, Ends, Says};
+
+use crate::event::Event;
+use crate::fault::CheckFault;
+
+/// What is kept of the frames that may be trusted.
+#[derive(Clone, Copy)]
+pub struct Trust {
+    /// The PES packet of which is told: the checker counts those that are read alone.
+    pub pes: u32,
+    /// The run of quiet frames up to the last end: the frame of its first header of the page.
+    pub run: Option<u32>,
+    /// The frame of the last PES packet; 0 before the first one.
+    pub last: u32,
+    /// The frames rose up to here.
+    pub rises: bool,
+    /// They did, and no packet of this frame broke a rule on which a receiver depends.
+    pub is_clean: bool,
+    /// Something was told.
+    pub told: bool,
+}
+
+impl Trust {
+    /// Before the first piece.
+    pub fn new() -> Self
+        ensures { result ≡ no_trust }
+    {
+        Trust {
+            pes: 0,
+            run: None,
+            last: 0,
+            rises: true,
+            is_clean: true,
+            told: false,
+        }
+    }
+
+    /// What follows is told of this PES packet.
+    #[inline(always)]
+    #[tactic(auto, unfolding(crate::specs::Trusted::after_mark))]
+    pub fn go_to(&mut self, pes: u32)
+        ensures { self.new ≡ after_mark (AtPes pes) self.old }
+    {
+        self.pes = pes;
+    }
+
+    /// The packets of a frame follow.
+    #[inline(always)]
+    #[tactic(auto, unfolding(crate::specs::Trusted::after_mark))]
+    pub fn begin_frame(&mut self)
+        ensures { self.new ≡ after_mark Begins self.old }
+    {
+        self.is_clean = self.rises;
+    }
+
+    /// The end of a frame of a PES packet: whether that has a header of the page, and whether
+    /// nothing stands broken.
+    #[inline(always)]
+    #[tactic(auto, unfolding(crate::specs::Trusted::after_mark))]
+    pub fn end_frame(&mut self, frame: u32, has_header: bool, none_stands: bool)
+        ensures { self.new ≡ after_mark (Ends frame has_header none_stands) self.old }
+    {
+        if !(self.is_clean && none_stands) {
+            self.run = None;
+        } else if has_header && self.run.is_none() {
+            self.run = Some(frame);
+        }
+        self.last = frame;
+    }
+
+    /// This is told: what is trusted of the run that it ends, to be told before it.
+    #[tactic(auto, unfolding(crate::specs::Trusted::after_mark))]
+    pub fn say(&mut self, event: &Event) -> Option<Event>
+        ensures before { first_alone result
+            ≡ trusted_before self.old.run (doubted self.old.last event.now) }
+        ensures kept { self.new ≡ after_mark (Says event.now) self.old }
+    {
+        let frame = doubted(self.last, event);
+        let run = self.run;
+        if frame.is_some() {
+            self.run = None;
+            self.is_clean = false;
+        }
+        if is_order(event) {
+            self.rises = false;
+        }
+        self.told = true;
+        match frame {
+            Some(frame) => trusted(run, frame),
+            None => None,
+        }
+    }
+
+    /// The end of the file: what is trusted of the last run, where anything was told or will be.
+    /// The last frame is not trusted where bytes are left after it.
+    #[tactic(auto, unfolding(crate::specs::Trusted::after_mark, crate::specs::Trusted::told_with))]
+    pub fn close(&mut self, are_left: bool, tells_more: bool) -> Option<Event>
+        requires day { self.old.last < day }
+        ensures told { first_alone result ≡ told_with (Closes are_left tells_more) self.old }
+        ensures kept { self.new ≡ after_mark (Closes are_left tells_more) self.old }
+    {
+        let run = self.run;
+        self.run = None;
+        let end = if are_left { self.last } else { self.last + 1 };
+        if self.told || tells_more {
+            trusted(run, end)
+        } else {
+            None
+        }
+    }
+
+    /// What is told of a frame, told of the PES packet which sends it.
+    #[tactic(auto, unfolding(crate::specs::Trusted::at_pes))]
+    pub fn at_pes(&self, event: Event) -> Event
+        ensures { result ≡ at_pes self.now.pes event }
+    {
+        match event {
+            Event::Told(fault) => Event::Told(fault.at_pes(self.pes)),
+            _ => event,
+        }
+    }
+}
+
+// Which frames of a run before this frame are trusted, if there are any.
+fn trusted(run: Option<u32>, frame: u32) -> Option<Event>
+    ensures { first_alone result ≡ trusted run frame }
+{
+    let from = run?;
+    if from < frame {
+        let to = frame - 1;
+        Some(Event::Trusted { from, to })
+    } else {
+        None
+    }
+}
+
+// The frame that is quiet no more where this is told, after a PES packet of frame `last`.
+#[tactic(auto, unfolding(crate::specs::Trusted::doubted))]
+fn doubted(last: u32, event: &Event) -> Option<u32>
+    ensures { result ≡ doubted last event.now }
+{
+    match event {
+        Event::Told(fault) => (*fault).row().doubted(last),
+        Event::Ended { .. } | Event::PassedUntil(_) | Event::Trusted { .. } => None,
+    }
+}
+
+// It tells that the frames do not rise.
+#[tactic(auto, unfolding(crate::specs::Trusted::is_order))]
+fn is_order(event: &Event) -> bool
+    ensures { result ≡ is_order event.now }
+{
+    match event {
+        Event::Told(CheckFault::Order { .. }) => true,
+        _ => false,
+    }
+}
