@@ -19,7 +19,7 @@ pub struct Entry<'a> {
 #[derive(Drop)]
 pub struct FilesInMemory<'a> {
     entries: &'a [Entry<'a>],
-    // Until a file is created, or where none can be.
+    // `None` once a file is created.
     room: Option<&'a mut [u8]>,
     calls: [u8; 10],
     len: usize,
@@ -35,11 +35,11 @@ pub enum MemoryFile<'a> {
 }
 
 impl<'a> FilesInMemory<'a> {
-    /// These files; `room` is that of a file that is created, `None` where none can be.
-    pub fn new(entries: &'a [Entry<'a>], room: Option<&'a mut [u8]>) -> Self {
+    /// These files; `room` is that of a file that is created. Where it is empty none can be.
+    pub fn new(entries: &'a [Entry<'a>], room: &'a mut [u8]) -> Self {
         FilesInMemory {
             entries,
-            room,
+            room: Some(room),
             calls: [0; 10],
             len: 0,
         }
@@ -92,10 +92,13 @@ impl<'a> FileSystem for FilesInMemory<'a> {
 
     fn create(&mut self, name: &str) -> Option<MemoryFile<'a>> {
         self.ask(b'c', name);
-        match self.room.take() {
-            Some(room) => Some(MemoryFile::Created(room, 0)),
-            None => None,
+        let Some(room) = self.room.take() else {
+            return None;
+        };
+        if room.is_empty() {
+            return None;
         }
+        Some(MemoryFile::Created(room, 0))
     }
 }
 
