@@ -1,6 +1,7 @@
 """tools/qc on feeds that do not end: when the verdict comes, signals, a reader that leaves."""
 from __future__ import annotations
 
+import contextlib
 import json
 import os
 import queue
@@ -93,9 +94,10 @@ class Running:
         return status
 
     def close(self) -> None:
-        """Ends the feed."""
+        """Ends the feed; the call may have its verdict before."""
         assert self.process.stdin
-        self.process.stdin.close()
+        with contextlib.suppress(BrokenPipeError):
+            self.process.stdin.close()
 
 
 def subtitles(case: Case, late: int | None = None) -> tuple[str, list[bytes]]:
