@@ -46,7 +46,7 @@ WRONG: dict[str, list[list[str]]] = {
     "pes2ts": [[], [PES], ["none.pes", "0x101"], [PES, "0x100"], [PES, "7"], [PES, "0x1fff"],
                [PES, "0x101", "english"], [PES, "0x101", "--page", "8FF"]],
     "install": [[], ["-x"], ["--", "-x"], [""], [PES], ["-p", "none", "to"], ["to", "from"]],
-    "dist": [["none"], [PES], ["--colour"]],
+    "dist": [[PES], ["--colour"], ["--deb", PES]],
     "release": [["none"], ["--note", "none"], ["--keep", "--compare"], ["--colour"]],
     "reading-list": [[], ["none"], ["Good", "Robust"], ["Good", "--colour"]],
     "slow-proofs": [[], ["none"]], "make-examples": [[], ["a", "b"]],
