@@ -144,7 +144,8 @@ module _ (g : Task) (frames : Transmission) where
       → EachTrusted StaysTo (closing_of_pieces g frames pes n)
   unfolding closing_of_pieces
   closing_plain pes n all =
-      let plain = each-own StaysTo n _ (own_closing g frames n all) in
+      let plain : EachTrusted StaysTo (closing_events g frames n) =
+      each-own StaysTo n (closing_events g frames n) (own_closing g frames n all) in
       grind (arith, nat_tests, All-nil, All-cons)
 
   closing_stays : (pes n : ℕ) → length frames ≡ n
