@@ -379,73 +379,77 @@ silent_ends f has none t = refl
 module _ {D : Type 0} (Behind : D → Event → D → Type 0) (has_stopped : D → Bool)
     (g : Task) (frames : Transmission) (n : ℕ) (s0 s1 : Stage D)
   where
-  abbrev arriving : List Event
-  arriving = arriving_events g frames n
+    abbrev arriving : List Event
+    arriving = arriving_events g frames n
 
-  abbrev taking : List Event
-  taking = taking_events g frames n
+    abbrev taking : List Event
+    taking = taking_events g frames n
 
-  abbrev end : Mark
-  end = Ends (frame_at frames n) (holds_header (kind g.watched.page) (packets_of_frame frames n))
-      (stands_none (standing_at g frames (suc n) (frame_at frames n)))
+    abbrev end : Mark
+    end = Ends (frame_at frames n) (holds_header (kind g.watched.page) (packets_of_frame frames n))
+        (stands_none (standing_at g frames (suc n) (frame_at frames n)))
 
-  parts : marks_of_frame g frames n
-      ≡ (map Says arriving ++ Begins ∷ []) ++ (map Says taking ++ end ∷ [])
-  parts =
-      let own : own_events g frames n ≡ taking = grind (arith, append_assoc) in
-      append_assoc (map Says arriving ++ Begins ∷ []) (map Says (own_events g frames n)) (end ∷ [])
-      ∙ ap (λ (es : List Event). (map Says arriving ++ Begins ∷ []) ++ (map Says es ++ end ∷ []))
-      own
+    parts : marks_of_frame g frames n
+        ≡ (map Says arriving ++ Begins ∷ []) ++ (map Says taking ++ end ∷ [])
+    parts =
+        let own : own_events g frames n ≡ taking = grind (arith, append_assoc) in
+        append_assoc (map Says arriving ++ Begins ∷ []) (map Says (own_events g frames n)) (end ∷ [])
+        ∙ ap (λ (es : List Event). (map Says arriving ++ Begins ∷ []) ++ (map Says es ++ end ∷ []))
+        own
 
-  -- The device said stop before its packets.
-  pub stopped_before : TellsPrefix (IsPassedOn Behind has_stopped) s0 s1 arriving
-      → TellsPrefix Behind s0.device.now s1.device.now
-      (passed_on s0.passing (marks_of_frame g frames n))
-  stopped_before some =
-      rw parts
-      (stop_first Behind _ _ _ (map Says arriving ++ Begins ∷ []) _
-      (stop_first Behind _ _ _ (map Says arriving) _
-      (passes_prefix Behind has_stopped s0 s1 arriving some)))
-
-  module _ (s2 s3 : Stage D) (here : s2 ≡ at_mark Begins s1)
-      (before : Tells (IsPassedOn Behind has_stopped) s0 s1 arriving)
-      (fine : has_stopped s1.device.now ≡ false)
-    where
-    first : IsWhole Behind s0.device.now s0.passing (map Says arriving ++ Begins ∷ [])
-        s2.device.now s2.passing
-    first =
-        whole_then Behind _ _ _ _ _ _ (map Says arriving) (Begins ∷ [])
-        (passes_whole Behind has_stopped s0 s1 arriving fine before)
-        (silent Behind s1 s2 Begins here (silent_begins _))
-
-    -- It did so after that.
-    pub stopped_after : TellsPrefix (IsPassedOn Behind has_stopped) s2 s3 taking
-        → TellsPrefix Behind s0.device.now s3.device.now
+    -- The device said stop before its packets.
+    pub stopped_before : TellsPrefix (IsPassedOn Behind has_stopped) s0 s1 arriving
+        → TellsPrefix Behind s0.device.now s1.device.now
         (passed_on s0.passing (marks_of_frame g frames n))
-    stopped_after some =
+    stopped_before some =
         rw parts
-        (stop_then Behind _ _ _ _ _ (map Says arriving ++ Begins ∷ []) _ first
-        (stop_first Behind _ _ _ (map Says taking) _
-        (passes_prefix Behind has_stopped s2 s3 taking some)))
+        (stop_first Behind _ _ _ (map Says arriving ++ Begins ∷ []) _
+        (stop_first Behind _ _ _ (map Says arriving) _
+        (passes_prefix Behind has_stopped s0 s1 arriving some)))
 
-    -- It did not.
-    pub passed_frame : (s4 : Stage D) (frame : ℕ) (has none : Bool)
-        → Tells (IsPassedOn Behind has_stopped) s2 s3 taking
-        → has_stopped s3.device.now ≡ false
-        → s4 ≡ at_mark (Ends frame has none) s3
-        → frame ≡ frame_at frames n
-        → has ≡ holds_header (kind g.watched.page) (packets_of_frame frames n)
-        → none ≡ stands_none (standing_at g frames (n + 1) (frame_at frames n))
-        → IsWhole Behind s0.device.now s0.passing (marks_of_frame g frames n) s4.device.now
-        s4.passing
-    passed_frame s4 frame has none after still last at holds stands =
-        let next : n + 1 ≡ suc n = omega arith in
-        let same : Ends frame has none ≡ end =
-        rw (at, holds, stands ∙ ap (λ k. stands_none (standing_at g frames k (frame_at frames n)))
-        next) refl in
-        rw parts
-        (whole_then Behind _ _ _ _ _ _ (map Says arriving ++ Begins ∷ []) _ first
-        (whole_then Behind _ _ _ _ _ _ (map Says taking) (end ∷ [])
-        (passes_whole Behind has_stopped s2 s3 taking still after)
-        (silent Behind s3 s4 end (last ∙ ap (λ (m : Mark). at_mark m s3) same)
-        (silent_ends _ _ _ _))))
+    module _ (s2 s3 : Stage D) (here : s2 ≡ at_mark Begins s1)
+        (before : Tells (IsPassedOn Behind has_stopped) s0 s1 arriving)
+        (fine : has_stopped s1.device.now ≡ false)
+      where
+        first : IsWhole Behind s0.device.now s0.passing (map Says arriving ++ Begins ∷ [])
+            s2.device.now s2.passing
+        first =
+            whole_then Behind _ _ _ _ _ _ (map Says arriving) (Begins ∷ [])
+            (passes_whole Behind has_stopped s0 s1 arriving fine before)
+            (silent Behind s1 s2 Begins here (silent_begins _))
+
+        -- It did so after that.
+        pub stopped_after : TellsPrefix (IsPassedOn Behind has_stopped) s2 s3 taking
+            → TellsPrefix Behind s0.device.now s3.device.now
+            (passed_on s0.passing (marks_of_frame g frames n))
+        stopped_after some =
+            rw parts
+            (stop_then Behind _ _ _ _ _ (map Says arriving ++ Begins ∷ []) _ first
+            (stop_first Behind _ _ _ (map Says taking) _
+            (passes_prefix Behind has_stopped s2 s3 taking some)))
+
+        -- It did not.
+        pub passed_frame : (s4 : Stage D) (frame : ℕ) (has none : Bool)
+            → Tells (IsPassedOn Behind has_stopped) s2 s3 taking
+            → has_stopped s3.device.now ≡ false
+            → s4 ≡ at_mark (Ends frame has none) s3
+            → frame ≡ frame_at frames n
+            → has ≡ holds_header (kind g.watched.page) (packets_of_frame frames n)
+            → none ≡ stands_none (standing_at g frames (n + 1) (frame_at frames n))
+            → IsWhole Behind s0.device.now s0.passing (marks_of_frame g frames n) s4.device.now
+            s4.passing
+        passed_frame s4 frame has none after still last at holds stands =
+            let next : n + 1 ≡ suc n = omega arith in
+            let same : Ends frame has none ≡ end =
+            rw (
+              at,
+              holds,
+              stands ∙ ap (λ k. stands_none (standing_at g frames k (frame_at frames n)))
+                  next,
+            ) refl in
+            rw parts
+            (whole_then Behind _ _ _ _ _ _ (map Says arriving ++ Begins ∷ []) _ first
+            (whole_then Behind _ _ _ _ _ _ (map Says taking) (end ∷ [])
+            (passes_whole Behind has_stopped s2 s3 taking still after)
+            (silent Behind s3 s4 end (last ∙ ap (λ (m : Mark). at_mark m s3) same)
+            (silent_ends _ _ _ _))))

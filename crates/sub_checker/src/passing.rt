@@ -62,9 +62,7 @@ impl<A: Audience<Event>> Stage<'_, A> {
     pub fn end_frame(&mut self, frame: u32, has_header: bool, none_stands: bool)
         ensures { self.new ≡ at_mark (Ends frame has_header none_stands) self.old }
     {
-        self.passing
-            .trust
-            .end_frame(frame, has_header, none_stands);
+        self.passing.trust.end_frame(frame, has_header, none_stands);
     }
 
     /// Tells what is trusted of the last run, where anything was told or will be. The last frame is

@@ -104,13 +104,13 @@ module _ (g : Task) (frames : Transmission) where
   last_stays kept any h1 = grind (arith, nat_tests, All-nil, each-put, end_low-trusted, run_stays)
 
   -- What is told after the last piece.
+  closing_own : (n : ℕ) → length frames ≡ n → EachTrusted StaysTo (closing_events g frames n)
+  closing_own n all = each-own StaysTo n (closing_events g frames n) (own_closing g frames n all)
+
   closing_stays : (pes n : ℕ) → length frames ≡ n
       → EachTrusted StaysTo (closing_of_pieces g frames pes n)
   unfolding closing_of_pieces
-  closing_stays pes n all =
-      let plain : EachTrusted StaysTo (closing_events g frames n) =
-      each-own StaysTo n (closing_events g frames n) (own_closing g frames n all) in
-      grind (arith, nat_tests, All-nil, All-cons)
+  closing_stays pes n all = grind (arith, nat_tests, All-nil, All-cons, closing_own)
 
   -- Of pieces, the first of which, if it is sent, is frame n of the list, and after the last one.
   runs_stay : (pes n : ℕ) (kept : Option ℕ) (told : Bool) (pieces : List Piece)

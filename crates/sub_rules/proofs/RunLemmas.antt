@@ -113,116 +113,116 @@ orders_doubted last (e ∷ es) none =
 module _ (g : Task) (frames : Transmission) (n : ℕ) (t : Trust) {run : Option ℕ} {told : Bool}
     (is : Judges g frames n run told t)
   where
-  abbrev arriving : List Event
-  arriving = arriving_events g frames n
+    abbrev arriving : List Event
+    arriving = arriving_events g frames n
 
-  abbrev own : List Event
-  own = own_events g frames n
+    abbrev own : List Event
+    own = own_events g frames n
 
-  parts : frame_events g frames n ≡ arriving ++ own
-  unfolding frame_events
-  parts = grind (arith, append_assoc)
+    parts : frame_events g frames n ≡ arriving ++ own
+    unfolding frame_events
+    parts = grind (arith, append_assoc)
 
-  -- Before the packets, and after them.
-  abbrev arrived : Trust
-  arrived = after_mark Begins (trust_after t (map Says arriving))
+    -- Before the packets, and after them.
+    abbrev arrived : Trust
+    arrived = after_mark Begins (trust_after t (map Says arriving))
 
-  abbrev taken : Trust
-  taken = trust_after arrived (map Says own)
+    abbrev taken : Trust
+    taken = trust_after arrived (map Says own)
 
-  pub frame_is : trust_after t (marks_of_frame g frames n)
-      ≡ after_mark
-      (Ends (frame_at frames n) (holds_header (kind g.watched.page) (packets_of_frame frames n))
-      (stands_none (standing_at g frames (suc n) (frame_at frames n)))) taken
-  unfolding trust_after
-  frame_is = grind (arith, trust_after-append)
+    pub frame_is : trust_after t (marks_of_frame g frames n)
+        ≡ after_mark
+        (Ends (frame_at frames n) (holds_header (kind g.watched.page) (packets_of_frame frames n))
+        (stands_none (standing_at g frames (suc n) (frame_at frames n)))) taken
+    unfolding trust_after
+    frame_is = grind (arith, trust_after-append)
 
-  -- What is told of it.
-  pub frame_told : told_by t (marks_of_frame g frames n)
-      ≡ map (at_pes t.pes) (told_of_frame g frames n run)
-  unfolding told_by told_with trust_after after_mark
-  frame_told =
-      let before = map Says arriving in
-      let after = map Says own in
-      let a = says_is t arriving in
-      let first : told_by t (before ++ Begins ∷ []) ≡ told_by t before =
-      told_by-append t before (Begins ∷ []) ∙ append-nil (told_by t before) in
-      let whole : told_by t (marks_of_frame g frames n)
-      ≡ told_by t before ++ told_by arrived after =
-      told_by-append t (before ++ Begins ∷ [] ++ after) _
-      ∙ append-nil _
-      ∙ told_by-append t (before ++ Begins ∷ []) after
-      ∙ rw (first, trust_after-append t before (Begins ∷ [])) refl in
-      let joined =
-      ap (map (at_pes t.pes)) (with_run-append t.last t.run arriving own)
-      ∙ map-append (at_pes t.pes) (with_run t.last t.run arriving) _ in
-      whole
-      ∙ rw (
-        says_told t arriving,
-        says_told arrived own,
-        a.pes_is,
-        a.last_is,
-        a.run_is,
-        sym joined,
-        sym parts,
-        is.last_is,
-        is.run_is,
-      ) refl
+    -- What is told of it.
+    pub frame_told : told_by t (marks_of_frame g frames n)
+        ≡ map (at_pes t.pes) (told_of_frame g frames n run)
+    unfolding told_by told_with trust_after after_mark
+    frame_told =
+        let before = map Says arriving in
+        let after = map Says own in
+        let a = says_is t arriving in
+        let first : told_by t (before ++ Begins ∷ []) ≡ told_by t before =
+        told_by-append t before (Begins ∷ []) ∙ append-nil (told_by t before) in
+        let whole : told_by t (marks_of_frame g frames n)
+        ≡ told_by t before ++ told_by arrived after =
+        told_by-append t (before ++ Begins ∷ [] ++ after) _
+        ∙ append-nil _
+        ∙ told_by-append t (before ++ Begins ∷ []) after
+        ∙ rw (first, trust_after-append t before (Begins ∷ [])) refl in
+        let joined =
+        ap (map (at_pes t.pes)) (with_run-append t.last t.run arriving own)
+        ∙ map-append (at_pes t.pes) (with_run t.last t.run arriving) _ in
+        whole
+        ∙ rw (
+          says_told t arriving,
+          says_told arrived own,
+          a.pes_is,
+          a.last_is,
+          a.run_is,
+          sym joined,
+          sym parts,
+          is.last_is,
+          is.run_is,
+        ) refl
 
-  run_then : taken.run ≡ run_over (frame_before frames n) run (frame_events g frames n)
-  unfolding after_mark
-  run_then =
-      let a = says_is t arriving in
-      let b = says_is arrived own in
-      let joined = run_over-append t.last t.run arriving own in
-      b.run_is ∙ rw (a.run_is, a.last_is, sym joined, sym parts, is.last_is, is.run_is) refl
+    run_then : taken.run ≡ run_over (frame_before frames n) run (frame_events g frames n)
+    unfolding after_mark
+    run_then =
+        let a = says_is t arriving in
+        let b = says_is arrived own in
+        let joined = run_over-append t.last t.run arriving own in
+        b.run_is ∙ rw (a.run_is, a.last_is, sym joined, sym parts, is.last_is, is.run_is) refl
 
-  all_of : events_of_first g frames (suc n) ≡ events_of_first g frames n ++ (arriving ++ own)
-  unfolding events_of_first
-  all_of = ap (λ l. events_of_first g frames n ++ l) parts
+    all_of : events_of_first g frames (suc n) ≡ events_of_first g frames n ++ (arriving ++ own)
+    unfolding events_of_first
+    all_of = ap (λ l. events_of_first g frames n ++ l) parts
 
-  rises_then : taken.rises ≡ not (list_any is_order (events_of_first g frames (suc n)))
-  unfolding after_mark
-  rises_then =
-      let a = says_is t arriving in
-      let b = says_is arrived own in
-      let first = is.rises_is in
-      let one = list_any-append is_order (events_of_first g frames n) (arriving ++ own) in
-      let two = list_any-append is_order arriving own in
-      rw (all_of, one, two) grind (arith, nat_tests)
+    rises_then : taken.rises ≡ not (list_any is_order (events_of_first g frames (suc n)))
+    unfolding after_mark
+    rises_then =
+        let a = says_is t arriving in
+        let b = says_is arrived own in
+        let first = is.rises_is in
+        let one = list_any-append is_order (events_of_first g frames n) (arriving ++ own) in
+        let two = list_any-append is_order arriving own in
+        rw (all_of, one, two) grind (arith, nat_tests)
 
-  told_then : taken.told ≡ (told || not (tells_none (frame_events g frames n)))
-  unfolding after_mark
-  told_then =
-      let a = says_is t arriving in
-      let b = says_is arrived own in
-      let first = is.told_is in
-      let two = tells_none-two arriving own in
-      rw (parts, two) grind (arith, nat_tests)
+    told_then : taken.told ≡ (told || not (tells_none (frame_events g frames n)))
+    unfolding after_mark
+    told_then =
+        let a = says_is t arriving in
+        let b = says_is arrived own in
+        let first = is.told_is in
+        let two = tells_none-two arriving own in
+        rw (parts, two) grind (arith, nat_tests)
 
-  quiet_then :
-      (taken.is_clean && stands_none (standing_at g frames (suc n) (frame_at frames n)))
-      ≡ is_quiet g frames n
-  unfolding is_quiet after_mark
-  quiet_then =
-      let a = says_is t arriving in
-      let b = says_is arrived own in
-      let rises = rises_then in
-      let orders = orders_doubted t.last own in
-      rw (sym rises, sym is.last_is) grind (arith, nat_tests)
+    quiet_then :
+        (taken.is_clean && stands_none (standing_at g frames (suc n) (frame_at frames n)))
+        ≡ is_quiet g frames n
+    unfolding is_quiet after_mark
+    quiet_then =
+        let a = says_is t arriving in
+        let b = says_is arrived own in
+        let rises = rises_then in
+        let orders = orders_doubted t.last own in
+        rw (sym rises, sym is.last_is) grind (arith, nat_tests)
 
-  -- What is kept after it.
-  pub judges_next :
-      Judges g frames (suc n) (run_at g frames n run)
-      (told || not (tells_none (frame_events g frames n)))
-      (trust_after t (marks_of_frame g frames n))
-  unfolding run_at frame_before after_mark
-  judges_next = rw frame_is (record {
-    run_is = rw (quiet_then, run_then) refl;
-    last_is = refl;
-    rises_is = rises_then;
-    told_is = told_then;
-  })
+    -- What is kept after it.
+    pub judges_next :
+        Judges g frames (suc n) (run_at g frames n run)
+        (told || not (tells_none (frame_events g frames n)))
+        (trust_after t (marks_of_frame g frames n))
+    unfolding run_at frame_before after_mark
+    judges_next = rw frame_is (record {
+      run_is = rw (quiet_then, run_then) refl;
+      last_is = refl;
+      rises_is = rises_then;
+      told_is = told_then;
+    })
 
 -- ---- pieces
 

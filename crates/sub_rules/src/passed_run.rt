@@ -85,9 +85,7 @@ fn goes_on(last: &CheckFault, fault: &CheckFault) -> bool
     ensures { result ≡ goes_on last.now fault.now }
 {
     let (before, row) = ((*last).row(), (*fault).row());
-    row.is_passed
-        && is_behind(before.place, row.place)
-        && row.code.number() == before.code.number()
+    row.is_passed && is_behind(before.place, row.place) && row.code.number() == before.code.number()
 }
 
 // The one place is the PES packet directly after that of the other.
