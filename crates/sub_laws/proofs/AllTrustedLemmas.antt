@@ -20,7 +20,7 @@ use Rattle.sub_rules.specs.declared.event.Event.TheVariants.{Trusted, Told}
 use Rattle.sub_rules.specs.declared.packet_rule.PacketRule.{PacketRule}
 use Rattle.sub_rules.proofs.RunLemmas.{frame_before, is_quiet, last_of_run, run_at, told_are}
 use Rattle.sub_rules.proofs.RunLemmas.{told_in_runs, told_of_frame, told_of_passed, trust_end}
-use Rattle.sub_rules.specs.PieceEvents.{all_announced, all_of_pieces}
+use Rattle.sub_rules.specs.PieceEvents.{all_announced, all_of_pieces, closing_of_pieces}
 use Rattle.sub_rules.specs.PieceEvents.{ended_run, no_run, passed_after_all}
 use Rattle.sub_rules.specs.Pieces.{Piece, frames_of}
 use Rattle.sub_rules.specs.Pieces.Piece.{Passed, Sent}
@@ -257,6 +257,14 @@ module _ (g : Task) (pieces : List Piece) (a b : ℕ) (can : CanStay g pieces a 
         is_over last x es doubt past =
             (x - 1, omega arith, told_in_run last from x es doubt (omega arith))
 
+        -- Something was told before frame k + 2 of the list; and what is told from there on.
+        abbrev tells : Bool → ℕ → Bool
+        tells told k = told || not (tells_none (frame_events g frames (suc k)))
+
+        abbrev more : ℕ → ℕ → Bool → List Piece → Option ℕ → List Event
+        more pes k told ahead o =
+            told_in_runs g frames (suc pes) (suc (suc k)) o (tells told k) ahead
+
         -- The run from there is over in what is told of pieces, after the stretch; or it is kept to
         -- the end, where anything is told.
         goes : (pes k : ℕ) (told : Bool) (ahead : List Piece) → IsOutside pieces a b (suc k) ahead
@@ -289,33 +297,32 @@ module _ (g : Task) (pieces : List Piece) (a b : ℕ) (can : CanStay g pieces a 
             (passed_doubt (frame_at frames k) pes u) past in
             (over.0, over.1, Contains-append_left _ _ _ over.2)
         goes pes k told (Sent s ∷ ahead) outside all l run some =
-            by_doubt (first_doubt (frame_before frames (suc k)) (frame_events g frames (suc k))) refl
+            by_doubt (goes (suc pes) (suc k) _ ahead outside (omega arith) (omega arith))
+            (first_doubt (frame_before frames (suc k)) (frame_events g frames (suc k))) refl
           where
-            by_doubt : (o : Option ℕ)
+            by_doubt : (Run g frames (suc (suc k)) from
+                → (tells told k ≡ false → more pes k told ahead (Some from) ≢ [])
+                → IsTold from (more pes k told ahead (Some from)))
+                → (o : Option ℕ)
                 → first_doubt (frame_before frames (suc k)) (frame_events g frames (suc k)) ≡ o
                 → IsTold from (told_in_runs g frames pes (suc k) (Some from) told (Sent s ∷ ahead))
-            by_doubt None is =
+            by_doubt again None is =
                 let kept : run_at g frames (suc k) (Some from) ≡ Some from =
                 on from k l (omega arith) run is in
-                let more =
+                let next =
                 run_next g frames (suc k) (Some from) (omega arith)
                 (λ f e. let same : from ≡ f = cc in subst (Run g frames (suc k)) same run) from
                 kept in
-                let rest : (o : Option ℕ) → run_at g frames (suc k) (Some from) ≡ o → o ≡ Some from
-                → IsTold from (told_in_runs g frames (suc pes) (suc (suc k)) o
-                (told || not (tells_none (frame_events g frames (suc k)))) ahead) =
-                λ o at same.
-                rw same (goes (suc pes) (suc k) _ ahead outside (omega arith) (omega arith) more
-                (λ none. told_later told pes (frame_before frames (suc k)) (Some from)
-                (frame_events g frames (suc k)) _
-                (λ quiet. subst (λ (x : Option ℕ). map (at_pes pes)
-                (told_of_frame g frames (suc k) (Some from))
-                ++ told_in_runs g frames (suc pes) (suc (suc k)) x
-                (told || not (tells_none (frame_events g frames (suc k)))) ahead ≢ [])
-                (at ∙ same) (some quiet)) none)) in
-                goes_more from (map (at_pes pes) (told_of_frame g frames (suc k) (Some from))) _
-                (rest _ refl kept)
-            by_doubt (Some x) is =
+                let run_then = run_at g frames (suc k) (Some from) in
+                let later : tells told k ≡ false → more pes k told ahead run_then ≢ [] =
+                told_later told pes (frame_before frames (suc k)) (Some from)
+                (frame_events g frames (suc k)) (more pes k told ahead run_then) some in
+                goes_more from (map (at_pes pes) (told_of_frame g frames (suc k) (Some from)))
+                (more pes k told ahead run_then)
+                (subst (λ o. IsTold from (more pes k told ahead o)) (sym kept)
+                (again next
+                (subst (λ o. tells told k ≡ false → more pes k told ahead o ≢ []) kept later)))
+            by_doubt again (Some x) is =
                 let over =
                 is_over (frame_before frames (suc k)) x (frame_events g frames (suc k)) is
                 (past from k l (omega arith) run x is) in
