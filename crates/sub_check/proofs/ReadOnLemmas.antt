@@ -1,12 +1,12 @@
 -- What is read and told of a PES file up to the first piece that is passed over, by what is where
 -- reading goes on: main lemmas: `read_whole`, `first_of_pieces`, `all_are_sent`.
 use Rattle.std.proofs.lemmas.Bool.Decides.{nat_tests}
-use Rattle.std.proofs.Common.{◌≡◌, ℕ, suc, ◌≤◌, List, [], ◌∷◌, ◌++◌, length, map, take, drop}
+use Rattle.std.proofs.Common.{◌≡◌, ℕ, suc, ◌≤◌, List, [], ◌∷◌, ◌++◌, length, take, drop}
 use Rattle.std.proofs.Common.{Option, Some, None, refl, sym, ap, ◌∙◌, arith}
 use Rattle.std.proofs.lemmas.List.{length-take-le, take-append-drop}
 use Rattle.stl_rows.specs.Programme.{ProgrammeValue}
 use Rattle.sub_plan.specs.Options.{OptionsValue}
-use Rattle.sub_rules.specs.Events.{events, first_told, unread_fault}
+use Rattle.sub_rules.specs.Events.{events, first_told}
 use Rattle.sub_rules.specs.FrameRules.{Task, Unread, task_of}
 use Rattle.sub_rules.specs.PesReading.{ReadsAs, file_at, pes_file_of}
 use Rattle.sub_rules.specs.Pieces.{PesFileValue, Piece, frames_of, piece_file_of}
@@ -14,7 +14,6 @@ use Rattle.sub_rules.specs.Pieces.{read_until_passed}
 use Rattle.sub_rules.specs.Pieces.Piece.{Passed, Sent}
 use Rattle.sub_rules.specs.Transmission.{Transmission}
 use Rattle.sub_rules.specs.declared.event.Event.{Event}
-use Rattle.sub_rules.specs.declared.event.Event.TheVariants.{Told}
 use Rattle.sub_rules.specs.declared.fault.CheckFault.{CheckFault}
 use Rattle.sub_rules.proofs.PieceEventLemmas.{announced_first, first_of_two, first_told_is, or_else}
 use Rattle.sub_rules.proofs.PieceEventLemmas.{trusted_first}

@@ -3,7 +3,7 @@
 use Rattle.std.proofs.lemmas.Bool.Decides.{nat_tests}
 use Rattle.std.proofs.Common.{◌≡◌, ℕ, suc, ◌+◌, ◌-◌, ◌<◌, ◌≤◌, inl, inr, Bool, true, false, List}
 use Rattle.std.proofs.Common.{[], ◌∷◌, ◌≢◌, Contains, length, Option, Some, None, refl, sym, ap}
-use Rattle.std.proofs.Common.{subst, arith, ◌∙◌, ◌⊎◌, ◌||◌, ◌++◌, not, map}
+use Rattle.std.proofs.Common.{subst, arith, ◌∙◌, ◌||◌, ◌++◌, not, map}
 use Rattle.std.proofs.lemmas.Bool.{cases_lt, lt-ltb}
 use Rattle.std.proofs.lemmas.List.{take-take}
 use Rattle.std.proofs.lemmas.List.Elements.{Contains-append_left, Contains-append_right}
@@ -21,7 +21,7 @@ use Rattle.sub_rules.specs.declared.packet_rule.PacketRule.{PacketRule}
 use Rattle.sub_rules.proofs.RunLemmas.{frame_before, is_quiet, last_of_run, run_at, told_are}
 use Rattle.sub_rules.proofs.RunLemmas.{told_in_runs, told_of_frame, told_of_passed, trust_end}
 use Rattle.sub_rules.specs.PieceEvents.{all_announced, all_of_pieces, closing_of_pieces}
-use Rattle.sub_rules.specs.PieceEvents.{ended_run, no_run, passed_after_all}
+use Rattle.sub_rules.specs.PieceEvents.{no_run, passed_after_all}
 use Rattle.sub_rules.specs.Pieces.{Piece, frames_of}
 use Rattle.sub_rules.specs.Pieces.Piece.{Passed, Sent}
 use Rattle.sub_laws.proofs.DoubtLemmas.{any_doubt, contains-announced, contains-at, first_doubt}

@@ -1,17 +1,17 @@
 -- What is so of each stretch that is told as trusted of pieces, where its run is over: `all_stay`.
 use Rattle.std.proofs.lemmas.Bool.Decides.{nat_tests}
 use Rattle.std.proofs.Common.{◌≡◌, ℕ, zero, suc, ◌+◌, ◌-◌, ◌<◌, ◌≤◌, ◌⊎◌, Bool, false, true, List}
-use Rattle.std.proofs.Common.{[], ◌∷◌, ◌++◌, length, map, Option, Some, None, refl, subst, sym, arith}
+use Rattle.std.proofs.Common.{[], ◌∷◌, length, map, Option, Some, None, subst, sym, arith}
 use Rattle.sub_rules.specs.Events.{closing_events, frame_events, unread_fault}
 use Rattle.sub_rules.specs.FrameRules.{Task, end_frame, frame_at, Unread}
 use Rattle.sub_rules.proofs.RunLemmas.{frame_before, last_of_run, run_at, told_are, told_in_runs}
 use Rattle.sub_rules.proofs.RunLemmas.{told_of_frame, told_of_passed, trust_end}
-use Rattle.sub_rules.specs.PieceEvents.{all_announced, all_of_pieces, closing_of_pieces, ended_run}
+use Rattle.sub_rules.specs.PieceEvents.{all_announced, all_of_pieces, closing_of_pieces}
 use Rattle.sub_rules.specs.PieceEvents.{no_run, passed_after_all, told_of_pieces}
 use Rattle.sub_rules.specs.Pieces.{Piece, frames_of}
 use Rattle.sub_rules.specs.Pieces.Piece.{Passed, Sent}
 use Rattle.sub_rules.specs.Transmission.{Transmission}
-use Rattle.sub_rules.specs.Trusted.{doubted, tells_none}
+use Rattle.sub_rules.specs.Trusted.{doubted}
 use Rattle.sub_rules.specs.declared.event.Event.{Event}
 use Rattle.sub_rules.specs.declared.event.Event.TheVariants.{Told}
 use Rattle.sub_rules.proofs.AnyToldLemmas.{own_closing, own_frame}

@@ -14,8 +14,8 @@ use Rattle.sub_rules.specs.PieceEvents.{arriving_events, closing_of_pieces, mark
 use Rattle.sub_rules.specs.PieceEvents.{marks_of_each, marks_of_frame, own_events, told_of_pieces}
 use Rattle.sub_rules.specs.Pieces.{Piece, frames_of}
 use Rattle.sub_rules.specs.Pieces.Piece.{Passed, Sent}
-use Rattle.sub_rules.specs.Transmission.{SentFrame, Transmission}
-use Rattle.sub_rules.specs.Trusted.{Mark, after_mark, at_pes, begun, doubted, is_order, no_trust}
+use Rattle.sub_rules.specs.Transmission.{Transmission}
+use Rattle.sub_rules.specs.Trusted.{after_mark, at_pes, begun, doubted, is_order, no_trust}
 use Rattle.sub_rules.specs.Trusted.{stands_none, tells_none, told_by, told_with, trust_after}
 use Rattle.sub_rules.specs.Trusted.{trusted}
 use Rattle.sub_rules.specs.Trusted.Mark.{AtPes, Begins, Closes, Ends, Says}

@@ -1,7 +1,7 @@
 -- The faults of a pair of files, a row each: the number and the name by which one is told (own),
 -- where it is, and what follows where it is told; and which of them are those of a device, of memory
 -- or of the one file.
-use Rattle.std.specs.Prelude.{ℕ, List, Bool, true, false, not, ◌||◌, Option, Some, None}
+use Rattle.std.specs.Prelude.{ℕ, List, Bool, true, false, Option, Some, None}
 use Rattle.std.specs.Prelude.{codes}
 use Rattle.sub_io.specs.FaultCode.{FaultCodeValue, fault_code}
 use Rattle.stl_file.specs.declared.fault.StlFault.TheVariants as stl

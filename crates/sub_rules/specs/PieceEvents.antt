@@ -2,7 +2,7 @@
 -- frames that are sent what is told of a transmission, and in its place the number of each piece
 -- that is passed over. Of such pieces one directly after the other with one number the first is
 -- told, and up to which one they go, directly before whatever is told next.
-use Rattle.std.specs.Prelude.{ℕ, zero, suc, ◌&&◌, ◌==◌, ◌≡◌, Bool, true, false, not, List, []}
+use Rattle.std.specs.Prelude.{ℕ, zero, suc, ◌&&◌, ◌==◌, ◌≡◌, Bool, false, not, List, []}
 use Rattle.std.specs.Prelude.{◌∷◌, ◌++◌, length, map, Option, Some, None, is_some, if◌then◌else◌}
 use Rattle.ttx_page.specs.PacketKind.{kind}
 use Rattle.ttx_page.specs.Span.{holds_header}
