@@ -17,7 +17,10 @@ _subttx_value() {
     case $1 in
         --option) _subttx_words 'english german' "$2" ;;
         --receiver) _subttx_words 'blank drop keep' "$2" ;;
-        --page | --every | --origin | --at | --skip | --flip | --lose | --from | --to | --pid | --part | --jobs | --settled | --patience | --stall | --breaks | --run | --start) COMPREPLY=() ;;
+        --page | --every | --origin | --at | --skip | --flip | --lose | --from | --to | --pid | \
+            --part | --jobs | --settled | --patience | --stall | --breaks | --run | --start | --pes)
+            COMPREPLY=()
+            ;;
         *) return 1 ;;
     esac
 }

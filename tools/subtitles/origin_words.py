@@ -133,7 +133,8 @@ def break_before(part: Part, before: Part) -> str:
 def tell_breaks(parts: Sequence[Part]) -> None:
     """Where parts begin."""
     for number, part in enumerate(parts[1:], 2):
-        tell(f"part {number} begins at {time_of(part.begin)}, {break_before(part, parts[number - 2])}")
+        tell(f"part {number} begins at {time_of(part.begin)}, "
+             f"{break_before(part, parts[number - 2])}")
 
 
 def tell_runs(runs: Sequence[Run], bases: Sequence[SentInBase]) -> None:
@@ -143,7 +144,8 @@ def tell_runs(runs: Sequence[Run], bases: Sequence[SentInBase]) -> None:
         packets = bases[run.first[0]].packets
         where = f", in PES packets {packets[0]} to {packets[1]}" if len(bases) > 1 else ""
         tell(f"run {number} is sent from PTS {first} to PTS {last}{where}, from "
-             f"{length_of(run.first, bases)} to {length_of(run.last, bases)} after the first header")
+             f"{length_of(run.first, bases)} to {length_of(run.last, bases)} after the first "
+             "header")
 
 
 def length_of(place: tuple[int, int], bases: Sequence[SentInBase]) -> str:

@@ -6,11 +6,11 @@ use crate::text::{first_lines, is_made_of, status_of, text_in, told_in};
 use fixtures::Watched;
 use std::alloc::Global;
 use sub_answer::Status;
-use sub_io::{Ahead, MemSink, MemSource};
+use sub_io::{MemSink, MemSource, Source};
 
 /// Whether these two parts are printed for words over two sources, with the status that the last
 /// line tells.
-pub fn prints<'a, S: Ahead, T: Ahead>(
+pub fn prints<'a, S: Source, T: Source>(
     alloc: Global,
     words: &'a [&'a str],
     first: &mut S,

@@ -4,7 +4,7 @@ ghost use Rattle.sub_io.specs.Device.{CanFail};
 use answer_fixtures::{fills, prints, tells, tells_all};
 use std::alloc::Global;
 use std::process::Abort;
-use sub_io::Ahead;
+use sub_io::Source;
 
 fn assert_right(rt: &impl Abort, is_right: bool, words: &[&str]) {
     assert!(rt; is_right, "{words:?}");
@@ -12,7 +12,7 @@ fn assert_right(rt: &impl Abort, is_right: bool, words: &[&str]) {
 
 /// Asserts what is printed for words over two sources, in two parts, and the status that the last
 /// line tells.
-pub fn assert_prints<'a, S: Ahead, T: Ahead>(
+pub fn assert_prints<'a, S: Source, T: Source>(
     rt: &(impl Abort + Alloc<A = Global>),
     words: &'a [&'a str],
     first: &mut S,

@@ -1,6 +1,6 @@
 //! Lists that are followed while a PES file is sent: whenever its source may have to wait, all that
 //! was told is handed on.
-ghost use Rattle.std.specs.Prelude.{None, true};
+ghost use Rattle.std.specs.Prelude.{None};
 ghost use Rattle.sub_io.specs.Device.{holds_nothing};
 
 use crate::asserting::assert_same_in;
@@ -10,7 +10,7 @@ use std::alloc::Global;
 use std::cell::Cell;
 use std::process::Abort;
 use sub_answer::Status;
-use sub_io::{Ahead, BufferedSource, FailAt, Failed, Flush, MemSink, MemSource, Sink, Source};
+use sub_io::{BufferedSource, FailAt, Failed, Flush, MemSink, MemSource, Sink, Source};
 
 // The words of a check of another page than the one that is sent.
 const PAGE_100: [&str; 7] = ["subttx", "check", "--all", "a", "b", "--page", "100"];
@@ -77,14 +77,6 @@ impl Source for Fed<'_> {
 
     fn failures(&self) -> u64 {
         0
-    }
-}
-
-impl Ahead for Fed<'_> {
-    ghost must_ask = { λ _. true };
-
-    fn asks(&self) -> bool {
-        true
     }
 }
 

@@ -41,33 +41,35 @@ fn fills_an_output_that_has_less_room(rt: HostRuntime) {
     assert_fills(&rt, &CHECK_ALL, (&file_of_five(), &pes), &[], ALL_OF_FIVE);
 }
 
-// Asserts that an output that fails at a call, of which each is a line, has the lines before, and
-// that it is left alone then; and how often the PES source was asked: it gives a PES packet a call,
-// and last the end.
-fn assert_stops(rt: &(impl Abort + Alloc<A = Global>), call: usize, pulls: u64) {
+// Asserts that an output that fails at a call, of which each is a line but that one by which the
+// lines are handed on, has so many lines, and that it is left alone then; and how often the PES
+// source was asked: it gives a PES packet a call, and last the end.
+fn assert_stops(rt: &(impl Abort + Alloc<A = Global>), call: u64, count: usize, pulls: u64) {
     let (stl, pes) = (file_of_hi(), schedule_of_hi());
     let inner = MemSource::new(&stl);
     let mut stl = Counting { inner, pulls: 0 };
     let inner = MemSource::new(&pes);
     let mut pes = Counting { inner, pulls: 0 };
     let mut room = [0; 512];
-    let mut out = FailAt::new(MemSink::new(&mut room), call as u64);
+    let mut out = FailAt::new(MemSink::new(&mut room), call);
     let mut file = MemSink::new(&mut []);
     let words = &PAGE_100;
     let status = answer_words(rt.alloc(), words, &mut stl, &mut pes, &mut file, &mut out);
     assert_same_in(rt, &(status, out.failures()), &(Status::Fault, 1), &call);
     assert_same_in(rt, &(stl.pulls, pes.pulls), &(3, pulls), &call);
-    let lines = first_lines(ALL, call);
+    let lines = first_lines(ALL, count);
     assert!(rt; lines.len() < 512);
     assert!(rt; room.starts_with(lines) && room[lines.len()] == 0, "{call}");
 }
 
 #[test]
 fn reads_no_more_once_an_output_failed(rt: HostRuntime) {
-    assert_stops(&rt, 0, 1);
-    assert_stops(&rt, 1, 1);
-    assert_stops(&rt, 2, 2);
-    assert_stops(&rt, 3, 3);
+    assert_stops(&rt, 0, 0, 1);
+    assert_stops(&rt, 1, 1, 1);
+    assert_stops(&rt, 2, 2, 2);
+    // The source lends both PES packets, and is asked for the end.
+    assert_stops(&rt, 3, 3, 2);
+    assert_stops(&rt, 4, 3, 3);
 }
 
 #[test]

@@ -29,9 +29,7 @@ mod writer;
 
 pub use fault::{NormalFault, StlFault};
 pub use gsi::{Gsi, five_digits_of};
-pub use laws::{
-    law_of_files, law_of_normal_form, law_of_normal_form_again, law_of_one_reading,
-};
+pub use laws::{law_of_files, law_of_normal_form, law_of_normal_form_again, law_of_one_reading};
 pub use normal_form::normal;
 pub use progress::Progress;
 pub use reader::StlReader;

@@ -5,7 +5,7 @@ use Rattle.std.proofs.Common.{zero, suc, List, [], ◌∷◌, take, length, Bool
 use Rattle.std.proofs.Common.{Some, None, Result, Ok, Err, ◌-◌}
 use Rattle.std.proofs.lemmas.Bool.{true≢false}
 use Rattle.std.proofs.lemmas.Bool.Decides.{nat_tests}
-use Rattle.std.specs.Prelude.{◌⊎◌, IfOk, IfErr, IfSome, is_none}
+use Rattle.std.specs.Prelude.{◌⊎◌, IfOk, IfErr, IfSome, IsOk, is_none}
 use Rattle.std.specs.List.{filter}
 use Rattle.sub_io.specs.Device.{RisesIf, failed}
 use Rattle.sub_io.specs.Reading.{IfTold}
@@ -37,6 +37,9 @@ use Rattle.sub_rules.specs.declared.event.Event.{Event}
 use Rattle.sub_rules.specs.declared.fault.CheckFault.{CheckFault}
 use Rattle.sub_rules.specs.declared.fault.CheckFault.TheVariants as fault
 use Rattle.sub_listing.specs.DeviceCall.{SourceCall}
+use Rattle.sub_listing.specs.Faults.{check_told}
+use Rattle.sub_listing.specs.LastLine.{HoldsLastLine, PutsLine}
+use Rattle.sub_listing.specs.Told.{line_of}
 use Rattle.sub_answer.specs.EveryFault.{AreListedBefore, CanEnd, FailsAtBlock, TellsBoth}
 use Rattle.sub_listing.specs.EventLines.{most_counted, refusals, subtitle_event, subtitle_events}
 use Rattle.sub_listing.specs.Printer.{PrinterValue, PrintsEvent, PrintsEvents}
@@ -440,3 +443,49 @@ module _ {D : Type 0} (IsTold : D → Event → D → Type 0) (value : D → Pri
       calm : (b : Bool) → (value new).failed ≡ b → (value new).failed ≡ false
       calm true e = absurd (true≢false (sym (stops e) ∙ goes_on))
       calm false e = e
+
+-- ---- the source of the PES file failed
+
+-- What holds of an error holds where it is one of these.
+pub error_fails : {X E : Type 0} (Q : Type 0) (is_one : E → Bool) (r : Result X E)
+    → IfErr r (λ _. Q)
+    → failed is_one r ≡ true
+    → Q
+error_fails Q is_one (Ok x) holds is = absurd (true≢false (sym is))
+error_fails Q is_one (Err e) holds is = holds
+
+ok_keeps : (answer : Result (Option Accepted) CheckFault) (old new : ℕ)
+    → IsOk answer
+    → RisesIf old (failed is_pes_read answer) new
+    → old < new
+    → ⊥
+ok_keeps (Ok a) old new ok same risen = omega (arith, same, risen)
+ok_keeps (Err f) old new ok same risen = absurd (true≢false (sym ok))
+
+-- Then the printer has not failed.
+pub cut_reads : {national : National} {options : OptionsValue} {stl pes : SourceCall}
+    {Untouched : Type 0} {old new : PrinterValue} {given : Result (Option Accepted) CheckFault}
+    → TellsBoth national options stl pes Untouched old new given
+    → new.failed ≡ true
+    → pes.old_count < pes.new_count
+    → ⊥
+cut_reads told failing risen =
+    ok_keeps told.answer _ _ (told.cut failing) told.sources.pes_count risen
+
+-- The line of the failure was put, and nothing before it is held back.
+pub last_line : {K : Type 0} (contents : K → Option (List ℕ)) (held : K → ℕ)
+    (IsPush : K → List ℕ → Option ℕ → K → Type 0) (before new end : K)
+    (answer : Result (Option Accepted) CheckFault)
+    → failed is_pes_read answer ≡ true
+    → held before ≡ 0
+    → IfErr answer (λ f. PutsLine contents IsPush before (line_of (check_told f)) new)
+    → end ≡ new
+    → HoldsLastLine contents held IsPush end
+last_line contents held IsPush before new end (Ok a) is none line same =
+    absurd (true≢false (sym is))
+last_line contents held IsPush before new end (Err f) is none line same = record {
+  before = before;
+  settled = none;
+  told = check_told f;
+  line = subst (PutsLine contents IsPush before (line_of (check_told f))) (sym same) line;
+}

@@ -1,5 +1,5 @@
 -- What is said of the answer to a request, command by command.
-use Rattle.std.specs.Prelude.{◌≡◌, ◌≢◌, ℕ, Bool, true, false, Option, Result, Err, Ok, codes}
+use Rattle.std.specs.Prelude.{◌≡◌, ◌≢◌, ⊤, ℕ, Bool, true, false, Option, Result, Err, Ok, codes}
 use Rattle.sub_io.specs.Device.{failed}
 use Rattle.sub_io.specs.Reading.{IfTold}
 use Rattle.ttx_pes.specs.Reader.{FailsAtPacket}
@@ -109,3 +109,11 @@ Answers (ask.Check stl pes options national false) first second Untouched file o
     AnswersCheck national options first second Untouched out status
 Answers (ask.Listen pes listening) first second Untouched file out status =
     AnswersListen (left_by listening.receiver) listening first out status
+
+-- A request whose answer is followed while its PES file is sent: where the source of that failed,
+-- this is so. It is the first source of `packets`, and the second of `check --all`.
+abbrev pub HandsOnBefore : Request → Type 0 → Type 0 → Type 0 → Type 0
+HandsOnBefore (ask.Packets pes) FirstFails SecondFails IsAlone = FirstFails → IsAlone
+HandsOnBefore (ask.Check stl pes options national true) FirstFails SecondFails IsAlone =
+    SecondFails → IsAlone
+HandsOnBefore _ FirstFails SecondFails IsAlone = ⊤

@@ -8,17 +8,18 @@ mod check_all;
 mod listen;
 
 ghost use Rattle.std.specs.Prelude.{◌≡◌, ◌+◌, ◌<◌, false, true};
-ghost use Rattle.sub_answer.specs.Answering.{Answers, takes_memory};
+ghost use Rattle.sub_answer.specs.Answering.{Answers, HandsOnBefore, takes_memory};
 ghost use Rattle.sub_listing.specs.DeviceCall.{CanFail, CountsFault, sink_call, source_call};
 ghost use Rattle.sub_listing.specs.Faults.{usage_told};
 ghost use Rattle.sub_request.specs.Files.{files_of, reads_one, reads_two, writes_one};
+ghost use Rattle.sub_listing.specs.LastLine.{HoldsLastLine};
 ghost use Rattle.sub_listing.specs.Listing.{PrintsOrFails, told_listing};
 
 use check::print_verdict;
 use check_all::print_every_fault;
 use listen::print_listening;
 use std::alloc::Global;
-use sub_io::{Ahead, Flush, Sink};
+use sub_io::{Flush, Sink, Source};
 use sub_listing::{
     Status, list_packets, list_subtitles, print_told, show_packet, told_of_usage, write_normal,
     write_schedule,
@@ -32,7 +33,7 @@ use ttx_page::{Blank, Keep};
 /// file to be written and `out` the standard output. Devices that the request does not name are
 /// not touched. `Fault` where a device failed, or where memory ran out; what was printed until then
 /// stays.
-pub fn answer<S: Ahead, T: Ahead, F: Flush, K: Flush>(
+pub fn answer<S: Source, T: Source, F: Flush, K: Flush>(
     alloc: Global,
     request: &Request<'_>,
     first: &mut S,
@@ -67,6 +68,14 @@ pub fn answer<S: Ahead, T: Ahead, F: Flush, K: Flush>(
     ensures held { writes_one (files_of request.now) ≡ true
         → result ≡ Status.Done
         → F.held file.new ≡ 0 }
+
+    // Where the source of the PES file may have to ask its device, all that was told before is with
+    // the device of `out`: each such call may fail, and where one did the line of its failure alone
+    // may be held back.
+    ensures followed { K.held out.old ≡ 0 → HandsOnBefore request.now
+        (S.failure_count first.old < S.failure_count first.new)
+        (T.failure_count second.old < T.failure_count second.new)
+        (HoldsLastLine K.contents K.held K.is_push out.new) }
 
     // The status of a command that takes no memory is `Fault` only where a device failed.
     ensures fault { takes_memory request.now ≡ false

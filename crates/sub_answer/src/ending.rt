@@ -13,12 +13,12 @@ ghost use Rattle.sub_answer.specs.Ending.{lines_in, lines_of};
 use crate::answering::{answer, say};
 use crate::handing_on::{HandOn, hand_on_all};
 use std::alloc::Global;
-use sub_io::{Ahead, BufferedSink, Close, MemSink, MemSource, Sink};
+use sub_io::{BufferedSink, Close, MemSink, MemSource, Sink, Source};
 use sub_listing::Status;
 use sub_request::{Request, UsageFault};
 
 /// Answers a request that reads one source.
-pub fn answer_from<S: Ahead, K: Sink>(
+pub fn answer_from<S: Source, K: Sink>(
     alloc: Global,
     request: &Request<'_>,
     first: &mut S,
@@ -35,7 +35,7 @@ pub fn answer_from<S: Ahead, K: Sink>(
 }
 
 /// Answers a request that reads two sources.
-pub fn answer_pair<S: Ahead, T: Ahead, K: Sink>(
+pub fn answer_pair<S: Source, T: Source, K: Sink>(
     alloc: Global,
     request: &Request<'_>,
     first: &mut S,
@@ -57,7 +57,7 @@ pub fn answer_pair<S: Ahead, T: Ahead, K: Sink>(
 }
 
 /// Answers a request that reads one source and writes a file.
-pub fn answer_with_file<S: Ahead, F: Close, O: HandOn<F>>(
+pub fn answer_with_file<S: Source, F: Close, O: HandOn<F>>(
     alloc: Global,
     request: &Request<'_>,
     first: &mut S,
@@ -85,7 +85,7 @@ pub fn answer_with_file<S: Ahead, F: Close, O: HandOn<F>>(
 //
 // Where the status is 0, neither the file nor the lines are held back, and no call of either sink
 // has failed: the devices below them have taken all bytes, by calls that did not fail.
-fn answer_and_hand_on<S: Ahead, T: Ahead, F: Close, O: HandOn<F>>(
+fn answer_and_hand_on<S: Source, T: Source, F: Close, O: HandOn<F>>(
     alloc: Global,
     request: &Request<'_>,
     first: &mut S,

@@ -1,7 +1,7 @@
 -- A device that keeps the first fault of a rule keeps what is told first, `kept_is`; that is of a
 -- rule, `first_named`, and decides the answer of `check`, `first_decides`.
 use Rattle.std.proofs.lemmas.Bool.Decides.{nat_tests}
-use Rattle.std.proofs.Common.{◌≡◌, ℕ, ◌≤◌, List, [], ◌∷◌, length, Option, Some, None, Result, Err}
+use Rattle.std.proofs.Common.{◌≡◌, ℕ, List, [], ◌∷◌, length, Option, Some, None, Result, Err}
 use Rattle.std.proofs.Common.{refl, sym, subst, arith, All, MatchResult, true}
 use Rattle.std.specs.List.{AllByRecursion}
 use Rattle.std.proofs.lemmas.Bool.{true≢false}

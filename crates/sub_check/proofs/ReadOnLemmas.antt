@@ -1,12 +1,12 @@
 -- What is read and told of a PES file up to the first piece that is passed over, by what is where
 -- reading goes on: main lemmas: `read_whole`, `first_of_pieces`, `all_are_sent`.
 use Rattle.std.proofs.lemmas.Bool.Decides.{nat_tests}
-use Rattle.std.proofs.Common.{◌≡◌, ℕ, suc, ◌≤◌, List, [], ◌∷◌, ◌++◌, length, map, take, drop}
+use Rattle.std.proofs.Common.{◌≡◌, ℕ, suc, ◌≤◌, List, [], ◌∷◌, ◌++◌, length, take, drop}
 use Rattle.std.proofs.Common.{Option, Some, None, refl, sym, ap, ◌∙◌, arith}
 use Rattle.std.proofs.lemmas.List.{length-take-le, take-append-drop}
 use Rattle.stl_rows.specs.Programme.{ProgrammeValue}
 use Rattle.sub_plan.specs.Options.{OptionsValue}
-use Rattle.sub_rules.specs.Events.{events, first_told, unread_fault}
+use Rattle.sub_rules.specs.Events.{events, first_told}
 use Rattle.sub_rules.specs.FrameRules.{Task, Unread, task_of}
 use Rattle.sub_rules.specs.PesReading.{ReadsAs, file_at, pes_file_of}
 use Rattle.sub_rules.specs.Pieces.{PesFileValue, Piece, frames_of, piece_file_of}
@@ -14,15 +14,16 @@ use Rattle.sub_rules.specs.Pieces.{read_until_passed}
 use Rattle.sub_rules.specs.Pieces.Piece.{Passed, Sent}
 use Rattle.sub_rules.specs.Transmission.{Transmission}
 use Rattle.sub_rules.specs.declared.event.Event.{Event}
-use Rattle.sub_rules.specs.declared.event.Event.TheVariants.{Told}
 use Rattle.sub_rules.specs.declared.fault.CheckFault.{CheckFault}
 use Rattle.sub_rules.proofs.PieceEventLemmas.{announced_first, first_of_two, first_told_is, or_else}
-use Rattle.sub_rules.proofs.PieceEventLemmas.{with_run_first}
+use Rattle.sub_rules.proofs.PieceEventLemmas.{trusted_first}
 use Rattle.sub_checker.proofs.PieceWaysLemmas.{front_of}
 use Rattle.sub_check.specs.CheckedFiles.{all_events_of, events_of_first_pieces}
-use Rattle.sub_rules.specs.Trusted.{at_pes}
-use Rattle.sub_rules.proofs.RunLemmas.{events_are, frame_before, run_at, told_of_each}
-use Rattle.sub_rules.proofs.RunLemmas.{told_of_frame, told_of_passed}
+use Rattle.sub_rules.specs.PieceEvents.{events_of_pieces, marks_of_each, marks_of_frame}
+use Rattle.sub_rules.specs.Trusted.{after_mark, at_pes, no_trust, told_by, told_with, trust_after}
+use Rattle.sub_rules.specs.Trusted.Mark.{AtPes}
+use Rattle.sub_rules.specs.declared.trust.Trust.{Trust}
+use Rattle.sub_rules.proofs.TrustedLemmas.{told_by-append}
 
 -- What is told of the bytes of a PES file up to the first piece that is passed over.
 abbrev pub events_of : ProgrammeValue → OptionsValue → List ℕ → List Event
@@ -94,33 +95,33 @@ both_none : (a b : Option CheckFault) → or_else a b ≡ None → (a ≡ None) 
 both_none a b h1 = grind (arith, nat_tests)
 
 -- Then each of them is sent.
-none_passed : (g : Task) (frames : Transmission) (pes i : ℕ) (run : Option ℕ) (pieces : List Piece)
-    → first_told (told_of_each g frames pes i run pieces) ≡ None
+none_passed : (g : Task) (frames : Transmission) (pes i : ℕ) (t : Trust) (pieces : List Piece)
+    → first_told (told_by t (marks_of_each g frames pes i pieces)) ≡ None
     → length (frames_of pieces) ≡ length pieces
-unfolding told_of_each frames_of
-none_passed g frames pes i run [] none = refl
-none_passed g frames pes i run (Sent s ∷ pieces) none =
-    let parts = both_none (first_told (map (at_pes pes) (told_of_frame g frames i run))) _
-    (sym (first_of_two (map (at_pes pes) (told_of_frame g frames i run)) _) ∙ none) in
-    ap suc (none_passed g frames (suc pes) (suc i) (run_at g frames i run) pieces parts.1)
-none_passed g frames pes i run (Passed u ∷ pieces) none =
-    let parts = both_none (first_told (told_of_passed frames pes i run u)) _
-    (sym (first_of_two (told_of_passed frames pes i run u) _) ∙ none) in
-    let told = Told (unread_fault pes (Some u)) ∷ [] in
-    let some = sym (with_run_first (frame_before frames i) run told) ∙ parts.0 in
-    cc
+unfolding told_by told_with marks_of_each frames_of at_pes
+none_passed g frames pes i t [] none = refl
+none_passed g frames pes i t (Sent s ∷ pieces) none =
+    let u = after_mark (AtPes pes) t in
+    let frame = marks_of_frame g frames i in
+    let more = marks_of_each g frames (suc pes) (suc i) pieces in
+    let parts = both_none (first_told (told_by u frame)) _
+    (sym (first_of_two (told_by u frame) _) ∙ ap first_told (sym (told_by-append u frame more))
+    ∙ none) in
+    ap suc (none_passed g frames (suc pes) (suc i) (trust_after u frame) pieces parts.1)
+none_passed g frames pes i t (Passed u ∷ pieces) none =
+    grind (arith, nat_tests, first_of_two, trusted_first)
 
 -- So the first n pieces are n frames, where nothing is told first of them.
 pub all_are_sent : (programme : ProgrammeValue) (options : OptionsValue) (bytes : List ℕ) (n : ℕ)
     → n ≤ length (piece_file_of options.origin bytes).pieces
     → first_told (events_of_first_pieces programme options bytes n) ≡ None
     → length (frames_of (take n (piece_file_of options.origin bytes).pieces)) ≡ n
+unfolding events_of_pieces
 all_are_sent programme options bytes n l none =
     let file = piece_file_of options.origin bytes in
     let g = task_of programme options file.unread in
     let done = take n file.pieces in
-    none_passed g (frames_of file.pieces) 0 0 None done
-    (sym (announced_first (told_of_each g (frames_of file.pieces) 0 0 None done))
-    ∙ ap first_told (sym (events_are g (frames_of file.pieces) done))
+    none_passed g (frames_of file.pieces) 0 0 no_trust done
+    (sym (announced_first (told_by no_trust (marks_of_each g (frames_of file.pieces) 0 0 done)))
     ∙ none)
     ∙ length-take-le n file.pieces l

@@ -10,10 +10,9 @@ ghost use Rattle.sub_check.specs.CheckedFiles.{IsChecked, TellsEvents, TellsWhat
 ghost use Rattle.sub_check.specs.CheckedFiles.{all_events_of, first_answer};
 
 use crate::first_fault::FirstFault;
-use crate::never_asks::NeverAsks;
 use stl_rows::Programme;
 use sub_checker::{Accepted, tell_pieces};
-use sub_io::{Ahead, LiveAudience, Source};
+use sub_io::{LiveAudience, Source};
 use sub_plan::Options;
 use sub_rules::{CheckFault, Event};
 use ttx_pes::PesFault;
@@ -55,27 +54,6 @@ pub fn check<S: Source>(
     ensures no_write { failed is_pes_write result ≡ false }
     ensures count { CountsIf S.failure_count source.old (failed is_pes_read result) source.new }
 {
-    let mut never = NeverAsks { source };
-    check_lent(programme, &mut never, options)
-}
-
-// Checks a PES file that is read of a source that is lent.
-fn check_lent<S: Source>(
-    programme: &Programme,
-    source: &mut NeverAsks<'_, S>,
-    options: &Options,
-) -> Result<Accepted, CheckFault>
-    requires { CanFail (S.failure_count source.old.source.now) }
-    ensures same { source.new.source.ghost_name ≡ source.old.source.ghost_name }
-    ensures checked { IfTold (S.remaining source.old.source.now) (λ bytes.
-        IsChecked programme.now options.now bytes result) }
-    ensures read { (pes : ℕ) → result ≡ Err (CheckFault.Pes pes PesFault.Read) → FailsAtPacket pes
-        (S.remaining source.old.source.now) (S.remaining source.new.source.now) }
-    ensures own { failed is_subtitle_fault result ≡ false }
-    ensures no_write { failed is_pes_write result ≡ false }
-    ensures count { CountsIf S.failure_count source.old.source.now (failed is_pes_read result)
-        source.new.source.now }
-{
     let mut first = FirstFault::new();
     match tell_pieces(programme, source, options, &mut first) {
         Err(fault) => Err(fault),
@@ -98,13 +76,13 @@ fn check_lent<S: Source>(
 /// the page. `None` where the device said stop: the PES packet at which it did was read in part.
 ///
 /// It takes no memory, and reads as `check` does but for what it passes over. What the device holds
-/// back it hands on before the source may have to wait: what a PES packet settles is seen before
-/// the next one has come.
+/// back it hands on before a piece is read that the source does not lend whole, and so may have to
+/// wait for: what a PES packet settles is seen before the next one has come.
 ///
 /// # Errors
 ///
 /// `Pes` with `Read` where the source failed: then the events are those of the pieces before.
-pub fn check_all<S: Ahead, A: LiveAudience<Event>>(
+pub fn check_all<S: Source, A: LiveAudience<Event>>(
     programme: &Programme,
     source: &mut S,
     options: &Options,
@@ -112,7 +90,7 @@ pub fn check_all<S: Ahead, A: LiveAudience<Event>>(
 ) -> Result<Option<Accepted>, CheckFault>
     requires failures { CanFail (S.failure_count source.old) }
     requires goes_on { A.has_stopped audience.old ≡ false }
-    requires settled { A.is_settled audience.old ≡ true }
+    requires still { A.is_waiting audience.old ≡ false }
     // Where the source tells its bytes, these decide what the device is told.
     ensures told { IfTold (S.remaining source.old) (λ bytes.
         TellsEvents programme.now options.now bytes A.is_told audience.old audience.new result) }
@@ -134,6 +112,9 @@ pub fn check_all<S: Ahead, A: LiveAudience<Event>>(
     ensures read { (pes : ℕ) → result ≡ Err (CheckFault.Pes pes PesFault.Read)
         → FailsAtPiece pes (S.remaining source.old) (S.remaining source.new) }
     ensures only { IfErr result (λ f. is_pes_read f ≡ true) }
+    // Where the source may have to ask its device, all that was told before is handed on: each such
+    // call may fail, and where one did nothing is held back.
+    ensures asked { A.held audience.old ≡ 0 → IfErr result (λ _. A.held audience.new ≡ 0) }
     ensures count { CountsIf S.failure_count source.old (failed is_pes_read result) source.new }
 {
     tell_pieces(programme, source, options, audience)

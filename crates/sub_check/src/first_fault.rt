@@ -1,7 +1,6 @@
 //! The device that `check` tells what is broken to.
-ghost use Rattle.std.specs.Prelude.{◌≡◌, Option, None, Some, IfSome, is_some, not, true};
-ghost use Rattle.std.proofs.Common.{subst, sym};
-ghost use Rattle.sub_io.specs.Telling.{Tells};
+ghost use Rattle.std.specs.Prelude.{◌≡◌, Option, None, Some, IfSome, is_some, false, not, true};
+ghost use Rattle.std.proofs.Common.{refl, subst, sym};
 ghost use Rattle.sub_check.specs.FirstTold.{IsRuleFault, KeepsFirstFault, is_of_rule};
 ghost use Rattle.sub_rules.specs.declared.fault.CheckFault.{CheckFault};
 
@@ -66,11 +65,18 @@ impl Audience<Event> for FirstFault {
 }
 
 impl Live for FirstFault {
-    ghost is_settled = { λ _. true };
+    ghost is_waiting = { λ _. false };
+
+    ghost held = { λ _. 0 };
 
     ghost is_handed_on = { λ old ok new. (new ≡ old) × (is_some new ≡ not ok) };
 
-    // Nothing: it keeps what it was told.
+    // Never: it keeps what it was told.
+    fn waits(&self) -> bool {
+        false
+    }
+
+    // Nothing is done.
     fn hand_on(&mut self) -> Result<(), Stopped> {
         if self.fault.is_some() {
             return Err(Stopped);
@@ -81,9 +87,10 @@ impl Live for FirstFault {
 
 impl LiveAudience<Event> for FirstFault {
     ghost stays_told = { record {
-      told = λ start old new ok items settled told on.
-          subst (λ d. Tells KeepsFirstFault start d items) (sym on.0) told;
+      told = λ before old new item ok told waits on.
+          subst (λ d. KeepsFirstFault before item d) (sym on.0) told;
       stopped = λ old new ok on. on.1;
+      waits = λ before new item told still. refl;
     } };
 }
 

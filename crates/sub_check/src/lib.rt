@@ -16,7 +16,6 @@
 mod checking;
 mod files;
 mod first_fault;
-mod never_asks;
 
 pub use checking::{check, check_all};
 pub use files::check_files;

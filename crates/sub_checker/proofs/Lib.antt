@@ -1,6 +1,5 @@
 pub mod EdgeLemmas
 pub mod FollowingLemmas
-pub mod LendingLemmas
 pub mod PassingLemmas
 pub mod PieceWaysLemmas
 pub mod ReadsOnLemmas

@@ -1,7 +1,6 @@
 //! What is told of a PES file that is read on behind the pieces that are passed over.
 ghost use Rattle.std.specs.Prelude.{◌≡◌, ℕ, ◌+◌, ◌-◌, ◌*◌, ◌<◌, ◌≤◌, [], ◌∷◌, Err, IfErr, IfOk};
 ghost use Rattle.std.specs.Prelude.{List, OnOk, Option, false, is_err, is_none, length, take, true};
-ghost use Rattle.sub_io.specs.Calls.{PullsSome};
 ghost use Rattle.sub_io.specs.Device.{CanFail, CountsIf, failed};
 ghost use Rattle.sub_io.specs.Reading.{IfTold};
 ghost use Rattle.sub_io.specs.Telling.{TellsSome};
@@ -25,11 +24,11 @@ ghost use Rattle.sub_checker.specs.PieceTelling.{TellsPieces};
 
 use crate::checker::Checker;
 use crate::closing_pieces::finish;
-use crate::lending::next_live;
+use crate::lending::next_followed;
 use crate::passing::{Passing, Stage};
 use crate::telling::{Accepted, is_source_failure};
 use stl_rows::Programme;
-use sub_io::{Ahead, Audience, LiveAudience, Stopped};
+use sub_io::{Audience, LiveAudience, Source, Stopped};
 use sub_plan::Options;
 use sub_rules::{CheckFault, Event, NextPiece, Sending, units_of};
 use ttx_pes::{ComparingReader, PesFault, SentUnits};
@@ -54,7 +53,7 @@ pub(crate) struct Kept {
 /// # Errors
 ///
 /// `Pes` with `Read` where the source failed: then the events are those of the pieces before.
-pub fn tell_pieces<S: Ahead, A: LiveAudience<Event>>(
+pub fn tell_pieces<S: Source, A: LiveAudience<Event>>(
     programme: &Programme,
     source: &mut S,
     options: &Options,
@@ -62,7 +61,7 @@ pub fn tell_pieces<S: Ahead, A: LiveAudience<Event>>(
 ) -> Result<Option<Accepted>, CheckFault>
     requires failures { CanFail (S.failure_count source.old) }
     requires goes_on { A.has_stopped audience.old ≡ false }
-    requires settled { A.is_settled audience.old ≡ true }
+    requires still { A.is_waiting audience.old ≡ false }
     ensures exact { (pieces : List Piece) (unread : Option Unread)
         → IfTold (S.remaining source.old) (λ bytes.
         ReadsPieces options.now.origin 0 bytes pieces unread
@@ -83,7 +82,8 @@ pub fn tell_pieces<S: Ahead, A: LiveAudience<Event>>(
     ensures only { IfErr result (λ f. is_pes_read f ≡ true) }
     ensures options { IsOptions options.now }
     ensures programme { IsProgramme programme.now.national programme.now.records }
-    ensures pulls { PullsSome S.is_pull source.old source.new }
+    // Where the source failed, as each of its calls may, nothing that was told is held back.
+    ensures asked { A.held audience.old ≡ 0 → IfErr result (λ _. A.held audience.new ≡ 0) }
     ensures count { CountsIf S.failure_count source.old (failed is_pes_read result) source.new }
 {
     let mut reader = ComparingReader::new();
@@ -91,7 +91,7 @@ pub fn tell_pieces<S: Ahead, A: LiveAudience<Event>>(
     let mut kept = Kept::new();
     let mut pes = 0;
     'pieces: loop {
-        let Some(read) = next_live(&mut reader, source, audience, options, pes) else {
+        let Some(read) = next_followed(&mut reader, source, audience, options, pes) else {
             return Ok(None);
         };
         let next = match read {

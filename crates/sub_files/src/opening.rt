@@ -2,10 +2,11 @@
 //!
 //! What is opened is handed on as files alone, so that no function that asks for files has another
 //! device or the lines in it.
-ghost use Rattle.std.specs.Prelude.{◌≡◌, ◌≤◌, IfSome, vec_len};
-ghost use Rattle.sub_files.specs.FileCalls.{CallsInTurn};
+ghost use Rattle.std.specs.Prelude.{◌≡◌, ◌≤◌, [], ◌∷◌, IfSome, vec_len};
+ghost use Rattle.sub_files.specs.FileCalls.{CallsInTurn, FileCall};
 ghost use Rattle.sub_files.specs.Opening.{OpensBy};
 
+use crate::apart::Found;
 use crate::file_system::FileSystem;
 use crate::files::{CreatedFile, PesFile, StlFile, create_apart, open_pes, open_stl};
 use std::alloc::Global;
@@ -96,10 +97,23 @@ fn open_and_create<D: FileSystem>(
     let Some(input) = open_stl(files, stl) else {
         return None;
     };
-    let here = files.look_up(stl.name());
-    let there = files.look_up(output.name());
+    let (here, there) = look_up_both(files, stl, output);
     match create_apart(files, output, here, there) {
         Some(created) => Some(Opened::Write(input, created)),
         None => None,
     }
+}
+
+// What is at both names.
+fn look_up_both<D: FileSystem>(
+    files: &mut D,
+    stl: &StlInput<'_>,
+    output: &Output<'_>,
+) -> (Found, Found)
+    ensures { CallsInTurn D.is_call files.old files.new
+        (FileCall.LookUp stl.now result.0 ∷ FileCall.LookUp output.now result.1 ∷ []) }
+{
+    let here = files.look_up(stl.name());
+    let there = files.look_up(output.name());
+    (here, there)
 }

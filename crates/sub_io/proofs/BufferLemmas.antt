@@ -88,6 +88,16 @@ pub held_length : (xs : List ℕ) (a e : ℕ)
     → length (slice_range xs a e) ≡ e - a
 held_length xs a e le within = omega (arith, length-take (e - a) (drop a xs), length-drop a xs)
 
+-- A range that is empty is so of any bytes. For `refill`.
+pub none_held : (xs ys : List ℕ) (a e : ℕ)
+    → a ≤ e
+    → e ≤ length xs
+    → slice_range xs a e ≡ []
+    → slice_range ys a e ≡ []
+none_held xs ys a e le within none =
+    let none_left : e - a ≡ 0 = omega (arith, ap length none, held_length xs a e le within) in
+    ap (λ k. take k (drop a ys)) none_left
+
 -- The bytes from a to e without the first n.
 pub held_past : (xs : List ℕ) (a e n : ℕ)
     → a + n ≤ e

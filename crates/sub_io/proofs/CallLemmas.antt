@@ -1,10 +1,9 @@
--- The calls of a filling and of a writing, one call more. Where it is only said that some pulls
--- were made: `pulls`.
+-- The calls of a filling and of a writing, one call more.
 use Rattle.std.proofs.Common.{◌≡◌, ℕ, ◌-◌, ◌<◌, true, false, Bool, List, [], ◌∷◌, ◌++◌, length}
 use Rattle.std.proofs.Common.{Option, Some, None, inl, inr, refl, subst, ◌+◌, ◌≤◌, arith, drop}
 use Rattle.std.proofs.Common.{drop-drop, length-drop}
 use Rattle.std.proofs.lemmas.List.{nil_from_length}
-use Rattle.sub_io.specs.Calls.{EachPulls, FillsByPulls, PullsSome, PutsByPushes}
+use Rattle.sub_io.specs.Calls.{FillsByPulls, PutsByPushes}
 
 module _ {D : Type 0} (IsPull : D → ℕ → Option ℕ → D → Type 0) where
   -- A pull that gave bytes, and what follows it.
@@ -77,51 +76,3 @@ module _ {D : Type 0} (IsPush : D → List ℕ → Option ℕ → D → Type 0) 
   puts-failed old new lent bytes at push whole some =
       let left = length-drop at bytes in
       record { taken = []; pushes = (omega (arith, some, left), rw whole at push) }
-
--- ---- whatever was pulled
-
-module _ {D : Type 0} (IsPull : D → ℕ → Option ℕ → D → Type 0) where
-  each-trans : (a b c : D) (ps qs : List (ℕ × Option ℕ))
-      → EachPulls IsPull a ps b
-      → EachPulls IsPull b qs c
-      → EachPulls IsPull a (ps ++ qs) c
-  each-trans a b c [] qs p q = subst (λ d. EachPulls IsPull d qs c) p q
-  each-trans a b c (x ∷ ps) qs (mid, first, rest) q =
-      (mid, first, each-trans mid b c ps qs rest q)
-
-  each-keeps : (R : D → Type 0)
-      → ((a b : D) (room : ℕ) (answer : Option ℕ) → R a → IsPull a room answer b → R b)
-      → (a b : D) (ps : List (ℕ × Option ℕ)) → R a → EachPulls IsPull a ps b → R b
-  each-keeps R keeps a b [] was is = rw is was
-  each-keeps R keeps a b (p ∷ ps) was (mid, first, rest) =
-      each-keeps R keeps mid b ps (keeps a mid p.0 p.1 was first) rest
-
-module _ {D : Type 0} {IsPull : D → ℕ → Option ℕ → D → Type 0} where
-  -- Nothing.
-  pub PullsSome-none : (a : D) → PullsSome IsPull a a
-  PullsSome-none a = record { pulls = []; each = refl }
-
-  -- The one and then the other.
-  pub PullsSome-trans : (a b c : D) → PullsSome IsPull a b → PullsSome IsPull b c
-      → PullsSome IsPull a c
-  PullsSome-trans a b c p q = record {
-    pulls = p.pulls ++ q.pulls;
-    each = each-trans IsPull a b c p.pulls q.pulls p.each q.each;
-  }
-
-  -- One more.
-  pub PullsSome-more : (a b c : D) (room : ℕ) (answer : Option ℕ) → PullsSome IsPull a b
-      → IsPull b room answer c → PullsSome IsPull a c
-  PullsSome-more a b c room answer p pull = record {
-    pulls = p.pulls ++ (room, answer) ∷ [];
-    each = each-trans IsPull a b c p.pulls ((room, answer) ∷ []) p.each (c, pull, refl);
-  }
-
-  -- What each pull keeps, they all keep.
-  pub PullsSome-keep : (R : D → Type 0)
-      → ((a b : D) (room : ℕ) (answer : Option ℕ) → R a → IsPull a room answer b → R b)
-      → (a b : D) → R a → PullsSome IsPull a b → R b
-  PullsSome-keep R keeps a b was some = each-keeps IsPull R keeps a b some.pulls was some.each
-
--- For a function that pulls: `using(sub_io::proofs::CallLemmas::pulls)`.
-pub ruleset pulls = (PullsSome-none, PullsSome-more, PullsSome-trans)

@@ -43,22 +43,6 @@ pub record FillsByPulls
   pub given : List ℕ
   pub pulls : PullsInTurn IsPull old room given ok new
 
--- ---- the calls of any reader
-
--- Pulls one after another: how many bytes each was lent, and what it answered.
-abbrev pub EachPulls :
-    {D : Type 0} → (D → ℕ → Option ℕ → D → Type 0) → D → List (ℕ × Option ℕ) → D → Type 0
-EachPulls IsPull old [] new = new ≡ old
-EachPulls {D} IsPull old (p ∷ ps) new =
-    (mid : D) × IsPull old p.0 p.1 mid × EachPulls IsPull mid ps new
-
--- Some pulls, or none.
-pub record PullsSome
-    {D : Type 0} (IsPull : D → ℕ → Option ℕ → D → Type 0) (old new : D)
-    : Type 0 where
-  pub pulls : List (ℕ × Option ℕ)
-  pub each : EachPulls IsPull old pulls new
-
 -- ---- the calls of `put_all`
 
 -- The last call, where these bytes are left: none where there are none. Where the writing fails it

@@ -5,6 +5,7 @@ pub mod Counted
 pub mod Device
 pub mod FaultCode
 pub mod HandingOn
+pub mod Lent
 pub mod Memory
 pub mod Reading
 pub mod Telling

@@ -1,8 +1,8 @@
 //! Devices that are told things, one after another, and may stop.
 
 ghost use Rattle.std.specs.Prelude.{◌≡◌, [], ◌∷◌, Bool, false, Option, None, Some, is_err, is_some};
-ghost use Rattle.std.specs.Prelude.{IsErr, not, true};
-ghost use Rattle.std.proofs.Common.{subst, sym};
+ghost use Rattle.std.specs.Prelude.{IsErr, not};
+ghost use Rattle.std.proofs.Common.{refl, subst, sym};
 ghost use Rattle.sub_io.specs.Telling.{KeepsFirst, Tells};
 
 use crate::{Live, LiveAudience};
@@ -86,9 +86,16 @@ impl<T: Drop> Audience<T> for FirstTold<T> {
 }
 
 impl<T> Live for FirstTold<T> {
-    ghost is_settled = { λ _. true };
+    ghost is_waiting = { λ _. false };
+
+    ghost held = { λ _. 0 };
 
     ghost is_handed_on = { λ old ok new. (new ≡ old) × (is_some new ≡ not ok) };
+
+    /// Never: it keeps what it was told.
+    fn waits(&self) -> bool {
+        false
+    }
 
     /// Does nothing: it keeps what it was told, and hands on nothing.
     ///
@@ -105,8 +112,9 @@ impl<T> Live for FirstTold<T> {
 
 impl<T: Drop> LiveAudience<T> for FirstTold<T> {
     ghost stays_told = { record {
-      told = λ start old new ok items settled told on.
-          subst (λ d. Tells KeepsFirst start d items) (sym on.0) told;
+      told = λ before old new item ok told waits on.
+          subst (λ d. KeepsFirst before item d) (sym on.0) told;
       stopped = λ old new ok on. on.1;
+      waits = λ before new item told still. refl;
     } };
 }

@@ -8,9 +8,10 @@ ghost use Rattle.std.specs.Io.KnownBytes.{Consumes, IsAtEnd, Keeps, prepend_know
 ghost use Rattle.sub_io.specs.Buffered.{ReadAhead};
 ghost use Rattle.sub_io.specs.Calls.{ReadsAhead, answered};
 ghost use Rattle.sub_io.specs.Device.{CanFail, CountsFailure, PassesOver, Pulls};
+ghost use Rattle.sub_io.specs.Lent.{BeginLent, GivesLent};
 ghost use Rattle.sub_io.specs.Reading.{AreNext};
 
-use crate::{Ahead, Failed, Source};
+use crate::{Failed, Source};
 use std::marker::Model;
 
 /// A source that asks the source inside for as many bytes as it has room for, and gives them in
@@ -56,6 +57,7 @@ impl<'a, S: Source> BufferedSource<'a, S> {
     }
 
     // Asks the source inside once, where no byte is held.
+    #[tactic(auto, using(crate::proofs::BufferLemmas::none_held))]
     fn refill(&mut self) -> Result<(), Failed>
         requires empty { self.old.held ≡ [] }
         requires count { CanFail (S.failure_count self.old.device) }
@@ -114,6 +116,8 @@ impl<S: Source> Source for BufferedSource<'_, S> {
 
     ghost is_pull = { ReadsAhead S.is_pull };
 
+    ghost lent = { λ s. s.held };
+
     /// Gives the bytes that are held, or asks the source inside once: straight into `to` where that
     /// is at least as long as the room.
     ///
@@ -144,6 +148,7 @@ impl<S: Source> Source for BufferedSource<'_, S> {
             (prepend_known self.old.held (S.remaining self.old.device))
             (prepend_known self.new.held (S.remaining self.new.device))
             to.new result }
+        ensures lent { GivesLent self.old.held self.new.held to.new result }
         ensures count { CountsFailure
             (S.failure_count self.old.device) result (S.failure_count self.new.device) }
     {
@@ -167,6 +172,7 @@ impl<S: Source> Source for BufferedSource<'_, S> {
         ensures all { result.now ≡ self.now.held }
         ensures bytes { AreNext result.now
             (prepend_known self.now.held (S.remaining self.now.device)) }
+        ensures lent { BeginLent result.now self.now.held }
     {
         &self.room[self.start..self.end]
     }
@@ -191,14 +197,5 @@ impl<S: Source> Source for BufferedSource<'_, S> {
         }
         self.start += count;
         true
-    }
-}
-
-impl<S: Source> Ahead for BufferedSource<'_, S> {
-    ghost must_ask = { λ s. length s.held == 0 };
-
-    /// Where no byte is held.
-    fn asks(&self) -> bool {
-        self.start == self.end
     }
 }

@@ -8,7 +8,7 @@ ghost use Rattle.sub_io.specs.Calls.{PassesOn, answered};
 ghost use Rattle.sub_io.specs.Countdown.{CountingDown, failures_with, fails_next, left_after};
 ghost use Rattle.sub_io.specs.Device.{CanFail, CountsFailure, Pulls, Pushes};
 
-use crate::{Ahead, Failed, Flush, Sink, Source};
+use crate::{Failed, Flush, Sink, Source};
 use std::marker::Model;
 
 /// A device that passes all calls but one on to the device inside; that one fails and does nothing.
@@ -110,15 +110,6 @@ impl<S: Source> Source for FailAt<S> {
     /// The failures of the device inside, and one more after the call of the countdown.
     fn failures(&self) -> u64 {
         self.with_own(self.inner.failures())
-    }
-}
-
-impl<S: Ahead> Ahead for FailAt<S> {
-    ghost must_ask = { λ d. S.must_ask d.device };
-
-    /// Where the device inside may have to.
-    fn asks(&self) -> bool {
-        self.inner.asks()
     }
 }
 

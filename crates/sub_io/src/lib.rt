@@ -21,9 +21,7 @@
 //! - `FailAt` makes one chosen call of another device fail.
 //! - `Audience` is the trait of devices that are told things one after another, and may stop;
 //!   `FirstTold` stops at the first.
-//! - `Ahead` is a source that can say whether it may have to wait, `Live` a device that can hand on
-//!   what it holds back; `HandingOn` lends both to a reader, so that what was told is handed on
-//!   before the wait.
+//! - `Live` is a device that can hand on what it holds back, before its user waits for a source.
 //! - `FaultCode` is the number and the name of a fault, of whichever crate.
 #![tactic(auto)]
 
@@ -32,7 +30,6 @@ mod buffered_sink;
 mod buffered_source;
 mod fail_at;
 mod fault_code;
-mod handing_on;
 mod into_file;
 mod live;
 mod memory;
@@ -45,9 +42,8 @@ pub use buffered_sink::BufferedSink;
 pub use buffered_source::BufferedSource;
 pub use fail_at::FailAt;
 pub use fault_code::FaultCode;
-pub use handing_on::HandingOn;
 pub use into_file::IntoFile;
-pub use live::{Ahead, Live, LiveAudience};
+pub use live::{Live, LiveAudience};
 pub use memory::{MemSink, MemSource};
 pub use sink::{Close, Flush, Sink, put_all};
 pub use source::{Failed, Source, fill};

@@ -6,10 +6,11 @@ ghost use Rattle.std.specs.Io.{ReadsAtMost};
 ghost use Rattle.std.specs.Io.KnownBytes.{Keeps};
 ghost use Rattle.sub_io.specs.Device.{CanFail, CountsFailure, PassesOver, Pulls, Pushes};
 ghost use Rattle.sub_io.specs.Device.{holds_nothing};
+ghost use Rattle.sub_io.specs.Lent.{BeginLent, GivesLent};
 ghost use Rattle.sub_io.specs.Reading.{AreNext};
 ghost use Rattle.sub_io.specs.Memory.{Written};
 
-use crate::{Ahead, Close, Failed, Flush, Sink, Source};
+use crate::{Close, Failed, Flush, Sink, Source};
 use std::marker::Model;
 
 /// A source that gives the bytes of a slice. It never fails.
@@ -40,11 +41,14 @@ impl Source for MemSource<'_> {
 
     ghost failure_count = { λ _. 0 };
 
+    ghost lent = { λ s. s };
+
     /// Gives as many bytes as `to` has room for, or all that are left. It never fails.
     fn pull(&mut self, to: &mut [u8]) -> Result<usize, Failed>
         ensures all { result ≡ Ok (min (length self.old) (length to.old)) }
         ensures bound { ReadsAtMost result to.new }
         ensures bytes { Pulls (Some self.old) (Some self.new) to.new result }
+        ensures lent { GivesLent self.old self.new to.new result }
         ensures count { CountsFailure 0 result 0 }
     {
         let n = self.rest.len().min(to.len());
@@ -63,6 +67,7 @@ impl Source for MemSource<'_> {
     fn held(&self) -> &[u8]
         ensures all { result.now ≡ self.now }
         ensures bytes { AreNext result.now (Some self.now) }
+        ensures lent { BeginLent result.now self.now }
     {
         self.rest
     }
@@ -81,15 +86,6 @@ impl Source for MemSource<'_> {
         let (_, left) = self.rest.split_at(count);
         self.rest = left;
         true
-    }
-}
-
-impl Ahead for MemSource<'_> {
-    ghost must_ask = { λ _. false };
-
-    /// Never: all bytes are there.
-    fn asks(&self) -> bool {
-        false
     }
 }
 

@@ -6,6 +6,7 @@ ghost use Rattle.std.specs.Io.{ReadsAtMost};
 ghost use Rattle.std.specs.Io.KnownBytes.{Consumes, IsAtEnd};
 ghost use Rattle.sub_io.specs.Calls.{FillsByPulls, answered, any_call};
 ghost use Rattle.sub_io.specs.Device.{CanFail, CountsFailure, Fills, PassesOver, Pulls, Told};
+ghost use Rattle.sub_io.specs.Lent.{BeginLent, GivesLent, lends_nothing};
 ghost use Rattle.sub_io.specs.Reading.{AreBytes, AreNext, IfTold};
 
 /// A device's call failed: it gave or took nothing.
@@ -24,6 +25,9 @@ pub trait Source {
     // it gives or none where it fails, its state after.
     ghost is_pull: { Self → ℕ → Option ℕ → Self → Type 0 } = { any_call };
 
+    // The bytes that it gives without a call of the device below it, which may wait and may fail.
+    ghost lent: { Self → List ℕ } = { lends_nothing };
+
     /// Puts bytes in front of `to` and answers how many; 0 for a nonempty `to` means the end.
     ///
     /// # Errors
@@ -34,16 +38,18 @@ pub trait Source {
         ensures bound { ReadsAtMost result to.new }
         ensures call { is_pull self.old (length to.old) (answered result) self.new }
         ensures bytes { Pulls (remaining self.old) (remaining self.new) to.new result }
+        ensures lent { GivesLent (lent self.old) (lent self.new) to.new result }
         ensures count { CountsFailure (failure_count self.old) result (failure_count self.new) };
 
     /// How many calls of `pull` have failed.
     fn failures(&self) -> u64
         ensures { result ≡ failure_count self.now };
 
-    /// The bytes that it holds and lends where they stand: those that it gives next. A device that
-    /// holds none, or lends none, says so by an empty slice.
+    /// The bytes that it holds and lends where they stand: those that it gives next, without a call
+    /// of the device below it. A device that holds none, or lends none, says so by an empty slice.
     fn held(&self) -> &[u8]
-        ensures { AreNext result.now (remaining self.now) }
+        ensures bytes { AreNext result.now (remaining self.now) }
+        ensures lent { BeginLent result.now (lent self.now) }
     {
         &[]
     }

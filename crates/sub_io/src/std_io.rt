@@ -1,10 +1,10 @@
 //! Devices over std's readers and writers: files, standard input and output.
 
-ghost use Rattle.std.specs.Prelude.{◌≡◌, ℕ, ◌+◌, true};
+ghost use Rattle.std.specs.Prelude.{◌≡◌, ℕ, ◌+◌};
 ghost use Rattle.sub_io.specs.Counted.{Counted};
 ghost use Rattle.sub_io.specs.Device.{holds_nothing};
 
-use crate::{Ahead, Failed, Flush, Sink, Source};
+use crate::{Failed, Flush, Sink, Source};
 use std::io::{Read, Write};
 use std::marker::Model;
 
@@ -57,15 +57,6 @@ impl<R: Read> Source for FromRead<R> {
     /// How many reads have failed.
     fn failures(&self) -> u64 {
         self.failures
-    }
-}
-
-impl<R: Read> Ahead for FromRead<R> {
-    ghost must_ask = { λ _. true };
-
-    /// Always: one pull is one `read`.
-    fn asks(&self) -> bool {
-        true
     }
 }
 

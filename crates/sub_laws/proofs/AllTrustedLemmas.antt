@@ -3,7 +3,7 @@
 use Rattle.std.proofs.lemmas.Bool.Decides.{nat_tests}
 use Rattle.std.proofs.Common.{◌≡◌, ℕ, suc, ◌+◌, ◌-◌, ◌<◌, ◌≤◌, inl, inr, Bool, true, false, List}
 use Rattle.std.proofs.Common.{[], ◌∷◌, ◌≢◌, Contains, length, Option, Some, None, refl, sym, ap}
-use Rattle.std.proofs.Common.{subst, arith, ◌∙◌, ◌⊎◌, ◌||◌, ◌++◌, not, map}
+use Rattle.std.proofs.Common.{subst, arith, ◌∙◌, ◌||◌, ◌++◌, not, map}
 use Rattle.std.proofs.lemmas.Bool.{cases_lt, lt-ltb}
 use Rattle.std.proofs.lemmas.List.{take-take}
 use Rattle.std.proofs.lemmas.List.Elements.{Contains-append_left, Contains-append_right}
@@ -18,13 +18,15 @@ use Rattle.sub_rules.specs.Trusted.{stands_none, tells_none}
 use Rattle.sub_rules.specs.declared.event.Event.{Event}
 use Rattle.sub_rules.specs.declared.event.Event.TheVariants.{Trusted, Told}
 use Rattle.sub_rules.specs.declared.packet_rule.PacketRule.{PacketRule}
-use Rattle.sub_rules.specs.PieceEvents.{all_announced, all_of_pieces}
-use Rattle.sub_rules.specs.PieceEvents.{ended_run, no_run, passed_after_all}
+use Rattle.sub_rules.proofs.RunLemmas.{frame_before, is_quiet, last_of_run, run_at, told_are}
+use Rattle.sub_rules.proofs.RunLemmas.{told_in_runs, told_of_frame, told_of_passed, trust_end}
+use Rattle.sub_rules.specs.PieceEvents.{all_announced, all_of_pieces, closing_of_pieces}
+use Rattle.sub_rules.specs.PieceEvents.{no_run, passed_after_all}
 use Rattle.sub_rules.specs.Pieces.{Piece, frames_of}
 use Rattle.sub_rules.specs.Pieces.Piece.{Passed, Sent}
 use Rattle.sub_laws.proofs.DoubtLemmas.{any_doubt, contains-announced, contains-at, first_doubt}
 use Rattle.sub_laws.proofs.DoubtLemmas.{over-is, over-some, told_in_run}
-use Rattle.sub_laws.proofs.TrustedPieceLemmas.{any_told, passed_doubt}
+use Rattle.sub_laws.proofs.TrustedPieceLemmas.{passed_doubt}
 use Rattle.sub_laws.proofs.TrustedRunLemmas.{IsRun, run_next, Run, latest_is, long, stood, ways}
 use Rattle.sub_laws.specs.CleanStretch.{IsEnd, is_needed}
 use Rattle.sub_laws.specs.TrustedFrames.{CanStay, LawOfAllTrusted, rising_part}
@@ -34,37 +36,29 @@ use Rattle.sub_laws.proofs.PassedOutsideLemmas.{IsOutside, is_outside}
 use Rattle.sub_laws.proofs.PrefixLemmas.{before, frame_at-take, packet_at, packets-take, rises_to}
 use Rattle.sub_laws.proofs.TrustedFrameLemmas.{count_most, part_last, part_length, part_rises}
 use Rattle.sub_laws.proofs.TrustedFrameLemmas.{risen, risen_low, rises_more, standing-take}
-use Rattle.sub_rules.proofs.RunLemmas.{all_are, all_in_runs, closing_told, frame_before, is_quiet}
-use Rattle.sub_rules.proofs.RunLemmas.{last_of_run}
-use Rattle.sub_rules.proofs.RunLemmas.{run_after_each, run_at, told_in_runs, told_of_each}
-use Rattle.sub_rules.proofs.RunLemmas.{told_of_frame, told_of_passed, trust_end}
 use Rattle.sub_rules.specs.PieceEvents.{own_events}
 use Rattle.sub_rules.proofs.TrustedLemmas.{run_over, with_run}
 use Rattle.sub_rules.specs.Trusted.{at_pes}
 
--- What is told of the pieces, or of the run at their end, is told among all.
-told_among : {R : Type 0} (from b : ℕ) (each last closing : List Event)
-    → (R → (to : ℕ) × (b ≤ to) × Contains last (Trusted from to))
-    → ((to : ℕ) × (b ≤ to) × Contains each (Trusted from to)) ⊎ R
-    → (to : ℕ)
-    × (b ≤ to)
-    × Contains (all_announced no_run (each ++ last ++ closing)
-    ++ ended_run (passed_after_all no_run (each ++ last ++ closing))) (Trusted from to)
-told_among from b each last closing at_last (inl (to, l, c)) = (
-  to,
-  l,
-  Contains-append_left _ _ _
-      (contains-announced no_run _ from to
-      (Contains-append_left _ closing _ (Contains-append_left each _ _ c))),
-)
-told_among from b each last closing at_last (inr run) =
-    let end = at_last run in (
-      end.0,
-      end.1,
-      Contains-append_left _ _ _
-          (contains-announced no_run _ from end.0
-          (Contains-append_left _ closing _ (Contains-append_right each _ _ end.2))),
-    )
+-- Where something is told of a frame, or of what follows, and was not told before.
+told_later : (told : Bool) (pes last : ℕ) (run : Option ℕ) (es rest : List Event)
+    → (told ≡ false → map (at_pes pes) (with_run last run es) ++ rest ≢ [])
+    → (told || not (tells_none es)) ≡ false
+    → rest ≢ []
+unfolding with_run
+told_later told pes last run [] rest some none = some (grind (arith, nat_tests))
+told_later told pes last run (e ∷ es) rest some none = absurd (grind (arith, nat_tests))
+
+-- At the end of the file.
+told_last : (told : Bool) (pes : ℕ) (g : Task) (frames : Transmission) (run : Option ℕ)
+    (es : List Event)
+    → (told ≡ false
+    → last_of_run g frames run (told || not (tells_none es)) ++ map (at_pes pes) es ≢ [])
+    → (told || not (tells_none es)) ≡ true
+unfolding last_of_run
+told_last true pes g frames run es some = refl
+told_last false pes g frames run [] some = absurd (some refl refl)
+told_last false pes g frames run (e ∷ es) some = refl
 
 module _ (g : Task) (pieces : List Piece) (a b : ℕ) (can : CanStay g pieces a b) where
   abbrev frames : Transmission
@@ -234,17 +228,28 @@ module _ (g : Task) (pieces : List Piece) (a b : ℕ) (can : CanStay g pieces a 
       abbrev IsTold : ℕ → List Event → Type 0
       IsTold from es = (to : ℕ) × (b ≤ to) × Contains es (Trusted from to)
 
-      -- The run from there is over in what is told of pieces, after the stretch; or it is kept to
-      -- the end.
-      abbrev Goes : ℕ → ℕ → ℕ → Option ℕ → List Piece → Type 0
-      Goes from pes n kept ahead =
-          IsTold from (told_of_each g frames pes n kept ahead)
-          ⊎ ((run_after_each g frames n kept ahead ≡ Some from) × Run g frames (length frames) from)
-
       -- The same behind what is told of one more piece.
-      goes_more : {R : Type 0} (from : ℕ) (xs ys : List Event) → IsTold from ys ⊎ R
-          → IsTold from (xs ++ ys) ⊎ R
-      goes_more from xs ys h1 = grind (arith, nat_tests, Contains-append_right)
+      goes_more : (from : ℕ) (xs ys : List Event) → IsTold from ys → IsTold from (xs ++ ys)
+      goes_more from xs ys (to, l, c) = (to, l, Contains-append_right xs ys _ c)
+
+      -- What is kept to the end is told there, where anything is told.
+      at_end : (from : ℕ) → from ≤ frame_at frames i → Run g frames (length frames) from
+          → IsTold from (last_of_run g frames (Some from) true)
+      unfolding last_of_run
+      at_end from from_low run =
+          let end : ℕ = trust_end g.unread (end_frame frames) in
+          let most = count_most frames (length frames) (length frames) (omega arith) run.rises in
+          let later = end_later (let w = risen_low frames in omega arith) g.unread refl in
+          (end - 1, omega arith, rw (lt-ltb from end (omega arith)) (0, omega arith, refl))
+        where
+          last_low : m ≡ length frames → b ≤ end_frame frames
+          last_low all = grind (arith, nat_tests, part_last)
+
+          end_later : m ≡ length frames → (u : Option Unread) → g.unread ≡ u
+              → b < trust_end u (end_frame frames)
+          end_later all None is = let low = last_low all in omega arith
+          end_later all (Some u) is =
+              grind (arith, nat_tests, part_last)
 
       module _ (from : ℕ) (from_low : from ≤ frame_at frames i) where
         is_over : (last x : ℕ) (es : List Event) → first_doubt last es ≡ Some x → b < x
@@ -252,14 +257,32 @@ module _ (g : Task) (pieces : List Piece) (a b : ℕ) (can : CanStay g pieces a 
         is_over last x es doubt past =
             (x - 1, omega arith, told_in_run last from x es doubt (omega arith))
 
-        goes : (pes k : ℕ) (ahead : List Piece) → IsOutside pieces a b (suc k) ahead
+        -- Something was told before frame k + 2 of the list; and what is told from there on.
+        abbrev tells : Bool → ℕ → Bool
+        tells told k = told || not (tells_none (frame_events g frames (suc k)))
+
+        abbrev more : ℕ → ℕ → Bool → List Piece → Option ℕ → List Event
+        more pes k told ahead o =
+            told_in_runs g frames (suc pes) (suc (suc k)) o (tells told k) ahead
+
+        -- The run from there is over in what is told of pieces, after the stretch; or it is kept to
+        -- the end, where anything is told.
+        goes : (pes k : ℕ) (told : Bool) (ahead : List Piece) → IsOutside pieces a b (suc k) ahead
             → suc k + length (frames_of ahead) ≡ length frames
             → i ≤ k
             → Run g frames (suc k) from
-            → Goes from pes (suc k) (Some from) ahead
-        unfolding frames_of told_of_each run_after_each frame_before
-        goes pes k [] outside all l run = grind (arith, nat_tests)
-        goes pes k (Passed u ∷ ahead) outside all l run =
+            → (told ≡ false → told_in_runs g frames pes (suc k) (Some from) told ahead ≢ [])
+            → IsTold from (told_in_runs g frames pes (suc k) (Some from) told ahead)
+        unfolding frames_of told_in_runs frame_before
+        goes pes k told [] outside all l run some =
+            let same : suc k ≡ length frames = omega arith in
+            let any = told_last told pes g frames (Some from) (closing_of_pieces g frames pes (suc k))
+            some in
+            let last =
+            subst (λ (x : Bool). IsTold from (last_of_run g frames (Some from) x)) (sym any)
+            (at_end from from_low (subst (λ n. Run g frames n from) same run)) in
+            (last.0, last.1, Contains-append_left _ _ _ last.2)
+        goes pes k told (Passed u ∷ ahead) outside all l run some =
             let most = count_most frames (length frames) (suc k) (omega arith) run.rises in
             let rise = rises_to frames (suc k) run.rises i k l (omega arith) in
             let back : frame_at frames (suc k - 1) ≡ frame_at frames k =
@@ -269,51 +292,62 @@ module _ (g : Task) (pieces : List Piece) (a b : ℕ) (can : CanStay g pieces a 
               | inl before ↦ absurd (omega arith)
               | inr after ↦ omega arith
             ] in
-            let told =
+            let over =
             is_over (frame_at frames k) (frame_at frames k) (Told (unread_fault pes (Some u)) ∷ [])
             (passed_doubt (frame_at frames k) pes u) past in
-            inl (told.0, told.1, Contains-append_left _ _ _ told.2)
-        goes pes k (Sent s ∷ ahead) outside all l run =
-            by_doubt (goes (suc pes) (suc k) ahead outside (omega arith) (omega arith))
+            (over.0, over.1, Contains-append_left _ _ _ over.2)
+        goes pes k told (Sent s ∷ ahead) outside all l run some =
+            by_doubt (goes (suc pes) (suc k) _ ahead outside (omega arith) (omega arith))
             (first_doubt (frame_before frames (suc k)) (frame_events g frames (suc k))) refl
           where
             by_doubt : (Run g frames (suc (suc k)) from
-                → Goes from (suc pes) (suc (suc k)) (Some from) ahead)
+                → (tells told k ≡ false → more pes k told ahead (Some from) ≢ [])
+                → IsTold from (more pes k told ahead (Some from)))
                 → (o : Option ℕ)
                 → first_doubt (frame_before frames (suc k)) (frame_events g frames (suc k)) ≡ o
-                → Goes from pes (suc k) (Some from) (Sent s ∷ ahead)
-            by_doubt rest None is =
+                → IsTold from (told_in_runs g frames pes (suc k) (Some from) told (Sent s ∷ ahead))
+            by_doubt again None is =
                 let kept : run_at g frames (suc k) (Some from) ≡ Some from =
                 on from k l (omega arith) run is in
-                let more =
+                let next =
                 run_next g frames (suc k) (Some from) (omega arith)
                 (λ f e. let same : from ≡ f = cc in subst (Run g frames (suc k)) same run) from
                 kept in
-                goes_more from (map (at_pes pes) (told_of_frame g frames (suc k) (Some from))) _
-                (subst (λ o. Goes from (suc pes) (suc (suc k)) o ahead) (sym kept)
-                (rest more))
-            by_doubt rest (Some x) is =
-                let told =
+                let run_then = run_at g frames (suc k) (Some from) in
+                let later : tells told k ≡ false → more pes k told ahead run_then ≢ [] =
+                told_later told pes (frame_before frames (suc k)) (Some from)
+                (frame_events g frames (suc k)) (more pes k told ahead run_then) some in
+                goes_more from (map (at_pes pes) (told_of_frame g frames (suc k) (Some from)))
+                (more pes k told ahead run_then)
+                (subst (λ o. IsTold from (more pes k told ahead o)) (sym kept)
+                (again next
+                (subst (λ o. tells told k ≡ false → more pes k told ahead o ≢ []) kept later)))
+            by_doubt again (Some x) is =
+                let over =
                 is_over (frame_before frames (suc k)) x (frame_events g frames (suc k)) is
                 (past from k l (omega arith) run x is) in
-                inl (grind (arith, nat_tests, Contains-append_left, contains-at))
+                grind (arith, nat_tests, Contains-append_left, contains-at)
 
       -- From the first piece on.
-      begins : (pes n : ℕ) (kept : Option ℕ) (ahead : List Piece) → IsOutside pieces a b n ahead
+      begins : (pes n : ℕ) (kept : Option ℕ) (told : Bool) (ahead : List Piece)
+          → IsOutside pieces a b n ahead
           → n + length (frames_of ahead) ≡ length frames
           → n ≤ i
           → IsRun g frames n kept
-          → (from : ℕ) × (from ≤ frame_at frames i) × Goes from pes n kept ahead
-      unfolding frames_of told_of_each run_after_each
-      begins pes n kept [] outside all l before = let w = risen_low frames in absurd (omega arith)
-      begins pes n kept (Passed u ∷ ahead) outside all l before =
-          let rest = begins (suc pes) n None ahead outside.1 all l (λ from e. cc) in
+          → (told ≡ false → told_in_runs g frames pes n kept told ahead ≢ [])
+          → (from : ℕ) × (from ≤ frame_at frames i)
+          × IsTold from (told_in_runs g frames pes n kept told ahead)
+      unfolding frames_of told_in_runs
+      begins pes n kept told [] outside all l before some =
+          let w = risen_low frames in absurd (omega arith)
+      begins pes n kept told (Passed u ∷ ahead) outside all l before some =
+          let rest = begins (suc pes) n None true ahead outside.1 all l (λ from e. cc) (λ e. cc) in
           (rest.0, rest.1, goes_more rest.0 (told_of_passed frames pes n kept u) _ rest.2)
-      begins pes n kept (Sent s ∷ ahead) outside all l before = elim (cases_lt n i) [
+      begins pes n kept told (Sent s ∷ ahead) outside all l before some = elim (cases_lt n i) [
         | inl earlier ↦
             let rest =
-            begins (suc pes) (suc n) (run_at g frames n kept) ahead outside (omega arith)
-            (omega arith) (run_next g frames n kept (omega arith) before) in (
+            begins (suc pes) (suc n) (run_at g frames n kept) _ ahead outside (omega arith)
+            (omega arith) (run_next g frames n kept (omega arith) before) later in (
               rest.0,
               rest.1,
               goes_more rest.0 (map (at_pes pes) (told_of_frame g frames n kept)) _ rest.2,
@@ -328,50 +362,33 @@ module _ (g : Task) (pieces : List Piece) (a b : ℕ) (can : CanStay g pieces a 
               first.0,
               first.1,
               goes_more first.0 (map (at_pes pes) (told_of_frame g frames n kept)) _
-                  (subst (λ o. Goes first.0 (suc pes) (suc n) o ahead) (sym first.2)
-                  (grind (arith, nat_tests, goes first.0 first.1 (suc pes) n ahead outside))),
+                  (go (run_at g frames n kept) first.0 first.1 first.2 run (omega arith) later),
             )
       ]
-
-      -- What is kept to the end is told there, where anything is told.
-      at_end : (from : ℕ) (kept : Option ℕ) → from ≤ frame_at frames i → kept ≡ Some from
-          → Run g frames (length frames) from
-          → IsTold from (last_of_run g frames kept true)
-      unfolding last_of_run
-      at_end from kept from_low is run =
-          let end : ℕ = trust_end g.unread (end_frame frames) in
-          let most = count_most frames (length frames) (length frames) (omega arith) run.rises in
-          let later = end_later (let w = risen_low frames in omega arith) g.unread refl in
-          (end - 1, omega arith, rw (is, lt-ltb from end (omega arith)) (0, omega arith, refl))
         where
-          last_low : m ≡ length frames → b ≤ end_frame frames
-          last_low all = grind (arith, nat_tests, part_last)
+          later : (told || not (tells_none (frame_events g frames n))) ≡ false
+              → told_in_runs g frames (suc pes) (suc n) (run_at g frames n kept)
+              (told || not (tells_none (frame_events g frames n))) ahead ≢ []
+          later none =
+              told_later told pes (frame_before frames n) kept (frame_events g frames n) _ some none
 
-          end_later : m ≡ length frames → (u : Option Unread) → g.unread ≡ u
-              → b < trust_end u (end_frame frames)
-          end_later all None is = let low = last_low all in omega arith
-          end_later all (Some u) is =
-              grind (arith, nat_tests, part_last)
-
-      at_last : (from : ℕ) (kept : Option ℕ) (any : Bool) → from ≤ frame_at frames i → any ≡ true
-          → (kept ≡ Some from) × Run g frames (length frames) from
-          → IsTold from (last_of_run g frames kept any)
-      at_last from kept any from_low told (is, run) =
-          subst (λ (some : Bool). IsTold from (last_of_run g frames kept some)) (sym told)
-          (at_end from kept from_low is run)
-
-      -- What goes on from the first piece is told among all, where anything is told.
-      among_all : (from : ℕ) → from ≤ frame_at frames i → Goes from 0 0 None pieces
-          → all_in_runs g pieces ≢ []
-          → IsTold from (all_in_runs g pieces)
-      unfolding all_in_runs told_in_runs
-      among_all from from_low going told =
-          let each : List Event = told_of_each g frames 0 0 None pieces in
-          let closing : List Event = closing_told g frames (length pieces) (length frames) in
-          let kept : Option ℕ = run_after_each g frames 0 None pieces in
-          let any : Bool = not (tells_none each) || not (tells_none closing) in
-          told_among from b each (last_of_run g frames kept any) closing
-          (at_last from kept any from_low (any_told g frames kept each closing told)) going
+          go : (o : Option ℕ) (from : ℕ) → from ≤ frame_at frames i → o ≡ Some from
+              → Run g frames (suc n) from
+              → i ≤ n
+              → ((told || not (tells_none (frame_events g frames n))) ≡ false
+              → told_in_runs g frames (suc pes) (suc n) o
+              (told || not (tells_none (frame_events g frames n))) ahead ≢ [])
+              → IsTold from (told_in_runs g frames (suc pes) (suc n) o
+              (told || not (tells_none (frame_events g frames n))) ahead)
+          go (Some x) from low is run l some =
+              let same : from ≡ x = cc in
+              subst (λ (y : ℕ). (((told || not (tells_none (frame_events g frames n))) ≡ false
+              → told_in_runs g frames (suc pes) (suc n) (Some y)
+              (told || not (tells_none (frame_events g frames n))) ahead ≢ [])
+              → IsTold from (told_in_runs g frames (suc pes) (suc n) (Some y)
+              (told || not (tells_none (frame_events g frames n))) ahead))) same
+              (goes from low (suc pes) n _ ahead outside (omega arith) l run) some
+          go None from low is run l some = cc
 
       all_told : all_of_pieces g pieces ≢ []
           → (from : ℕ)
@@ -379,23 +396,22 @@ module _ (g : Task) (pieces : List Piece) (a b : ℕ) (can : CanStay g pieces a 
           × (from ≤ frame_at frames i)
           × (b ≤ to)
           × Contains (all_of_pieces g pieces) (Trusted from to)
-      unfolding frames_of
+      unfolding all_of_pieces all_announced passed_after_all frames_of
       all_told told =
-          of_found (begins 0 0 None pieces (is_outside pieces a b can.passed 0 [] pieces refl refl)
-          (omega arith) (omega arith) (λ from e. cc))
-        where
-          of_found : (from : ℕ) × (from ≤ frame_at frames i) × Goes from 0 0 None pieces
-              → (from : ℕ)
-              × (to : ℕ)
-              × (from ≤ frame_at frames i)
-              × (b ≤ to)
-              × Contains (all_of_pieces g pieces) (Trusted from to)
-          of_found (from, from_low, going) =
-              let whole =
-              subst (IsTold from) (sym (all_are g pieces))
-              (among_all from from_low going
-              (λ none. told (all_are g pieces ∙ none))) in
-              (from, whole.0, from_low, whole.1, whole.2)
+          let runs = told_are g pieces in
+          let found =
+          begins 0 0 None false pieces (is_outside pieces a b can.passed 0 [] pieces refl refl)
+          (omega arith) (omega arith) (λ from e. cc)
+          (λ e none. told (rw (runs ∙ none) refl)) in
+          let to = found.2 in (
+            found.0,
+            to.0,
+            found.1,
+            to.1,
+            Contains-append_left _ _ _
+                (contains-announced no_run _ found.0 to.0
+                (subst (λ (es : List Event). Contains es (Trusted found.0 to.0)) (sym runs) to.2)),
+          )
 
 -- ---- the law
 

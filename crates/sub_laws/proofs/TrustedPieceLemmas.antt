@@ -1,16 +1,17 @@
 -- What is so of each stretch that is told as trusted of pieces, where its run is over: `all_stay`.
 use Rattle.std.proofs.lemmas.Bool.Decides.{nat_tests}
-use Rattle.std.proofs.Common.{◌≡◌, ℕ, zero, suc, ◌+◌, ◌-◌, ◌<◌, ◌≤◌, ◌⊎◌, Bool, true, not}
-use Rattle.std.proofs.Common.{◌||◌, List, [], ◌∷◌, ◌++◌, length, map, Option, Some, None, refl}
-use Rattle.std.proofs.Common.{subst, sym, arith, ◌≢◌}
+use Rattle.std.proofs.Common.{◌≡◌, ℕ, zero, suc, ◌+◌, ◌-◌, ◌<◌, ◌≤◌, ◌⊎◌, Bool, false, true, List}
+use Rattle.std.proofs.Common.{[], ◌∷◌, length, map, Option, Some, None, subst, sym, arith}
 use Rattle.sub_rules.specs.Events.{closing_events, frame_events, unread_fault}
 use Rattle.sub_rules.specs.FrameRules.{Task, end_frame, frame_at, Unread}
-use Rattle.sub_rules.specs.PieceEvents.{all_announced, all_of_pieces, closing_of_pieces, ended_run}
-use Rattle.sub_rules.specs.PieceEvents.{no_run, passed_after_all}
+use Rattle.sub_rules.proofs.RunLemmas.{frame_before, last_of_run, run_at, told_are, told_in_runs}
+use Rattle.sub_rules.proofs.RunLemmas.{told_of_frame, told_of_passed, trust_end}
+use Rattle.sub_rules.specs.PieceEvents.{all_announced, all_of_pieces, closing_of_pieces}
+use Rattle.sub_rules.specs.PieceEvents.{no_run, passed_after_all, told_of_pieces}
 use Rattle.sub_rules.specs.Pieces.{Piece, frames_of}
 use Rattle.sub_rules.specs.Pieces.Piece.{Passed, Sent}
 use Rattle.sub_rules.specs.Transmission.{Transmission}
-use Rattle.sub_rules.specs.Trusted.{doubted, tells_none}
+use Rattle.sub_rules.specs.Trusted.{doubted}
 use Rattle.sub_rules.specs.declared.event.Event.{Event}
 use Rattle.sub_rules.specs.declared.event.Event.TheVariants.{Told}
 use Rattle.sub_rules.proofs.AnyToldLemmas.{own_closing, own_frame}
@@ -19,10 +20,6 @@ use Rattle.sub_laws.proofs.DoubtLemmas.{EachTrusted, OnTrusted, each-announced, 
 use Rattle.sub_laws.proofs.DoubtLemmas.{each-own, each-put, first_doubt, trusted_in_run}
 use Rattle.sub_laws.proofs.TrustedRunLemmas.{EndsQuiet, IsRun, Run, ended, run_next}
 use Rattle.sub_rules.specs.Trusted.{at_pes}
-use Rattle.sub_rules.proofs.RunLemmas.{all_are, all_in_runs, closing_told, frame_before}
-use Rattle.sub_rules.proofs.RunLemmas.{last_of_run, run_after_each}
-use Rattle.sub_rules.proofs.RunLemmas.{run_at, told_in_runs, told_of_each, told_of_frame}
-use Rattle.sub_rules.proofs.RunLemmas.{told_of_passed, trust_end}
 
 -- A piece that is passed over makes the frame before it quiet no more.
 pub passed_doubt : (last pes : ℕ) (u : Unread)
@@ -97,40 +94,6 @@ module _ (g : Task) (frames : Transmission) where
       let last = before_is frames n is.j is.below in
       run_stays n x from within (omega arith) (λ there. omega arith) is l)
 
-  -- Of pieces, the first of which, if it is sent, is frame n of the list.
-  each_stays : (pes n : ℕ) (kept : Option ℕ) (pieces : List Piece)
-      → n + length (frames_of pieces) ≤ length frames
-      → IsRun g frames n kept
-      → EachTrusted StaysTo (told_of_each g frames pes n kept pieces)
-  unfolding told_of_each frames_of
-  each_stays pes n kept [] within before = All-nil (OnTrusted StaysTo)
-  each_stays pes n kept (Sent s ∷ pieces) within before =
-      All-append (OnTrusted StaysTo) (map (at_pes pes) (told_of_frame g frames n kept)) _
-      (each-at StaysTo pes (told_of_frame g frames n kept)
-      (trusted_in_run StaysTo (frame_before frames n) kept (frame_events g frames n)
-      (each-own StaysTo n _ (own_frame g frames n))
-      (λ x from e run l. frame_stays n (omega arith) x from e (before from run) l)))
-      (each_stays (suc pes) (suc n) (run_at g frames n kept) pieces (omega arith)
-      (run_next g frames n kept (omega arith) before))
-  each_stays pes n kept (Passed u ∷ pieces) within before =
-      All-append (OnTrusted StaysTo) (told_of_passed frames pes n kept u) _
-      (passed_stays n pes u kept (omega arith) before)
-      (each_stays (suc pes) n None pieces within (λ from e. cc))
-
-  -- What is kept after them.
-  kept_after : (n : ℕ) (kept : Option ℕ) (pieces : List Piece)
-      → n + length (frames_of pieces) ≡ length frames
-      → IsRun g frames n kept
-      → IsRun g frames (length frames) (run_after_each g frames n kept pieces)
-  unfolding run_after_each frames_of
-  kept_after n kept [] all before =
-      let same : n ≡ length frames = omega arith in subst (λ k. IsRun g frames k kept) same before
-  kept_after n kept (Sent s ∷ pieces) all before =
-      kept_after (suc n) (run_at g frames n kept) pieces (omega arith)
-      (run_next g frames n kept (omega arith) before)
-  kept_after n kept (Passed u ∷ pieces) all before =
-      kept_after n None pieces all (λ from e. cc)
-
   end_low-trusted : (u : Option Unread) (f : ℕ) → trust_end u f ≤ f + 1
   end_low-trusted u f = grind (arith, nat_tests)
 
@@ -139,53 +102,48 @@ module _ (g : Task) (frames : Transmission) where
   unfolding last_of_run
   last_stays kept any h1 = grind (arith, nat_tests, All-nil, each-put, end_low-trusted, run_stays)
 
-  -- What is told after them.
-  closing_plain : (pes n : ℕ) → length frames ≡ n
-      → EachTrusted StaysTo (closing_of_pieces g frames pes n)
-  unfolding closing_of_pieces
-  closing_plain pes n all =
-      let plain : EachTrusted StaysTo (closing_events g frames n) =
-      each-own StaysTo n (closing_events g frames n) (own_closing g frames n all) in
-      grind (arith, nat_tests, All-nil, All-cons)
+  -- What is told after the last piece.
+  closing_own : (n : ℕ) → length frames ≡ n → EachTrusted StaysTo (closing_events g frames n)
+  closing_own n all = each-own StaysTo n (closing_events g frames n) (own_closing g frames n all)
 
   closing_stays : (pes n : ℕ) → length frames ≡ n
-      → EachTrusted StaysTo (closing_told g frames pes n)
-  closing_stays pes n all =
-      each-at StaysTo pes (closing_of_pieces g frames pes n) (closing_plain pes n all)
+      → EachTrusted StaysTo (closing_of_pieces g frames pes n)
+  unfolding closing_of_pieces
+  closing_stays pes n all = grind (arith, nat_tests, All-nil, All-cons, closing_own)
+
+  -- Of pieces, the first of which, if it is sent, is frame n of the list, and after the last one.
+  runs_stay : (pes n : ℕ) (kept : Option ℕ) (told : Bool) (pieces : List Piece)
+      → n + length (frames_of pieces) ≡ length frames
+      → IsRun g frames n kept
+      → EachTrusted StaysTo (told_in_runs g frames pes n kept told pieces)
+  unfolding told_in_runs frames_of
+  runs_stay pes n kept told [] all before =
+      let same : n ≡ length frames = omega arith in
+      All-append (OnTrusted StaysTo) (last_of_run g frames kept _) _
+      (last_stays kept _ (subst (λ k. IsRun g frames k kept) same before))
+      (each-at StaysTo pes (closing_of_pieces g frames pes n) (closing_stays pes n (sym same)))
+  runs_stay pes n kept told (Sent s ∷ pieces) all before =
+      All-append (OnTrusted StaysTo) (map (at_pes pes) (told_of_frame g frames n kept)) _
+      (each-at StaysTo pes (told_of_frame g frames n kept)
+      (trusted_in_run StaysTo (frame_before frames n) kept (frame_events g frames n)
+      (each-own StaysTo n _ (own_frame g frames n))
+      (λ x from e run l. frame_stays n (omega arith) x from e (before from run) l)))
+      (runs_stay (suc pes) (suc n) (run_at g frames n kept) _ pieces (omega arith)
+      (run_next g frames n kept (omega arith) before))
+  runs_stay pes n kept told (Passed u ∷ pieces) all before =
+      All-append (OnTrusted StaysTo) (told_of_passed frames pes n kept u) _
+      (passed_stays n pes u kept (omega arith) before)
+      (runs_stay (suc pes) n None true pieces all (λ from e. cc))
 
 -- All that is told as trusted of pieces.
-runs_stay : (g : Task) (pieces : List Piece)
-    → EachTrusted (StaysTo g (frames_of pieces)) (all_in_runs g pieces)
-unfolding all_in_runs told_in_runs
-runs_stay g pieces =
-    let frames : Transmission = frames_of pieces in
-    let P : ℕ → ℕ → Type 0 = StaysTo g frames in
-    let told : List Event = told_in_runs g pieces in
-    let each : List Event = told_of_each g frames 0 0 None pieces in
-    let closing : List Event = closing_told g frames (length pieces) (length frames) in
-    let kept : Option ℕ = run_after_each g frames 0 None pieces in
-    let any : Bool = not (tells_none each) || not (tells_none closing) in
-    All-append (OnTrusted P) (all_announced no_run told) _
-    (each-announced P no_run told
-    (All-append (OnTrusted P) (each ++ last_of_run g frames kept any) closing
-    (All-append (OnTrusted P) each (last_of_run g frames kept any)
-    (each_stays g frames 0 0 None pieces (omega arith) (λ from e. cc))
-    (last_stays g frames kept any (kept_after g frames 0 None pieces (omega arith) (λ from e. cc))))
-    (closing_stays g frames (length pieces) (length frames) refl)))
-    (each-ended P (passed_after_all no_run told))
-
 pub all_stay : (g : Task) (pieces : List Piece)
     → EachTrusted (StaysTo g (frames_of pieces)) (all_of_pieces g pieces)
+unfolding all_of_pieces
 all_stay g pieces =
-    subst (EachTrusted (StaysTo g (frames_of pieces))) (sym (all_are g pieces)) (runs_stay g pieces)
-
--- Where anything is told, something is told of a piece, or after the last one.
-pub any_told : (g : Task) (sent : Transmission) (kept : Option ℕ) (each closing : List Event)
-    → (let told : List Event =
-    each
-    ++ last_of_run g sent kept (not (tells_none each) || not (tells_none closing))
-    ++ closing in
-    all_announced no_run told ++ ended_run (passed_after_all no_run told)) ≢ []
-    → (not (tells_none each) || not (tells_none closing)) ≡ true
-unfolding last_of_run all_announced passed_after_all
-any_told g sent kept each closing = grind (arith, nat_tests)
+    let P : ℕ → ℕ → Type 0 = StaysTo g (frames_of pieces) in
+    let told : List Event = told_of_pieces g pieces in
+    All-append (OnTrusted P) (all_announced no_run told) _
+    (each-announced P no_run told
+    (subst (EachTrusted P) (sym (told_are g pieces))
+    (runs_stay g (frames_of pieces) 0 0 None false pieces (omega arith) (λ from e. cc))))
+    (each-ended P (passed_after_all no_run told))

@@ -1,18 +1,19 @@
 -- What a printer does that was told several events; main lemma: prints_all.
 use Rattle.std.proofs.Common.{◌≡◌, ◌∙◌, ap, refl, sym, subst, arith, ℕ, ◌+◌, ◌<◌, ◌≤◌, ◌||◌, ◌≢◌}
 use Rattle.std.proofs.Common.{not, List, [], ◌∷◌, ◌++◌, map, Bool, true, false, append_assoc, drop}
-use Rattle.std.proofs.Common.{take}
+use Rattle.std.proofs.Common.{take, inl, inr}
+use Rattle.sub_io.specs.HandingOn.{HandsOnIfWaiting}
 use Rattle.std.proofs.lemmas.List.{map-append, take-append-drop}
 use Rattle.std.proofs.lemmas.Bool.{true≢false}
 use Rattle.std.proofs.lemmas.Bool.Decides.{nat_tests}
-use Rattle.std.proofs.KnownBytes.{Appends-nil, Appends-trans, Keeps-refl, Keeps-trans}
+use Rattle.std.proofs.KnownBytes.{Appends-nil, Appends-trans, Keeps-refl}
 use Rattle.sub_io.proofs.DeviceLemmas.{AppendsPrefix-first, AppendsPrefix-second}
 use Rattle.sub_io.specs.Device.{AppendsPrefix}
 use Rattle.sub_io.specs.Telling.{Tells, TellsInTurn, TellsSome}
 use Rattle.sub_rules.specs.declared.event.Event.{Event}
 use Rattle.sub_listing.specs.EventLines.{event_line, event_lines, most_counted, refusal, refusals}
 use Rattle.sub_listing.specs.Printer.{PrinterValue, PrintsEvent, PrintsEvents, StaysPrinted}
-use Rattle.sub_listing.specs.Printer.{can_fail, counted}
+use Rattle.sub_listing.specs.Printer.{HandsOnLines, can_fail, counted}
 
 -- More refusals after some.
 counted-twice : (r m n : ℕ) → counted (counted r m) n ≡ counted r (m + n)
@@ -212,32 +213,6 @@ stays-none a = record {
   risen = λ other. absurd (other refl);
 }
 
--- Lines were handed on again: whether the sink failed, and its count, before, between and after.
-stays-count : (x y z : Bool) (k m n : ℕ)
-    → (y ≡ x → m ≡ k) → (y ≢ x → (y ≡ true) × (m ≡ k + 1))
-    → (z ≡ y → n ≡ m) → (z ≢ y → (z ≡ true) × (n ≡ m + 1))
-    → (z ≡ x → n ≡ k) × (z ≢ x → (z ≡ true) × (n ≡ k + 1))
-stays-count true true true k m n a b c d = (λ _. c refl ∙ a refl, λ other. absurd (other refl))
-stays-count true true false k m n a b c d = absurd (true≢false (sym (d (λ e. cc)).0))
-stays-count true false z k m n a b c d = absurd (true≢false (sym (b (λ e. cc)).0))
-stays-count false true true k m n a b c d =
-    (λ e. cc, λ other. (refl, c refl ∙ (b other).1))
-stays-count false true false k m n a b c d = absurd (true≢false (sym (d (λ e. cc)).0))
-stays-count false false true k m n a b c d =
-    (λ e. cc, λ other. (refl, (d other).1 ∙ ap (λ i. i + 1) (a refl)))
-stays-count false false false k m n a b c d = (λ _. c refl ∙ a refl, λ other. absurd (other refl))
-
-pub stays-trans : (a b c : PrinterValue) → StaysPrinted a b → StaysPrinted b c → StaysPrinted a c
-stays-trans a b c p q =
-    let counted = stays-count a.failed b.failed c.failed a.count b.count c.count p.same p.risen
-    q.same q.risen in
-    record {
-      kept = Keeps-trans _ _ _ p.kept q.kept;
-      refused = q.refused ∙ p.refused;
-      same = counted.0;
-      risen = counted.1;
-    }
-
 -- One that has said stop, and had not failed, has failed as lines were handed on.
 pub stopped_fails : (a b : PrinterValue) (is : Bool) → b.failed ≡ is
     → a.failed ≡ false
@@ -249,3 +224,34 @@ stopped_fails a b true is goes room stays stopped = is
 stopped_fails a b false is goes room stays stopped =
     absurd (true≢false (sym stopped
     ∙ still_goes b.failed a.count b.count room is (stays.same (is ∙ sym goes))))
+
+-- Whether it has failed says then whether it could.
+failed_as : (a b : PrinterValue) (ok : Bool)
+    → a.failed ≡ false
+    → a.count < 0xFFFF_FFFF_FFFF_FFFF
+    → HandsOnLines a ok b
+    → b.failed ≡ not ok
+failed_as a b true goes room on = cannot_fail _ _ (λ is. true≢false (sym is ∙ on.stopped))
+failed_as a b false goes room on = stopped_fails a b b.failed refl goes room on.stays on.stopped
+
+-- What stays where a printer is to hand on what waits. For the reading of the next PES packet.
+module _ {P N : Type 0} (name : P → N) (value : P → PrinterValue) (is_waiting : P → Bool)
+    (IsHandedOn : P → Bool → P → Type 0) (s t : P) (ok : Bool)
+    (call : HandsOnIfWaiting is_waiting IsHandedOn s ok t)
+    (one : IsHandedOn s ok t → (name t ≡ name s) × HandsOnLines (value s) ok (value t)) where
+  pub handed_same : name t ≡ name s
+  handed_same = elim call [ inl same ↦ ap name same.1 | inr on ↦ (one on.1).0 ]
+
+  pub handed_stays : StaysPrinted (value s) (value t)
+  handed_stays = elim call [
+    | inl same ↦ rw same.1 (stays-none (value s))
+    | inr on ↦ (one on.1).1.stays
+  ]
+
+  pub handed_failed : (value s).failed ≡ false
+      → (value s).count < 0xFFFF_FFFF_FFFF_FFFF
+      → (value t).failed ≡ not ok
+  handed_failed goes room = elim call [
+    | inl same ↦ ap (λ p. (value p).failed) same.1 ∙ goes ∙ sym (ap not same.0)
+    | inr on ↦ failed_as (value s) (value t) ok goes room (one on.1).1
+  ]

@@ -10,3 +10,4 @@ pub mod PacketsListing
 pub mod ShowListing
 pub mod EventLines
 pub mod Printer
+pub mod LastLine

@@ -1,8 +1,9 @@
 //! How a file is listed: what is read of it is printed, one piece after the other.
 ghost use Rattle.std.specs.Prelude.{◌≡◌, ℕ, ◌+◌, ◌<◌, ◌≤◌, ◌++◌, [], None, Some, decimal, length};
-ghost use Rattle.std.specs.Prelude.{false, true};
+ghost use Rattle.std.specs.Prelude.{Bool, false, true};
 ghost use Rattle.sub_io.specs.Device.{CountsIf};
 ghost use Rattle.sub_listing.specs.DeviceCall.{CanFail, CountsFault, sink_call, source_call};
+ghost use Rattle.sub_listing.specs.LastLine.{HoldsLastLine, IsAlone};
 ghost use Rattle.sub_listing.specs.Listing.{Gives, IsCut, IsListed, PrintsListing, has_failed};
 ghost use Rattle.sub_listing.specs.Printer.{StaysPrinted, printer_value};
 ghost use Rattle.sub_listing.specs.Told.{line_of, status_of};
@@ -13,7 +14,7 @@ use crate::printer::Printer;
 use crate::status::Status;
 use crate::told::Told;
 use arrayvec::ArrayVec;
-use sub_io::{Ahead, Flush};
+use sub_io::{Flush, Source};
 
 /// Room for one piece: the lines of one PES packet, or of one subtitle.
 pub const PIECE: usize = 7168;
@@ -32,12 +33,16 @@ pub trait Lister {
     /// What may be listed from here on.
     ghost lists: { Self → IsListed };
 
+    /// Its lines are followed while the source goes on: they are handed on before what is read of a
+    /// source that may have to wait.
+    ghost is_followed: { Bool };
+
     /// Makes the lines of the next piece. `None` where another may follow, else how the listing
     /// ends.
     ///
     /// The printer may hand on the lines before it, so that they are seen before the source has to
     /// wait. Where it can't, its sink failed, and what is read and made is of no use.
-    fn next<S: Ahead, K: Flush>(
+    fn next<S: Source, K: Flush>(
         &mut self,
         source: &mut S,
         printer: &mut Printer<'_, K>,
@@ -64,13 +69,17 @@ pub trait Lister {
         ensures cut { printer.new.failed ≡ true
             → IsCut (lists self.old) (S.remaining source.old) (S.remaining source.new) }
         ensures cut_count { printer.new.failed ≡ true
-            → S.failure_count source.new ≡ S.failure_count source.old };
+            → S.failure_count source.new ≡ S.failure_count source.old }
+        ensures followed { is_followed ≡ true
+            → (printer.old.waiting ≡ false → K.held printer.old.out.now ≡ 0)
+            → has_failed result ≡ true → printer.new.failed ≡ false
+            → IsAlone (K.held printer.new.out.now) text.new.items };
 }
 
 /// Lists a file, one piece after the other as they are read.
 ///
 /// Lines before a refusal stay. One piece is kept at a time, and its lines are put at once.
-pub fn list<L: Lister, S: Ahead, K: Flush>(lister: &mut L, source: &mut S, out: &mut K) -> Status
+pub fn list<L: Lister, S: Source, K: Flush>(lister: &mut L, source: &mut S, out: &mut K) -> Status
     requires ready { L.ready lister.old }
     requires source { CanFail (S.failure_count source.old) }
     requires out { CanFail (K.failure_count out.old) }
@@ -82,6 +91,10 @@ pub fn list<L: Lister, S: Ahead, K: Flush>(lister: &mut L, source: &mut S, out: 
     ensures fault { result ≡ Status.Fault
         → S.failure_count source.old + K.failure_count out.old
         < S.failure_count source.new + K.failure_count out.new }
+    ensures followed { L.is_followed ≡ true
+        → K.held out.old ≡ 0
+        → S.failure_count source.old < S.failure_count source.new
+        → HoldsLastLine K.contents K.held K.is_push out.new }
 {
     let mut printer = Printer {
         out,
@@ -93,7 +106,7 @@ pub fn list<L: Lister, S: Ahead, K: Flush>(lister: &mut L, source: &mut S, out: 
 }
 
 // Prints the lines of all that a lister gives, by a printer.
-fn list_to<L: Lister, S: Ahead, K: Flush>(
+fn list_to<L: Lister, S: Source, K: Flush>(
     lister: &mut L,
     source: &mut S,
     printer: &mut Printer<'_, K>,
@@ -112,6 +125,10 @@ fn list_to<L: Lister, S: Ahead, K: Flush>(
     ensures fault { result ≡ Status.Fault
         → S.failure_count source.old + K.failure_count printer.old.out.now
         < S.failure_count source.new + K.failure_count printer.new.out.now }
+    ensures followed { L.is_followed ≡ true
+        → (printer.old.waiting ≡ false → K.held printer.old.out.now ≡ 0)
+        → S.failure_count source.old < S.failure_count source.new
+        → HoldsLastLine K.contents K.held K.is_push printer.new.out.now }
 {
     let mut text = Text::new();
     'pieces: loop {

@@ -1,16 +1,18 @@
 //! `packets PES`: lists PES packets and their Teletext units.
-ghost use Rattle.std.specs.Prelude.{◌≡◌, ◌≢◌, ℕ, ◌+◌, ◌-◌, ◌<◌, ◌≤◌, ◌++◌, [], None, IfNone};
+ghost use Rattle.std.specs.Prelude.{◌≡◌, ℕ, ◌+◌, ◌-◌, ◌<◌, ◌≤◌, ◌++◌, [], None, IfNone};
 ghost use Rattle.std.specs.Prelude.{IfSome, false, is_none, true};
 ghost use Rattle.arrayvec.specs.ArrayVec.{array_vec_len};
-ghost use Rattle.sub_io.specs.Device.{CanFail, CountsIf, RisesIf, failed};
+ghost use Rattle.sub_io.specs.Device.{CanFail, CountsIf, failed};
 ghost use Rattle.ttx_pes.specs.Comparing.{as_given};
 ghost use Rattle.ttx_pes.specs.Fault.{is_read};
+ghost use Rattle.ttx_pes.specs.LentPacket.{NothingWaits};
 ghost use Rattle.ttx_pes.specs.Reader.{TellsPacket, given_frame, progress_after};
 ghost use Rattle.ttx_pes.specs.Outcome.{ReadsPackets, outcome_after};
 ghost use Rattle.ttx_pes.specs.Reading.{most_packets};
 ghost use Rattle.ttx_pes.specs.declared.progress.Progress.TheVariants.{Reading};
 ghost use Rattle.sub_listing.specs.Lines.{unit_line};
 ghost use Rattle.sub_listing.specs.DeviceCall.{CountsFault, sink_call, source_call};
+ghost use Rattle.sub_listing.specs.LastLine.{HoldsLastLine};
 ghost use Rattle.sub_listing.specs.Listing.{Lists, PrintsListing};
 ghost use Rattle.sub_listing.specs.PacketsListing.{ListsPackets, frame_lines, pes_listing};
 ghost use Rattle.sub_listing.specs.Printer.{StaysPrinted, printer_value};
@@ -20,15 +22,15 @@ use crate::lines::{push_lower_hex, push_number, push_text};
 use crate::listing::{Lister, PIECE, Text, end_at, end_with, list};
 use crate::printer::Printer;
 use crate::status::Status;
-use sub_io::{Ahead, Flush, HandingOn};
+use sub_io::{Flush, Live, Source};
 use sub_rules::CheckFault;
-use ttx_pes::{Compared, ComparingReader, MOST_UNITS, PesFault, Unit};
+use ttx_pes::{Compared, ComparingReader, MOST_UNITS, PesFault, Unit, hand_on_first};
 
 /// Lists the PES packets of a file (EN 300 472), one after another as they are read, and then how
 /// many there are, or why it is refused.
 ///
 /// Lines before a refusal stay. `Fault` where a device failed.
-pub fn list_packets<S: Ahead, K: Flush>(source: &mut S, out: &mut K) -> Status
+pub fn list_packets<S: Source, K: Flush>(source: &mut S, out: &mut K) -> Status
     requires source { CanFail (S.failure_count source.old) }
     requires out { CanFail (K.failure_count out.old) }
     ensures listing { PrintsListing ListsPackets
@@ -39,6 +41,11 @@ pub fn list_packets<S: Ahead, K: Flush>(source: &mut S, out: &mut K) -> Status
     ensures fault { result ≡ Status.Fault
         → S.failure_count source.old + K.failure_count out.old
         < S.failure_count source.new + K.failure_count out.new }
+    // Where the source may have to ask its device, all that was printed before is handed on: each
+    // such call may fail, and where one did the line of its failure alone may be held back.
+    ensures followed { K.held out.old ≡ 0
+        → S.failure_count source.old < S.failure_count source.new
+        → HoldsLastLine K.contents K.held K.is_push out.new }
 {
     list(&mut PacketLister::new(), source, out)
 }
@@ -84,13 +91,15 @@ impl Lister for PacketLister {
 
     ghost lists = { λ l. Lists (pes_listing l.index) (outcome_after l.index) ReadsPackets };
 
-    fn next<S: Ahead, K: Flush>(
+    ghost is_followed = { true };
+
+    fn next<S: Source, K: Flush>(
         &mut self,
         source: &mut S,
         printer: &mut Printer<'_, K>,
         text: &mut Text,
     ) -> Option<Status> {
-        let Some(read) = next_live(&mut self.reader, source, printer) else {
+        let Some(read) = next_followed(&mut self.reader, source, printer) else {
             return Some(Status::Fault);
         };
         match read {
@@ -105,9 +114,9 @@ impl Lister for PacketLister {
     }
 }
 
-// Reads the next PES packet. Before the source may have to wait, the lines before it are handed on;
-// `None` where they can't be, and then nothing more was read.
-fn next_live<S: Ahead, K: Flush>(
+// Reads the next PES packet. Where the source does not lend all of it, the lines before it are
+// handed on first; `None` where they can't be, and then nothing was read.
+fn next_followed<S: Source, K: Flush>(
     reader: &mut ComparingReader,
     source: &mut S,
     printer: &mut Printer<'_, K>,
@@ -132,53 +141,32 @@ fn next_live<S: Ahead, K: Flush>(
         ≡ progress_after reader.old.progress (given_frame (as_given read) reader.new.frame)) }
     ensures few { IfSome result (λ _.
         (given : ℕ) → reader.new.progress ≡ Reading given → given ≤ most_packets) }
+    ensures asked { (printer.old.waiting ≡ false → K.held printer.old.out.now ≡ 0)
+        → IfSome result (λ read. failed is_read read ≡ true → K.held printer.new.out.now ≡ 0) }
 {
-    let mut lent = HandingOn {
-        source,
-        beside: printer,
-        refused: 0,
-    };
-    let read = next_lent(reader, &mut lent);
-    if lent.refused > 0 {
+    if hand_on_first(source, printer).is_err() {
         return None;
     }
-    Some(read)
+    Some(read_settled(reader, source, printer))
 }
 
-// Reads the next PES packet of a source that is lent. Where a pull was refused the answer is of no
-// use.
-fn next_lent<S: Ahead, K: Flush>(
+// Reads the next PES packet, beside a printer at which nothing waits meanwhile.
+fn read_settled<S: Source, A: Live>(
     reader: &mut ComparingReader,
-    lent: &mut HandingOn<'_, S, Printer<'_, K>>,
+    source: &mut S,
+    _printer: &A,
 ) -> Result<Compared, PesFault>
-    requires source { CanFail (S.failure_count lent.old.source.now) }
-    requires out { CanFail (K.failure_count lent.old.beside.now.out.now) }
-    requires goes_on { lent.old.beside.now.failed ≡ false }
-    requires none { lent.old.refused ≡ 0 }
-    ensures source { lent.new.source.ghost_name ≡ lent.old.source.ghost_name }
-    ensures beside { lent.new.beside.ghost_name ≡ lent.old.beside.ghost_name }
-    ensures same { lent.new.beside.now.out.ghost_name ≡ lent.old.beside.now.out.ghost_name }
-    ensures stays { StaysPrinted
-        (printer_value (K.contents lent.old.beside.now.out.now)
-        (K.failure_count lent.old.beside.now.out.now)
-        lent.old.beside.now.refused lent.old.beside.now.failed)
-        (printer_value (K.contents lent.new.beside.now.out.now)
-        (K.failure_count lent.new.beside.now.out.now)
-        lent.new.beside.now.refused lent.new.beside.now.failed) }
-    ensures goes_on { lent.new.refused ≡ 0 → lent.new.beside.now.failed ≡ false }
-    ensures stopped { lent.new.refused ≢ 0 → lent.new.beside.now.failed ≡ true }
-    ensures count { lent.new.refused ≡ 0
-        → RisesIf (S.failure_count lent.old.source.now) (failed is_read result)
-        (S.failure_count lent.new.source.now) }
-    ensures refused { lent.new.refused ≢ 0
-        → S.failure_count lent.new.source.now ≡ S.failure_count lent.old.source.now }
-    ensures tells { TellsPacket reader.old.progress (S.remaining lent.old.source.now)
-        (S.remaining lent.new.source.now) (given_frame (as_given result) reader.new.frame) }
+    requires source { CanFail (S.failure_count source.old) }
+    requires settled { NothingWaits (A.is_waiting _printer.now) (S.lent source.old) }
+    ensures count { CountsIf S.failure_count source.old (failed is_read result) source.new }
+    ensures tells { TellsPacket reader.old.progress (S.remaining source.old)
+        (S.remaining source.new) (given_frame (as_given result) reader.new.frame) }
     ensures progress { reader.new.progress
         ≡ progress_after reader.old.progress (given_frame (as_given result) reader.new.frame) }
     ensures few { (given : ℕ) → reader.new.progress ≡ Reading given → given ≤ most_packets }
+    ensures asked { failed is_read result ≡ true → A.is_waiting _printer.now ≡ false }
 {
-    reader.next(lent)
+    reader.next(source)
 }
 
 // Room for the line of a PES packet.

@@ -3,9 +3,9 @@ ghost use Rattle.std.specs.Prelude.{◌≡◌, ◌||◌, OnErr, OnOk, false, is_
 ghost use Rattle.std.proofs.Common.{◌∙◌};
 ghost use Rattle.std.specs.Io.KnownBytes.{Appends};
 ghost use Rattle.sub_io.specs.Device.{AppendsPrefix, CanFail, CountsFailure};
-ghost use Rattle.sub_io.proofs.HandingOnLemmas.{Tells-stays};
 ghost use Rattle.sub_listing.specs.EventLines.{refusal, subtitle_event};
-ghost use Rattle.sub_listing.specs.StaysPrinted.{line_stays, not_true};
+ghost use Rattle.sub_listing.specs.LastLine.{PutsLine};
+ghost use Rattle.sub_listing.specs.StaysPrinted.{line_stays};
 ghost use Rattle.sub_listing.specs.Printer.{HandsOnLines, PrintsEvent, can_fail, counted};
 ghost use Rattle.sub_listing.specs.Printer.{printer_value};
 
@@ -42,20 +42,18 @@ impl<'a, K: Flush> Printer<'a, K> {
             self.old.refused self.old.failed) (is_ok result)
             (printer_value (K.contents self.new.out.now) (K.failure_count self.new.out.now)
             self.new.refused self.new.failed) }
-        ensures still { self.old.waiting ≡ false → self.new ≡ self.old }
-        ensures settled { OnOk result (self.new.waiting ≡ false) }
-        ensures held { self.old.waiting ≡ true → OnOk result (K.held self.new.out.now ≡ 0) }
+        ensures still { OnOk result (self.new.waiting ≡ false) }
+        ensures held { OnOk result (K.held self.new.out.now ≡ 0) }
+        ensures waits { OnErr result (self.new.waiting ≡ self.old.waiting) }
     {
         if self.failed || self.out.failures() == u64::MAX {
             return Err(Stopped);
         }
-        if self.waiting {
-            if self.out.flush().is_err() {
-                self.failed = true;
-                return Err(Stopped);
-            }
-            self.waiting = false;
+        if self.out.flush().is_err() {
+            self.failed = true;
+            return Err(Stopped);
         }
+        self.waiting = false;
         Ok(())
     }
 }
@@ -78,6 +76,7 @@ impl<'a, K: Sink> Printer<'a, K> {
             (K.failure_count self.old.out.now) result (K.failure_count self.new.out.now) }
         ensures failed { OnOk result (self.new.failed ≡ self.old.failed) }
         ensures stopped { OnErr result (self.new.failed ≡ true) }
+        ensures line { PutsLine K.contents K.is_push self.old.out.now lines.now self.new.out.now }
         // Else a live list would keep its lines until the sink is full.
         ensures waits { self.new.waiting ≡ true }
     {
@@ -132,11 +131,12 @@ fn refusal(event: Event) -> u64
     }
 }
 
-impl<K: Sink> Audience<Event> for Printer<'_, K> {
+impl<K: Flush> Audience<Event> for Printer<'_, K> {
     ghost is_told = { λ s event t. (t.out.ghost_name ≡ s.out.ghost_name)
         × PrintsEvent
         (printer_value (K.contents s.out.now) (K.failure_count s.out.now) s.refused s.failed) event
-        (printer_value (K.contents t.out.now) (K.failure_count t.out.now) t.refused t.failed) };
+        (printer_value (K.contents t.out.now) (K.failure_count t.out.now) t.refused t.failed)
+        × (t.waiting ≡ false → K.held t.out.now ≡ 0) };
 
     ghost has_stopped = { λ p. p.failed || not (can_fail (K.failure_count p.out.now)) };
 
@@ -150,7 +150,7 @@ impl<K: Sink> Audience<Event> for Printer<'_, K> {
     }
 }
 
-impl<K: Sink> Audience<LoadFault> for Printer<'_, K> {
+impl<K: Flush> Audience<LoadFault> for Printer<'_, K> {
     ghost is_told = { λ s fault t. (t.out.ghost_name ≡ s.out.ghost_name)
         × PrintsEvent
         (printer_value (K.contents s.out.now) (K.failure_count s.out.now) s.refused s.failed)
@@ -170,13 +170,20 @@ impl<K: Sink> Audience<LoadFault> for Printer<'_, K> {
 }
 
 impl<K: Flush> Live for Printer<'_, K> {
-    ghost is_settled = { λ p. not p.waiting };
+    ghost is_waiting = { λ p. p.waiting };
+
+    ghost held = { λ p. K.held p.out.now };
 
     ghost is_handed_on = { λ s ok t. (t.out.ghost_name ≡ s.out.ghost_name)
-        × (s.waiting ≡ false → t ≡ s)
         × HandsOnLines
         (printer_value (K.contents s.out.now) (K.failure_count s.out.now) s.refused s.failed) ok
-        (printer_value (K.contents t.out.now) (K.failure_count t.out.now) t.refused t.failed) };
+        (printer_value (K.contents t.out.now) (K.failure_count t.out.now) t.refused t.failed)
+        × (s.waiting ≡ true → t.waiting ≡ false → K.held t.out.now ≡ 0) };
+
+    /// Where lines were put since the sink handed on what it held back.
+    fn waits(&self) -> bool {
+        self.waiting
+    }
 
     /// Has the sink hand on the lines that it holds back.
     ///
@@ -190,10 +197,9 @@ impl<K: Flush> Live for Printer<'_, K> {
 
 impl<K: Flush> LiveAudience<Event> for Printer<'_, K> {
     ghost stays_told = { record {
-      told = λ start old new ok items settled told on.
-          Tells-stays _ start old new items
-          (λ same. on.1 (rw same (not_true start.waiting settled)))
-          (λ d x is. (on.0 ∙ is.0, line_stays _ _ _ x is.1 on.2.stays)) told;
-      stopped = λ old new ok on. on.2.stopped;
+      told = λ before old new item ok is waits on.
+          (on.0 ∙ is.0, line_stays _ _ _ item is.1 on.1.stays, on.2 waits);
+      stopped = λ old new ok on. on.1.stopped;
+      waits = λ before new item is. is.2;
     } };
 }

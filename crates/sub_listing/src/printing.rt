@@ -1,8 +1,9 @@
 //! The last text that a command prints, and its status.
 ghost use Rattle.std.specs.Prelude.{◌≡◌, ◌≢◌, ◌+◌, List, ℕ};
 ghost use Rattle.sub_listing.specs.DeviceCall.{CanFail, CountsFault, sink_call};
+ghost use Rattle.sub_listing.specs.LastLine.{PutsLine};
 ghost use Rattle.sub_listing.specs.Listing.{PrintsOrFails, done, told_listing};
-ghost use Rattle.sub_listing.specs.Told.{status_of};
+ghost use Rattle.sub_listing.specs.Told.{line_of, status_of};
 
 use crate::lines::{Line, push_told};
 use crate::status::Status;
@@ -38,6 +39,7 @@ pub fn print_told<K: Sink>(told: &Told, out: &mut K) -> Status
     ensures count { CountsFault K.failure_count out.old result out.new }
     ensures fault { status_of told.now.kind ≡ Status.Fault → result ≡ Status.Fault }
     ensures not_done { result ≢ Status.Done }
+    ensures line { PutsLine K.contents K.is_push out.old (line_of told.now) out.new }
     ensures failed { result ≡ Status.Fault → status_of told.now.kind ≢ Status.Fault
         → K.failure_count out.new ≡ K.failure_count out.old + 1 }
 {

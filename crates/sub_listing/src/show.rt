@@ -1,5 +1,5 @@
 //! `show STL`: lists subtitles.
-ghost use Rattle.std.specs.Prelude.{◌≡◌, ◌+◌, ◌<◌, [], None};
+ghost use Rattle.std.specs.Prelude.{◌≡◌, ◌+◌, ◌<◌, [], None, false};
 ghost use Rattle.sub_listing.specs.DeviceCall.{CanFail, CountsFault, sink_call, source_call};
 ghost use Rattle.sub_listing.specs.Lines.{subtitle_line};
 ghost use Rattle.sub_listing.specs.Listing.{PrintsListing};
@@ -11,13 +11,13 @@ use crate::listing::{Lister, Text, end_at, end_with, list};
 use crate::printer::Printer;
 use crate::status::Status;
 use stl_file::{StlReader, Subtitle, five_digits_of};
-use sub_io::{Ahead, Flush};
+use sub_io::{Flush, Source};
 
 /// Lists the subtitles of a file (EBU Tech 3264), one after another as they are read, and then how
 /// many there are, or why it is refused.
 ///
 /// Lines before a refusal stay. `Fault` where a device failed.
-pub fn list_subtitles<S: Ahead, K: Flush>(source: &mut S, out: &mut K) -> Status
+pub fn list_subtitles<S: Source, K: Flush>(source: &mut S, out: &mut K) -> Status
     requires source { CanFail (S.failure_count source.old) }
     requires out { CanFail (K.failure_count out.old) }
     ensures listing { PrintsListing ListsSubtitles
@@ -60,7 +60,9 @@ impl Lister for SubtitleLister {
 
     ghost lists = { λ l. ListsFrom l.reader l.count };
 
-    fn next<S: Ahead, K: Flush>(
+    ghost is_followed = { false };
+
+    fn next<S: Source, K: Flush>(
         &mut self,
         source: &mut S,
         _printer: &mut Printer<'_, K>,

@@ -1,6 +1,7 @@
 -- Of a PES file that is read on the refusal is told first that is told where reading stops at the
 -- first piece that is passed over. Main lemma: first_told_is.
-use Rattle.std.proofs.Common.{◌≡◌, ℕ, suc, ◌+◌, ◌||◌, Bool, not, List, [], ◌∷◌, ◌++◌, length}
+use Rattle.std.proofs.Common.{◌≡◌, ℕ, suc, ◌+◌, ◌||◌, Bool, false, not, List, [], ◌∷◌, ◌++◌}
+use Rattle.std.proofs.Common.{length}
 use Rattle.std.proofs.Common.{map, Option, Some, None, refl, sym, ap, ◌∙◌, arith, append_assoc}
 use Rattle.std.proofs.Common.{length-append}
 use Rattle.std.proofs.lemmas.Bool.Decides.{nat_tests}
@@ -11,9 +12,10 @@ use Rattle.sub_rules.specs.Events.{events_of_first, first_told, frame_events}
 use Rattle.sub_rules.specs.Events.{unread_fault}
 use Rattle.sub_rules.specs.Fault.{fault_at_pes}
 use Rattle.sub_rules.specs.FrameRules.{Task, Unread}
-use Rattle.sub_rules.specs.PieceEvents.{LawOfFirstTold, all_announced, announced}
+use Rattle.sub_rules.specs.PieceEvents.{LawOfFirstTold, all_announced, all_of_pieces, announced}
 use Rattle.sub_rules.specs.PieceEvents.{closing_of_pieces, ended_run, joins, marks_of_each, no_run}
-use Rattle.sub_rules.specs.PieceEvents.{passed_after, passed_after_all, until_passed}
+use Rattle.sub_rules.specs.PieceEvents.{passed_after, passed_after_all, told_of_pieces}
+use Rattle.sub_rules.specs.PieceEvents.{until_passed}
 use Rattle.sub_rules.specs.Pieces.{Piece, frames_of, read_until_passed}
 use Rattle.sub_rules.specs.Pieces.Piece.{Passed, Sent}
 use Rattle.sub_rules.specs.Transmission.{Transmission}
@@ -24,9 +26,7 @@ use Rattle.sub_rules.specs.declared.fault.CheckFault.{CheckFault}
 use Rattle.sub_rules.specs.declared.passed_run.PassedRun.{PassedRun}
 use Rattle.sub_rules.proofs.PrefixEventLemmas.{frame_events-prefix}
 use Rattle.sub_rules.proofs.AnyToldLemmas.{own_closing, own_frame, own_names}
-use Rattle.sub_rules.proofs.RunLemmas.{all_are, all_in_runs, closing_told, last_of_run}
-use Rattle.sub_rules.proofs.RunLemmas.{run_after_each, run_at, told_in_runs, told_of_each}
-use Rattle.sub_rules.proofs.RunLemmas.{told_of_frame}
+use Rattle.sub_rules.proofs.RunLemmas.{last_of_run, run_at, told_are, told_in_runs, told_of_frame}
 use Rattle.sub_rules.proofs.TrustedLemmas.{with_run}
 
 -- ---- what is told first of two lists
@@ -52,7 +52,7 @@ first_of_two (Trusted from to ∷ xs) ys = first_of_two xs ys
 first_of_two (PassedUntil f ∷ xs) ys = first_of_two xs ys
 
 -- Before what is told of frames that may be trusted, and of runs of pieces.
-trusted_first : (run d : Option ℕ) → first_told (trusted_before run d) ≡ None
+pub trusted_first : (run d : Option ℕ) → first_told (trusted_before run d) ≡ None
 trusted_first run d = grind (arith, nat_tests)
 
 last_first : (run : Option ℕ) (f : ℕ) → first_told (trusted run f) ≡ None
@@ -128,25 +128,42 @@ plain_all g frames i n (s ∷ others) e =
     ∙ append_assoc (events_of_first g frames i) (frame_events g frames i)
     (told_plain g frames (suc i) others)
 
+-- After pieces that are all sent.
+closing_same : (g : Task) (frames : Transmission) (n : ℕ) → length frames ≡ n
+    → map (at_pes n) (closing_of_pieces g frames n n) ≡ closing_events g frames n
+unfolding closing_of_pieces
+closing_same g frames n h1 =
+    let same = own_names n (closing_events g frames n) (own_closing g frames n h1) in
+    grind (arith, nat_tests)
+
+last_of_first : (g : Task) (frames : Transmission) (run : Option ℕ) (any : Bool)
+    → first_told (last_of_run g frames run any) ≡ None
+unfolding last_of_run
+last_of_first g frames run any =
+    let trusted_none = last_first run in grind (arith, nat_tests)
+
 -- From some frames on, all of which are read both ways.
-walk : (g : Task) (done all first : Transmission) (n : ℕ) (run : Option ℕ) (pieces : List Piece)
-    (u : Option Unread) (after : Option CheckFault)
+walk : (g : Task) (done all first : Transmission) (n : ℕ) (run : Option ℕ) (told : Bool)
+    (pieces : List Piece) (u : Option Unread)
     → length done ≡ n
     → all ≡ done ++ frames_of pieces
     → first ≡ done ++ (read_until_passed pieces g.unread).frames
     → u ≡ (read_until_passed pieces g.unread).unread
-    → (length (frames_of pieces) ≡ length pieces
-    → after ≡ first_told (closing_events g all (length all)))
-    → or_else (first_told (told_of_each g all n n run pieces)) after
+    → first_told (told_in_runs g all n n run told pieces)
     ≡ or_else (first_told (told_plain (record g { unread = u }) first n
     (read_until_passed pieces g.unread).frames))
     (first_told (closing_events (record g { unread = u }) first (length first)))
-unfolding told_of_each frames_of read_until_passed told_plain
-walk g done all first n run [] u after size all_is first_is u_is closing =
-    closing refl ∙ rw (all_is, first_is, u_is) refl
-walk g done all first n run (Passed v ∷ pieces) u after size all_is first_is u_is closing =
+unfolding told_in_runs frames_of read_until_passed told_plain
+walk g done all first n run told [] u size all_is first_is u_is =
+    let here : all ≡ done = all_is ∙ append-nil done in
+    let there : first ≡ done = first_is ∙ append-nil done in
+    let long : length all ≡ n = ap length here ∙ size in
+    let any = told || not (tells_none (closing_of_pieces g all n n)) in
+    first_of_two (last_of_run g all run any) _
+    ∙ rw (last_of_first g all run any, closing_same g all n long, here, there, u_is, size) refl
+walk g done all first n run told (Passed v ∷ pieces) u size all_is first_is u_is =
     grind (arith, nat_tests, append-nil, first_of_two, with_run_first, closing_first)
-walk g done all first n run (Sent s ∷ pieces) u after size all_is first_is u_is closing =
+walk g done all first n run told (Sent s ∷ pieces) u size all_is first_is u_is =
     let next = done ++ s ∷ [] in
     let stop = read_until_passed pieces g.unread in
     let longer : length next ≡ suc n = length-append done (s ∷ []) ∙ omega (arith, size) in
@@ -159,45 +176,24 @@ walk g done all first n run (Sent s ∷ pieces) u after size all_is first_is u_i
     ∙ frame_events-prefix g u next (frames_of pieces) n (omega arith)
     ∙ sym (frame_events-prefix (record g { unread = u }) u next stop.frames n (omega arith))
     ∙ ap (λ (fs : Transmission). frame_events (record g { unread = u }) fs n) (sym first_next) in
-    let rest = walk g next all first (suc n) (run_at g all n run) pieces u after longer all_next
-    first_next u_is (λ e. closing (ap suc e)) in
+    let rest = walk g next all first (suc n) (run_at g all n run)
+    (told || not (tells_none (frame_events g all n))) pieces u longer all_next first_next u_is in
     grind (arith, nat_tests, first_of_two, frame_first, or_else_assoc)
-
--- After pieces that are all sent.
-closing_same : (g : Task) (frames : Transmission) (n : ℕ) → length frames ≡ n
-    → closing_told g frames n n ≡ closing_events g frames n
-unfolding closing_of_pieces
-closing_same g frames n h1 =
-    let same = own_names n (closing_events g frames n) (own_closing g frames n h1) in
-    grind (arith, nat_tests)
-
-last_of_first : (g : Task) (frames : Transmission) (run : Option ℕ) (any : Bool)
-    → first_told (last_of_run g frames run any) ≡ None
-unfolding last_of_run
-last_of_first g frames run any =
-    let trusted_none = last_first run in grind (arith, nat_tests)
 
 -- The refusal that is told first: the law.
 pub first_told_is : LawOfFirstTold
-unfolding all_in_runs told_in_runs events events_of_first
+unfolding all_of_pieces events events_of_first
 first_told_is g pieces =
     let frames = frames_of pieces in
     let stop = read_until_passed pieces g.unread in
     let h : Task = until_passed g pieces in
-    let each = told_of_each g frames 0 0 None pieces in
-    let closing = closing_told g frames (length pieces) (length frames) in
-    let any = not (tells_none each) || not (tells_none closing) in
-    let last = last_of_run g frames (run_after_each g frames 0 None pieces) any in
-    ap first_told (all_are g pieces)
-    ∙ first_of_two (all_announced no_run (each ++ last ++ closing)) _
-    ∙ ap (or_else (first_told (all_announced no_run (each ++ last ++ closing)))) (ended_first _)
+    let told = told_of_pieces g pieces in
+    first_of_two (all_announced no_run told) _
+    ∙ ap (or_else (first_told (all_announced no_run told))) (ended_first _)
     ∙ or_else_none _
-    ∙ announced_first (each ++ last ++ closing)
-    ∙ first_of_two (each ++ last) closing
-    ∙ ap (λ (o : Option CheckFault). or_else o (first_told closing))
-    (grind (arith, nat_tests, first_of_two, last_of_first, or_else_none))
-    ∙ walk g [] frames stop.frames 0 None pieces stop.unread (first_told closing) refl refl refl
-    refl (grind (arith, nat_tests, closing_same))
+    ∙ announced_first told
+    ∙ ap first_told (told_are g pieces)
+    ∙ walk g [] frames stop.frames 0 None false pieces stop.unread refl refl refl refl
     ∙ sym (first_of_two (told_plain h stop.frames 0 stop.frames) _)
     ∙ ap (λ (l : List Event). first_told (l ++ closing_events h stop.frames
     (length stop.frames)))

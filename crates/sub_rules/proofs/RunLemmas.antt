@@ -1,9 +1,8 @@
--- What is told of a PES file that is read on, by runs of quiet frames: of all pieces `all_are`, of
--- some `events_are`.
+-- What is told of a PES file that is read on, by runs of quiet frames: `told_are`.
 use Rattle.std.proofs.lemmas.Bool.Decides.{nat_tests}
 use Rattle.std.proofs.Common.{◌≡◌, ℕ, zero, suc, ◌+◌, ◌-◌, ◌&&◌, ◌||◌, Bool, true, false, not, List}
 use Rattle.std.proofs.Common.{[], ◌∷◌, ◌++◌, length, map, Option, Some, None, is_some, refl, sym, ap}
-use Rattle.std.proofs.Common.{◌∙◌, subst, arith, append_assoc, if◌then◌else◌}
+use Rattle.std.proofs.Common.{◌∙◌, arith, append_assoc, if◌then◌else◌}
 use Rattle.std.proofs.lemmas.List.{append-nil, map-append}
 use Rattle.std.proofs.lemmas.List.Folds.{list_any-append}
 use Rattle.std.specs.List.{list_any}
@@ -11,10 +10,8 @@ use Rattle.ttx_page.specs.PacketKind.{kind}
 use Rattle.ttx_page.specs.Span.{holds_header}
 use Rattle.sub_rules.specs.Events.{events_of_first, frame_events, standing_at, unread_fault}
 use Rattle.sub_rules.specs.FrameRules.{Task, Unread, end_frame, frame_at, packets_of_frame}
-use Rattle.sub_rules.specs.PieceEvents.{all_announced, all_of_pieces, arriving_events}
-use Rattle.sub_rules.specs.PieceEvents.{closing_of_pieces, ended_run, events_of_pieces}
-use Rattle.sub_rules.specs.PieceEvents.{marks_of_closing, marks_of_each, marks_of_frame, no_run}
-use Rattle.sub_rules.specs.PieceEvents.{own_events, passed_after_all, told_of_pieces}
+use Rattle.sub_rules.specs.PieceEvents.{arriving_events, closing_of_pieces, marks_of_closing}
+use Rattle.sub_rules.specs.PieceEvents.{marks_of_each, marks_of_frame, own_events, told_of_pieces}
 use Rattle.sub_rules.specs.Pieces.{Piece, frames_of}
 use Rattle.sub_rules.specs.Pieces.Piece.{Passed, Sent}
 use Rattle.sub_rules.specs.Transmission.{Transmission}
@@ -26,9 +23,9 @@ use Rattle.sub_rules.specs.declared.event.Event.{Event}
 use Rattle.sub_rules.specs.declared.event.Event.TheVariants.{Told}
 use Rattle.sub_rules.specs.declared.trust.Trust.{Trust}
 use Rattle.sub_rules.proofs.TrustedLemmas.{any_doubted, run_over, run_over-append}
-use Rattle.sub_rules.proofs.TrustedLemmas.{says_is, says_told, tells_none-at, tells_none-run}
-use Rattle.sub_rules.proofs.TrustedLemmas.{tells_none-two, told_by-append, trust_after-append}
-use Rattle.sub_rules.proofs.TrustedLemmas.{with_run, with_run-append, with_run-none}
+use Rattle.sub_rules.proofs.TrustedLemmas.{says_is, says_told, tells_none-two, told_by-append}
+use Rattle.sub_rules.proofs.TrustedLemmas.{trust_after-append, with_run, with_run-append}
+use Rattle.sub_rules.proofs.TrustedLemmas.{with_run-none}
 
 -- ---- by runs
 
@@ -63,23 +60,6 @@ abbrev pub told_of_passed : Transmission → ℕ → ℕ → Option ℕ → Unre
 told_of_passed frames pes i run u =
     with_run (frame_before frames i) run (Told (unread_fault pes (Some u)) ∷ [])
 
--- What is told of pieces, the first of them PES packet `pes` and, if it is sent, frame i of the
--- list, after a run of quiet frames.
-unfoldable pub told_of_each : Task → Transmission → ℕ → ℕ → Option ℕ → List Piece → List Event
-told_of_each g frames pes i run [] = []
-told_of_each g frames pes i run (Sent s ∷ pieces) =
-    map (at_pes pes) (told_of_frame g frames i run)
-    ++ told_of_each g frames (suc pes) (suc i) (run_at g frames i run) pieces
-told_of_each g frames pes i run (Passed u ∷ pieces) =
-    told_of_passed frames pes i run u ++ told_of_each g frames (suc pes) i None pieces
-
--- The run of quiet frames after them.
-unfoldable pub run_after_each : Task → Transmission → ℕ → Option ℕ → List Piece → Option ℕ
-run_after_each g frames i run [] = run
-run_after_each g frames i run (Sent s ∷ pieces) =
-    run_after_each g frames (suc i) (run_at g frames i run) pieces
-run_after_each g frames i run (Passed u ∷ pieces) = run_after_each g frames i None pieces
-
 -- The first frame that is not trusted at the end of the list: the last frame, where bytes are left
 -- that may have been sent in it.
 abbrev pub trust_end : Option Unread → ℕ → ℕ
@@ -91,23 +71,19 @@ unfoldable pub last_of_run : Task → Transmission → Option ℕ → Bool → L
 last_of_run g frames run any =
     if any then trusted run (trust_end g.unread (end_frame frames)) else []
 
--- What is told after the last piece.
-abbrev pub closing_told : Task → Transmission → ℕ → ℕ → List Event
-closing_told g frames pes n = map (at_pes pes) (closing_of_pieces g frames pes n)
-
--- What is told of all pieces, and with it up to which one runs of pieces go.
-unfoldable pub told_in_runs : Task → List Piece → List Event
-told_in_runs g pieces =
-    let frames = frames_of pieces in
-    let each = told_of_each g frames 0 0 None pieces in
-    let closing = closing_told g frames (length pieces) (length frames) in
-    let any = not (tells_none each) || not (tells_none closing) in
-    each ++ last_of_run g frames (run_after_each g frames 0 None pieces) any ++ closing
-
-unfoldable pub all_in_runs : Task → List Piece → List Event
-all_in_runs g pieces =
-    let told = told_in_runs g pieces in
-    all_announced no_run told ++ ended_run (passed_after_all no_run told)
+-- What is told of pieces, the first of them PES packet `pes` and, if it is sent, frame i of the
+-- list, and after the last one: after a run of quiet frames, where something was told or not.
+unfoldable pub told_in_runs :
+    Task → Transmission → ℕ → ℕ → Option ℕ → Bool → List Piece → List Event
+told_in_runs g frames pes i run told [] =
+    last_of_run g frames run (told || not (tells_none (closing_of_pieces g frames pes i)))
+    ++ map (at_pes pes) (closing_of_pieces g frames pes i)
+told_in_runs g frames pes i run told (Sent s ∷ pieces) =
+    map (at_pes pes) (told_of_frame g frames i run)
+    ++ told_in_runs g frames (suc pes) (suc i) (run_at g frames i run)
+    (told || not (tells_none (frame_events g frames i))) pieces
+told_in_runs g frames pes i run told (Passed u ∷ pieces) =
+    told_of_passed frames pes i run u ++ told_in_runs g frames (suc pes) i None true pieces
 
 -- ---- what is kept of a frame
 
@@ -286,84 +262,6 @@ unfolding told_with after_mark with_run at_pes
 passed_told g frames n pes t u is =
     let run_is = is.run_is in let last_is = is.last_is in grind (arith, nat_tests)
 
--- What is told of pieces, and what is kept after them.
-pub record ReadsEach
-    (g : Task) (frames : Transmission) (pes i : ℕ) (run : Option ℕ) (told : Bool) (t : Trust)
-    (pieces : List Piece)
-    : Type 0 where
-  pub says :
-      told_by t (marks_of_each g frames pes i pieces) ≡ told_of_each g frames pes i run pieces
-  pub left :
-      Judges g frames (i + length (frames_of pieces)) (run_after_each g frames i run pieces)
-      (told || not (tells_none (told_of_each g frames pes i run pieces)))
-      (trust_after t (marks_of_each g frames pes i pieces))
-
-pub each_are : (g : Task) (frames : Transmission) (pes i : ℕ) (run : Option ℕ) (told : Bool)
-    (t : Trust) (pieces : List Piece)
-    → Judges g frames i run told t
-    → ReadsEach g frames pes i run told t pieces
-unfolding told_by told_with trust_after after_mark marks_of_each told_of_each run_after_each frames_of
-each_are g frames pes i run told t [] is = record {
-  says = refl;
-  left = record {
-    run_is = is.run_is;
-    last_is = is.last_is ∙ ap (frame_before frames) (omega arith);
-    rises_is = is.rises_is ∙ ap (λ k. not (list_any is_order (events_of_first g frames k)))
-        (omega arith);
-    told_is = is.told_is ∙ grind (arith, nat_tests);
-  };
-}
-each_are g frames pes i run told t (Sent s ∷ pieces) is =
-    let here = judges_at g frames i pes t is in
-    let t0 = after_mark (AtPes pes) t in
-    let next = judges_next g frames i t0 here in
-    let rest = each_are g frames (suc pes) (suc i) (run_at g frames i run) _ _ pieces next in
-    let first = frame_told g frames i t0 here in
-    let left = rest.left in
-    let two =
-    tells_none-two (map (at_pes pes) (told_of_frame g frames i run))
-    (told_of_each g frames (suc pes) (suc i) (run_at g frames i run) pieces) in
-    let one =
-    tells_none-at pes (told_of_frame g frames i run)
-    ∙ tells_none-run (frame_before frames i) run (frame_events g frames i) in
-    let joined =
-    trust_after-append t0 (marks_of_frame g frames i)
-    (marks_of_each g frames (suc pes) (suc i) pieces) in
-    let count : suc i + length (frames_of pieces) ≡ i + suc (length (frames_of pieces)) =
-    omega arith in
-    record {
-      says =
-          told_by-append t0 (marks_of_frame g frames i)
-          (marks_of_each g frames (suc pes) (suc i) pieces)
-          ∙ rw (first, rest.says) refl;
-      left = rw (joined, sym count) (record {
-        run_is = left.run_is;
-        last_is = left.last_is;
-        rises_is = left.rises_is;
-        told_is = left.told_is ∙ rw (two, one) grind (arith, nat_tests);
-      });
-    }
-each_are g frames pes i run told t (Passed u ∷ pieces) is =
-    let here = judges_at g frames i pes t is in
-    let next = judges_passed g frames i (after_mark (AtPes pes) t) pes u here in
-    let rest = each_are g frames (suc pes) i None true _ pieces next in
-    let first = passed_told g frames i pes t u is in
-    let left = rest.left in
-    record {
-      says = rw (first, rest.says) refl;
-      left = record {
-        run_is = left.run_is;
-        last_is = left.last_is;
-        rises_is = left.rises_is;
-        told_is =
-            let two = tells_none-two (told_of_passed frames pes i run u)
-            (told_of_each g frames (suc pes) i None pieces) in
-            let one = tells_none-run (frame_before frames i) run
-            (Told (unread_fault pes (Some u)) ∷ []) in
-            left.told_is ∙ rw (two, one) grind (arith, nat_tests);
-      };
-    }
-
 -- ---- the end of the file
 
 last_before : (frames : Transmission) → frame_before frames (length frames) ≡ end_frame frames
@@ -377,17 +275,14 @@ closing_are : (g : Task) (frames : Transmission) (pes n : ℕ) (t : Trust) {run 
     {told : Bool}
     → n ≡ length frames
     → Judges g frames n run told t
-    → told_by t (marks_of_closing g frames pes n)
-    ≡ last_of_run g frames run (told || not (tells_none (closing_told g frames pes n)))
-    ++ closing_told g frames pes n
-unfolding told_by told_with after_mark last_of_run
+    → told_by t (marks_of_closing g frames pes n) ≡ told_in_runs g frames pes n run told []
+unfolding told_by told_with after_mark last_of_run told_in_runs
 closing_are g frames pes n t all is =
     let c = closing_of_pieces g frames pes n in
     let t0 = after_mark (AtPes pes) t in
     let t1 = after_mark (Closes (is_some g.unread) (not (tells_none c))) t0 in
     let says = says_told t1 c in
     let none = with_run-none t1.last c in
-    let same = tells_none-at pes c in
     let last = last_before frames in
     let run_is = is.run_is in
     let last_is = is.last_is in
@@ -396,42 +291,46 @@ closing_are g frames pes n t all is =
 
 -- ---- the whole
 
+-- Of pieces, up to the end of the file.
+runs_are : (g : Task) (frames : Transmission) (m pes i : ℕ) (run : Option ℕ) (told : Bool)
+    (t : Trust) (pieces : List Piece)
+    → pes + length pieces ≡ m
+    → i + length (frames_of pieces) ≡ length frames
+    → Judges g frames i run told t
+    → told_by t (marks_of_each g frames pes i pieces ++ marks_of_closing g frames m (length frames))
+    ≡ told_in_runs g frames pes i run told pieces
+unfolding told_by told_with after_mark marks_of_each told_in_runs frames_of
+runs_are g frames m pes i run told t [] count sent is =
+    let last : m ≡ pes = omega (arith, count) in
+    let all : length frames ≡ i = omega (arith, sent) in
+    rw (last, all) (closing_are g frames pes i t (sym all) is)
+runs_are g frames m pes i run told t (Sent s ∷ pieces) count sent is =
+    let here = judges_at g frames i pes t is in
+    let t0 = after_mark (AtPes pes) t in
+    let frame = marks_of_frame g frames i in
+    let more = marks_of_each g frames (suc pes) (suc i) pieces in
+    let end = marks_of_closing g frames m (length frames) in
+    let rest =
+    runs_are g frames m (suc pes) (suc i) (run_at g frames i run) _ _ pieces (omega (arith, count))
+    (omega (arith, sent)) (judges_next g frames i t0 here) in
+    ap (told_by t0) (append_assoc frame more end)
+    ∙ told_by-append t0 frame (more ++ end)
+    ∙ rw (frame_told g frames i t0 here, rest) refl
+runs_are g frames m pes i run told t (Passed u ∷ pieces) count sent is =
+    let here = judges_at g frames i pes t is in
+    let next = judges_passed g frames i (after_mark (AtPes pes) t) pes u here in
+    let rest =
+    runs_are g frames m (suc pes) i None true _ pieces (omega (arith, count)) sent next in
+    rw (passed_told g frames i pes t u is, rest) refl
+
 judges_none : (g : Task) (frames : Transmission) → Judges g frames 0 None false no_trust
 unfolding events_of_first frame_before
 judges_none g frames = record { run_is = refl; last_is = refl; rises_is = refl; told_is = refl }
 
--- What is told of some pieces.
-pub events_are : (g : Task) (frames : Transmission) (pieces : List Piece)
-    → events_of_pieces g frames pieces
-    ≡ all_announced no_run (told_of_each g frames 0 0 None pieces)
-unfolding events_of_pieces
-events_are g frames pieces =
-    ap (all_announced no_run)
-    (each_are g frames 0 0 None false no_trust pieces (judges_none g frames)).says
-
--- What is told of all.
-told_are : (g : Task) (pieces : List Piece) → told_of_pieces g pieces ≡ told_in_runs g pieces
-unfolding told_of_pieces told_in_runs
+-- All that is told of pieces.
+pub told_are : (g : Task) (pieces : List Piece)
+    → told_of_pieces g pieces ≡ told_in_runs g (frames_of pieces) 0 0 None false pieces
+unfolding told_of_pieces
 told_are g pieces =
-    let frames = frames_of pieces in
-    let each = each_are g frames 0 0 None false no_trust pieces (judges_none g frames) in
-    let count : 0 + length frames ≡ length frames = omega arith in
-    let closing =
-    closing_are g frames (length pieces) (length frames) _ refl
-    (subst (λ (k : ℕ). Judges g frames k (run_after_each g frames 0 None pieces)
-    (false || not (tells_none (told_of_each g frames 0 0 None pieces)))
-    (trust_after no_trust (marks_of_each g frames 0 0 pieces))) count each.left) in
-    told_by-append no_trust (marks_of_each g frames 0 0 pieces)
-    (marks_of_closing g frames (length pieces) (length frames))
-    ∙ rw (each.says, closing)
-    (sym (append_assoc (told_of_each g frames 0 0 None pieces) (last_of_run g frames
-    (run_after_each g frames 0 None pieces)
-    (false || not (tells_none (told_of_each g frames 0 0 None pieces))
-    || not (tells_none (closing_told g frames (length pieces) (length frames)))))
-    (closing_told g frames (length pieces) (length frames))))
-
-pub all_are : (g : Task) (pieces : List Piece) → all_of_pieces g pieces ≡ all_in_runs g pieces
-unfolding all_of_pieces all_in_runs
-all_are g pieces =
-    ap (λ (told : List Event). all_announced no_run told
-    ++ ended_run (passed_after_all no_run told)) (told_are g pieces)
+    runs_are g (frames_of pieces) (length pieces) 0 0 None false no_trust pieces (omega arith)
+    (omega arith) (judges_none g (frames_of pieces))

@@ -61,15 +61,6 @@ with_run-append last run (x ∷ xs) ys =
 pub tells_none-two : (xs ys : List Event) → tells_none (xs ++ ys) ≡ (tells_none xs && tells_none ys)
 tells_none-two xs ys = grind (arith, nat_tests)
 
-pub tells_none-at : (pes : ℕ) (es : List Event) → tells_none (map (at_pes pes) es) ≡ tells_none es
-tells_none-at pes es = grind (arith, nat_tests)
-
--- Nothing is trusted where nothing is told.
-pub tells_none-run : (last : ℕ) (run : Option ℕ) (es : List Event)
-    → tells_none (with_run last run es) ≡ tells_none es
-unfolding with_run
-tells_none-run last run es = grind (arith, nat_tests, tells_none-two)
-
 -- ---- marks, one after another
 
 pub trust_after-append : (t : Trust) (xs ys : List Mark)

@@ -1,9 +1,9 @@
 //! Pieces of a PES file, one after another: those that are sent, and those that are passed over.
 ghost use Rattle.std.specs.Prelude.{◌≡◌, ℕ, ◌+◌, ◌<◌, ◌≤◌, List, IfErr, IfOk, IsSome, Option, Ok};
 ghost use Rattle.std.specs.Prelude.{Some, false, true};
-ghost use Rattle.sub_io.specs.Calls.{PullsSome};
 ghost use Rattle.sub_io.specs.Device.{CanFail, CountsIf, failed};
 ghost use Rattle.sub_io.specs.Reading.{IfTold};
+ghost use Rattle.ttx_pes.specs.LentPacket.{holds_packet};
 ghost use Rattle.ttx_pes.specs.PesPacket.{PesValue};
 ghost use Rattle.ttx_pes.specs.Pieces.{behind_piece};
 ghost use Rattle.ttx_pes.specs.Reader.{FailsWithin, TakesPesPacket};
@@ -75,7 +75,8 @@ pub fn next_piece<S: Source>(
         → f ≡ CheckFault.Pes pes PesFault.Read) }
     ensures within { IfErr result (λ f. is_pes_read f ≡ true
         → FailsWithin (S.remaining source.old) (S.remaining source.new)) }
-    ensures pulls { PullsSome S.is_pull source.old source.new }
+    // Where the source lends all that is read of it, it does not fail.
+    ensures lent { holds_packet (S.lent source.old) ≡ true → failed is_pes_read result ≡ false }
     ensures count { CountsIf S.failure_count source.old (failed is_pes_read result) source.new }
 {
     match reader.next(source) {

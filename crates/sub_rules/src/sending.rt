@@ -1,7 +1,6 @@
 //! Sendings, as they are read of a PES file: one for each PES packet.
 ghost use Rattle.std.specs.Prelude.{◌≡◌, ◌≢◌, ℕ, ◌+◌, ◌<◌, ◌≤◌, List, length, IfErr, OnOk, Option};
 ghost use Rattle.std.specs.Prelude.{None, Some, Ok, false, true};
-ghost use Rattle.sub_io.specs.Calls.{PullsSome};
 ghost use Rattle.sub_io.specs.Device.{CanFail, CountsIf, failed};
 ghost use Rattle.sub_io.specs.Reading.{IfTold};
 ghost use Rattle.ttx_pes.specs.PesPacket.{IsPesValue, PesValue, most_units};
@@ -68,7 +67,6 @@ pub fn next_sending<S: Source>(
     // More than a day has frames are refused.
     ensures few { (sending : Sending) → result ≡ Ok (Some sending) → pes < most_packets }
     ensures day { (sending : Sending) → result ≡ Ok (Some sending) → sending.frame < day }
-    ensures pulls { PullsSome S.is_pull source.old source.new }
     ensures count { CountsIf S.failure_count source.old (failed is_pes_read result) source.new }
 {
     match reader.next(source) {

@@ -24,6 +24,8 @@ mod fault_codes;
 #[cfg(test)]
 mod interrupted;
 #[cfg(test)]
+mod lent_packets;
+#[cfg(test)]
 mod libzvbi;
 #[cfg(test)]
 mod options;

@@ -1,3 +1,4 @@
+pub mod LentPacketLemmas
 pub mod LineOrderLemmas
 pub mod LinePairLemmas
 pub mod DataUnitLemmas

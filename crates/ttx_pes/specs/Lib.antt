@@ -9,5 +9,6 @@ pub mod Laws
 pub mod Fault
 pub mod Taking
 pub mod Comparing
+pub mod LentPacket
 pub mod Pieces
 pub mod SentUnits

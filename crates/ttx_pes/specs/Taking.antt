@@ -1,6 +1,7 @@
 -- How the bytes of a packet are taken from a source, in few pulls: words of private clauses alone.
 use Rattle.std.specs.Prelude.{◌≡◌, ℕ, zero, suc, ◌+◌, ◌*◌, ◌/◌, ◌<◌, ◌≤◌, List, [], ◌∷◌, ◌++◌}
 use Rattle.std.specs.Prelude.{length, take, drop, slice_index, if◌then◌else◌, Bool, Option, Result}
+use Rattle.std.specs.Prelude.{MatchResult}
 use Rattle.std.specs.Prelude.{Ok}
 use Rattle.std.specs.Io.KnownBytes.{Consumes, IsAtEnd}
 use Rattle.sub_io.specs.Reading.{◌>>=◌, AreBytes}
@@ -14,6 +15,12 @@ use Rattle.ttx_pes.specs.SentUnits.{AreWithin, sent_units}
 abbrev pub TakesOn : Option (List ℕ) → List ℕ → Option (List ℕ) → List ℕ → Type 0
 TakesOn old held new taken =
     (before : Option (List ℕ)) → Consumes before old held → Consumes before new taken
+
+-- No pull failed: of bytes that were held or lent, those that were taken stand in front of the
+-- buffer, and the rest is lent still.
+abbrev pub TakesLent : {E : Type 0} → List ℕ → List ℕ → List ℕ → Result ℕ E → Type 0
+TakesLent whole lent buffer result =
+    MatchResult result (λ n. whole ≡ take n buffer ++ lent) (λ _. ⊥)
 
 -- The source failed while fewer bytes than that were taken; they begin with those held.
 pub record StopsBelow (old : Option (List ℕ)) (held : List ℕ) (new : Option (List ℕ)) (least : ℕ)

@@ -1,9 +1,9 @@
 //! Reading PES packets that are mostly the one before, sent again.
-ghost use Rattle.std.specs.Prelude.{◌≡◌, ℕ, ◌+◌, ◌≤◌, ◌≢◌, true, [], None, Ok, IfErr};
-ghost use Rattle.sub_io.specs.Calls.{PullsSome};
+ghost use Rattle.std.specs.Prelude.{◌≡◌, ℕ, ◌+◌, ◌≤◌, ◌≢◌, true, false, [], None, Ok, IfErr};
 ghost use Rattle.sub_io.specs.Device.{CanFail, CountsIf, failed};
 ghost use Rattle.ttx_pes.specs.Comparing.{as_given, behind_after, passed_over, TakesDataField};
 ghost use Rattle.ttx_pes.specs.Fault.{is_of_piece, is_read};
+ghost use Rattle.ttx_pes.specs.LentPacket.{holds_packet};
 ghost use Rattle.ttx_pes.specs.Pieces.{TakesPiece};
 ghost use Rattle.ttx_pes.specs.declared.comparing_reader.Compared.TheVariants.{Same, Other};
 ghost use Rattle.ttx_pes.specs.declared.progress.Progress.TheVariants.{Reading, AtEnd, Broken};
@@ -105,7 +105,6 @@ impl ComparingReader {
     /// Those of `PesReader::next`, in its order: the header of each packet is read, and the units
     /// of a data field that is sent again were read before. After `Flags` to `LineOrder` exactly
     /// the packet's bytes were taken, and `pass_over` lets reading go on.
-    #[tactic(auto, using(sub_io::proofs::CallLemmas::pulls))]
     #[inline(always)]
     pub fn next<S: Source>(&mut self, source: &mut S) -> Result<Compared, PesFault>
         requires { CanFail (S.failure_count source.old) }
@@ -131,7 +130,8 @@ impl ComparingReader {
         // After the end and after a fault nothing is taken.
         ensures at_end { self.old.progress ≡ AtEnd → source.new ≡ source.old }
         ensures broken { self.old.progress ≡ Broken → source.new ≡ source.old }
-        ensures pulls { PullsSome S.is_pull source.old source.new }
+        // Where the source lends the whole packet, it does not fail.
+        ensures lent { holds_packet (S.lent source.old) ≡ true → failed is_read result ≡ false }
         ensures count { CountsIf S.failure_count source.old (failed is_read result) source.new }
     {
         self.behind = None;

@@ -1,10 +1,10 @@
 //! The PES packet that was read last, and room for the next.
 ghost use Rattle.std.specs.Prelude.{◌≡◌, ◌≢◌, ◌+◌, ◌≤◌, false, true, [], Ok, IfErr};
 ghost use Rattle.std.specs.Prelude.{Some, if◌then◌else◌};
-ghost use Rattle.sub_io.specs.Calls.{PullsSome};
 ghost use Rattle.sub_io.specs.Device.{CanFail, CountsIf, failed};
 ghost use Rattle.ttx_pes.specs.Comparing.{as_given, TakesDataField};
 ghost use Rattle.ttx_pes.specs.Fault.{is_of_piece, is_read};
+ghost use Rattle.ttx_pes.specs.LentPacket.{holds_packet};
 ghost use Rattle.ttx_pes.specs.PesPacket.{IsPesValue, empty_value};
 ghost use Rattle.ttx_pes.specs.Pieces.{TakesPiece};
 ghost use Rattle.ttx_pes.specs.Reader.{TellsPacket, given_frame};
@@ -78,7 +78,7 @@ fn read_compared<S: Source>(
         → TakesPiece (S.remaining source.old) (S.remaining source.new) fault) }
     ensures before_piece { IfErr result (λ fault. is_of_piece fault ≡ true
         → given ≢ most_packets) }
-    ensures pulls { PullsSome S.is_pull source.old source.new }
+    ensures lent { holds_packet (S.lent source.old) ≡ true → failed is_read result ≡ false }
     ensures count { CountsIf S.failure_count source.old (failed is_read result) source.new }
 {
     let size = match take_packet(given, source, room) {
@@ -119,7 +119,6 @@ fn passes_again<S: Source>(given: u32, source: &mut S, before: &Room, held: &mut
         (held_frame (field_in held.old.count before.now) held.new)
         (field_in held.old.count before.now) }
     ensures below { result ≡ true → given ≢ most_packets }
-    ensures pulls { PullsSome S.is_pull source.old source.new }
     ensures count { S.failure_count source.new ≡ S.failure_count source.old }
     ensures none { result ≡ false → (source.new ≡ source.old) × (held.new ≡ held.old) }
 {
@@ -198,7 +197,7 @@ impl KeptFrame {
             → TakesPiece (S.remaining source.old) (S.remaining source.new) fault) }
         ensures before_piece { IfErr result (λ fault. is_of_piece fault ≡ true
             → given ≢ most_packets) }
-        ensures pulls { PullsSome S.is_pull source.old source.new }
+        ensures lent { holds_packet (S.lent source.old) ≡ true → failed is_read result ≡ false }
         ensures count { CountsIf S.failure_count source.old (failed is_read result) source.new }
     {
         let kept = kept_in(self.in_second, &self.first, &self.second);

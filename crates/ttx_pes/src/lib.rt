@@ -22,6 +22,7 @@ mod fault;
 mod held_packet;
 mod kept_frame;
 mod laws;
+mod lent_packet;
 mod line_numbers;
 mod packet_bytes;
 mod pes_frame;
@@ -43,6 +44,7 @@ pub use laws::{
     law_of_numbered_frame, law_of_one_value, law_of_packet_value, law_of_pieces, law_of_reading,
     law_of_reading_back, law_of_refusal,
 };
+pub use lent_packet::{hand_on_first, holds_packet};
 pub use line_numbers::put_frame;
 pub use packet_bytes::MOST_PACKETS;
 pub use pes_frame::{MOST_UNITS, PesFrame};

@@ -1,17 +1,17 @@
 //! The bytes of the next PES packet, taken from a source.
 ghost use Rattle.std.specs.Prelude.{◌≡◌, ◌+◌, ◌%◌, ◌<◌, ◌≤◌, ◌≢◌, length, take};
 ghost use Rattle.std.specs.Prelude.{drop, None, Ok, Err, IfOk, IfErr, IfSome, IsSome, OnErr};
-ghost use Rattle.std.specs.Prelude.{false};
+ghost use Rattle.std.specs.Prelude.{◌++◌, false, true};
 ghost use Rattle.std.specs.Io.KnownBytes.{IsAtEnd};
-ghost use Rattle.sub_io.specs.Calls.{PullsSome};
 ghost use Rattle.sub_io.specs.Device.{CanFail, CountsFailure, CountsIf, failed};
 ghost use Rattle.sub_io.specs.Reading.{AreBytes};
 ghost use Rattle.ttx_pes.specs.Fault.{is_of_piece, is_read};
 ghost use Rattle.ttx_pes.specs.declared.progress.Progress.TheVariants.{Reading};
 ghost use Rattle.ttx_pes.specs.PesPacket.{longest_packet, payload_size};
 ghost use Rattle.ttx_pes.specs.Reading.{most_packets, size_at, value_at};
+ghost use Rattle.ttx_pes.specs.LentPacket.{holds_packet};
 ghost use Rattle.ttx_pes.specs.Reader.{TellsPacket};
-ghost use Rattle.ttx_pes.specs.Taking.{Settles, StopsBelow, TakesOn};
+ghost use Rattle.ttx_pes.specs.Taking.{Settles, StopsBelow, TakesLent, TakesOn};
 
 use crate::fault::PesFault;
 use crate::pes_header::{LONGEST_PACKET, PAYLOAD, size_of};
@@ -50,7 +50,8 @@ fn fill_on<S: Source>(
     ensures end { IfOk result (λ n. n < least → IsAtEnd (S.remaining source.new)) }
     ensures err { OnErr result (StopsBelow (S.remaining source.old) (take held room.old)
         (S.remaining source.new) least) }
-    ensures pulls { PullsSome S.is_pull source.old source.new }
+    ensures lent { least ≤ held + length (S.lent source.old)
+        → TakesLent (take held room.old ++ S.lent source.old) (S.lent source.new) room.new result }
     ensures count { CountsFailure (S.failure_count source.old) result (S.failure_count source.new) }
 {
     let mut at = held;
@@ -66,7 +67,6 @@ fn fill_on<S: Source>(
 
 // Takes the next packet's bytes into the room and answers how many they are, `None` at the end of
 // the source. No pull comes before the faults that the bytes held already show.
-#[tactic(auto, using(sub_io::proofs::CallLemmas::pulls))]
 #[inline(always)]
 pub(crate) fn take_packet<S: Source>(
     given: u32,
@@ -87,7 +87,7 @@ pub(crate) fn take_packet<S: Source>(
     ensures sized { IfOk result (λ taken. IfSome taken (λ size.
         size_at (take 6 (take size room.new)) ≡ Ok (length (take size room.new)))) }
     ensures of_no_piece { IfErr result (λ fault. is_of_piece fault ≡ false) }
-    ensures pulls { PullsSome S.is_pull source.old source.new }
+    ensures lent { holds_packet (S.lent source.old) ≡ true → failed is_read result ≡ false }
     ensures count { CountsIf S.failure_count source.old (failed is_read result) source.new }
 {
     let most = if given == MOST_PACKETS { HEAD } else { PAYLOAD };

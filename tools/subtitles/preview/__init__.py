@@ -19,6 +19,8 @@ places     a place in a transmission: its PES packet, its Teletext packets
 fault_list the list of faults, and the pictures of the first of them
 blocks     a refused subtitle file: its broken place, and its refused subtitles
 page       the whole report
+scope      what it speaks of, and what nobody looked at
+reasons    why the content is refused
 
 cases      transmissions for tools/check-preview
 noise      transmissions at random

@@ -1,4 +1,4 @@
-"""PES packets that `check --all` passed over: how the others are counted, and what stands around."""
+"""PES packets that `check --all` passed over: how others are counted, and what stands around."""
 from __future__ import annotations
 
 import array

@@ -180,7 +180,8 @@ def test_lost(trial: Trial) -> None:
     whole, wrong = (written(trial, name, words) for name, words in (
         ("lost.pes", "story.pes"), ("hit.pes", "story.pes 863=1C")))
     for name, pes, count, kind in (("some", whole, 2, "unseen"), ("many", whole, 6, "unseen"),
-                                   ("none", whole, 0, "accepted"), ("refused", wrong, 2, "refused")):
+                                   ("none", whole, 0, "accepted"),
+                                   ("refused", wrong, 2, "refused")):
         places = [f"place {number} <&>" for number in range(count)]
         lost = [word for place in places for word in ("--lost", place)]
         done = trial.preview(stl, pes, *lost, "-p", trial.program)

@@ -25,11 +25,21 @@ faults        faults with all that is known of them
 cells         the cells that are due and held at their places
 subtitle_file the subtitles of a file by blocks and by frames
 severity      which faults count
+whole         whether a recording grew, or ends within a PES packet
 sums          SHA-256 of files
 made_with     the program, and what PROVED says of it
 
+why           why the content of a part is refused: asked for, and told as it comes
+naming        the causes of a list, named as soon as they are known
+causes        the cause of a subtitle, by what is due and what is held
+held          the pages that a receiver holds
+programme     the subtitles with the pages that are due
+lettering     what a person reads on a page, and where two differ
+cause_words   causes in words, and as values
+
 machine       a verdict as a JSON object
-table         faults as lines of CSV
+table         pairs and faults as lines of CSV
+overview      one page over all parts of a pair
 junit         pairs as testcases
 pairs         the pairs of a folder or a list
 batch         many pairs, each judged by a call of its own

@@ -1,4 +1,4 @@
-"""The clock of a part: its origin, where that is from, and the delay that is measured against it."""
+"""The clock of a part: its origin, where that is from, and the delay measured against it."""
 from __future__ import annotations
 
 from typing import NamedTuple

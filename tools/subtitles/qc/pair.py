@@ -6,7 +6,7 @@ import os
 from ..extracting import TOLD, what_of
 from ..joining import Place
 from ..times import CLOCK, FRAMES_OF_A_DAY, TICKS, time_of
-from ..words import counted
+from ..words import counted, shown
 from .carriers import Carrier, Kept
 from .checking import Answer
 from .clock import GIVEN, RECORDING, TCP, Clock
@@ -103,7 +103,8 @@ class Pair:
         stl, given = self.asked.stl, self.names.given
         self.verdict.parts.append(Part(1, stl, given, None, None, None, None, None, answer))
         if is_refused:
-            self.steps.draw(self.names, [given], [stl], 0, [])
+            unread = [f"{shown(self.asked.recording)} was not read"] if self.asked.recording else []
+            self.steps.draw(self.names, [given], [stl], 0, [], unread)
 
     def judge_transmission(self) -> None:
         """Judges what was recorded, part by part."""

@@ -69,8 +69,8 @@ def says_that_a_clock_was_fitted(case: Case) -> None:
     case.test("refused by an origin", done.status == 1 and FITTED not in lines_of(done)
               and "qc: all subtitles are 250 frames late" in done.told, done)
     case.test("its object", clocks(case) == [(0, "given", 250)], clocks(case))
-    case.test("its report", "all subtitles are 250 frames late" in case.read("out/own.html").decode()
-              and FITTED not in case.read("out/own.html").decode())
+    report = case.read("out/own.html").decode()
+    case.test("its report", "all subtitles are 250 frames late" in report and FITTED not in report)
     for by, said in ((2, "2 frames late"), (-1, "1 frame early")):
         done = judged(case, stl, moved(data, lambda _, pts: pts + (by - 250) * TICKS), "--origin",
                       "0")
@@ -114,8 +114,8 @@ def refuses_what_is_later_and_later(case: Case) -> None:
     data = sent(case, late)
     done = judged(case, stl, data)
     case.test("refused", done.status == 1 and lines_of(done)[-1].startswith("refused ")
-              and done.told[-1] == f"qc: from {time_of(frames[95][0])} on subtitles are 47.88 s (1197 "
-              "frames) late; if the programme has breaks there, say --breaks 19", done)
+              and done.told[-1] == f"qc: from {time_of(frames[95][0])} on subtitles are 47.88 s "
+              "(1197 frames) late; if the programme has breaks there, say --breaks 19", done)
     for count in (1, 18, 20):
         done = judged(case, stl, data, "--breaks", str(count))
         case.test(f"{count} breaks", done.status == 2 and lines_of(done)[-1].startswith("origin: ")
@@ -228,8 +228,8 @@ def judges_a_feed_by_its_first_clock(case: Case) -> None:
     stl = made_of(case, "own.stl", frames)
     data = sent(case, later(frames, 10, 50))
     done = qc(case, stl, "-", "--every", "25", "--no-complete", "--origin", "0", data=data)
-    case.test("late", done.status == 1 and "qc: from 10:00:50:00 on subtitles are 2.00 s (50 frames)"
-              " late; if the programme has a break there, say --breaks 1" in done.told, done)
+    case.test("late", done.status == 1 and "qc: from 10:00:50:00 on subtitles are 2.00 s (50 "
+              "frames) late; if the programme has a break there, say --breaks 1" in done.told, done)
     done = qc(case, stl, "-", "--every", "25", "--no-complete", "--origin", "7200",
               data=sent(case, frames))
     case.test("all are early", done.status == 1 and done.told[0] ==

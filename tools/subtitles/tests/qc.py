@@ -229,7 +229,7 @@ def judges_part_by_part(case: Case) -> None:
         "accepted 1922 frames 98 transmissions in 2 parts"]), done)
     kept = sorted(os.listdir(case.path("out")))
     case.test("its files", kept == sorted(
-        ["two.json", *(f"two.{number}.{ending}" for number in (1, 2)
+        ["two.html", "two.json", *(f"two.{number}.{ending}" for number in (1, 2)
                        for ending in ("stl", "txt", "html"))]), kept)
     parts = json.loads(case.read("two.json"))["parts"]
     case.test("its object", [(part["from"], part["to"], part["origin"]) for part in parts] ==

@@ -73,7 +73,8 @@ def judges_a_list(case: Case) -> None:
     done = qc(case, "--batch", "list", "--jobs", "2", "-o", "out")
     case.test("accepted", done.status == 0 and len(lines_of(done)) == 5, done)
     kept = sorted(os.listdir(case.path("out")))
-    case.test("its files", len(kept) == 3 * 3 + 1 and {"german.html", "index.html"} <= {*kept}, kept)
+    case.test("its files", len(kept) == 3 * 3 + 1 and {"german.html", "index.html"} <= {*kept},
+              kept)
     case.write("refused", f"{STORY} {FIVE} --every 25\n{STORY}  {RECORDING}\n".encode())
     case.test("refused", qc(case, "--batch", "refused").status == 1)
     case.write("list", (text + f"{hello}\n{hello} none.ts\n{hello} -\n").encode())

@@ -191,7 +191,8 @@ def holds_no_more_after_a_day(case: Case) -> None:
                 seen.append(memory_of(process, folder))
         process.stdin.close()
         lines = verdicts(process.stdout.read().decode().splitlines())
-    case.test("all are accepted", lines == [f"p{hour}  {WITH_BLANK}" for hour in range(hours)], lines)
+    case.test("all are accepted", lines == [f"p{hour}  {WITH_BLANK}" for hour in range(hours)],
+              lines)
     case.test("memory, and temporary files", all(
         later <= before * 1.1 for before, later in zip(*seen)), seen)
 

@@ -67,8 +67,8 @@ def reads_on_after_lost_packets(case: Case) -> None:
             "2 faults"]
     lines = lines_of(done)
     case.test("the verdict", (done.status, lines[-1]) == (1, told[1]), done)
-    case.test("its lines", [line for line in lines if line in told[:-1]] == [*told[:-1], told[1], told[1]],
-              lines)
+    case.test("its lines", [line for line in lines if line in told[:-1]] ==
+              [*told[:-1], told[1], told[1]], lines)
     case.test("what was lost", sum("1 TS packet lost" in line for line in done.told) == 3,
               done.told)
     case.test("the list", case.read("out/twenty.txt").decode().splitlines() == told)

@@ -11,7 +11,7 @@ from .bench import Case, Done, example, example_bytes, moved
 from .muxed import (
     H_264, HEVC, MPEG_2, PRIVATE, TELETEXT_PID, VIDEO_PID, Maker, components, h_264_picture,
     hevc_picture, mpeg_2_picture, programme, put_teletext, teletext_descriptor, video_packet)
-from .qc import ACCEPTED, STORY, TS, lines_of, qc
+from .qc import ACCEPTED, STORY, TS, in_two_parts, lines_of, qc
 
 BEGIN = 1_822_500  # the frame 20:15:00:00, at which the story's first subtitle comes
 FIRST = BEGIN * TICKS  # the PTS of that frame in story.pes
@@ -168,6 +168,18 @@ def judges_a_feed(case: Case) -> None:
                   and ("start" in done.told[0] or "TCP" in done.told[0]), done)
 
 
+def goes_with_breaks(case: Case) -> None:
+    """The first part has the clock that is given."""
+    stl, pes = in_two_parts(case)
+    data = programme(pes, 1000 + (900_000 - EARLIER) * TICKS).data
+    done = qc(case, stl, case.write("two.ts", data), "--start", time_of(900_000 - EARLIER),
+              "--breaks", "1", "--json", "two.json")
+    clocks = [part["clock"] for part in json.loads(case.read("two.json"))["parts"]]
+    case.test("accepted", done.status == 0 and lines_of(done)[-1].endswith(" in 2 parts"), done)
+    case.test("its clocks", [(clock["source"], clock["origin"]) for clock in clocks] ==
+              [("start", 1000), ("recording", 1000 + 4500 * TICKS)], clocks)
+
+
 # What ffmpeg makes, and what ffprobe reads of it.
 
 ENCODERS = {"mpeg2video": ["-bf", "2", "-g", "15"],
@@ -237,6 +249,6 @@ def table(case: Case, path: str, entries: str) -> list[list[str]]:
             and row[1] not in ("", "N/A")]
 
 
-CASES = [finds_the_first_picture, counts_pictures_as_frames, says_what_there_is,
+CASES = [goes_with_breaks, finds_the_first_picture, counts_pictures_as_frames, says_what_there_is,
          moves_to_the_grid_of_the_teletext, takes_the_start_of_the_programme, judges_a_feed,
          agrees_with_ffprobe]

@@ -1,16 +1,21 @@
 //! `check STL PES --all`: prints every broken place of a subtitle file, or else of a PES file.
-ghost use Rattle.std.specs.Prelude.{◌≡◌, false};
+ghost use Rattle.std.specs.Prelude.{◌≡◌, ◌<◌, IfErr, false, true};
+ghost use Rattle.sub_io.specs.Device.{CountsIf, failed};
+ghost use Rattle.sub_rules.specs.Fault.{is_pes_read};
 ghost use Rattle.sub_listing.specs.DeviceCall.{CanFail, CountsFault, sink_call, source_call};
 ghost use Rattle.sub_answer.specs.EveryFault.{AnswersAll, TellsBoth};
 ghost use Rattle.sub_answer.specs.FaultListing.{faults_listing, last_listing};
+ghost use Rattle.sub_listing.specs.Faults.{check_told};
+ghost use Rattle.sub_listing.specs.LastLine.{HoldsLastLine, PutsLine};
 ghost use Rattle.sub_listing.specs.Listing.{PrintsOrFails};
 ghost use Rattle.sub_listing.specs.Printer.{printer_value};
+ghost use Rattle.sub_listing.specs.Told.{line_of};
 
 use crate::answering::check::print_accepted;
 use std::alloc::Global;
 use stl_rows::{National, load_all};
 use sub_check::{Accepted, CheckFault, check_all};
-use sub_io::{Ahead, Flush, Sink, Source, put_all};
+use sub_io::{Flush, Sink, Source, put_all};
 use sub_listing::{Line, Printer, Status, print_told, push_decimal, push_text, told_of_check};
 use sub_plan::Options;
 
@@ -21,7 +26,7 @@ use sub_plan::Options;
 /// `pes` is not touched where the subtitle file is refused. `Done` where the files are accepted;
 /// `Refused` where a place is broken; `Fault` where a device failed or memory ran out, with its
 /// line last. Once `out` failed nothing more is read or printed.
-pub fn print_every_fault<S: Source, T: Ahead, K: Flush>(
+pub fn print_every_fault<S: Source, T: Source, K: Flush>(
     alloc: Global,
     stl: &mut S,
     pes: &mut T,
@@ -39,6 +44,11 @@ pub fn print_every_fault<S: Source, T: Ahead, K: Flush>(
     ensures stl_count { CountsFault S.failure_count stl.old result stl.new }
     ensures pes_count { CountsFault T.failure_count pes.old result pes.new }
     ensures out_count { CountsFault K.failure_count out.old result out.new }
+    // Where the source of the PES file may have to ask its device, all that was told before is
+    // handed on: each such call may fail, and where one did its line alone may be held back.
+    ensures followed { K.held out.old ≡ 0
+        → T.failure_count pes.old < T.failure_count pes.new
+        → HoldsLastLine K.contents K.held K.is_push out.new }
 {
     let mut printer = Printer {
         out,
@@ -61,7 +71,7 @@ pub fn print_every_fault<S: Source, T: Ahead, K: Flush>(
 
 // Tells a printer what is broken in the subtitle file, or else in the PES file. `None` where the
 // subtitle file is refused or the printer said stop, else what was read of the PES file.
-fn tell_every_fault<S: Source, T: Ahead, K: Flush>(
+fn tell_every_fault<S: Source, T: Source, K: Flush>(
     alloc: Global,
     stl: &mut S,
     pes: &mut T,
@@ -73,7 +83,7 @@ fn tell_every_fault<S: Source, T: Ahead, K: Flush>(
     requires pes { CanFail (T.failure_count pes.old) }
     requires out { CanFail (K.failure_count printer.old.out.now) }
     requires goes_on { printer.old.failed ≡ false }
-    requires settled { printer.old.waiting ≡ false }
+    requires still { printer.old.waiting ≡ false }
     requires none { printer.old.refused ≡ 0 }
     ensures same { printer.new.out.ghost_name ≡ printer.old.out.ghost_name }
     ensures told { TellsBoth national options.now
@@ -83,6 +93,9 @@ fn tell_every_fault<S: Source, T: Ahead, K: Flush>(
         printer.old.refused printer.old.failed)
         (printer_value (K.contents printer.new.out.now) (K.failure_count printer.new.out.now)
         printer.new.refused printer.new.failed) result }
+    ensures count { CountsIf T.failure_count pes.old (failed is_pes_read result) pes.new }
+    ensures asked { K.held printer.old.out.now ≡ 0
+        → failed is_pes_read result ≡ true → K.held printer.new.out.now ≡ 0 }
 {
     match load_all(alloc, stl, national, printer) {
         Err(fault) => Err(CheckFault::Subtitles(fault)),
@@ -101,6 +114,8 @@ fn print_end<K: Sink>(
     ensures printed { PrintsOrFails
         (sink_call K.contents K.failure_count out.old out.new) (last_listing refused answer)
         result }
+    ensures line { IfErr answer (λ f.
+        PutsLine K.contents K.is_push out.old (line_of (check_told f)) out.new) }
     ensures count { CountsFault K.failure_count out.old result out.new }
 {
     match answer {

@@ -28,3 +28,10 @@ pub returns-in-Blank-clause-answers : goal.returns-in-Blank-clause-answers
 returns-in-Blank-clause-answers g c =
     rw c.in-Listen.is
     (answers_as _ _ _ _ _ _ (ap left_by c.in-Blank.is) c.print_listening-in-Blank.ensures.exact)
+
+pub returns-in-Packets-clause-followed : goal.returns-in-Packets-clause-followed
+returns-in-Packets-clause-followed g c = rw c.in-Packets.is c.list_packets.ensures.followed
+
+pub returns-then-all-clause-followed : goal.returns-then-all-clause-followed
+returns-then-all-clause-followed g c =
+    rw (c.in-Check.is, c.if-all.true) c.print_every_fault.ensures.followed

@@ -3,8 +3,7 @@ use Rattle.std.proofs.Common.{◌≡◌, ◌∙◌, ◌∷◌, [], ap, refl, sym
 use Rattle.std.proofs.Common.{Ok, Option, Result, Some, ℕ, length, take}
 use Rattle.sub_checker.specs.Steps.{ending_fault}
 use Rattle.sub_rules.specs.declared.fault.CheckFault.{CheckFault}
-use Rattle.sub_io.proofs.CallLemmas.{PullsSome-none, PullsSome-trans}
-use Rattle.sub_io.proofs.HandingOnLemmas.{TellsSome-kept}
+use Rattle.sub_io.proofs.HandingOnLemmas.{TellsSome-kept, holds-told}
 use Rattle.sub_io.proofs.TellingLemmas.{TellsSome-none, Tells-none}
 use Rattle.sub_io.specs.Telling.{Tells}
 use Rattle.ttx_pes.specs.Comparing.{ComparingValue}
@@ -50,13 +49,13 @@ pieces-init g c = rw c.new-kept.ensures.frames (record {
   fewer = omega arith;
   reading = ap (λ (r : ComparingValue). r.progress) c.new-reader.ensures;
   taken = takes_no_pieces _;
-  pulls = PullsSome-none c.args.source.now;
   failures = refl;
   goes_on = c.requires.goes_on;
   day =
       let none = ap (λ (p : Passing). p.trust.last) c.new-kept.ensures.passing in
       omega (arith, none);
   some = TellsSome-none c.args.audience.now;
+  holds = λ none still. none;
   headers = omega (arith, c.new-checker.ensures.none);
   told = λ pieces unread bytes told reads.
       let task = task_of c.args.programme.now c.args.options.now unread in (
@@ -74,13 +73,13 @@ returns-then-is_source_failure-clause-exact g c = λ pieces unread bytes told re
     let i = c.pieces.invariant.told pieces unread bytes told reads in
     let here = rw c.in-Err.is at c.in-Some.ensures.reads in
     let so_far =
-    c.next_live.ensures.told.kept c.args.audience.now _ c.requires.settled i.4 in
+    c.next_followed.ensures.told.kept c.args.audience.now _ c.requires.still i.4 in
     let at = front c.args.programme.now i.1 i.2 in (
       c.pieces.pes,
       at.0,
       here.place (sym c.is_source_failure.ensures ∙ c.if-is_source_failure.true),
       subst (λ (l : List Piece). Tells g.A.Audience.is_told c.args.audience.now
-          c.next_live.new.audience (events_of_pieces (task_of c.args.programme.now
+          c.next_followed.new.audience (events_of_pieces (task_of c.args.programme.now
           c.args.options.now unread) (frames_of pieces) l)) (sym at.1) so_far,
     )
 
@@ -109,7 +108,7 @@ returns-in-Err-clause-exact g c = λ pieces unread bytes told reads.
     let task = task_of c.args.programme.now c.args.options.now unread in
     let here = rw c.in-Err.is at c.in-Some.ensures.reads in
     let so_far =
-    c.next_live.ensures.told.kept c.args.audience.now _ c.requires.settled i.4 in
+    c.next_followed.ensures.told.kept c.args.audience.now _ c.requires.still i.4 in
     let end = here.exact i.1.ahead unread i.1.rest i.1.rest_is
     (sym c.is_source_failure.ensures ∙ c.if-is_source_failure.false) i.1.left in
     told_whole c.args.programme.now i.1 i.2 c.pieces.invariant.few end.0 _ _ _
@@ -126,7 +125,7 @@ returns-in_default-next-clause-exact g c = λ pieces unread bytes told reads.
     let task = task_of c.args.programme.now c.args.options.now unread in
     let here = rw c.in-Ok.is at c.in-Some.ensures.reads in
     let so_far =
-    c.next_live.ensures.told.kept c.args.audience.now _ c.requires.settled i.4 in
+    c.next_followed.ensures.told.kept c.args.audience.now _ c.requires.still i.4 in
     let end = rw c.in_default-next.is at
     (here.exact i.1.ahead unread i.1.rest i.1.rest_is refl i.1.left) in
     told_whole c.args.programme.now i.1 i.2 c.pieces.invariant.few end.0 _ _ _
@@ -142,7 +141,7 @@ returns-in-Err-tell_passed-clause-exact g c = λ pieces unread bytes told reads.
     let task = task_of c.args.programme.now c.args.options.now unread in
     let here = rw c.in-Ok.is at c.in-Some.ensures.reads in
     let so_far =
-    c.next_live.ensures.told.kept c.args.audience.now _ c.requires.settled i.4 in
+    c.next_followed.ensures.told.kept c.args.audience.now _ c.requires.still i.4 in
     let at = rw (c.in-Some-next.is, c.in-Passed.is) at
     (here.exact i.1.ahead unread i.1.rest i.1.rest_is refl i.1.left) in
     let is : c.in-Passed.fault ≡ unread_fault c.pieces.pes (Some at.0) = at.1 in
@@ -152,7 +151,7 @@ returns-in-Err-tell_passed-clause-exact g c = λ pieces unread bytes told reads.
     told_stop c.args.programme.now i.1 i.2 (Passed at.0) next.more _ _ _ _ next.first
     (passed_marks task pieces i.0 c.pieces.pes c.pieces.kept.frames i.1.count i.2.sent_is at.0)
     so_far
-    (subst (λ (l : List Mark). TellsPrefix g.A.Audience.is_told c.next_live.new.audience
+    (subst (λ (l : List Mark). TellsPrefix g.A.Audience.is_told c.next_followed.new.audience
     c.tell_passed.new.audience (passed_on c.pieces.kept.passing l)) same
     c.in-Err-tell_passed.ensures.told.told)
 
@@ -162,14 +161,14 @@ returns-in-Err-tell_sent-clause-exact g c = λ pieces unread bytes told reads.
     let task = task_of c.args.programme.now c.args.options.now unread in
     let here = rw c.in-Ok.is at c.in-Some.ensures.reads in
     let so_far =
-    c.next_live.ensures.told.kept c.args.audience.now _ c.requires.settled i.4 in
+    c.next_followed.ensures.told.kept c.args.audience.now _ c.requires.still i.4 in
     let at = rw (c.in-Some-next.is, c.in-Sent.is) at
     (here.exact i.1.ahead unread i.1.rest i.1.rest_is refl i.1.left) in
     let given = ap (λ x. let r : Result (Option NextPiece) CheckFault = Ok x in r)
     (c.in-Some-next.is ∙ ap (λ (p : NextPiece). Some p) c.in-Sent.is) in
     let s : SentFrame = record {
       frame = c.in-Sent.sending.frame;
-      packets = packets_of_units c.next_live.new.reader.frame.units;
+      packets = packets_of_units c.next_followed.new.reader.frame.units;
     } in
     let next : ReadsPiece c.args.options.now.origin c.pieces.pes i.1.rest i.1.ahead unread
     (Sent s) = at.0 in
@@ -194,9 +193,8 @@ pieces-preserved g c =
     let before = inv.failures in
     let fewer = inv.fewer in
     let one = (rw c.in-Some-next.is at here.taken) refl in
-    let pulled = PullsSome-trans _ _ _ inv.pulls c.next_live.ensures.pulls in
     let some =
-    TellsSome-kept _ _ _ _ _ inv.some c.requires.settled c.next_live.ensures.told in
+    TellsSome-kept _ _ _ _ _ inv.some c.requires.still c.next_followed.ensures.told in
     elim c.match-piece.branch [
       | in-Passed+in-Ok-tell_passed w ↦
           rw (w.audience-is, w.checker-is, w.kept-is, w.in-Ok-tell_passed.ensures.frames) (record {
@@ -204,17 +202,19 @@ pieces-preserved g c =
             fewer = omega arith;
             reading = (rw c.in-Some-next.is at here.progress) refl;
             taken = takes_more_pieces c.pieces.pes _ _ _ inv.taken one;
-            pulls = pulled;
             failures = omega (arith, counted, before);
             goes_on = w.in-Ok-tell_passed.ensures.stopped;
             day =
                 subst (λ (n : ℕ). n < day) (sym w.in-Ok-tell_passed.ensures.day) inv.day;
             some = TellsSome-trans _ _ _ some w.in-Ok-tell_passed.ensures.some;
+            holds = λ none.
+                holds-told _ _ _ _ _ g.met.A.LiveAudience.stays_told _ _
+                (c.in-Some.ensures.holds (inv.holds none)) w.in-Ok-tell_passed.ensures.some;
             headers = inv.headers;
             told = λ pieces unread bytes told reads.
                 let i = inv.told pieces unread bytes told reads in
-                let so_far = c.next_live.ensures.told.kept c.args.audience.now _
-                c.requires.settled i.4 in
+                let so_far = c.next_followed.ensures.told.kept c.args.audience.now _
+                c.requires.still i.4 in
                 let at = rw (c.in-Some-next.is, w.in-Passed.is) at
                 (here.exact i.1.ahead unread i.1.rest i.1.rest_is refl i.1.left) in
                 let left = (rw c.in-Some-next.is at (here.left i.1.rest i.1.rest_is)) refl in
@@ -235,17 +235,19 @@ pieces-preserved g c =
             fewer = omega arith;
             reading = (rw c.in-Some-next.is at here.progress) refl;
             taken = takes_more_pieces c.pieces.pes _ _ _ inv.taken one;
-            pulls = pulled;
             failures = omega (arith, counted, before);
             goes_on = w.in-Ok-tell_sent.ensures.stopped;
             day = w.in-Ok-tell_sent.ensures.day;
             some = TellsSome-trans _ _ _ some w.in-Ok-tell_sent.ensures.some;
+            holds = λ none.
+                holds-told _ _ _ _ _ g.met.A.LiveAudience.stays_told _ _
+                (c.in-Some.ensures.holds (inv.holds none)) w.in-Ok-tell_sent.ensures.some;
             headers = w.in-Ok-tell_sent.ensures.headers;
             told = λ pieces unread bytes told reads.
                 let i = inv.told pieces unread bytes told reads in
                 let task = task_of c.args.programme.now c.args.options.now unread in
-                let so_far = c.next_live.ensures.told.kept c.args.audience.now _
-                c.requires.settled i.4 in
+                let so_far = c.next_followed.ensures.told.kept c.args.audience.now _
+                c.requires.still i.4 in
                 let at = rw (c.in-Some-next.is, w.in-Sent.is) at
                 (here.exact i.1.ahead unread i.1.rest i.1.rest_is refl i.1.left) in
                 let left = (rw c.in-Some-next.is at (here.left i.1.rest i.1.rest_is)) refl in
@@ -253,7 +255,7 @@ pieces-preserved g c =
                 (c.in-Some-next.is ∙ ap (λ (p : NextPiece). Some p) w.in-Sent.is) in
                 let s : SentFrame = record {
                   frame = w.in-Sent.sending.frame;
-                  packets = packets_of_units c.next_live.new.reader.frame.units;
+                  packets = packets_of_units c.next_followed.new.reader.frame.units;
                 } in
                 let next : ReadsPiece c.args.options.now.origin c.pieces.pes i.1.rest i.1.ahead
                 unread (Sent s) = at.0 in
@@ -268,7 +270,7 @@ pieces-preserved g c =
                 (sym (here.again w.in-Sent.sending given again)
                 ∙ sym w.units_of-units.ensures.value))) in
                 let step = step_sent c.args.programme.now i.1 i.2 g.A.Audience.is_told _
-                c.next_live.new.reader.frame w.in-Sent.sending.frame w.tell_sent.new.checker
+                c.next_followed.new.reader.frame w.in-Sent.sending.frame w.tell_sent.new.checker
                 w.tell_sent.new.kept.passing _ _ _ left next at.1
                 (here.sent w.in-Sent.sending given) w.units_of-units.ensures.frame
                 go.1 go.0.kept so_far go.0.told in (
@@ -287,60 +289,41 @@ pub returns-in_default-clause-exact : goal.returns-in_default-clause-exact
 returns-in_default-clause-exact g c = λ pieces unread bytes told reads.
     let i = c.pieces.invariant.told pieces unread bytes told reads in
     told_before c.args.programme.now i.1 i.2 _ _
-    (c.next_live.ensures.told.kept c.args.audience.now _ c.requires.settled i.4)
+    (c.next_followed.ensures.told.kept c.args.audience.now _ c.requires.still i.4)
 
 -- ---- some was told
 
 pub returns-in-Err-clause-some : goal.returns-in-Err-clause-some
 returns-in-Err-clause-some g c =
     TellsSome-trans _ _ _
-    (TellsSome-kept _ _ _ _ _ c.pieces.invariant.some c.requires.settled
-    c.next_live.ensures.told)
+    (TellsSome-kept _ _ _ _ _ c.pieces.invariant.some c.requires.still
+    c.next_followed.ensures.told)
     c.finish.ensures.some
 
 pub returns-in_default-next-clause-some : goal.returns-in_default-next-clause-some
 returns-in_default-next-clause-some g c =
     TellsSome-trans _ _ _
-    (TellsSome-kept _ _ _ _ _ c.pieces.invariant.some c.requires.settled
-    c.next_live.ensures.told)
+    (TellsSome-kept _ _ _ _ _ c.pieces.invariant.some c.requires.still
+    c.next_followed.ensures.told)
     c.finish-in_default-next.ensures.some
 
 pub returns-in-Err-tell_passed-clause-some : goal.returns-in-Err-tell_passed-clause-some
 returns-in-Err-tell_passed-clause-some g c =
     TellsSome-trans _ _ _
-    (TellsSome-kept _ _ _ _ _ c.pieces.invariant.some c.requires.settled
-    c.next_live.ensures.told)
+    (TellsSome-kept _ _ _ _ _ c.pieces.invariant.some c.requires.still
+    c.next_followed.ensures.told)
     c.in-Err-tell_passed.ensures.some
 
 pub returns-in-Err-tell_sent-clause-some : goal.returns-in-Err-tell_sent-clause-some
 returns-in-Err-tell_sent-clause-some g c =
     TellsSome-trans _ _ _
-    (TellsSome-kept _ _ _ _ _ c.pieces.invariant.some c.requires.settled
-    c.next_live.ensures.told)
+    (TellsSome-kept _ _ _ _ _ c.pieces.invariant.some c.requires.still
+    c.next_followed.ensures.told)
     c.in-Err-tell_sent.ensures.some
 
--- ---- some pulls were made
+-- ---- what is held back where the source failed
 
-pub returns-in_default-clause-pulls : goal.returns-in_default-clause-pulls
-returns-in_default-clause-pulls g c =
-    PullsSome-trans _ _ _ c.pieces.invariant.pulls c.next_live.ensures.pulls
-
-pub returns-then-is_source_failure-clause-pulls : goal.returns-then-is_source_failure-clause-pulls
-returns-then-is_source_failure-clause-pulls g c =
-    PullsSome-trans _ _ _ c.pieces.invariant.pulls c.next_live.ensures.pulls
-
-pub returns-in-Err-clause-pulls : goal.returns-in-Err-clause-pulls
-returns-in-Err-clause-pulls g c =
-    PullsSome-trans _ _ _ c.pieces.invariant.pulls c.next_live.ensures.pulls
-
-pub returns-in_default-next-clause-pulls : goal.returns-in_default-next-clause-pulls
-returns-in_default-next-clause-pulls g c =
-    PullsSome-trans _ _ _ c.pieces.invariant.pulls c.next_live.ensures.pulls
-
-pub returns-in-Err-tell_passed-clause-pulls : goal.returns-in-Err-tell_passed-clause-pulls
-returns-in-Err-tell_passed-clause-pulls g c =
-    PullsSome-trans _ _ _ c.pieces.invariant.pulls c.next_live.ensures.pulls
-
-pub returns-in-Err-tell_sent-clause-pulls : goal.returns-in-Err-tell_sent-clause-pulls
-returns-in-Err-tell_sent-clause-pulls g c =
-    PullsSome-trans _ _ _ c.pieces.invariant.pulls c.next_live.ensures.pulls
+pub returns-then-is_source_failure-clause-asked : goal.returns-then-is_source_failure-clause-asked
+returns-then-is_source_failure-clause-asked g c = λ none.
+    (rw c.in-Err.is at (c.in-Some.ensures.asked (c.pieces.invariant.holds none)))
+    (sym c.is_source_failure.ensures ∙ c.if-is_source_failure.true)

@@ -3,7 +3,7 @@ use Rattle.std.proofs.Common.{◌≡◌, ◌<◌, ◌≤◌, ◌-◌, ◌*◌, �
 use Rattle.ttx_pes.specs.Reading.{most_packets}
 use Rattle.ttx_pes.specs.declared.progress.Progress.TheVariants.{Reading}
 use Rattle.stl_file.specs.TimeCode.{day}
-use Rattle.sub_io.specs.Calls.{PullsSome}
+use Rattle.sub_io.specs.HandingOn.{HoldsWhileWaiting}
 use Rattle.sub_io.specs.Telling.{Tells, TellsSome}
 use Rattle.sub_rules.specs.FrameRules.{Unread, packets_of_frame, task_of}
 use Rattle.sub_rules.specs.PacketRules.{packets_of_units}
@@ -19,11 +19,13 @@ invariant-pieces g l = record {
   fewer : l.kept.frames ≤ l.pes;
   reading : l.reader.progress ≡ Reading l.pes;
   taken : TakesPieces l.pes (g.S.Source.remaining l.fn.source) (g.S.Source.remaining l.source);
-  pulls : PullsSome g.S.Source.is_pull l.fn.source l.source;
   failures : g.S.Source.failure_count l.source ≡ g.S.Source.failure_count l.fn.source;
   goes_on : g.A.Audience.has_stopped l.audience ≡ false;
   day : l.kept.passing.trust.last < day;
   some : TellsSome g.A.Audience.is_told l.fn.audience l.audience;
+  holds :
+      g.A.Live.held l.fn.audience ≡ 0
+      → HoldsWhileWaiting g.A.Live.is_waiting g.A.Live.held l.audience;
   headers : l.checker.headers ≤ 255 * l.kept.frames;
   told :
       (pieces : List Piece) (unread : Option Unread) (bytes : List ℕ)

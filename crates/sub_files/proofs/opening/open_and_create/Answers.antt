@@ -13,21 +13,17 @@ returns-in_default g c = record {
 
 pub returns-in-Some-create_apart : goal.returns-in-Some-create_apart
 returns-in-Some-create_apart g c =
-    creates g.D.FileSystem.is_call c.args.files.now c.open_stl.new.files c.look_up-here.new.self
-    c.look_up-there.new.self c.create_apart.new.files c.args.stl.now c.args.output.now
-    c.in-Some.input c.look_up-here.result c.look_up-there.result
-    (Some c.in-Some-create_apart.created)
-    (rw c.in-Some.is at c.open_stl.ensures)
-    (rw c.name.ensures at c.look_up-here.ensures)
-    (rw c.name-2.ensures at c.look_up-there.ensures)
+    creates g.D.FileSystem.is_call c.args.files.now c.open_stl.new.files
+    c.look_up_both-here.new.files c.create_apart.new.files c.args.stl.now c.args.output.now
+    c.in-Some.input c.look_up_both-here.result.0 c.look_up_both-here.result.1
+    (Some c.in-Some-create_apart.created) (rw c.in-Some.is at c.open_stl.ensures)
+    c.look_up_both-here.ensures
     c.in-Some-create_apart.ensures.apart c.in-Some-create_apart.ensures.over
 
 pub returns-in-None : goal.returns-in-None
 returns-in-None g c =
-    creates g.D.FileSystem.is_call c.args.files.now c.open_stl.new.files c.look_up-here.new.self
-    c.look_up-there.new.self c.create_apart.new.files c.args.stl.now c.args.output.now
-    c.in-Some.input c.look_up-here.result c.look_up-there.result None
-    (rw c.in-Some.is at c.open_stl.ensures)
-    (rw c.name.ensures at c.look_up-here.ensures)
-    (rw c.name-2.ensures at c.look_up-there.ensures)
+    creates g.D.FileSystem.is_call c.args.files.now c.open_stl.new.files
+    c.look_up_both-here.new.files c.create_apart.new.files c.args.stl.now c.args.output.now
+    c.in-Some.input c.look_up_both-here.result.0 c.look_up_both-here.result.1 None
+    (rw c.in-Some.is at c.open_stl.ensures) c.look_up_both-here.ensures
     c.in-None.ensures.apart c.in-None.ensures.over

@@ -8,6 +8,7 @@ use Rattle.sub_listing.specs.DeviceCall.{sink_call, source_call}
 use Rattle.sub_listing.specs.Listing.{has_failed}
 use Rattle.sub_listing.proofs.ListingLemmas.{counts-fault, counts-status, front-cut, front-end}
 use Rattle.sub_listing.proofs.ListingLemmas.{front-kept, front-more, front-none, front-stopped}
+use Rattle.sub_listing.proofs.LastLineLemmas.{last_alone, risen_fails}
 use Rattle.sub_listing.proofs.listing.list_to.Goals as goal
 
 pub pieces-init : goal.pieces-init
@@ -16,6 +17,7 @@ pieces-init g c = record {
   source = refl;
   same = refl;
   goes_on = c.requires.goes_on;
+  holds = λ sound. sound;
   out = refl;
   front = front-none _ _ _;
 }
@@ -192,6 +194,7 @@ pieces-preserved g c =
       source = omega (arith, source, counted);
       same = c.put.ensures.same ∙ c.next-end.ensures.same ∙ before.same;
       goes_on = c.in-Ok.ensures.failed ∙ c.if-printer.false;
+      holds = λ sound still. absurd (true≢false (sym c.put.ensures.waits ∙ still));
       out = omega (arith, out, put);
       front =
           front-more (g.L.Lister.lists c.args.lister.now) (g.L.Lister.lists c.pieces.lister)
@@ -203,3 +206,30 @@ pieces-preserved g c =
           (g.K.Sink.contents c.put.new.self.out.now))
           c.as_slice.ensures.value c.in-Ok.ensures.ok);
     }
+
+-- ---- the source failed
+
+pub returns-then-printer-clause-followed : goal.returns-then-printer-clause-followed
+returns-then-printer-clause-followed g c = λ is sound risen.
+    let same = c.next-end.ensures.cut_count c.if-printer.true in
+    let source = c.pieces.invariant.source in absurd (omega (arith, same, source, risen))
+
+pub returns-in-Err-clause-followed : goal.returns-in-Err-clause-followed
+returns-in-Err-clause-followed g c = λ is sound risen.
+    let before = c.pieces.invariant in
+    let fails = risen_fails _ _ (has_failed c.next-end.result) risen
+    (c.next-end.ensures.count c.if-printer.false
+    ∙ ap (λ (n : ℕ). n + (if has_failed c.next-end.result then 1 else 0)) before.source) in
+    last_alone _ _ _ _ _ _ _
+    (c.next-end.ensures.followed is (before.holds sound) fails c.if-printer.false)
+    c.as_slice.ensures.value c.put.ensures.line
+
+pub returns-in-Some-clause-followed : goal.returns-in-Some-clause-followed
+returns-in-Some-clause-followed g c = λ is sound risen.
+    let before = c.pieces.invariant in
+    let fails = risen_fails _ _ (has_failed c.next-end.result) risen
+    (c.next-end.ensures.count c.if-printer.false
+    ∙ ap (λ (n : ℕ). n + (if has_failed c.next-end.result then 1 else 0)) before.source) in
+    last_alone _ _ _ _ _ _ _
+    (c.next-end.ensures.followed is (before.holds sound) fails c.if-printer.false)
+    c.as_slice.ensures.value c.put.ensures.line

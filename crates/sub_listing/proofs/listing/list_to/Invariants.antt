@@ -9,6 +9,10 @@ invariant-pieces g l = record {
   source : g.S.Source.failure_count l.source ≡ g.S.Source.failure_count l.fn.source;
   same : l.printer.out.ghost_name ≡ l.fn.printer.out.ghost_name;
   goes_on : l.printer.failed ≡ false;
+  holds :
+      (l.fn.printer.waiting ≡ false → g.K.Flush.held l.fn.printer.out.now ≡ 0)
+      → l.printer.waiting ≡ false
+      → g.K.Flush.held l.printer.out.now ≡ 0;
   out : g.K.Sink.failure_count l.printer.out.now ≡ g.K.Sink.failure_count l.fn.printer.out.now;
   front : IsFront
       (g.L.Lister.lists l.fn.lister) (g.L.Lister.lists l.lister)

@@ -1,6 +1,5 @@
 -- The room holds the bytes taken, those held before at its front, and no pull has failed.
-use Rattle.std.proofs.Common.{◌-◌, ◌≡◌, ◌≤◌, take}
-use Rattle.sub_io.specs.Calls.{PullsSome}
+use Rattle.std.proofs.Common.{◌+◌, ◌-◌, ◌≡◌, ◌≤◌, ◌++◌, length, take}
 use Rattle.ttx_pes.specs.Taking.{TakesOn}
 use Rattle.ttx_pes.proofs.packet_bytes.fill_on.Given as goal
 
@@ -11,7 +10,10 @@ invariant-loop-at g l = record {
   kept : take l.held l.room ≡ take l.held l.initial.room;
   bytes : TakesOn (g.S.Source.remaining l.initial.source) (take l.held l.initial.room)
       (g.S.Source.remaining l.source) (take l.at l.room);
-  pulls : PullsSome g.S.Source.is_pull l.initial.source l.source;
+  lent :
+      l.least ≤ l.held + length (g.S.Source.lent l.initial.source)
+      → take l.held l.initial.room ++ g.S.Source.lent l.initial.source
+      ≡ take l.at l.room ++ g.S.Source.lent l.source;
   count : g.S.Source.failure_count l.source ≡ g.S.Source.failure_count l.initial.source;
 }
 

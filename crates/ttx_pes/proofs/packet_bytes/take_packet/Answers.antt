@@ -7,6 +7,7 @@ use Rattle.std.proofs.KnownBytes.{Consumes-nil}
 use Rattle.ttx_pes.proofs.TakingLemmas.{cut_settles, failed_second, short_settles, size_kept}
 use Rattle.ttx_pes.proofs.TakingLemmas.{size_settles, tells_end, tells_failed, tells_settled}
 use Rattle.ttx_pes.proofs.TakingLemmas.{tells_too_many, whole_settles}
+use Rattle.ttx_pes.proofs.LentPacketLemmas.{lent_head, lent_rest}
 use Rattle.ttx_pes.proofs.packet_bytes.take_packet.Goals as goal
 
 pub returns-then-got-eq0-clause-end : goal.returns-then-got-eq0-clause-end
@@ -82,3 +83,16 @@ returns-clause-sized g c =
 pub returns-in_err-fill_on-clause-fault : goal.returns-in_err-fill_on-clause-fault
 returns-in_err-fill_on-clause-fault g c =
     grind (arith, nat_tests, err_from_is_err_and, tells_failed, failed_second, Consumes-nil)
+
+pub returns-in_err-got-clause-lent : goal.returns-in_err-got-clause-lent
+returns-in_err-got-clause-lent g c = λ holds.
+    absurd (c.in_err-got.ensures.lent (omega (arith, lent_head _ holds)))
+
+pub returns-in_err-fill_on-clause-lent : goal.returns-in_err-fill_on-clause-lent
+returns-in_err-fill_on-clause-lent g c = λ holds.
+    let sized = size_kept c.in_ok-got.got c.in_ok-got.got c.fill_on.new.room c.fill_on.new.room
+    c.unwrap.result.now _ (omega arith) (omega arith) refl (search rules)
+    c.in_ok-size.ensures.exact in
+    absurd (c.in_err-fill_on.ensures.lent
+    (lent_rest _ _ c.fill_on.new.room c.in_ok-got.got c.in_ok-size.size holds
+    (c.in_ok-got.ensures.lent (omega (arith, lent_head _ holds))) (omega arith) c.in_ok-got.ensures.room sized))

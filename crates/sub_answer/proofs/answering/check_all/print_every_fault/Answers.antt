@@ -1,6 +1,8 @@
 -- What was told, and the last line: by AllAnswerLemmas.
 use Rattle.std.proofs.Common.{refl, rules}
 use Rattle.sub_answer.proofs.AllAnswerLemmas.{answers_at, answers_cut, answers_end, counts}
+use Rattle.sub_answer.proofs.EveryFaultLemmas.{cut_reads, last_line}
+use Rattle.sub_listing.proofs.LastLineLemmas.{risen_fails}
 use Rattle.sub_answer.proofs.answering.check_all.print_every_fault.Goals as goal
 
 pub returns-then-failed-clause-all : goal.returns-then-failed-clause-all
@@ -27,3 +29,15 @@ returns-clause-pes_count g c =
     (counts _ _ _ _ _ _ _
     (answers_end _ _ _ _ _ _ _ _ _ _ _ c.tell_every_fault-answer.ensures.told c.if-failed.false
     refl c.print_end.ensures.printed)).1
+
+pub returns-then-failed-clause-followed : goal.returns-then-failed-clause-followed
+returns-then-failed-clause-followed g c = λ none risen.
+    absurd (cut_reads c.tell_every_fault-answer.ensures.told c.if-failed.true risen)
+
+pub returns-clause-followed : goal.returns-clause-followed
+returns-clause-followed g c = λ none risen.
+    let told = c.tell_every_fault-answer.ensures in
+    let fails = risen_fails _ _ _ risen told.count in
+    last_line g.K.Sink.contents g.K.Flush.held g.K.Sink.is_push _ _ _
+    c.tell_every_fault-answer.result fails (told.asked none fails) c.print_end.ensures.line
+    (search rules)

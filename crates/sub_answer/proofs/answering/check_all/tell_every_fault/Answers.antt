@@ -1,5 +1,5 @@
 -- What was told of the subtitle file, and then of the PES file: by EveryFaultLemmas.
-use Rattle.std.proofs.Common.{◌≡◌, ◌∙◌, ap, refl, sym, subst, arith, ℕ, List, Option, ◌<◌}
+use Rattle.std.proofs.Common.{◌≡◌, ◌∙◌, ap, refl, sym, subst, arith, ℕ, List, Option, ◌<◌, false}
 use Rattle.stl_rows.specs.declared.fault.LoadFault.{LoadFault}
 use Rattle.sub_rules.specs.declared.event.Event.{Event}
 use Rattle.sub_listing.specs.DeviceCall.{source_call}
@@ -7,7 +7,7 @@ use Rattle.sub_answer.specs.EveryFault.{TellsBoth}
 use Rattle.sub_listing.specs.EventLines.{subtitle_event}
 use Rattle.sub_listing.specs.Printer.{PrinterValue, PrintsEvent, printer_value}
 use Rattle.sub_listing.specs.declared.printer.Printer.{Printer}
-use Rattle.sub_answer.proofs.EveryFaultLemmas.{after_error, after_faults, after_pes}
+use Rattle.sub_answer.proofs.EveryFaultLemmas.{after_error, after_faults, after_pes, error_fails}
 use Rattle.sub_listing.proofs.PrinterLemmas.{cannot_fail, has_stopped, same_all, still_goes}
 use Rattle.sub_answer.proofs.answering.check_all.tell_every_fault.Goals as goal
 
@@ -21,10 +21,11 @@ abbrev IsToldFault : {K : Type 0} → (K → Option (List ℕ)) → (K → ℕ)
 IsToldFault contents count s x t = (t.out.ghost_name ≡ s.out.ghost_name)
     × PrintsEvent (value_of contents count s) (subtitle_event x) (value_of contents count t)
 
-abbrev IsToldEvent : {K : Type 0} → (K → Option (List ℕ)) → (K → ℕ)
+abbrev IsToldEvent : {K : Type 0} → (K → Option (List ℕ)) → (K → ℕ) → (K → ℕ)
     → Printer K → Event → Printer K → Type 0
-IsToldEvent contents count s x t = (t.out.ghost_name ≡ s.out.ghost_name)
+IsToldEvent contents count held s x t = (t.out.ghost_name ≡ s.out.ghost_name)
     × PrintsEvent (value_of contents count s) x (value_of contents count t)
+    × (t.waiting ≡ false → held t.out.now ≡ 0)
 
 pub returns-in-Err-clause-same : goal.returns-in-Err-clause-same
 returns-in-Err-clause-same g c =
@@ -63,7 +64,7 @@ returns-in-Ok-None-clause-told g c =
 pub returns-in-Ok-Some-clause-same : goal.returns-in-Ok-Some-clause-same
 returns-in-Ok-Some-clause-same g c =
     let none = rw c.in-Ok-Some.field-0-is at c.in-Ok-Some.ensures.none in
-    same_all (IsToldEvent g.K.Sink.contents g.K.Sink.failure_count)
+    same_all (IsToldEvent g.K.Sink.contents g.K.Sink.failure_count g.K.Flush.held)
     (λ (p : Printer g.row.K.Denot). p.out.ghost_name) (λ s t x h. h.0) _ _
     c.check_all.ensures.some
     ∙ ap (λ (p : Printer g.row.K.Denot). p.out.ghost_name) none.in_turn
@@ -81,7 +82,7 @@ returns-in-Ok-Some-clause-told g c =
     (value_of g.K.Sink.contents g.K.Sink.failure_count p)
     (value_of g.K.Sink.contents g.K.Sink.failure_count c.check_all.new.audience)
     c.check_all.result) kept
-    (after_pes (IsToldEvent g.K.Sink.contents g.K.Sink.failure_count)
+    (after_pes (IsToldEvent g.K.Sink.contents g.K.Sink.failure_count g.K.Flush.held)
     (value_of g.K.Sink.contents g.K.Sink.failure_count) (λ s t x h. h.1)
     _ _ _ _ _ _ c.load_all.new.audience c.check_all.new.audience
     (ap (λ (p : Printer g.row.K.Denot). p.failed) kept ∙ c.requires.goes_on)
@@ -93,3 +94,9 @@ returns-in-Ok-Some-clause-told g c =
     (subst (λ (p : Printer g.row.K.Denot). g.K.Sink.failure_count p.out.now
     < 0xFFFF_FFFF_FFFF_FFFF) (sym kept) c.requires.out) holds same)
     e.some e.told e.first e.stopped e.goes_on e.only e.count e.read)
+
+pub returns-in-Ok-Some-clause-asked : goal.returns-in-Ok-Some-clause-asked
+returns-in-Ok-Some-clause-asked g c = λ none.
+    let first = rw c.in-Ok-Some.field-0-is at c.in-Ok-Some.ensures.none in
+    let here = ap (λ (p : Printer g.row.K.Denot). g.K.Flush.held p.out.now) first.in_turn ∙ none in
+    error_fails _ _ _ (c.check_all.ensures.asked here)

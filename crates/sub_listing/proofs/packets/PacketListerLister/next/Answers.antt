@@ -1,6 +1,6 @@
 -- The lines of one PES packet more, and the last ones: gives-packet, gives-last,
 -- outcome_after-next.
-use Rattle.std.proofs.Common.{◌≡◌, refl, rules, sym, Err, None, Ok, Some, false}
+use Rattle.std.proofs.Common.{◌≡◌, ◌∙◌, refl, rules, sym, Err, None, Ok, Some, false}
 use Rattle.ttx_pes.specs.Fault.{is_read}
 use Rattle.ttx_pes.specs.Outcome.{ReadsPackets, ends, fails, outcome_after}
 use Rattle.ttx_pes.proofs.OutcomeLemmas.{outcome_after-next}
@@ -56,3 +56,15 @@ pub returns-in_default-clause-cut : goal.returns-in_default-clause-cut
 returns-in_default-clause-cut g c = λ _.
     let index = c.args.self.now.index in
     lists-some _ (pes_listing index) (outcome_after index) ReadsPackets _ _ ends
+
+pub returns-in-Err-clause-followed : goal.returns-in-Err-clause-followed
+returns-in-Err-clause-followed g c = λ is sound ended goes.
+    let f = c.in-Err.fault in
+    let end : c.end_with.result ≡ Some (pes_listing c.args.self.now.index (fails f)).status =
+    search rules in
+    let failed = sym (kind_by-failed (is_read f)) ∙ (rw end at ended) in
+    record {
+      settled = (rw c.in-Err.is at (c.in-Some.ensures.asked sound)) failed;
+      told = _;
+      line = c.end_with.ensures.line;
+    }

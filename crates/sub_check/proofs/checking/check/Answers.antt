@@ -1,7 +1,5 @@
--- What the device kept decides the answer: by FirstFaultLemmas. The reference is that which it was,
--- since each pull keeps it.
-use Rattle.std.proofs.Common.{◌≡◌, ◌∙◌, Err, Option, Result, ap, refl}
-use Rattle.sub_io.proofs.CallLemmas.{PullsSome-keep}
+-- What the device kept decides the answer: by FirstFaultLemmas.
+use Rattle.std.proofs.Common.{◌≡◌, Err, Option, Result, ap, refl}
 use Rattle.ttx_pes.specs.declared.fault.PesFault.TheVariants.{Read}
 use Rattle.sub_check.proofs.FirstFaultLemmas.{fails_at_packet, fault_kept, nothing_kept}
 use Rattle.sub_check.proofs.FirstFaultLemmas.{read_failed}
@@ -9,7 +7,7 @@ use Rattle.sub_checker.specs.declared.telling.Accepted.{Accepted}
 use Rattle.sub_rules.specs.Pieces.{piece_file_of}
 use Rattle.sub_rules.specs.declared.fault.CheckFault.{CheckFault}
 use Rattle.sub_rules.specs.declared.fault.CheckFault.TheVariants as fault
-use Rattle.sub_check.proofs.checking.check_lent.Goals as goal
+use Rattle.sub_check.proofs.checking.check.Goals as goal
 
 pub returns-in-Ok-Some-clause-checked : goal.returns-in-Ok-Some-clause-checked
 returns-in-Ok-Some-clause-checked g c = λ bytes told.
@@ -49,23 +47,3 @@ returns-in-Err-clause-read g c = λ pes is.
     (λ bytes told sent.
     let file = piece_file_of c.args.options.now.origin bytes in
     c.in-Err.ensures.sent pes file.pieces file.unread failed bytes told refl sent)
-
--- ---- the reference
-
-pub returns-in-Ok-Some-clause-same : goal.returns-in-Ok-Some-clause-same
-returns-in-Ok-Some-clause-same g c =
-    PullsSome-keep (λ n. n.source.ghost_name ≡ c.args.source.now.source.ghost_name)
-    (λ n m room answer was pull. pull ∙ was)
-    c.args.source.now c.tell_pieces.new.source refl c.in-Ok-Some.ensures.pulls
-
-pub returns-in-Ok-None-clause-same : goal.returns-in-Ok-None-clause-same
-returns-in-Ok-None-clause-same g c =
-    PullsSome-keep (λ n. n.source.ghost_name ≡ c.args.source.now.source.ghost_name)
-    (λ n m room answer was pull. pull ∙ was)
-    c.args.source.now c.tell_pieces.new.source refl c.in-Ok-None.ensures.pulls
-
-pub returns-in-Err-clause-same : goal.returns-in-Err-clause-same
-returns-in-Err-clause-same g c =
-    PullsSome-keep (λ n. n.source.ghost_name ≡ c.args.source.now.source.ghost_name)
-    (λ n m room answer was pull. pull ∙ was)
-    c.args.source.now c.tell_pieces.new.source refl c.in-Err.ensures.pulls

@@ -1,0 +1,26 @@
+-- The last line of a listing whose source failed. Main lemma: last_alone.
+use Rattle.std.proofs.Common.{◌≡◌, ℕ, ◌+◌, ◌<◌, Bool, true, false, if◌then◌else◌, List, Option}
+use Rattle.std.proofs.Common.{arith, refl, subst, ◌∙◌}
+use Rattle.sub_listing.specs.LastLine.{HoldsLastLine, IsAlone, PutsLine}
+
+-- A count that rose counted a failure.
+pub risen_fails : (old new : ℕ) (fails : Bool)
+    → old < new
+    → new ≡ old + (if fails then 1 else 0)
+    → fails ≡ true
+risen_fails old new true risen counted = refl
+risen_fails old new false risen counted = absurd (omega (arith, risen, counted))
+
+-- The text that was put is that line.
+pub last_alone : {K : Type 0} (contents : K → Option (List ℕ)) (held : K → ℕ)
+    (IsPush : K → List ℕ → Option ℕ → K → Type 0) (before new : K) (text put : List ℕ)
+    → IsAlone (held before) text
+    → put ≡ text
+    → PutsLine contents IsPush before put new
+    → HoldsLastLine contents held IsPush new
+last_alone contents held IsPush before new text put alone same line = record {
+  before = before;
+  settled = alone.settled;
+  told = alone.told;
+  line = subst (λ l. PutsLine contents IsPush before l new) (same ∙ alone.line) line;
+}

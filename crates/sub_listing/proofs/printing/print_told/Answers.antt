@@ -1,0 +1,21 @@
+-- The line that was put, and nothing beside: by AppendsPrefix-whole.
+use Rattle.std.proofs.Common.{◌≡◌, rules, subst, true}
+use Rattle.std.specs.Io.KnownBytes.{Appends}
+use Rattle.sub_io.proofs.DeviceLemmas.{AppendsPrefix-whole}
+use Rattle.sub_io.specs.Calls.{PutsByPushes}
+use Rattle.sub_listing.specs.Told.{line_of}
+use Rattle.sub_listing.proofs.printing.print_told.Goals as goal
+
+pub returns-in-Ok-clause-line : goal.returns-in-Ok-clause-line
+returns-in-Ok-clause-line g c =
+    let line : c.as_slice.result.now ≡ line_of c.args.told.now = search rules in
+    record {
+      ok = true;
+      calls =
+          subst (λ l. PutsByPushes g.K.Sink.is_push c.args.out.now l true c.put_all.new.sink) line
+          c.in-Ok.ensures.calls;
+      bytes =
+          AppendsPrefix-whole _ _ _
+          (subst (Appends (g.K.Sink.contents c.args.out.now) (g.K.Sink.contents c.put_all.new.sink))
+          line c.in-Ok.ensures.bytes);
+    }

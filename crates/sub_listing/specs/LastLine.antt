@@ -1,0 +1,30 @@
+-- What a sink holds back where the source of a listing failed: the line that says so, alone.
+use Rattle.std.specs.Prelude.{◌≡◌, ℕ, Bool, List, Option}
+use Rattle.sub_io.specs.Calls.{PutsByPushes}
+use Rattle.sub_io.specs.Device.{AppendsPrefix}
+use Rattle.sub_listing.specs.Told.{line_of}
+use Rattle.sub_listing.specs.declared.told.Told.{Told}
+
+-- Bytes were put, and nothing was done beside. Where `ok` is false the sink failed, and has a
+-- prefix of them.
+pub record PutsLine
+    {K : Type 0} (contents : K → Option (List ℕ)) (IsPush : K → List ℕ → Option ℕ → K → Type 0)
+    (old : K) (line : List ℕ) (new : K) : Type 0 where
+  pub ok : Bool
+  pub calls : PutsByPushes IsPush old line ok new
+  pub bytes : AppendsPrefix (contents old) (contents new) line
+
+-- All that was printed before the last line was handed on, and since then this line alone was put.
+pub record HoldsLastLine
+    {K : Type 0} (contents : K → Option (List ℕ)) (held : K → ℕ)
+    (IsPush : K → List ℕ → Option ℕ → K → Type 0) (new : K) : Type 0 where
+  pub before : K
+  pub settled : held before ≡ 0
+  pub told : Told
+  pub line : PutsLine contents IsPush before (line_of told) new
+
+-- These are the last line of a listing, and nothing is held back before it.
+pub record IsAlone (held : ℕ) (text : List ℕ) : Type 0 where
+  pub settled : held ≡ 0
+  pub told : Told
+  pub line : text ≡ line_of told

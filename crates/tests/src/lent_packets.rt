@@ -1,0 +1,66 @@
+//! When a source lends the whole next PES packet, and when what was told is handed on first.
+ghost use Rattle.std.specs.Prelude.{◌≡◌, nat_eq, true};
+
+use crate::asserting::{assert_same, assert_same_in};
+use fixtures::FIRST;
+use std::process::Abort;
+use sub_io::{FailAt, Live, MemSource, Stopped};
+use ttx_pes::{hand_on_first, holds_packet};
+
+// Asserts whether this many bytes hold the packet that they begin.
+fn assert_holds(rt: &impl Abort, bytes: &[u8], holds: bool) {
+    assert_same_in(rt, &holds_packet(bytes), &holds, &bytes.len());
+}
+
+#[test]
+fn tells_whether_a_packet_is_lent_whole(rt: HostRuntime) {
+    assert_holds(&rt, &[], false);
+    assert_holds(&rt, &FIRST[..5], false);
+    assert_holds(&rt, &FIRST[..6], false);
+    assert_holds(&rt, &FIRST[..183], false);
+    assert_holds(&rt, &FIRST, true);
+    // Of no packet six bytes are read: a wrong start code, and a length that is none.
+    assert_holds(&rt, &[0; 6], true);
+    assert_holds(&rt, &[0, 0, 1, 0xBD, 0, 0], true);
+}
+
+// A device that waits until it was to hand on.
+#[derive(Drop)]
+struct Waiting {
+    calls: u64,
+}
+
+impl Live for Waiting {
+    ghost is_waiting = { λ w. nat_eq w.calls 0 };
+
+    ghost held = { λ _. 0 };
+
+    ghost is_handed_on = { λ old ok new. ok ≡ true };
+
+    fn waits(&self) -> bool {
+        self.calls == 0
+    }
+
+    fn hand_on(&mut self) -> Result<(), Stopped> {
+        self.calls = 1;
+        Ok(())
+    }
+}
+
+#[test]
+fn hands_on_where_a_packet_is_not_lent(rt: HostRuntime) {
+    let mut device = Waiting { calls: 0 };
+    assert_same(
+        &rt,
+        &hand_on_first(&MemSource::new(&FIRST), &mut device),
+        &Ok(()),
+    );
+    assert_same(&rt, &device.calls, &0);
+    let unknown = FailAt::new(MemSource::new(&FIRST), 9);
+    assert_same(&rt, &hand_on_first(&unknown, &mut device), &Ok(()));
+    assert_same(&rt, &device.calls, &1);
+    // One that does not wait is left as it is.
+    device.calls = 7;
+    assert_same(&rt, &hand_on_first(&unknown, &mut device), &Ok(()));
+    assert_same(&rt, &device.calls, &7);
+}

@@ -1,0 +1,124 @@
+-- Bytes that a source lends, taken pull by pull: lent-more. Where they hold a packet, its size is
+-- that of the bytes that are taken first: lent_rest.
+use Rattle.std.proofs.Common.{◌≡◌, ◌≢◌, ℕ, ◌+◌, ◌<◌, ◌≤◌, List, [], ◌++◌, length, take, Some, ap}
+use Rattle.std.proofs.Common.{◌∙◌, Bool, Err, Ok, Result, arith, false, inl, inr, length-append}
+use Rattle.std.proofs.Common.{length-take, length-take-le, refl, sym, true}
+use Rattle.std.proofs.lemmas.Bool.{true≢false}
+use Rattle.std.proofs.lemmas.Bool.Decides.{nat_tests}
+use Rattle.std.proofs.lemmas.List.{take-take}
+use borrow.Rule.Slice.PartMut.{put_mid}
+use lib.Seq.{take-append-le}
+use Rattle.sub_io.proofs.DeviceLemmas.{Consumes-more}
+use Rattle.ttx_pes.specs.LentPacket.{NothingWaits, are_all_of, holds_packet}
+use Rattle.ttx_pes.specs.declared.fault.PesFault.{PesFault}
+use Rattle.ttx_pes.specs.Reading.{size_at}
+
+-- While fewer were taken than were held and lent, some are lent still.
+some_left : (held lent left room : List ℕ) (least at : ℕ)
+    → held ++ lent ≡ take at room ++ left
+    → at < least
+    → at ≤ length room
+    → least ≤ length held + length lent
+    → left ≢ []
+some_left held lent left room least at whole below within many none =
+    omega (
+      arith,
+      ap length whole,
+      ap length none,
+      length-append held lent,
+      length-append (take at room) left,
+      length-take-le at room within,
+    )
+
+-- One pull more. For `fill_on`.
+pub lent-more : (held lent left rest room to : List ℕ) (least at k n : ℕ)
+    → held ++ lent ≡ take at room ++ left
+    → (left ≢ [] → left ≡ take n to ++ rest)
+    → at < least
+    → at ≤ length room
+    → n ≤ length to
+    → least ≤ length held + length lent
+    → held ++ lent ≡ take (at + n) (put_mid at k room to) ++ rest
+lent-more held lent left rest room to least at k n whole gives below within fits many =
+    Consumes-more (Some (held ++ lent)) (Some left) (Some rest) at k n room to within fits whole
+    (gives (some_left held lent left room least at whole below within many))
+
+-- Nor does the pull fail.
+pub lent-fails : (held lent left room : List ℕ) (least at : ℕ)
+    → held ++ lent ≡ take at room ++ left
+    → (left ≢ [] → ⊥)
+    → at < least
+    → at ≤ length room
+    → least ≤ length held + length lent
+    → ⊥
+lent-fails held lent left room least at whole fails below within many =
+    fails (some_left held lent left room least at whole below within many)
+
+-- ---- a packet that is lent
+
+pub lent_head : (lent : List ℕ) → holds_packet lent ≡ true → 6 ≤ length lent
+unfolding holds_packet
+lent_head lent holds = grind (arith, nat_tests)
+
+-- Where its size was read of the bytes that were taken, the rest of it is lent still. For
+-- `take_packet`.
+pub lent_rest : (lent left room : List ℕ) (got size : ℕ)
+    → holds_packet lent ≡ true
+    → lent ≡ take got room ++ left
+    → 6 ≤ got
+    → got ≤ length room
+    → size_at (take 6 (take got room)) ≡ Ok size
+    → size ≤ got + length left
+unfolding holds_packet
+lent_rest lent left room got size holds parts head within sized =
+    let long = length-take-le got room within in
+    let all = ap length parts ∙ length-append (take got room) left in
+    let first : take 6 lent ≡ take 6 (take got room) =
+    ap (take 6) parts ∙ take-append-le 6 (take got room) left (omega (arith, long, head)) in
+    let read : size_at (take 6 lent) ≡ Ok size = ap size_at first ∙ sized in
+    grind (arith, nat_tests)
+
+-- Bytes hold a packet where fewer at their front do.
+all_of_more : (r : Result ℕ PesFault) (m n : ℕ) → m ≤ n → are_all_of m r ≡ true
+    → are_all_of n r ≡ true
+all_of_more (Ok size) m n le all = grind (arith, nat_tests)
+all_of_more (Err f) m n le all = refl
+
+-- For `hand_on_first`.
+pub held_holds : (held lent : List ℕ)
+    → take (length held) lent ≡ held
+    → holds_packet held ≡ true
+    → holds_packet lent ≡ true
+unfolding holds_packet
+held_holds held lent begins holds =
+    let head = lent_head held holds in
+    let long : length held ≤ length lent =
+    omega (arith, ap length begins, length-take (length held) lent) in
+    let first : take 6 held ≡ take 6 lent =
+    ap (take 6) (sym begins) ∙ take-take 6 (length held) lent head in
+    let all : are_all_of (length held) (size_at (take 6 held)) ≡ true = grind (arith, nat_tests) in
+    let more : are_all_of (length lent) (size_at (take 6 lent)) ≡ true =
+    all_of_more _ _ _ long (rw first at all) in
+    grind (arith, nat_tests)
+
+-- What `holds_packet` answers.
+pub holds_none : (bytes : List ℕ) → length bytes < 6 → false ≡ holds_packet bytes
+unfolding holds_packet
+holds_none bytes few = grind (arith, nat_tests)
+
+pub holds_read : (bytes : List ℕ) (r : Result ℕ PesFault)
+    → 6 ≤ length bytes
+    → size_at (take 6 bytes) ≡ r
+    → are_all_of (length bytes) r ≡ holds_packet bytes
+unfolding holds_packet
+holds_read bytes r many is = grind (arith, nat_tests)
+
+-- Where the read of a packet failed, nothing was waiting. For `read_settled` of two crates.
+pub waits_not : (is_waiting fails : Bool) (lent : List ℕ)
+    → NothingWaits is_waiting lent
+    → (holds_packet lent ≡ true → fails ≡ false)
+    → fails ≡ true
+    → is_waiting ≡ false
+waits_not is_waiting fails lent (inl still) lends is = still
+waits_not is_waiting fails lent (inr holds) lends is =
+    absurd (true≢false (sym is ∙ lends holds))

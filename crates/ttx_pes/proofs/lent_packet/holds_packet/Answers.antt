@@ -1,0 +1,17 @@
+-- What its first six bytes say is what their definition reads: holds_read.
+use Rattle.std.proofs.Common.{◌≡◌, ◌≤◌, ◌∙◌, Err, Ok, ap, length, rules, sym, take}
+use Rattle.ttx_pes.specs.Reading.{size_at}
+use Rattle.ttx_pes.proofs.LentPacketLemmas.{holds_read}
+use Rattle.ttx_pes.proofs.lent_packet.holds_packet.Goals as goal
+
+pub returns-in-Ok : goal.returns-in-Ok
+returns-in-Ok c =
+    let long : 6 ≤ length c.args.lent.now = search rules in
+    let head : take 6 c.args.lent.now ≡ c.in-Some.head.now = search rules in
+    holds_read c.args.lent.now (Ok c.in-Ok.size) long (ap size_at head ∙ c.in-Ok.ensures.exact)
+
+pub returns-in-Err : goal.returns-in-Err
+returns-in-Err c =
+    let long : 6 ≤ length c.args.lent.now = search rules in
+    let head : take 6 c.args.lent.now ≡ c.in-Some.head.now = search rules in
+    holds_read c.args.lent.now (Err c.in-Err.field-0) long (ap size_at head ∙ c.in-Err.ensures.exact)

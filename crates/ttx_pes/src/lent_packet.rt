@@ -1,0 +1,47 @@
+//! Before a PES packet is read that its source does not lend whole, what was told is handed on.
+ghost use Rattle.std.specs.Prelude.{◌≡◌, OnOk, is_ok};
+ghost use Rattle.sub_io.specs.HandingOn.{HandsOnIfWaiting, HoldsWhileWaiting};
+ghost use Rattle.ttx_pes.specs.LentPacket.{NothingWaits, holds_packet};
+
+use crate::pes_header::size_of;
+use sub_io::{Live, Source, Stopped};
+
+/// Whether bytes that a source lends hold all that is read of the next PES packet: as many as its
+/// length field says (EN 300 472, PES_packet_length). Where the start code or the length is wrong
+/// no more is read than the first of them.
+#[tactic(auto, using(crate::proofs::LentPacketLemmas::holds_none))]
+pub fn holds_packet(lent: &[u8]) -> bool
+    ensures { result ≡ holds_packet lent.now }
+{
+    let Some(head) = lent.first_chunk() else {
+        return false;
+    };
+    match size_of(head) {
+        Ok(size) => size <= lent.len(),
+        Err(_) => true,
+    }
+}
+
+/// Has a device hand on what it may hold back, before the next PES packet of a source is read:
+/// where the source does not lend all of it, the read may have to wait.
+///
+/// # Errors
+///
+/// `Stopped` where the device can't.
+#[tactic(auto, using(crate::proofs::LentPacketLemmas::held_holds))]
+#[inline(always)]
+pub fn hand_on_first<S: Source, A: Live>(source: &S, device: &mut A) -> Result<(), Stopped>
+    ensures call { HandsOnIfWaiting A.is_waiting A.is_handed_on device.old (is_ok result)
+        device.new }
+    ensures ready { OnOk result (NothingWaits (A.is_waiting device.new) (S.lent source.now)) }
+    ensures holds { HoldsWhileWaiting A.is_waiting A.held device.old
+        → OnOk result (HoldsWhileWaiting A.is_waiting A.held device.new) }
+{
+    if !device.waits() {
+        return Ok(());
+    }
+    if holds_packet(source.held()) {
+        return Ok(());
+    }
+    device.hand_on()
+}
