@@ -3,7 +3,7 @@ use Rattle.std.proofs.lemmas.Bool.Decides.{nat_tests}
 use Rattle.std.proofs.Common.{◌≡◌, ℕ, zero, suc, ◌+◌, ◌-◌, ◌<◌, ◌≤◌, Bool, ◌&&◌, nat_le, nat_lt}
 use Rattle.std.proofs.Common.{cond, List, [], ◌∷◌, ◌++◌, length, Option, refl, sym, ap}
 use Rattle.std.proofs.Common.{◌||◌, not, is_some}
-use Rattle.std.proofs.Common.{◌∙◌, subst, arith, ◌==◌}
+use Rattle.std.proofs.Common.{◌∙◌, subst, arith, append_assoc, ◌==◌}
 use Rattle.std.proofs.lemmas.Bool.{cases_lt}
 use Rattle.std.proofs.lemmas.List.{get_or-map}
 use Rattle.std.proofs.lemmas.List.Folds.{list_any_more}
@@ -15,7 +15,7 @@ use Rattle.sub_checker.specs.Checker.{CheckerValue, after_end, as_standing, at_f
 use Rattle.sub_checker.specs.Checker.{at_next, later_by, stands}
 use Rattle.sub_checker.specs.Steps.{ending_fault, fault_events, last_fault}
 use Rattle.sub_rules.specs.Events.{Standing, closing_events, content_events, covers, end_before}
-use Rattle.sub_rules.specs.Events.{end_events, events_at_end, first_header_events}
+use Rattle.sub_rules.specs.Events.{end_events, events_at_end, first_header_events, frame_events}
 use Rattle.sub_rules.specs.Events.{gap_events, gap_length, is_early, is_gap, is_incomplete, latest}
 use Rattle.sub_rules.specs.Events.{nothing_stands, order_events, packet_events, rest_events}
 use Rattle.sub_rules.specs.Events.{rule_events, standing_at, standing_before}

@@ -1,11 +1,12 @@
 -- What the checker tells of a PES file, and counts of it.
-use Rattle.std.specs.Prelude.{◌≡◌, ℕ, ◌+◌, ◌<◌, List, ◌++◌, length}
-use Rattle.std.specs.Prelude.{All}
+use Rattle.std.specs.Prelude.{◌≡◌, ℕ, ◌+◌, ◌<◌, ◌≤◌, List, [], ◌++◌, length}
+use Rattle.std.specs.Prelude.{All, None}
 use Rattle.std.specs.List.{AllByRecursion, AllZip, concat}
 use Rattle.ttx_packet.specs.PageId.{PageIdValue}
 use Rattle.ttx_pes.specs.PesPacket.{IsPesPacket, PesValue}
+use Rattle.ttx_pes.specs.Reading.{most_packets}
 use Rattle.sub_rules.specs.Events.{latest}
-use Rattle.sub_rules.specs.FrameRules.{frame_at, packets_before}
+use Rattle.sub_rules.specs.FrameRules.{Task, frame_at, packets_before}
 use Rattle.sub_rules.specs.PacketRules.{header_count}
 use Rattle.sub_rules.specs.PesFrames.{IsSentAs}
 use Rattle.sub_rules.specs.Transmission.{SentFrame, Transmission}

@@ -1,5 +1,5 @@
 -- What is trusted of the last run, and then what is told last: by PassingLemmas.
-use Rattle.std.proofs.Common.{◌<◌, ◌∙◌, ℕ, [], ◌∷◌, ap, map, subst, sym}
+use Rattle.std.proofs.Common.{◌≡◌, ◌<◌, ◌∙◌, ℕ, [], ◌∷◌, ap, map, subst, sym}
 use Rattle.std.proofs.lemmas.Result.{err_from_is_err_and}
 use Rattle.stl_file.specs.TimeCode.{day}
 use Rattle.sub_io.specs.Telling.{TellsPrefix, TellsSome}

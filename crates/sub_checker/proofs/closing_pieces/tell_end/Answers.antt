@@ -1,5 +1,5 @@
 -- What is told last, and then up to which piece a run goes.
-use Rattle.std.proofs.Common.{◌∙◌, ap, subst, List}
+use Rattle.std.proofs.Common.{◌∙◌, ap, subst, sym, List}
 use Rattle.std.proofs.lemmas.Result.{err_from_is_err_and}
 use Rattle.sub_io.proofs.TellingLemmas.{TellsPrefix-first, TellsUntilStopped-after}
 use Rattle.sub_io.specs.Telling.{TellsUntilStopped}
