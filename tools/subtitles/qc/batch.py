@@ -13,7 +13,7 @@ from . import collecting
 from .asked import Asked
 from .checking import NOT_JUDGED
 from .made_with import program_at
-from .objects import ENDING, Row, is_current, object_at, put, row_of, unjudged
+from .objects import ENDING, Row, found, is_current, object_at, put, row_of, unjudged
 from .pairs import Item, pairs_at
 from .progress import Progress
 from .typed import Typed
@@ -46,6 +46,7 @@ class Calls:
                    self.typed.program_path, *words_of(item.asked)]
         if os.path.lexists(path):
             os.unlink(path)
+        before = found(item.asked)
         try:
             with subprocess.Popen(command, stdin=subprocess.DEVNULL, stdout=subprocess.DEVNULL,
                                   stderr=subprocess.PIPE, encoding="utf-8", errors="replace",
@@ -55,6 +56,8 @@ class Calls:
                 self.running.discard(process)
         except OSError as error:
             return self.leave(item, line_of(error))
+        if found(item.asked) != before:
+            return self.leave(item, "a file was written to while it was judged")
         if os.path.exists(path):
             return row_of(object_at(path) or unjudged(item.name, "its object is none"), item.name)
         return self.leave(item, told[-1].partition(": ")[2] if told

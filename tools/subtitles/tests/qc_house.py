@@ -202,6 +202,18 @@ def rows_of_what_is_no_pair(case: Case) -> None:
         words in table.get(name, "") for name, words in wanted.items()), done)
 
 
+def judges_nothing_that_grows(case: Case) -> None:
+    """A recording that is written to while it is judged is a row with that reason."""
+    fill(case, "in", 1)
+    script = ("#!/bin/sh\n"
+              f"case $* in check*.cut.pes) echo >>'{case.path('in/1.pes')}' ;; esac\n"
+              f"exec '{case.bench.program}' \"$@\"\n")
+    os.chmod(case.write("program", script.encode()), 0o755)
+    done = case.tool("qc", "--batch", "in", "-o", "out", "-p", case.path("program"))
+    case.test("not judged", done.status == 2 and "written to while" in table_in(done)["1"], done)
+    case.test("its object", objects_in(case, "out")["1"]["verdict"] == "not judged")
+
+
 def judges_hostile_names(case: Case) -> None:
     """Names that a shell, a terminal, a page or a table would take for something else."""
     os.mkdir(case.path("in"))
@@ -308,5 +320,5 @@ def has_a_unit(case: Case) -> None:
 
 
 CASES = [goes_on_after_a_kill, writes_a_page_over_all, collects_objects,
-         takes_the_option_of_the_language, rows_of_what_is_no_pair, judges_hostile_names,
-         watches_a_folder, has_a_unit]
+         takes_the_option_of_the_language, rows_of_what_is_no_pair, judges_nothing_that_grows,
+         judges_hostile_names, watches_a_folder, has_a_unit]
