@@ -1,7 +1,8 @@
 -- What is due, and the next edge, by the first subtitle whose TCO is after a frame: due_is_shown,
 -- none_is_blank and next_edge-tci.
-use Rattle.std.proofs.Common.{rules, ◌≡◌, ℕ, suc, ◌<◌, ◌≤◌, Bool, false, List, [], ◌∷◌, Some, None}
-use Rattle.std.proofs.Common.{length, get_or, refl, sym, ap, ◌∙◌, arith, ◌⊎◌, inl, inr}
+use Rattle.std.proofs.Common.{rules, ◌≡◌, ◌≢◌, ℕ, zero, suc, ◌+◌, ◌-◌, ◌<◌, ◌≤◌, Bool, true, false}
+use Rattle.std.proofs.Common.{List, [], ◌∷◌, Option, Some, None, MatchOption, option_map, length}
+use Rattle.std.proofs.Common.{get_or, refl, sym, ap, ◌∙◌, arith, ◌⊎◌, inl, inr}
 use Rattle.std.proofs.lemmas.Bool.{cases_lt}
 use Rattle.std.proofs.lemmas.Bool.Decides.{nat_tests}
 use Rattle.std.proofs.lemmas.List.{get_or_default, get_or_read}
@@ -14,8 +15,9 @@ use Rattle.ttx_page.specs.Page.{Rows, blank}
 use Rattle.stl_file.specs.Subtitle.{SubtitleValue, IsSubtitle, empty_subtitle}
 use Rattle.stl_rows.specs.declared.national.National.{National}
 use Rattle.stl_rows.specs.DrawnPage.{drawn, subtitle_faults, lines, page_of_lines}
-use Rattle.stl_rows.specs.DuePage.{IsEdge, IsNextEdge, LawOfBlankPages, LawOfDueSubtitles}
-use Rattle.stl_rows.specs.DuePage.{LawOfEdges, drawn_or_blank, due, is_due}
+use Rattle.stl_rows.specs.DuePage.{IsEdge, IsLastEdge, IsNextEdge, LawOfBlankPages}
+use Rattle.stl_rows.specs.DuePage.{LawOfDueSubtitles, LawOfEdges, TellsLastEdge, drawn_or_blank}
+use Rattle.stl_rows.specs.DuePage.{due, ends_at, is_due, tci_of_ending}
 use Rattle.stl_rows.specs.Programme.{IsProgramme}
 
 -- ---- what is due
@@ -23,6 +25,13 @@ use Rattle.stl_rows.specs.Programme.{IsProgramme}
 -- A subtitle is not due before its TCI, nor from its TCO on.
 not_due : (f : ℕ) (t : SubtitleValue) → (f < t.tci) ⊎ (t.tco ≤ f) → is_due f t ≡ false
 not_due f t h = grind (arith, nat_tests)
+
+-- A subtitle with another TCO does not end at a frame; one with this TCO does.
+other_end : (f : ℕ) (t : SubtitleValue) → t.tco ≢ f → ends_at f t ≡ false
+other_end f t h = grind (arith, nat_tests)
+
+own_end : (f : ℕ) (t : SubtitleValue) → t.tco ≡ f → ends_at f t ≡ true
+own_end f t h = grind (arith, nat_tests)
 
 -- Where none is due the page is blank: for `law_of_blank_pages`.
 pub none_is_blank : LawOfBlankPages
@@ -42,6 +51,16 @@ due_is_shown n ts f t order member low high =
     (inr (omega (arith, low, rw member.2 at (order k member.0 t below member.1)))))
     (rw member.2 (grind (arith, nat_tests)))
     ∙ ap Some member.2)
+
+-- Where no subtitle has this TCO, none is found that ends there.
+pub none_ends : (ts : List SubtitleValue) (f : ℕ)
+    → ((k : ℕ) (d : SubtitleValue) → k < length ts → (get_or ts k d).tco ≢ f)
+    → None ≡ tci_of_ending ts f
+unfolding tci_of_ending
+none_ends ts f none =
+    sym (ap (option_map (λ (t : SubtitleValue). t.tci))
+    (found_nowhere (find (ends_at f)) (ends_at f) Some None refl (λ x xs. refl) ts empty_subtitle
+    (λ k b. other_end f (get_or ts k empty_subtitle) (none k empty_subtitle b))))
 
 -- Two tests that agree find the same. For edges_alone.
 find_same : {X : Type 0} (p q : X → Bool) (xs : List X)
@@ -124,6 +143,118 @@ module _ (n : National) (ts : List SubtitleValue) (f at : ℕ) (t : SubtitleValu
     after = ends_after;
     least = λ x edge after. omega (arith, later_edge x edge after, low, after);
   }
+
+  -- Where it does not end at the next frame, none does: for `tci_ending_at`.
+  pub none_ends-next : (g : ℕ) → f + 1 ≡ g → t.tco ≢ g → None ≡ tci_of_ending ts g
+  none_ends-next g next other = none_ends ts g (λ k d b.
+      let cases = placed (get_or ts k d) (Contains-get_or ts k d b) in
+      let times = (ok.each k d b).times in
+      let after = ends_after in
+      grind arith)
+
+  -- Where it does, it is the one that ends there: for `tci_ending_at`.
+  pub ends-next : (g : ℕ) → f + 1 ≡ g → t.tco ≡ g → Some t.tci ≡ tci_of_ending ts g
+  unfolding tci_of_ending
+  ends-next g next own =
+      sym (ap (option_map (λ (s : SubtitleValue). s.tci))
+      (found_at (find (ends_at g)) (ends_at g) Some None refl (λ x xs. refl) ts at t inside
+      (λ k below. other_end g (get_or ts k t) (omega (arith, first.before k t below)))
+      (rw (← is) (own_end g t own))
+      ∙ ap Some (sym is)))
+
+-- ---- the edges up to a frame
+
+module _ (n : National) (ts : List SubtitleValue) (f at : ℕ) (ok : IsProgramme n ts) where
+  -- An edge is the TCI or the TCO of a subtitle of the list, whose TCI is before its TCO.
+  times_of_edge : (x : ℕ) (edge : IsEdge ts x)
+      → (edge.1.tci < edge.1.tco) × ((x ≡ edge.1.tci) ⊎ (x ≡ edge.1.tco))
+  times_of_edge x edge =
+      ((All-contains IsSubtitle ts edge.1 ok.each (edge.0, edge.2, edge.3)).times, edge.4)
+
+  -- The TCI of the first subtitle after a frame, where that is not after it: for `edge_until`.
+  pub last_edge-tci : (t : SubtitleValue) → IsFirstAfter ts f at → at < length ts
+      → t ≡ get_or ts at t → t.tci ≤ f → IsLastEdge ts f t.tci
+  last_edge-tci t first inside is low = record {
+    is_edge = (at, t, inside, sym is, inl refl);
+    until = low;
+    greatest = λ x edge until. greatest x edge until;
+  }
+    where
+      greatest : (x : ℕ) → IsEdge ts x → x ≤ f → x ≤ t.tci
+      greatest x edge until =
+          let times = times_of_edge x edge in
+          let own : edge.0 ≡ at → t ≡ edge.1 = grind (arith, get_or_read) in
+          let same = get_or_read ts at t inside is edge.1 in
+          let there = edge.3 in
+          let before : edge.0 < at → edge.1.tco ≤ t.tci =
+          λ l. let order = ok.in_order edge.0 at edge.1 l inside in grind arith in
+          let after : at < edge.0 → f < edge.1.tci = grind (arith, get_or_read) in
+          grind (arith, nat_tests, cases_lt)
+
+  -- Where the first subtitle after a frame starts after it, so do those that follow.
+  pub starts_after : (t : SubtitleValue) → IsFirstAfter ts f at → at < length ts
+      → t ≡ get_or ts at t → f < t.tci
+      → (k : ℕ) (d : SubtitleValue)
+      → at ≤ k → k < length ts → f < (get_or ts k d).tci
+  starts_after t first inside is gap k d low high =
+      let own : t ≡ get_or ts at d = get_or_read ts at t inside is d in
+      let ends = first.after at d (omega arith) inside in
+      let later = ok.in_order at k d in
+      grind (arith, nat_tests, cases_lt)
+
+  -- The TCO before a gap, where there is one: for `edge_until`.
+  pub last_edge-gap : (o : Option ℕ) → at ≤ length ts
+      → ((k : ℕ) (d : SubtitleValue) → k < at → (get_or ts k d).tco ≤ f)
+      → ((k : ℕ) (d : SubtitleValue) → at ≤ k → k < length ts → f < (get_or ts k d).tci)
+      → MatchOption o (at ≡ 0)
+      (λ tco. (1 ≤ at) × ((d : SubtitleValue) → tco ≡ (get_or ts (at - 1) d).tco))
+      → TellsLastEdge ts f o
+  last_edge-gap None high before after none = λ x edge.
+      let times = times_of_edge x edge in
+      let there = edge.3 in
+      let later = after edge.0 edge.1 (omega (arith, none)) edge.2 in
+      grind arith
+  last_edge-gap (Some tco) high before after some =
+      let last = get_or ts (at - 1) empty_subtitle in
+      let inside : at - 1 < length ts = omega (arith, some.0, high) in
+      let member = Contains-get_or ts (at - 1) empty_subtitle inside in
+      record {
+        is_edge = (member.0, last, member.1, member.2, inr (some.1 empty_subtitle));
+        until = rw (some.1 empty_subtitle) (before (at - 1) empty_subtitle (omega (arith, some.0)));
+        greatest = λ x edge until. greatest x edge until;
+      }
+    where
+      greatest : (x : ℕ) → IsEdge ts x → x ≤ f → x ≤ tco
+      greatest x edge until =
+          let times = times_of_edge x edge in
+          let there = edge.3 in
+          let is = some.1 edge.1 in
+          let own : edge.0 ≡ at - 1 → tco ≡ edge.1.tco = λ e. grind arith in
+          let last = All-contains IsSubtitle ts (get_or ts (at - 1) edge.1) ok.each
+          (Contains-get_or ts (at - 1) edge.1 (omega (arith, some.0, high))) in
+          let ends = last.times in
+          let earlier : edge.0 < at - 1 → edge.1.tco ≤ (get_or ts (at - 1) edge.1).tci =
+          λ l.
+          let order = ok.in_order edge.0 (at - 1) edge.1 l (omega (arith, some.0, high)) in
+          grind arith in
+          let later : at ≤ edge.0 → f < edge.1.tci =
+          λ l. let behind = after edge.0 edge.1 l edge.2 in grind arith in
+          grind (arith, nat_tests, cases_lt)
+
+-- Where no edge lies between, the same page is due: for a checker that goes back from a frame.
+pub due_back : (n : National) (ts : List SubtitleValue) (f j : ℕ)
+    → j ≤ f
+    → ((e : ℕ) → IsEdge ts e → f < e + j → e ≤ f → ⊥)
+    → due n ts (f - j) ≡ due n ts f
+due_back n ts f zero within none = let here : f - 0 ≡ f = omega arith in rw here refl
+due_back n ts f (suc j) within none =
+    let here : due n ts (f - j) ≡ due n ts (f - j - 1) =
+    edges_alone n ts (f - j) (omega arith)
+    (λ edge. none (f - j) edge (omega arith) (omega arith)) in
+    let before =
+    due_back n ts f j (omega arith) (λ e edge after until. none e edge (omega arith) until) in
+    let same : f - suc j ≡ f - j - 1 = omega arith in
+    rw same (sym here ∙ before)
 
 -- The TCOs of a programme rise, so that a binary search finds one: for `first_after`.
 pub tco_rises : (n : National) (ts : List SubtitleValue)

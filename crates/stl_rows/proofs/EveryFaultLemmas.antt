@@ -1,8 +1,8 @@
 -- The first of all faults is the one that `load` tells; main lemmas: tells-first, none-told.
-use Rattle.std.proofs.Common.{rules, ◌≡◌, ℕ, List, ◌∷◌, ◌++◌, map, Option, Some, None, [], Result}
-use Rattle.std.proofs.Common.{Ok, Err, refl, ap, sym, ◌<◌, ◌≤◌, ◌⊎◌, Bool, true, false, arith, take}
+use Rattle.std.proofs.Common.{◌≡◌, ℕ, List, ◌∷◌, Option, Some, None, []}
+use Rattle.std.proofs.Common.{Err, refl, sym, ◌<◌, ◌≤◌, ◌⊎◌, Bool, true, false, arith, take}
 use Rattle.std.proofs.lemmas.Bool.Decides.{nat_tests}
-use Rattle.std.specs.Prelude.{◌↔◌, ◌≢◌, IsOk, is_some, option_map}
+use Rattle.std.specs.Prelude.{◌↔◌, ◌≢◌, is_some}
 use Rattle.std.specs.List.{filter}
 use Rattle.sub_io.specs.Telling.{KeepsFirst}
 use Rattle.sub_io.proofs.TellingLemmas.{first_is}

@@ -1,6 +1,6 @@
 -- The page that is due at a frame, and the edges at which it can change.
-use Rattle.std.specs.Prelude.{◌≡◌, ℕ, ◌-◌, ◌<◌, ◌≤◌, ◌⊎◌, Bool, ◌&&◌, List, Option, Some, None}
-use Rattle.std.specs.Prelude.{nat_lt, nat_le, All, Any, Contains}
+use Rattle.std.specs.Prelude.{◌≡◌, ℕ, ◌-◌, ◌<◌, ◌≤◌, ◌==◌, ◌⊎◌, Bool, ◌&&◌, List, Option, Some}
+use Rattle.std.specs.Prelude.{None, nat_lt, nat_le, option_map, All, Any, Contains}
 use Rattle.std.specs.List.{find}
 use Rattle.std.specs.Result.{result_unwrap_or}
 use Rattle.ttx_page.specs.Page.{Rows, blank, blank_row, row_at, IsPage}
@@ -23,6 +23,15 @@ drawn_or_blank national (Some t) = result_unwrap_or (drawn national t) blank
 unfoldable pub due : National → List SubtitleValue → ℕ → Rows
 due national records frame = drawn_or_blank national (find (is_due frame) records)
 
+-- The subtitle ends at a frame: the frame is its TCO.
+abbrev pub ends_at : ℕ → SubtitleValue → Bool
+ends_at frame t = t.tco == frame
+
+-- The TCI of the subtitle that ends at a frame; None where none does.
+-- Of subtitles in order no two end at one frame.
+unfoldable pub tci_of_ending : List SubtitleValue → ℕ → Option ℕ
+tci_of_ending records frame = option_map (λ t. t.tci) (find (ends_at frame) records)
+
 -- The frame is a TCI or a TCO.
 abbrev pub IsEdge : List SubtitleValue → ℕ → Type 0
 IsEdge records frame = Any (λ t. (frame ≡ t.tci) ⊎ (frame ≡ t.tco)) records
@@ -37,6 +46,17 @@ pub record IsNextEdge (records : List SubtitleValue) (frame edge : ℕ) : Type 0
 abbrev pub TellsNextEdge : List SubtitleValue → ℕ → Option ℕ → Type 0
 TellsNextEdge records frame None = (e : ℕ) → IsEdge records e → e ≤ frame
 TellsNextEdge records frame (Some edge) = IsNextEdge records frame edge
+
+-- The greatest edge up to a frame.
+pub record IsLastEdge (records : List SubtitleValue) (frame edge : ℕ) : Type 0 where
+  pub is_edge : IsEdge records edge
+  pub until : edge ≤ frame
+  pub greatest : (e : ℕ) → IsEdge records e → e ≤ frame → e ≤ edge
+
+-- The answer is the greatest edge up to a frame; None where each edge is after it.
+abbrev pub TellsLastEdge : List SubtitleValue → ℕ → Option ℕ → Type 0
+TellsLastEdge records frame None = (e : ℕ) → IsEdge records e → frame < e
+TellsLastEdge records frame (Some edge) = IsLastEdge records frame edge
 
 -- Of subtitles in order, one that is due at a frame is shown there. So it does not matter in which
 -- order they are tried.

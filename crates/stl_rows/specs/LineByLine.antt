@@ -1,6 +1,6 @@
 -- Lines put on a page one after another, as the code draws them, and what of a line its faults
 -- depend on. No public clause cites this.
-use Rattle.std.specs.Prelude.{◌≡◌, ℕ, ◌+◌, ◌-◌, ◌<◌, ◌≤◌, Bool, false, ◌&&◌, ◌||◌, List, [], ◌∷◌}
+use Rattle.std.specs.Prelude.{ℕ, ◌+◌, ◌-◌, ◌<◌, ◌≤◌, Bool, false, ◌&&◌, ◌||◌, List, [], ◌∷◌}
 use Rattle.std.specs.Prelude.{◌++◌, Option, Some, ◌==◌, nat_lt, if◌then◌else◌, length, map}
 use Rattle.std.specs.Prelude.{slice_set}
 use Rattle.std.specs.Option.{option_or}
@@ -14,7 +14,7 @@ use Rattle.stl_rows.specs.declared.text_code.TextCode.{TextCode}
 use Rattle.stl_rows.specs.declared.text_code.TextCode.TheVariants.{Cell, NoCell, NewLine, Refused}
 use Rattle.stl_rows.specs.declared.text_faults.OpenLine.{OpenLine}
 use Rattle.stl_rows.specs.TextCode.{fault_of, first_of, lines_of_codes}
-use Rattle.stl_rows.specs.Line.{columns, double_height, is_boxed, is_double, prepared, row_of}
+use Rattle.stl_rows.specs.Line.{columns, double_height, prepared, row_of}
 use Rattle.stl_rows.specs.Line.{start_box}
 use Rattle.stl_rows.specs.DrawnPage.{last_row, when}
 

@@ -1,11 +1,11 @@
 //! Programmes: subtitles in order, the page that is due at a frame, and the edges between pages.
 
-ghost use Rattle.std.specs.Prelude.{◌≡◌, ℕ, ◌<◌, ◌≤◌, ◌↔◌, [], IsTrue, length, slice_get};
-ghost use Rattle.std.specs.Prelude.{slice_index_or};
+ghost use Rattle.std.specs.Prelude.{◌≡◌, ℕ, ◌-◌, ◌<◌, ◌≤◌, ◌↔◌, [], IsTrue, MatchOption, length};
+ghost use Rattle.std.specs.Prelude.{slice_get, slice_index_or};
 ghost use Rattle.stl_file.specs.Subtitle.{SubtitleValue};
 ghost use Rattle.stl_rows.specs.DuePage.{due, LawOfBlankPages, LawOfDuePages, LawOfDueSubtitles};
 ghost use Rattle.stl_rows.specs.DuePage.{LawOfLastRow};
-ghost use Rattle.stl_rows.specs.DuePage.{LawOfEdges, TellsNextEdge};
+ghost use Rattle.stl_rows.specs.DuePage.{LawOfEdges, TellsLastEdge, TellsNextEdge, tci_of_ending};
 ghost use Rattle.stl_rows.specs.Programme.{IsProgramme, first_in, last_out};
 
 use crate::drawing::drawn_page;
@@ -78,6 +78,57 @@ fn edge_after(national: National, subtitles: &[Subtitle], frame: u32) -> Option<
     }
     let tco = subtitle.tco().frame();
     Some(tco)
+}
+
+// The TCO of the subtitle before a number; `None` where that is the first.
+fn tco_before(subtitles: &[Subtitle], at: usize) -> Option<u32>
+    requires { at ≤ length subtitles.now }
+    ensures { MatchOption result (at ≡ 0) (λ tco. (1 ≤ at) × ((d : SubtitleValue)
+        → tco ≡ (slice_index_or subtitles.now (at - 1) d).tco)) }
+{
+    if at == 0 {
+        return None;
+    }
+    let subtitle = &subtitles[at - 1];
+    let tco = subtitle.tco().frame();
+    Some(tco)
+}
+
+// The greatest edge up to a frame.
+fn edge_until(national: National, subtitles: &[Subtitle], frame: u32) -> Option<u32>
+    requires { IsProgramme national subtitles.now }
+    ensures { TellsLastEdge subtitles.now frame result }
+{
+    let at = first_after(national, subtitles, frame);
+    if at == subtitles.len() {
+        return tco_before(subtitles, at);
+    }
+    let subtitle = &subtitles[at];
+    let tci = subtitle.tci().frame();
+    if tci <= frame {
+        return Some(tci);
+    }
+    tco_before(subtitles, at)
+}
+
+// The TCI of the subtitle that ends at a frame.
+fn tci_ending_at(national: National, subtitles: &[Subtitle], frame: u32) -> Option<u32>
+    requires { IsProgramme national subtitles.now }
+    ensures { result ≡ tci_of_ending subtitles.now frame }
+{
+    if frame == 0 {
+        return None;
+    }
+    let at = first_after(national, subtitles, frame - 1);
+    if at == subtitles.len() {
+        return None;
+    }
+    let subtitle = &subtitles[at];
+    let tco = subtitle.tco().frame();
+    if tco != frame {
+        return None;
+    }
+    Some(subtitle.tci().frame())
 }
 
 impl Programme {
@@ -159,6 +210,26 @@ impl Programme {
         ensures programme { IsProgramme self.now.national self.now.records }
     {
         edge_after(self.national, self.subtitles.as_slice(), frame)
+    }
+
+    /// Finds the greatest TCI or TCO that is at or before a frame, by binary search.
+    ///
+    /// `None` where there is none. From it to the frame the same page is due.
+    pub fn last_edge(&self, frame: u32) -> Option<u32>
+        ensures value { TellsLastEdge self.now.records frame result }
+        ensures programme { IsProgramme self.now.national self.now.records }
+    {
+        edge_until(self.national, self.subtitles.as_slice(), frame)
+    }
+
+    /// Finds the subtitle whose TCO is a frame, by binary search, and gives its TCI.
+    ///
+    /// `None` where no subtitle ends there. No two do.
+    pub fn tci_of_ending(&self, frame: u32) -> Option<u32>
+        ensures value { result ≡ tci_of_ending self.now.records frame }
+        ensures programme { IsProgramme self.now.national self.now.records }
+    {
+        tci_ending_at(self.national, self.subtitles.as_slice(), frame)
     }
 }
 

@@ -9,3 +9,4 @@ pub mod PartLemmas
 pub mod ProgrammeLemmas
 pub mod ExampleHeaders
 pub mod LawLemmas
+pub mod ClockLemmas

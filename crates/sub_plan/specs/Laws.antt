@@ -1,5 +1,5 @@
 -- What a sending shows, and where the sendings of a schedule stand.
-use Rattle.std.specs.Prelude.{◌≡◌, ◌≢◌, ◌↔◌, ℕ, ◌+◌, ◌-◌, ◌%◌, ◌<◌, ◌≤◌, ◌⊎◌, Contains}
+use Rattle.std.specs.Prelude.{◌≡◌, ◌≢◌, ◌↔◌, ℕ, ◌+◌, ◌-◌, ◌%◌, ◌^◌, ◌<◌, ◌≤◌, ◌⊎◌, Contains}
 use Rattle.std.specs.Prelude.{All, Bool, List, ◌++◌, Some, length, take, IsTrue}
 use Rattle.std.specs.Prelude.{IsFalse}
 use Rattle.std.specs.List.{flat_map}
@@ -17,6 +17,7 @@ use Rattle.ttx_pes.specs.PesPacket.{IsPesValue}
 use Rattle.stl_rows.specs.declared.national.National.{National}
 use Rattle.stl_rows.specs.Programme.{IsProgramme, ProgrammeValue}
 use Rattle.stl_file.specs.TimeCode.{day}
+use Rattle.sub_plan.specs.FrameTime.{clock, pts_of}
 use Rattle.sub_plan.specs.Options.{IsOptions, IsWatchable, OptionsValue}
 use Rattle.sub_plan.specs.Schedule.{base, due_in, is_sending, sendings, pes_value, plan_frames}
 use Rattle.sub_plan.specs.Sending.{sending, watched_header}
@@ -170,3 +171,32 @@ LawOfDay =
     (programme : ProgrammeValue) (every : ℕ)
     → IsProgramme programme.national programme.records
     → All (λ frame. frame < day) (plan_frames programme every)
+
+-- ---- the frame of a PTS
+
+-- Each clock reads the PTS of a frame of the day as that frame.
+-- So a schedule is read as it was planned, within however many frames.
+abbrev pub LawOfClock : Type 0
+LawOfClock =
+    (within origin frame : ℕ)
+    → origin < 2 ^ 33
+    → frame < day
+    → clock within origin (pts_of origin frame) ≡ Some frame
+
+-- Where no frames are allowed, the frame of a PTS is the one of the day that has it.
+abbrev pub LawOfExactClock : Type 0
+LawOfExactClock =
+    (origin pts frame : ℕ)
+    → (clock 0 origin pts ≡ Some frame) ↔ ((frame < day) × (pts_of origin frame ≡ pts))
+
+-- Where frames are allowed, a PTS of 33 bits is read as the frame of the day whose own PTS it is at
+-- most 900 ticks before, or less than 2700 after.
+-- So neither a PTS a quarter of a frame early nor that of the second field is of another frame.
+abbrev pub LawOfNearClock : Type 0
+LawOfNearClock =
+    (within origin frame ticks : ℕ)
+    → origin < 2 ^ 33
+    → frame < day
+    → 1 ≤ within
+    → ticks < 3600
+    → clock within origin ((pts_of origin frame + (2 ^ 33 - 900) + ticks) % 2 ^ 33) ≡ Some frame

@@ -13,6 +13,9 @@ pub enum OptionFault {
     /// The PTS of frame 0 does not fit in 33 bits.
     #[error("the PTS of frame 0 is 2^33 or more")]
     Origin,
+    /// More than 50 frames, two seconds, are allowed.
+    #[error("the page is allowed more than 50 frames")]
+    Within,
 }
 
 /// Why a schedule is not written (own).

@@ -5,6 +5,7 @@ ghost use Rattle.sub_plan.specs.Examples.{ExampleOfClosingHeaders, ExampleOfWatc
 ghost use Rattle.sub_plan.specs.Laws.{LawOfDueSize};
 ghost use Rattle.sub_plan.specs.Laws.{LawOfCutSendings, LawOfDay, LawOfEqualPages, LawOfGaps};
 ghost use Rattle.sub_plan.specs.Laws.{LawOfLastSending, LawOfPesValues, LawOfSending};
+ghost use Rattle.sub_plan.specs.Laws.{LawOfClock, LawOfExactClock, LawOfNearClock};
 ghost use Rattle.sub_plan.specs.Laws.{LawOfSendings, LawOfSentPackets, LawOfSize};
 
 /// Whatever was sent before, a sending shows the page that it was made from.
@@ -60,6 +61,22 @@ pub fn law_of_pes_values()
 /// Each frame of a programme's schedule is a frame of the day.
 pub fn law_of_day()
     ensures { LawOfDay }
+{}
+
+/// Each clock reads the PTS of a frame of the day as that frame.
+pub fn law_of_clock()
+    ensures { LawOfClock }
+{}
+
+/// Where no frames are allowed, the frame of a PTS is the one that has it.
+pub fn law_of_exact_clock()
+    ensures { LawOfExactClock }
+{}
+
+/// Where frames are allowed, a PTS may be a quarter of a frame early or less than three quarters
+/// late.
+pub fn law_of_near_clock()
+    ensures { LawOfNearClock }
 {}
 
 /// The header of page 888 byte by byte, for both national options and in both modes.

@@ -18,9 +18,10 @@ mod sending;
 
 pub use fault::{OptionFault, PlanFault};
 pub use laws::{
-    example_of_closing_headers, example_of_watched_headers, law_of_cut_sendings, law_of_day,
-    law_of_due_size, law_of_equal_pages, law_of_gaps, law_of_last_sending, law_of_pes_values,
-    law_of_sending, law_of_sendings, law_of_sent_packets, law_of_size,
+    example_of_closing_headers, example_of_watched_headers, law_of_clock, law_of_cut_sendings,
+    law_of_day, law_of_due_size, law_of_equal_pages, law_of_exact_clock, law_of_gaps,
+    law_of_last_sending, law_of_near_clock, law_of_pes_values, law_of_sending, law_of_sendings,
+    law_of_sent_packets, law_of_size,
 };
 pub use options::Options;
 pub use scheduling::schedule;

@@ -1,8 +1,10 @@
-//! The options of a schedule: the page, the repeat bound, and the PTS of frame 0.
-ghost use Rattle.std.specs.Prelude.{◌≡◌, ℕ, ◌^◌, ◌<◌, ◌≤◌, ◌↔◌, ◌⊎◌, Some, Err, IfOk, false, true};
+//! The options of a schedule and of what is asked of one: the page, the repeat bound, the PTS of
+//! frame 0, and how late the page may be whole.
+ghost use Rattle.std.specs.Prelude.{◌≡◌, ◌≢◌, ℕ, ◌^◌, ◌<◌, ◌≤◌, ◌↔◌, ◌⊎◌, Some, Err};
+ghost use Rattle.std.specs.Prelude.{IfErr, IfOk, false, true};
 ghost use Rattle.stl_file.specs.TimeCode.{day};
-ghost use Rattle.sub_plan.specs.FrameTime.{pts_of};
-ghost use Rattle.sub_plan.specs.declared.fault.OptionFault.TheVariants.{Every, Origin};
+ghost use Rattle.sub_plan.specs.FrameTime.{clock_of, frame_of_pts, near_frame, pts_of};
+ghost use Rattle.sub_plan.specs.declared.fault.OptionFault.TheVariants.{Every, Origin, Within};
 
 use crate::fault::OptionFault;
 use std::marker::Model;
@@ -21,16 +23,23 @@ const FRAMES_OF_DAY: u64 = MOST_PACKETS as u64;
 /// The greatest repeat bound, in frames: a minute (own).
 const MOST_EVERY: u64 = 1500;
 
-/// The page on which subtitles are sent, how often they are repeated, the PTS of frame 0, and
-/// whether complete pages are asked for.
+/// The most frames within which the page may have to be whole: two seconds (own).
+const MOST_WITHIN: u64 = 50;
+
+/// Ticks by which a PTS may be before its frame, a quarter of one (own).
+const TICKS_EARLY: u64 = 900;
+
+/// The page on which subtitles are sent, how often they are repeated, the PTS of frame 0, whether
+/// complete pages are asked for, and within how many frames the page that is due has to be whole.
 ///
-/// Contracts see the four as an `OptionsValue`.
+/// Contracts see the five as an `OptionsValue`.
 #[derive(Clone, Copy, Debug, PartialEq, Eq)]
 pub struct Options {
     page: PageId,
     every: u64,
     origin: u64,
     asks_complete: bool,
+    within: u64,
 }
 
 impl Model for Options {
@@ -43,6 +52,7 @@ impl Model for Options {
       every = o.every;
       origin = o.origin;
       asks_complete = o.asks_complete;
+      within = o.within;
     } };
 
     ghost invariant = { λ o. IsOptions (record {
@@ -50,6 +60,7 @@ impl Model for Options {
       every = o.every;
       origin = o.origin;
       asks_complete = o.asks_complete;
+      within = o.within;
     }) };
 
     ghost inverse = { λ v. record {
@@ -57,6 +68,7 @@ impl Model for Options {
       every = v.every;
       origin = v.origin;
       asks_complete = v.asks_complete;
+      within = v.within;
     } };
 }
 
@@ -64,7 +76,7 @@ impl Options {
     ghost use Rattle.sub_plan.specs.Options.{IsOptions};
 
     /// The options of a page, a repeat bound and the PTS of frame 0. They don't ask for complete
-    /// pages.
+    /// pages, and the page that is due has to be whole at the end of each frame.
     ///
     /// `every` is in frames, 1 to 1500: in that many frames the page's header is sent at least once
     /// (own). `origin` is in ticks of 90 kHz, below 2^33 (EN 300 472, PTS).
@@ -79,11 +91,13 @@ impl Options {
               every = every;
               origin = origin;
               asks_complete = false;
+              within = 0;
             }) }
         ensures options { IfOk result IsOptions }
         ensures every { (result ≡ Err Every) ↔ ((every < 1) ⊎ (1500 < every)) }
         ensures origin { (result ≡ Err Origin)
             ↔ ((1 ≤ every) × (every ≤ 1500) × (2 ^ 33 ≤ origin)) }
+        ensures others { result ≢ Err Within }
     {
         if every < 1 || every > MOST_EVERY {
             return Err(OptionFault::Every);
@@ -98,6 +112,7 @@ impl Options {
             every,
             origin,
             asks_complete: false,
+            within: 0,
         })
     }
 
@@ -117,6 +132,35 @@ impl Options {
         ensures value { result ≡ self.now.asks_complete }
     {
         self.asks_complete
+    }
+
+    /// The same options, which allow the page that is due to be whole within so many frames, 0 to
+    /// 50, and not at the end of each one (own).
+    ///
+    /// # Errors
+    ///
+    /// `Within` for more frames than 50.
+    pub fn allowing(self, frames: u64) -> Result<Options, OptionFault>
+        ensures value { IfOk result (λ o. o ≡ record self { within = frames }) }
+        ensures options { IfOk result IsOptions }
+        ensures within { (result ≡ Err Within) ↔ (50 < frames) }
+        ensures others { IfErr result (λ fault. fault ≡ Within) }
+    {
+        if frames > MOST_WITHIN {
+            return Err(OptionFault::Within);
+        }
+        Ok(Options {
+            within: frames,
+            ..self
+        })
+    }
+
+    /// Within how many frames the page that is due has to be whole, 0 to 50.
+    pub fn within(&self) -> u64
+        ensures value { result ≡ self.now.within }
+        ensures options { IsOptions self.now }
+    {
+        self.within
     }
 
     /// The page that is sent.
@@ -153,18 +197,56 @@ impl Options {
         (self.origin + TICKS_PER_FRAME * u64::from(frame)) % PTS_END
     }
 
-    /// The frame of the day that has a PTS. `None` for a PTS that no frame has.
+    /// The frame of the day that a PTS is read as. `None` for a PTS that is that of no frame.
+    ///
+    /// Where the page has to be whole at the end of each frame, a PTS is that of the frame which has
+    /// it. Where frames are allowed (`allowing`), a PTS may be a quarter of a frame early, and two
+    /// fields are of one frame.
     pub fn frame_of(&self, pts: u64) -> Option<u32>
-        ensures { (frame : ℕ) → (result ≡ Some frame)
+        ensures value { result ≡ clock_of self.now pts }
+        // Where no frames are allowed, it is the frame that has this PTS.
+        ensures exact { self.now.within ≡ 0 → (frame : ℕ) → (result ≡ Some frame)
             ↔ ((frame < day) × (pts_of self.now.origin frame ≡ pts)) }
     {
-        if pts >= PTS_END {
-            return None;
+        if self.within == 0 {
+            exact_frame(self.origin, pts)
+        } else {
+            nearest_frame(self.origin, pts)
         }
-        let ticks = (pts + PTS_END - self.origin) % PTS_END;
-        if ticks % TICKS_PER_FRAME != 0 || ticks / TICKS_PER_FRAME >= FRAMES_OF_DAY {
-            return None;
-        }
-        Some((ticks / TICKS_PER_FRAME) as u32)
     }
+}
+
+// The frame of the day that has a PTS.
+fn exact_frame(origin: u64, pts: u64) -> Option<u32>
+    requires { origin < 2 ^ 33 }
+    ensures { result ≡ frame_of_pts origin pts }
+{
+    if pts >= PTS_END {
+        return None;
+    }
+    let ticks = (pts + (PTS_END - origin)) % PTS_END;
+    if ticks % TICKS_PER_FRAME != 0 {
+        return None;
+    }
+    let frame = ticks / TICKS_PER_FRAME;
+    if frame >= FRAMES_OF_DAY {
+        return None;
+    }
+    Some(frame as u32)
+}
+
+// The frame of the day whose ticks a PTS is in, each 900 earlier.
+fn nearest_frame(origin: u64, pts: u64) -> Option<u32>
+    requires { origin < 2 ^ 33 }
+    ensures { result ≡ near_frame origin pts }
+{
+    if pts >= PTS_END {
+        return None;
+    }
+    let ticks = (pts + (PTS_END - origin) + TICKS_EARLY) % PTS_END;
+    let frame = ticks / TICKS_PER_FRAME;
+    if frame >= FRAMES_OF_DAY {
+        return None;
+    }
+    Some(frame as u32)
 }

@@ -26,8 +26,9 @@ pub enum ReceiverKind {
 /// One run of a receiver over the PES packets of a file.
 #[derive(Drop)]
 pub struct Listening {
-    /// The page that the receiver is tuned to, the PTS of frame 0, and whether complete pages are
-    /// asked for. The repeat bound is not looked at.
+    /// The page that the receiver is tuned to, the PTS of frame 0, whether complete pages are asked
+    /// for, and whether frames are allowed, which is how PTS are read. The repeat bound is not
+    /// looked at.
     pub options: Options,
     /// TIME, as a frame of the day: the last frame that is heard.
     pub at: u32,

@@ -33,6 +33,9 @@ pub enum UsageFault {
     /// 83: the national option is neither english nor german.
     #[error("the national option is neither english nor german")]
     BadOption,
+    /// 85: the frames within which the page has to be whole are not 0 to 50.
+    #[error("the page is not allowed 0 to 50 frames")]
+    Within,
     /// 6: the time is not `HH:MM:SS:FF` of a day.
     #[error("the time is not HH:MM:SS:FF of a day")]
     BadTime,
@@ -71,6 +74,7 @@ impl UsageFault {
             UsageFault::Every => FaultCode::new(80, "Every"),
             UsageFault::Origin => FaultCode::new(81, "Origin"),
             UsageFault::BadOption => FaultCode::new(83, "BadOption"),
+            UsageFault::Within => FaultCode::new(85, "Within"),
             UsageFault::BadTime => FaultCode::new(6, "BadTime"),
             UsageFault::BadSkip => FaultCode::new(8, "BadSkip"),
             UsageFault::BadFlip => FaultCode::new(5, "BadFlip"),
@@ -126,8 +130,8 @@ pub enum Request<'a> {
         stl: &'a str,
         /// The name of the file of PES packets.
         pes: &'a str,
-        /// The page, the repeat bound, the PTS of frame 0, and whether complete pages are asked
-        /// for.
+        /// The page, the repeat bound, the PTS of frame 0, whether complete pages are asked for,
+        /// and within how many frames the page has to be whole.
         options: Options,
         /// The national option by which the text is read.
         national: National,

@@ -22,9 +22,9 @@ abbrev pub is_given : Text → List Row → Bool
 is_given id rows = bytes_eq (argument id rows) (codes "true")
 
 -- A number that is neither below nor above what is allowed.
-abbrev pub within : ℕ → ℕ → Option ℕ → Option ℕ
-within least most None = None
-within least most (Some n) = if nat_le least n && nat_le n most then Some n else None
+abbrev pub between : ℕ → ℕ → Option ℕ → Option ℕ
+between least most None = None
+between least most (Some n) = if nat_le least n && nat_le n most then Some n else None
 
 -- `[--page P] [--origin T] [--complete]`: the options of a repeat bound of 1 to 1500 frames, with a
 -- PTS of 33 bits; the first fault where a number is missing or out of range. Of a command that has
@@ -32,11 +32,23 @@ within least most (Some n) = if nat_le least n && nat_le n most then Some n else
 abbrev pub options_of : Option ℕ → List Row → Result OptionsValue UsageFault
 options_of every rows = do
   page ← ok_or (page_of_text (argument (codes "page") rows)) fault.BadPage
-  every ← ok_or (within 1 1500 every) fault.Every
-  origin ← ok_or (within 0 (2 ^ 33 - 1) (number_of_text (argument (codes "origin") rows)))
+  every ← ok_or (between 1 1500 every) fault.Every
+  origin ← ok_or (between 0 (2 ^ 33 - 1) (number_of_text (argument (codes "origin") rows)))
       fault.Origin
   let asked = is_given (codes "complete") rows in
-      Ok (record { page = page; every = every; origin = origin; asks_complete = asked })
+      Ok (record {
+        page = page;
+        every = every;
+        origin = origin;
+        asks_complete = asked;
+        within = 0;
+      })
+
+-- `[--within N]`: the options, where the page has to be whole within so many frames, 0 to 50.
+abbrev pub allowing_of : OptionsValue → List Row → Result OptionsValue UsageFault
+allowing_of options rows = do
+  frames ← ok_or (between 0 50 (number_of_text (argument (codes "within") rows))) fault.Within
+  Ok (record options { within = frames })
 
 -- The national option of a name.
 abbrev pub national_of_text : Text → Option National

@@ -37,13 +37,17 @@ clap_rule (argument.Option id value) = option_rule id.now value.now
 clap_rule (argument.BareOption id) = bare_option_rule id.now
 clap_rule (argument.Flag id) = flag_rule id.now
 
--- The arguments of a schedule that is written or checked, of which the last are flags.
-abbrev pub pair_rules : List Text → List Rule
-pair_rules flags =
+-- The arguments of a schedule that is written or checked, and then those of the one or the other.
+abbrev pub pair_rules : List Rule → List Rule
+pair_rules others =
     required_rule (codes "stl") ∷ required_rule (codes "pes")
     ∷ option_rule (codes "page") (codes "888") ∷ option_rule (codes "origin") (codes "0")
     ∷ option_rule (codes "every") (codes "250") ∷ option_rule (codes "option") (codes "english")
-    ∷ map flag_rule flags
+    ∷ others
+
+-- `[--within N]`
+abbrev pub within_rule : Rule
+within_rule = option_rule (codes "within") (codes "0")
 
 -- The commands, each with the rules of its arguments.
 abbrev pub commands : List (Text × List Rule)
@@ -57,16 +61,20 @@ commands =
     -- normal IN OUT
     ∷ (codes "normal", required_rule (codes "in") ∷ required_rule (codes "out") ∷ [])
     -- schedule STL PES [--page P] [--origin T] [--every N] [--option O] [--serial]
-    ∷ (codes "schedule", pair_rules (codes "serial" ∷ []))
-    -- check STL PES [--page P] [--origin T] [--every N] [--option O] [--complete] [--all]
-    ∷ (codes "check", pair_rules (codes "complete" ∷ codes "all" ∷ []))
-    -- listen PES [--page P] [--origin T] --at TIME [--skip N] [--flip F] [--lose L] [--receiver R]
-    -- [--complete]
+    ∷ (codes "schedule", pair_rules (flag_rule (codes "serial") ∷ []))
+    -- check STL PES [--page P] [--origin T] [--every N] [--option O] [--within N] [--complete]
+    -- [--all]
+    ∷ (
+      codes "check",
+      pair_rules (within_rule ∷ flag_rule (codes "complete") ∷ flag_rule (codes "all") ∷ []),
+    )
+    -- listen PES [--page P] [--origin T] [--within N] --at TIME [--skip N] [--flip F] [--lose L]
+    -- [--receiver R] [--complete]
     ∷ (
       codes "listen",
       required_rule (codes "pes") ∷ option_rule (codes "page") (codes "888")
-          ∷ option_rule (codes "origin") (codes "0") ∷ required_option_rule (codes "at")
-          ∷ option_rule (codes "skip") (codes "0") ∷ bare_option_rule (codes "flip")
+          ∷ option_rule (codes "origin") (codes "0") ∷ within_rule
+          ∷ required_option_rule (codes "at") ∷ option_rule (codes "skip") (codes "0") ∷ bare_option_rule (codes "flip")
           ∷ bare_option_rule (codes "lose") ∷ option_rule (codes "receiver") (codes "blank")
           ∷ flag_rule (codes "complete") ∷ [],
     )

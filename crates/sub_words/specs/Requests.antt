@@ -9,7 +9,8 @@ use Rattle.hex.specs.Hex.{decode_sized}
 use Rattle.sub_io.specs.Reading.{◌>>=◌}
 use Rattle.stl_rows.specs.declared.national.National.{National}
 use Rattle.sub_plan.specs.Options.{OptionsValue}
-use Rattle.sub_words.specs.Arguments.{argument, is_given, listed_of, national_of, options_of}
+use Rattle.sub_words.specs.Arguments.{allowing_of, argument, is_given, listed_of, national_of}
+use Rattle.sub_words.specs.Arguments.{options_of}
 use Rattle.sub_words.specs.Commands.{are_sound, command_in, clap_refusals}
 use Rattle.sub_words.specs.Texts.{flip_of_text, frame_of_text, is_same_byte, number_of_text}
 use Rattle.sub_words.specs.Texts.{receiver_of_text}
@@ -70,19 +71,22 @@ schedule_asked rows = do
   national ← national_of rows
   Ok (Schedule names.0 names.1 options (is_given (codes "serial") rows) national)
 
--- `check STL PES [--page P] [--every N] [--origin T] [--option O] [--complete] [--all]`
+-- `check STL PES [--page P] [--every N] [--origin T] [--option O] [--within N] [--complete]
+-- [--all]`
 abbrev pub check_asked : List Row → Result Asked UsageFault
 check_asked rows = do
-  options ← options_of (number_of_text (argument (codes "every") rows)) rows
+  plain ← options_of (number_of_text (argument (codes "every") rows)) rows
   national ← national_of rows
+  options ← allowing_of plain rows
   let all = is_given (codes "all") rows in
       Ok (Check (argument (codes "stl") rows) (argument (codes "pes") rows) options national all)
 
--- `listen PES [--page P] [--origin T] [--complete] --at TIME [--skip N] [--flip F] [--lose L]
--- [--receiver R]`: the repeat bound of the options is not looked at.
+-- `listen PES [--page P] [--origin T] [--within N] [--complete] --at TIME [--skip N] [--flip F]
+-- [--lose L] [--receiver R]`: the repeat bound of the options is not looked at.
 abbrev pub listen_asked : List Row → Result Asked UsageFault
 listen_asked rows = do
-  options ← options_of (Some 1) rows
+  plain ← options_of (Some 1) rows
+  options ← allowing_of plain rows
   at ← ok_or (frame_of_text (argument (codes "at") rows)) fault.BadTime
   skip ← ok_or (number_of_text (argument (codes "skip") rows)) fault.BadSkip
   flips ← ok_or (listed_of flip_of_text is_same_byte (codes "flip") rows) fault.BadFlip

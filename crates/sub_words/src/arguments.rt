@@ -1,7 +1,7 @@
 //! The arguments of a command, read one by one.
 ghost use Rattle.std.specs.Prelude.{◌≡◌, IfErr, IfOk, option_map};
 ghost use Rattle.clap.specs.Words.{first_of, found_of, rows_of};
-ghost use Rattle.sub_words.specs.Arguments.{argument, is_given, listed_of, options_of};
+ghost use Rattle.sub_words.specs.Arguments.{allowing_of, argument, is_given, listed_of, options_of};
 
 use crate::lists::{Item, parse_list};
 use crate::numbers::parse_number;
@@ -50,8 +50,35 @@ pub fn options_at<'a>(matches: &ArgMatches<'a>, every: Option<u64>) -> Result<Op
     match Options::new(page, every.unwrap_or(0), origin.unwrap_or(u64::MAX)) {
         Ok(options) if flag_at(matches, "complete") => Ok(options.asking_complete()),
         Ok(options) => Ok(options),
-        Err(OptionFault::Every) => Err(UsageFault::Every),
-        Err(OptionFault::Origin) => Err(UsageFault::Origin),
+        Err(fault) => Err(usage_fault_of(fault)),
+    }
+}
+
+/// The options, allowing as many frames as `--within` says. A number that is missing stands for one
+/// that is out of range.
+///
+/// # Errors
+///
+/// `Within` alone.
+pub fn allowing_at<'a>(matches: &ArgMatches<'a>, options: Options) -> Result<Options, UsageFault>
+    ensures { result ≡ allowing_of options (rows_of (found_of matches.now)) }
+{
+    let frames = parse_number(text_at(matches, "within"));
+    options
+        .allowing(frames.unwrap_or(u64::MAX))
+        .map_err(usage_fault_of)
+}
+
+// A fault of options, as one of the words.
+fn usage_fault_of(fault: OptionFault) -> UsageFault
+    ensures every { fault ≡ OptionFault.Every → result ≡ UsageFault.Every }
+    ensures origin { fault ≡ OptionFault.Origin → result ≡ UsageFault.Origin }
+    ensures within { fault ≡ OptionFault.Within → result ≡ UsageFault.Within }
+{
+    match fault {
+        OptionFault::Every => UsageFault::Every,
+        OptionFault::Origin => UsageFault::Origin,
+        OptionFault::Within => UsageFault::Within,
     }
 }
 

@@ -4,7 +4,7 @@ ghost use Rattle.sub_words.specs.Requests.{IsReadAs, IsReadExactly, asked_in, ch
 ghost use Rattle.sub_words.specs.Requests.{listen_asked, normal_asked, packet_asked};
 ghost use Rattle.sub_words.specs.Requests.{schedule_asked};
 
-use crate::arguments::{flag_at, list_at, options_at, text_at};
+use crate::arguments::{allowing_at, flag_at, list_at, options_at, text_at};
 use crate::numbers::parse_number;
 use crate::times::{parse_receiver, parse_time};
 use clap::ArgMatches;
@@ -86,14 +86,16 @@ fn read_schedule<'a>(matches: &ArgMatches<'a>) -> Result<Request<'a>, UsageFault
     })
 }
 
-// `check STL PES [--page P] [--every N] [--origin T] [--option O] [--complete] [--all]`
+// `check STL PES [--page P] [--every N] [--origin T] [--option O] [--within N] [--complete]
+// [--all]`
 fn read_check<'a>(matches: &ArgMatches<'a>) -> Result<Request<'a>, UsageFault>
     ensures { IsReadExactly (check_asked (rows_of (found_of matches.now))) result }
 {
-    let options = options_at(matches, parse_number(text_at(matches, "every")))?;
+    let plain = options_at(matches, parse_number(text_at(matches, "every")))?;
     let Some(national) = National::parse(text_at(matches, "option")) else {
         return Err(UsageFault::BadOption);
     };
+    let options = allowing_at(matches, plain)?;
     Ok(Request::Check {
         stl: text_at(matches, "stl"),
         pes: text_at(matches, "pes"),
@@ -103,13 +105,14 @@ fn read_check<'a>(matches: &ArgMatches<'a>) -> Result<Request<'a>, UsageFault>
     })
 }
 
-// `listen PES [--page P] [--origin T] [--complete] --at TIME [--skip N] [--flip F] [--lose L]
-// [--receiver R]`
+// `listen PES [--page P] [--origin T] [--within N] [--complete] --at TIME [--skip N] [--flip F]
+// [--lose L] [--receiver R]`
 fn read_listen<'a>(alloc: Global, matches: &ArgMatches<'a>) -> Result<Request<'a>, UsageFault>
     ensures { IsReadAs (listen_asked (rows_of (found_of matches.now))) result }
 {
     // The repeat bound is not looked at.
-    let options = options_at(matches, Some(1))?;
+    let plain = options_at(matches, Some(1))?;
+    let options = allowing_at(matches, plain)?;
     let Some(at) = parse_time(text_at(matches, "at")) else {
         return Err(UsageFault::BadTime);
     };

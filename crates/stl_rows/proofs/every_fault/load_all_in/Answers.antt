@@ -1,6 +1,6 @@
 -- What was told and what is left to be told, at each step of the loop and at each way out:
 -- goes_on-next, tells-end, tells-stop, fails-next.
-use Rattle.std.proofs.Common.{◌≡◌, ◌++◌, None, Ok, refl, rules, [], ◌∷◌, sym, map, arith}
+use Rattle.std.proofs.Common.{◌≡◌, ◌++◌, None, Ok, refl, rules, [], ◌∷◌, map, arith}
 use Rattle.std.proofs.Common.{drop, length-append}
 use Rattle.std.proofs.lemmas.Bool.Decides.{nat_tests}
 use Rattle.std.proofs.lemmas.Bool.{lt-ltb}

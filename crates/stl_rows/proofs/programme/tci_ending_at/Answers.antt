@@ -1,0 +1,27 @@
+-- The subtitle that ends at a frame is the first whose TCO is after the frame before.
+use Rattle.std.proofs.Common.{arith, rules, ◌-◌, ◌∙◌, ap, Some}
+use Rattle.stl_rows.proofs.DuePageLemmas.{ends-next, none_ends, none_ends-next}
+use Rattle.stl_rows.proofs.programme.tci_ending_at.Goals as goal
+
+pub returns-then-frame-eq0 : goal.returns-then-frame-eq0
+returns-then-frame-eq0 c = none_ends c.args.subtitles.now c.args.frame (λ k d b.
+    let times = (c.requires.each k d b).times in
+    omega (arith, times))
+
+pub returns-then-at-subtitles : goal.returns-then-at-subtitles
+returns-then-at-subtitles c = none_ends c.args.subtitles.now c.args.frame (λ k d b.
+    let before = c.first_after-at.ensures.before k d (omega (arith, b)) in
+    omega (arith, before))
+
+pub returns-then-tco-frame : goal.returns-then-tco-frame
+returns-then-tco-frame c =
+    none_ends-next c.args.national c.args.subtitles.now (c.args.frame - 1)
+    c.first_after-at.result c.index-subtitles-at.result c.requires (search rules) (omega arith)
+    c.index-subtitles-at.is c.args.frame (omega arith) (search rules)
+
+pub returns : goal.returns
+returns c =
+    ap Some (c.frame.ensures.value ∙ c.tci.ensures.value)
+    ∙ ends-next c.args.national c.args.subtitles.now (c.args.frame - 1)
+    c.first_after-at.result c.index-subtitles-at.result c.requires (search rules) (omega arith)
+    c.index-subtitles-at.is c.args.frame (omega arith) (search rules)

@@ -1,0 +1,133 @@
+-- The frame that a PTS is read as: frame_found, no_frame_found, and the laws of clocks.
+use Rattle.std.proofs.lemmas.Bool.Decides.{nat_tests}
+use Rattle.std.proofs.Common.{◌≡◌, ◌≢◌, ℕ, zero, suc, ◌+◌, ◌-◌, ◌/◌, ◌%◌, ◌^◌, ◌<◌}
+use Rattle.std.proofs.Common.{◌↔◌, Option, Some, None, refl, sym, ◌∙◌, arith, MatchOption}
+use Rattle.stl_file.specs.TimeCode.{day}
+use Rattle.sub_plan.specs.FrameTime.{clock, frame_below, frame_of_pts, near_frame, pts_of}
+use Rattle.sub_plan.specs.FrameTime.{ticks_since}
+use Rattle.sub_plan.specs.Laws.{LawOfClock, LawOfExactClock, LawOfNearClock}
+
+-- What is told of the frames below a number: the frame that is found has the PTS, or none has.
+pub found_below :
+    (origin pts n : ℕ) (r : Option ℕ)
+    → frame_below origin pts n ≡ r
+    → MatchOption r ((f : ℕ) → f < n → pts_of origin f ≢ pts)
+    (λ f. (f < n) × (pts_of origin f ≡ pts))
+unfolding frame_below
+found_below origin pts zero (Some f) e = cc
+found_below origin pts zero None e = λ f l. absurd (omega arith)
+found_below origin pts (suc n) (Some f) e =
+    let ih = found_below origin pts n (Some f) in grind (arith, nat_tests)
+found_below origin pts (suc n) None e =
+    let ih = found_below origin pts n None in grind (arith, nat_tests)
+
+-- Two frames of the day have two PTS.
+pub same_frame :
+    (origin f g : ℕ)
+    → f < day
+    → g < day
+    → pts_of origin f ≡ pts_of origin g
+    → f ≡ g
+same_frame origin f g in_day also e = omega (arith, in_day, also, e)
+
+-- The frame of the day that has a PTS is found.
+pub frame_found :
+    (origin pts frame : ℕ)
+    → frame < day
+    → pts_of origin frame ≡ pts
+    → frame_of_pts origin pts ≡ Some frame
+frame_found origin pts frame in_day e =
+    let same = same_frame origin frame in
+    grind (arith, nat_tests, found_below origin pts day (frame_of_pts origin pts))
+
+-- Where no frame of the day has a PTS, none is found.
+pub no_frame_found :
+    (origin pts : ℕ)
+    → ((frame : ℕ) → frame < day → pts_of origin frame ≢ pts)
+    → frame_of_pts origin pts ≡ None
+no_frame_found origin pts none =
+    let all = found_below origin pts day (frame_of_pts origin pts) refl in grind arith
+
+-- What a clock reads that allows frames.
+near_read :
+    (origin pts frame : ℕ)
+    → pts < 2 ^ 33
+    → frame < day
+    → ticks_since origin pts / 3600 ≡ frame
+    → near_frame origin pts ≡ Some frame
+unfolding near_frame
+near_read origin pts frame low in_day is = grind (arith, nat_tests)
+
+-- The ticks of a frame of the day since the first one, by those since its own first one.
+ticks_of :
+    (origin frame ticks pts : ℕ)
+    → origin < 2 ^ 33
+    → frame < day
+    → ticks < 3600
+    → pts ≡ (pts_of origin frame + (2 ^ 33 - 900) + ticks) % 2 ^ 33
+    → ticks_since origin pts / 3600 ≡ frame
+ticks_of origin frame ticks pts low in_day few is = omega (arith, low, in_day, few, is)
+
+-- For `law_of_near_clock`.
+pub law_of_near_clock : LawOfNearClock
+unfolding clock
+law_of_near_clock zero origin frame ticks low in_day some few = absurd (omega arith)
+law_of_near_clock (suc n) origin frame ticks low in_day some few =
+    near_read origin _ frame (omega arith) in_day
+    (ticks_of origin frame ticks _ low in_day few refl)
+
+-- For `law_of_clock`.
+pub law_of_clock : LawOfClock
+unfolding clock
+law_of_clock zero origin frame low in_day =
+    frame_found origin (pts_of origin frame) frame in_day refl
+law_of_clock (suc n) origin frame low in_day =
+    near_read origin (pts_of origin frame) frame (omega arith) in_day
+    (ticks_of origin frame 900 (pts_of origin frame) low in_day (omega arith) (omega arith))
+
+-- What is found is the frame of the day that has the PTS.
+pub exact_by :
+    (origin pts : ℕ) (r : Option ℕ)
+    → r ≡ frame_of_pts origin pts
+    → (frame : ℕ)
+    → (r ≡ Some frame) ↔ ((frame < day) × (pts_of origin frame ≡ pts))
+exact_by origin pts r is frame = (
+  λ found. found_below origin pts day (Some frame) (sym is ∙ found),
+  λ both. is ∙ frame_found origin pts frame both.0 both.1,
+)
+
+-- For `law_of_exact_clock`.
+pub law_of_exact_clock : LawOfExactClock
+unfolding clock
+law_of_exact_clock origin pts frame = exact_by origin pts (frame_of_pts origin pts) refl frame
+
+-- ---- for `Options::frame_of`
+
+-- No frame has the PTS.
+pub exact_none : (origin pts : ℕ)
+    → ((frame : ℕ) → frame < day → pts_of origin frame ≢ pts)
+    → None ≡ frame_of_pts origin pts
+exact_none origin pts none = sym (no_frame_found origin pts none)
+
+-- This frame has it.
+pub exact_read : (origin pts frame : ℕ)
+    → frame < day
+    → pts_of origin frame ≡ pts
+    → Some frame ≡ frame_of_pts origin pts
+exact_read origin pts frame in_day is = sym (frame_found origin pts frame in_day is)
+
+-- The clock where no frames are allowed.
+pub clock_exact : (within origin pts : ℕ)
+    → within ≡ 0
+    → frame_of_pts origin pts ≡ clock within origin pts
+unfolding clock
+clock_exact zero origin pts none = refl
+clock_exact (suc n) origin pts none = absurd (omega arith)
+
+-- The clock where frames are allowed.
+pub clock_near : (within origin pts : ℕ)
+    → within ≢ 0
+    → near_frame origin pts ≡ clock within origin pts
+unfolding clock
+clock_near zero origin pts some = absurd (some refl)
+clock_near (suc n) origin pts some = refl

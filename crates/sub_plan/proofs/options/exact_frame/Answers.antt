@@ -1,0 +1,19 @@
+-- The frame by the ticks since the PTS of frame 0, or that none has the PTS.
+use Rattle.std.proofs.Common.{arith}
+use Rattle.sub_plan.proofs.ClockLemmas.{exact_none, exact_read}
+use Rattle.sub_plan.proofs.options.exact_frame.Goals as goal
+
+pub returns-then-pts-ge-PTS_END : goal.returns-then-pts-ge-PTS_END
+returns-then-pts-ge-PTS_END c =
+    exact_none c.args.origin c.args.pts (λ frame in_day. omega arith)
+
+pub returns-then-ticks-ne0 : goal.returns-then-ticks-ne0
+returns-then-ticks-ne0 c =
+    exact_none c.args.origin c.args.pts (λ frame in_day. omega arith)
+
+pub returns-then-frame-ge-FRAMES_OF_DAY : goal.returns-then-frame-ge-FRAMES_OF_DAY
+returns-then-frame-ge-FRAMES_OF_DAY c =
+    exact_none c.args.origin c.args.pts (λ frame in_day. omega arith)
+
+pub returns : goal.returns
+returns c = exact_read c.args.origin c.args.pts _ (omega arith) (omega arith)
