@@ -5,4 +5,5 @@ pub mod PassedLemmas
 pub mod PassedRunLemmas
 pub mod RuleSetLemmas
 pub mod SentAgainLemmas
+pub mod UndueLemmas
 pub mod WrongCellLemmas

@@ -1,5 +1,5 @@
 -- What is told of the packets of a frame, one packet on: `told_one`, `told_part`; and where they
--- break no rule, `packet_events-none`.
+-- break no rule, `packets_told-none`.
 use Rattle.std.proofs.lemmas.Bool.Decides.{nat_tests}
 use Rattle.std.proofs.Common.{◌≡◌, ℕ, zero, suc, ◌+◌, ◌<◌, ◌≤◌, List, [], ◌++◌, map, take}
 use Rattle.std.proofs.Common.{◌∙◌, append-nil, arith, get_or, refl}
@@ -9,7 +9,7 @@ use Rattle.sub_io.specs.Telling.{Tells, TellsPrefix}
 use Rattle.sub_io.proofs.TellingLemmas.{Tells-trans, TellsPrefix-first, TellsPrefix-second}
 use Rattle.sub_rules.proofs.GrowingLists.{grows_to}
 use Rattle.sub_packets.proofs.RuleSetLemmas.{no_rules}
-use Rattle.sub_rules.specs.Events.{packet_events, packet_fault, rules_told}
+use Rattle.sub_rules.specs.Events.{packet_fault, packets_told, rules_told}
 use Rattle.sub_packets.specs.Listener.{BreakNone, rule_set}
 use Rattle.sub_rules.specs.PacketTests.{broken_rules, breaks, packet_rules}
 use Rattle.sub_rules.specs.declared.event.Event.{Event}
@@ -29,56 +29,56 @@ told_by-is :
 unfolding rules_told broken_rules
 told_by-is w frame k before p = refl
 
-module _ (w : Watched) (frame : ℕ) (before ps : List (List ℕ)) where
+module _ (w : Watched) (frame from : ℕ) (before ps : List (List ℕ)) where
   -- What is told of one packet more.
-  packet_events-more : (k : ℕ) (p : List ℕ) → get_or ps k [] ≡ p
-      → packet_events w frame before ps (k + 1)
-      ≡ packet_events w frame before ps k ++ told_by w frame k (before ++ take k ps) p
-  unfolding packet_events
-  packet_events-more k p e = grind (arith, nat_tests, told_by-is)
+  packets_told-more : (k : ℕ) (p : List ℕ) → get_or ps k [] ≡ p
+      → packets_told w frame from before ps (k + 1)
+      ≡ packets_told w frame from before ps k ++ told_by w frame (from + k) (before ++ take k ps) p
+  unfolding packets_told
+  packets_told-more k p e = grind (arith, nat_tests, told_by-is)
 
   -- Nothing is told of a packet that breaks no rule.
-  pub packet_events-passed : (k : ℕ)
+  pub packets_told-passed : (k : ℕ)
       → rule_set (λ r. breaks r w (before ++ take k ps) (get_or ps k [])) ≡ 0
-      → packet_events w frame before ps (k + 1) ≡ packet_events w frame before ps k
-  packet_events-passed k empty =
-      packet_events-more k (get_or ps k []) refl
+      → packets_told w frame from before ps (k + 1) ≡ packets_told w frame from before ps k
+  packets_told-passed k empty =
+      packets_told-more k (get_or ps k []) refl
       ∙ rw (no_rules (λ r. breaks r w (before ++ take k ps) (get_or ps k [])) empty)
-      (append-nil (packet_events w frame before ps k))
+      (append-nil (packets_told w frame from before ps k))
 
   -- What is told of some packets is a prefix of what is told of more.
-  packet_events-prefix : (n m : ℕ) → n ≤ m
-      → (rest : List Event) × (packet_events w frame before ps m
-      ≡ packet_events w frame before ps n ++ rest)
-  unfolding packet_events
-  packet_events-prefix n m l =
-      grows_to (packet_events w frame before ps)
-      (λ k. rules_told w frame k (before ++ take k ps) (get_or ps k [])) (λ k. refl) n m l
+  packets_told-prefix : (n m : ℕ) → n ≤ m
+      → (rest : List Event) × (packets_told w frame from before ps m
+      ≡ packets_told w frame from before ps n ++ rest)
+  unfolding packets_told
+  packets_told-prefix n m l =
+      grows_to (packets_told w frame from before ps)
+      (λ k. rules_told w frame (from + k) (before ++ take k ps) (get_or ps k [])) (λ k. refl) n m l
 
   -- Where they break no rule nothing is told.
-  pub packet_events-none : (n : ℕ) → BreakNone w before ps n
-      → packet_events w frame before ps n ≡ []
-  unfolding packet_events rules_told
-  packet_events-none zero clean = refl
-  packet_events-none (suc k) clean =
-      rw (packet_events-none k (λ j l. clean j (omega arith)), clean k (omega arith)) refl
+  pub packets_told-none : (n : ℕ) → BreakNone w before ps n
+      → packets_told w frame from before ps n ≡ []
+  unfolding packets_told rules_told
+  packets_told-none zero clean = refl
+  packets_told-none (suc k) clean =
+      rw (packets_told-none k (λ j l. clean j (omega arith)), clean k (omega arith)) refl
 
   module _ (k : ℕ) (p : List ℕ) {D : Type 0} {IsTold : D → Event → D → Type 0} (a b c : D)
       (at : get_or ps k [] ≡ p)
-      (told : Tells IsTold a b (packet_events w frame before ps k)) where
+      (told : Tells IsTold a b (packets_told w frame from before ps k)) where
     -- One packet more. For `hear_all`.
-    pub told_one : Tells IsTold b c (told_by w frame k (before ++ take k ps) p)
-        → Tells IsTold a c (packet_events w frame before ps (k + 1))
+    pub told_one : Tells IsTold b c (told_by w frame (from + k) (before ++ take k ps) p)
+        → Tells IsTold a c (packets_told w frame from before ps (k + 1))
     told_one more =
-        rw (packet_events-more k p at) (Tells-trans a b c _ _ told more)
+        rw (packets_told-more k p at) (Tells-trans a b c _ _ told more)
 
     -- A part of what is told of one more is a part of what is told of all. For `hear_all`.
     pub told_part : (n : ℕ) → k < n
-        → TellsPrefix IsTold b c (told_by w frame k (before ++ take k ps) p)
-        → TellsPrefix IsTold a c (packet_events w frame before ps n)
+        → TellsPrefix IsTold b c (told_by w frame (from + k) (before ++ take k ps) p)
+        → TellsPrefix IsTold a c (packets_told w frame from before ps n)
     told_part n l more =
-        let whole = packet_events-prefix (k + 1) n (omega arith) in
-        rw (whole.1, packet_events-more k p at)
+        let whole = packets_told-prefix (k + 1) n (omega arith) in
+        rw (whole.1, packets_told-more k p at)
         (TellsPrefix-first a c _ whole.0 (TellsPrefix-second a b c _ _ told more))
 
   -- One packet more breaks no rule. For `hear_all`.

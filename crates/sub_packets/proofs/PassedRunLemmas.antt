@@ -10,8 +10,8 @@ use Rattle.ttx_page.specs.PacketKind.{is_this_page, kind}
 use Rattle.sub_packets.specs.Listener.{BreakNone, IsAlwaysPassed, Knows, rule_set}
 use Rattle.sub_rules.specs.PacketTests.{breaks}
 use Rattle.sub_packets.specs.declared.listener.Listener.{Listener}
-use Rattle.sub_packets.proofs.PacketEventLemmas.{clean_one, packet_events-passed}
-use Rattle.sub_rules.specs.Events.{packet_events}
+use Rattle.sub_packets.proofs.PacketEventLemmas.{clean_one, packets_told-passed}
+use Rattle.sub_rules.specs.Events.{packets_told}
 use Rattle.sub_rules.specs.PacketRules.{header_count}
 use Rattle.sub_rules.specs.declared.packet_rule.Watched.{Watched}
 use Rattle.sub_rules.proofs.PacketLists.{header_count-push}
@@ -19,11 +19,11 @@ use Rattle.sub_rules.proofs.PacketLists.{header_count-push}
 -- What is known after the first n packets of a frame, sent after these, where nothing was told of
 -- the packets from a number on.
 pub record IsPassedTo
-    (w : Watched) (frame : ℕ) (heard ps : List (List ℕ)) (s : Listener) (from n : ℕ) : Type 0
+    (w : Watched) (frame from : ℕ) (heard ps : List (List ℕ)) (s : Listener) (start n : ℕ) : Type 0
   where
     pub knows : Knows (heard ++ take n ps) s
-    pub told : packet_events w frame heard ps n ≡ packet_events w frame heard ps from
-    pub clean : BreakNone w heard ps from → BreakNone w heard ps n
+    pub told : packets_told w frame from heard ps n ≡ packets_told w frame from heard ps start
+    pub clean : BreakNone w heard ps start → BreakNone w heard ps n
 
 -- A packet and those after it. For `hear_all`.
 pub passes_from : (a b : ℕ) (ps : List (List ℕ)) (s : Listener)
@@ -58,11 +58,11 @@ module _ (w : Watched) (ps : List (List ℕ)) (s : Listener) (same : s.watched �
       (grind (arith, nat_tests)) in
       ap (λ k. header_count w.page (take k ps)) (sym next) ∙ step
 
-  module _ (frame : ℕ) (heard : List (List ℕ)) where
+  module _ (frame from : ℕ) (heard : List (List ℕ)) where
     -- One packet more.
     passed_one : (k : ℕ) → k < length ps → IsAlwaysPassed (get_or ps k []) s
-        → IsPassedTo w frame heard ps s a k
-        → IsPassedTo w frame heard ps s a (k + 1)
+        → IsPassedTo w frame from heard ps s a k
+        → IsPassedTo w frame from heard ps s a (k + 1)
     passed_one k l passes before =
         let p = get_or ps k [] in
         let one = passes.passed (heard ++ take k ps) before.knows in
@@ -71,23 +71,24 @@ module _ (w : Watched) (ps : List (List ℕ)) (s : Listener) (same : s.watched �
         record {
           knows =
               rw (take_more ps k [] l, ← append_assoc heard (take k ps) (p ∷ [])) one.knows;
-          told = packet_events-passed w frame heard ps k breaks_none ∙ before.told;
-          clean = λ clean. clean_one w frame heard ps k p refl (before.clean clean) breaks_none;
+          told = packets_told-passed w frame from heard ps k breaks_none ∙ before.told;
+          clean =
+              λ clean. clean_one w frame from heard ps k p refl (before.clean clean) breaks_none;
         }
 
     passed_from : (n : ℕ) → n + a ≤ length ps
         → ((k : ℕ) → a ≤ k → k < n + a → IsAlwaysPassed (get_or ps k []) s)
         → Knows (heard ++ take a ps) s
-        → IsPassedTo w frame heard ps s a (n + a)
+        → IsPassedTo w frame from heard ps s a (n + a)
     passed_from zero l passes known =
         let none : a ≡ 0 + a = omega arith in
-        subst (IsPassedTo w frame heard ps s a) none
+        subst (IsPassedTo w frame from heard ps s a) none
         (record { knows = known; told = refl; clean = λ clean. clean })
     passed_from (suc n) l passes known =
         let before =
         passed_from n (omega arith) (λ k low high. passes k low (omega arith)) known in
         let next : n + a + 1 ≡ suc n + a = omega arith in
-        subst (IsPassedTo w frame heard ps s a) next
+        subst (IsPassedTo w frame from heard ps s a) next
         (passed_one (n + a) (omega arith) (passes (n + a) (omega arith) (omega arith)) before)
 
   module _ (b : ℕ) (low : a ≤ b) (high : b ≤ length ps)
@@ -100,9 +101,10 @@ module _ (w : Watched) (ps : List (List ℕ)) (s : Listener) (same : s.watched �
         (no_headers (b - a) (omega arith) (λ k l h. passes k l (omega arith)))
 
     -- For `hear_all`.
-    pub passed_run : (frame : ℕ) (heard : List (List ℕ)) → Knows (heard ++ take a ps) s
-        → IsPassedTo w frame heard ps s a b
-    passed_run frame heard known =
+    pub passed_run : (frame from : ℕ) (heard : List (List ℕ)) → Knows (heard ++ take a ps) s
+        → IsPassedTo w frame from heard ps s a b
+    passed_run frame from heard known =
         let to : b - a + a ≡ b = omega arith in
-        subst (IsPassedTo w frame heard ps s a) to
-        (passed_from frame heard (b - a) (omega arith) (λ k l h. passes k l (omega arith)) known)
+        subst (IsPassedTo w frame from heard ps s a) to
+        (passed_from frame from heard (b - a) (omega arith) (λ k l h. passes k l (omega arith))
+        known)

@@ -1,6 +1,6 @@
 -- What is kept is what is shown, `shown_is`; the first cell that shows another code, `wrong_is`.
 use Rattle.std.proofs.lemmas.Bool.Decides.{nat_tests}
-use Rattle.std.proofs.Common.{◌≡◌, ℕ, ◌+◌, ◌<◌, Bool, true, false}
+use Rattle.std.proofs.Common.{◌≡◌, ℕ, ◌+◌, ◌<◌, ◌==◌, Bool, true, false, not}
 use Rattle.std.proofs.Common.{List, Option, None, Some, MatchOption, option_map, unwrap_or}
 use Rattle.std.proofs.Common.{is_some, get_or, refl, sym, ap, arith}
 use Rattle.std.proofs.lemmas.List.{get_or-drop, get_or-replicate}
@@ -8,7 +8,7 @@ use Rattle.ttx_packet.specs.OneBit.{first_below}
 use Rattle.ttx_packet.proofs.OneBitLemmas.{first_below-at, first_below-none}
 use Rattle.ttx_packet.specs.Parity.{code_of}
 use Rattle.ttx_packet.specs.RowPacket.{text_byte}
-use Rattle.ttx_page.specs.Page.{DiffersFirst, IsCell, blank_row, cell, space}
+use Rattle.ttx_page.specs.Page.{DiffersFirst, IsCell, Rows, blank_row, cell, space}
 use Rattle.ttx_page.specs.Shown.{shown}
 use Rattle.sub_rules.proofs.CodesLemmas.{code_at}
 use Rattle.sub_rules.specs.Events.{first_cell, wrong_after}
@@ -71,6 +71,35 @@ module _ (test : ℕ → ℕ → Bool) where
       → first_cell test ≡ Some (row, column)
   first_cell-at row column is passes rows cells = grind (arith, nat_tests, first_cell-below)
 
+-- The first cell in which two pages differ is the first that passes a test, where exactly those
+-- pass it in which they do. For `wrong_is` and `undue_is`.
+pub first_difference :
+    (test : ℕ → ℕ → Bool) (a b : Rows) (o : Option (ℕ × ℕ))
+    → ((row column : ℕ)
+    → IsCell row column
+    → test row column ≡ not (cell a row column == cell b row column))
+    → MatchOption o
+    ((row column : ℕ) → IsCell row column → cell a row column ≡ cell b row column)
+    (λ place. DiffersFirst a b place.0 place.1)
+    → o ≡ first_cell test
+first_difference test a b None is same =
+    sym
+    (first_cell-none test
+    (λ row column at.
+    let here = is row column at in let equal = same row column at in grind (arith, nat_tests)))
+first_difference test a b (Some place) is d =
+    sym
+    (first_cell-at test place.0 place.1 d.is_cell
+    (let here = is place.0 place.1 d.is_cell in
+    let other = d.differ in grind (arith, nat_tests))
+    (λ r c at less.
+    let here = is r c at in
+    let above = ap (λ xs. get_or xs c 0) (d.rows_above r at.0 less) in grind (arith, nat_tests))
+    (λ c less.
+    let cell_is = d.is_cell in
+    let here = is place.0 c (cell_is.0, cell_is.1, omega (arith, less, cell_is.2)) in
+    let before = d.cells_before c less in grind (arith, nat_tests)))
+
 -- ---- the first cell that shows another code
 
 -- A comparison of two pages finds it, where the one holds what is shown. For `first_wrong`.
@@ -84,17 +113,7 @@ pub wrong_is :
     (λ place. DiffersFirst s.comparison.page s.comparison.due place.0 place.1)
     → o ≡ wrong_after s.watched.page heard s.comparison.due
 unfolding wrong_after
-wrong_is heard s None known same = grind (arith, nat_tests, first_cell-none, shown_is)
-wrong_is heard s (Some place) known d =
-    let kept = shown_is heard s known in
-    sym
-    (first_cell-at _ place.0 place.1 d.is_cell
-    (let here = kept place.0 place.1 d.is_cell in
-    let other = d.differ in grind (arith, nat_tests))
-    (λ r c is less.
-    let here = kept r c is in
-    let above = ap (λ xs. get_or xs c 0) (d.rows_above r is.0 less) in grind (arith, nat_tests))
-    (λ c less.
-    let cell_is = d.is_cell in
-    let here = kept place.0 c (cell_is.0, cell_is.1, omega (arith, less, cell_is.2)) in
-    let before = d.cells_before c less in grind (arith, nat_tests)))
+wrong_is heard s o known found =
+    first_difference _ s.comparison.page s.comparison.due o
+    (λ row column is. let kept = shown_is heard s known row column is in rw kept refl)
+    found

@@ -1,3 +1,4 @@
 pub mod Comparison
 pub mod Listener
 pub mod SentAgain
+pub mod Undue

@@ -102,6 +102,13 @@ impl Comparison {
         is_zero(self.wrong)
     }
 
+    /// The page that is shown.
+    pub(crate) fn shown(&self) -> &Page
+        ensures { result.now ≡ self.now.page }
+    {
+        &self.page
+    }
+
     /// The first cell that differs from the due page, found by the count where there is one.
     #[tactic(auto, using(ttx_page::proofs::DifferingLemmas::cells_same))]
     pub(crate) fn first_wrong(&self) -> Option<(u8, u8)>

@@ -6,17 +6,19 @@
 //!
 //! ```text
 //! let mut listener = Listener::new(watched, due);
-//! listener.hear_sending(&units, false, 250, &mut audience)?; // 2 headers of the page
+//! listener.hear_sending(&units, false, 250, 0, &mut audience)?; // 2 headers of the page
 //! listener.first_wrong(); // Some((22, 7))
 //! ```
 #![tactic(auto)]
 
 mod comparison;
+mod last_heard;
 mod laws;
 mod listener;
 mod packet_rules;
 mod rule_set;
 mod telling;
+mod undue;
 
 pub use comparison::Comparison;
 pub use laws::law_of_sent_again;

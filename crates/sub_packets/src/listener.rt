@@ -15,12 +15,13 @@ ghost use Rattle.ttx_page.specs.Page.{AreCodes, IsPage, IsRow, blank, row_at};
 ghost use Rattle.ttx_page.specs.PacketKind.{is_this_page, kind};
 ghost use Rattle.ttx_page.specs.Span.{is_open_after};
 ghost use Rattle.ttx_pes.specs.PesPacket.{most_units};
-ghost use Rattle.sub_rules.specs.Events.{packet_events, wrong_after};
+ghost use Rattle.sub_rules.specs.Events.{packets_told, wrong_after};
 ghost use Rattle.sub_rules.specs.PacketRules.{codes_of, header_count, packets_of_units};
 ghost use Rattle.sub_rules.specs.Events.{packet_fault};
 ghost use Rattle.sub_rules.specs.PacketTests.{breaks, is_of_enhancement, packet_rules};
 
 use crate::comparison::Comparison;
+use crate::last_heard::{begins_with, counted, last_headers, stays_clean};
 use crate::packet_rules::{
     first_serial, has_even_byte, has_wrong_address, has_wrong_codes, is_enhancement, is_of_mode,
     is_other_mode, is_serial, is_subtitle_header, text_codes,
@@ -116,8 +117,9 @@ impl Listener {
         self.comparison.first_wrong()
     }
 
-    /// Hears the packets of a frame, tells which rules they break, and says how many headers of the
-    /// page are among them. `again` says that they are those heard last.
+    /// Hears packets of a frame, tells which rules they break, and says how many headers of the
+    /// page are among them. `again` says that they are those heard last. `from` is the number of
+    /// the first of them in its frame: 0, but after PES packets of the same frame.
     ///
     /// Packets that begin with a header of the page and broke no rule break none again, and leave
     /// what is kept as it is: no packet is looked at.
@@ -131,9 +133,11 @@ impl Listener {
         units: &SentUnits<'_>,
         again: bool,
         frame: u32,
+        from: u32,
         audience: &mut A,
     ) -> Result<u8, Stopped>
         requires few { length units.now ≤ most_units }
+        requires from { from + most_units ≤ u32.MAX }
         requires goes_on { A.has_stopped audience.old ≡ false }
         ensures watched { self.new.watched ≡ self.old.watched }
         ensures due { self.new.comparison.due ≡ self.old.comparison.due }
@@ -145,10 +149,10 @@ impl Listener {
             (packets_of_units units.now) self.new
             × (headers ≡ header_count self.old.watched.page (packets_of_units units.now))
             × Tells A.is_told audience.old audience.new
-            (packet_events self.old.watched frame heard (packets_of_units units.now)
+            (packets_told self.old.watched frame from heard (packets_of_units units.now)
             (length (packets_of_units units.now))))
             (λ _. TellsPrefix A.is_told audience.old audience.new
-            (packet_events self.old.watched frame heard (packets_of_units units.now)
+            (packets_told self.old.watched frame from heard (packets_of_units units.now)
             (length (packets_of_units units.now)))) }
     {
         if again {
@@ -156,18 +160,20 @@ impl Listener {
                 return Ok(headers);
             }
         }
-        self.hear_all(units, frame, audience)
+        self.hear_all(units, frame, from, audience)
     }
 
-    // Hears the packets of a frame, and tells which rules they break.
+    // Hears packets of a frame, and tells which rules they break.
     #[tactic(auto, using(sub_io::proofs::TellingLemmas::some))]
     fn hear_all<A: Audience<Event>>(
         &mut self,
         units: &SentUnits<'_>,
         frame: u32,
+        from: u32,
         audience: &mut A,
     ) -> Result<u8, Stopped>
         requires few { length units.now ≤ most_units }
+        requires from { from + most_units ≤ u32.MAX }
         requires goes_on { A.has_stopped audience.old ≡ false }
         ensures watched { self.new.watched ≡ self.old.watched }
         ensures due { self.new.comparison.due ≡ self.old.comparison.due }
@@ -178,10 +184,10 @@ impl Listener {
             (packets_of_units units.now) self.new
             × (headers ≡ header_count self.old.watched.page (packets_of_units units.now))
             × Tells A.is_told audience.old audience.new
-            (packet_events self.old.watched frame heard (packets_of_units units.now)
+            (packets_told self.old.watched frame from heard (packets_of_units units.now)
             (length (packets_of_units units.now))))
             (λ _. TellsPrefix A.is_told audience.old audience.new
-            (packet_events self.old.watched frame heard (packets_of_units units.now)
+            (packets_told self.old.watched frame from heard (packets_of_units units.now)
             (length (packets_of_units units.now)))) }
     {
         let mut headers = 0;
@@ -193,7 +199,7 @@ impl Listener {
             if self.is_passed(self.is_open, &sent) {
                 k = self.next_heard(units, k + 1);
             } else {
-                let heard = self.judge(&sent.packet(), frame, k as u32, audience)?;
+                let heard = self.judge(&sent.packet(), frame, from + k as u32, audience)?;
                 begins = begins_with(begins, k, heard.is_header);
                 headers = counted(headers, heard.is_header);
                 is_clean = stays_clean(is_clean, heard.is_clean);
@@ -471,38 +477,5 @@ impl Listener {
     {
         self.sent[row as usize - 1] = true;
         self.comparison.set_row(row, codes);
-    }
-}
-
-// One header more, or none.
-fn counted(headers: u8, is_header: bool) -> u8
-    requires { headers < most_units }
-    ensures { result ≡ headers + (if is_header then 1 else 0) }
-{
-    if is_header { headers + 1 } else { headers }
-}
-
-// Whether the first packet is a header, at packet `k` on.
-fn begins_with(begins: bool, k: usize, is_header: bool) -> bool
-    ensures { result ≡ (if k == 0 then is_header else begins) }
-{
-    if k == 0 { is_header } else { begins }
-}
-
-// Whether no rule was broken, at a packet that breaks none or some.
-fn stays_clean(is_clean: bool, breaks_none: bool) -> bool
-    ensures { result ≡ (is_clean && breaks_none) }
-{
-    is_clean && breaks_none
-}
-
-// How many headers there are, where the first packet is one and none breaks a rule.
-fn last_headers(begins: bool, is_clean: bool, headers: u8) -> Option<u8>
-    ensures { result ≡ (if begins && is_clean then Some headers else None) }
-{
-    if begins && is_clean {
-        Some(headers)
-    } else {
-        None
     }
 }

@@ -2,13 +2,16 @@ pub mod AnyToldLemmas
 pub mod CodeWordLemmas
 pub mod CodesLemmas
 pub mod EndLemmas
+pub mod FirstFrameLemmas
 pub mod FrameLists
 pub mod GrowingLists
+pub mod JoinedLemmas
 pub mod PacketLists
 pub mod PesReadingLemmas
 pub mod PieceEventLemmas
 pub mod PieceFileLemmas
 pub mod PrefixEventLemmas
+pub mod RunFrameLemmas
 pub mod RunLemmas
 pub mod TestLemmas
 pub mod TrustedLemmas

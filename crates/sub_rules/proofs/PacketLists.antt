@@ -23,6 +23,12 @@ module _ {X : Type 0} where
   Each-push P [] x h p = (p, tt)
   Each-push P (y ∷ ys) x h p = (h.0, Each-push P ys x h.1 p)
 
+  -- What holds of each item of two lists.
+  pub Each-append : (P : X → Type 0) (xs ys : List X) → AllByRecursion P xs → AllByRecursion P ys
+      → AllByRecursion P (xs ++ ys)
+  Each-append P [] ys h k = k
+  Each-append P (x ∷ xs) ys h k = (h.0, Each-append P xs ys h.1 k)
+
   -- What follows of each item.
   pub Each-map : (P Q : X → Type 0) → ((x : X) → P x → Q x) → (xs : List X) → AllByRecursion P xs
       → AllByRecursion Q xs

@@ -1,10 +1,10 @@
 -- Of a PES file that is read on the refusal is told first that is told where reading stops at the
 -- first piece that is passed over. Main lemma: first_told_is.
-use Rattle.std.proofs.Common.{◌≡◌, ℕ, suc, ◌+◌, ◌&&◌, ◌||◌, Bool, not, List, [], ◌∷◌, ◌++◌, length}
+use Rattle.std.proofs.Common.{◌≡◌, ℕ, suc, ◌+◌, ◌||◌, Bool, not, List, [], ◌∷◌, ◌++◌, length}
 use Rattle.std.proofs.Common.{map, Option, Some, None, refl, sym, ap, ◌∙◌, arith, append_assoc}
 use Rattle.std.proofs.Common.{length-append}
 use Rattle.std.proofs.lemmas.Bool.Decides.{nat_tests}
-use Rattle.std.proofs.lemmas.List.{append-nil, map-append}
+use Rattle.std.proofs.lemmas.List.{append-nil}
 use Rattle.std.specs.Prelude.{option_map}
 use Rattle.sub_rules.specs.Events.{Standing, closing_events, end_events, endings, events}
 use Rattle.sub_rules.specs.Events.{events_of_first, first_told, frame_events}
@@ -12,7 +12,7 @@ use Rattle.sub_rules.specs.Events.{unread_fault}
 use Rattle.sub_rules.specs.Fault.{fault_at_pes}
 use Rattle.sub_rules.specs.FrameRules.{Task, Unread}
 use Rattle.sub_rules.specs.PieceEvents.{LawOfFirstTold, all_announced, announced}
-use Rattle.sub_rules.specs.PieceEvents.{closing_of_pieces, ended_run, joins, marks_of_each, no_run}
+use Rattle.sub_rules.specs.PieceEvents.{closing_of_pieces, ended_run, joins, no_run}
 use Rattle.sub_rules.specs.PieceEvents.{passed_after, passed_after_all, until_passed}
 use Rattle.sub_rules.specs.Pieces.{Piece, frames_of, read_until_passed}
 use Rattle.sub_rules.specs.Pieces.Piece.{Passed, Sent}
@@ -52,11 +52,11 @@ first_of_two (Trusted from to ∷ xs) ys = first_of_two xs ys
 first_of_two (PassedUntil f ∷ xs) ys = first_of_two xs ys
 
 -- Before what is told of frames that may be trusted, and of runs of pieces.
-trusted_first : (run d : Option ℕ) → first_told (trusted_before run d) ≡ None
-trusted_first run d = grind (arith, nat_tests)
+trusted_first : (run whole d : Option ℕ) → first_told (trusted_before run whole d) ≡ None
+trusted_first run whole d = grind (arith, nat_tests)
 
-last_first : (run : Option ℕ) (f : ℕ) → first_told (trusted run f) ≡ None
-last_first run f = grind (arith, nat_tests)
+last_first : (run whole : Option ℕ) (f : ℕ) → first_told (trusted run whole f) ≡ None
+last_first run whole f = grind (arith, nat_tests)
 
 -- What is trusted changes nothing.
 pub with_run_first : (last : ℕ) (run : Option ℕ) (es : List Event)
@@ -64,7 +64,7 @@ pub with_run_first : (last : ℕ) (run : Option ℕ) (es : List Event)
 unfolding with_run
 with_run_first last run [] = refl
 with_run_first last run (e ∷ es) =
-    let rest = with_run_first last (kept run (doubted last e)) es in
+    let rest = with_run_first last (kept run (doubted last None e)) es in
     grind (arith, nat_tests, first_of_two, trusted_first)
 
 -- Nor does up to which piece a run goes, where none was passed over before.
@@ -175,12 +175,12 @@ last_of_first : (g : Task) (frames : Transmission) (run : Option ℕ) (any : Boo
     → first_told (last_of_run g frames run any) ≡ None
 unfolding last_of_run
 last_of_first g frames run any =
-    let trusted_none = last_first run in grind (arith, nat_tests)
+    let trusted_none = last_first run run in grind (arith, nat_tests)
 
 -- The refusal that is told first: the law.
 pub first_told_is : LawOfFirstTold
 unfolding all_in_runs told_in_runs events events_of_first
-first_told_is g pieces =
+first_told_is g pieces none =
     let frames = frames_of pieces in
     let stop = read_until_passed pieces g.unread in
     let h : Task = until_passed g pieces in
@@ -188,7 +188,7 @@ first_told_is g pieces =
     let closing = closing_told g frames (length pieces) (length frames) in
     let any = not (tells_none each) || not (tells_none closing) in
     let last = last_of_run g frames (run_after_each g frames 0 None pieces) any in
-    ap first_told (all_are g pieces)
+    ap first_told (all_are g pieces none)
     ∙ first_of_two (all_announced no_run (each ++ last ++ closing)) _
     ∙ ap (or_else (first_told (all_announced no_run (each ++ last ++ closing)))) (ended_first _)
     ∙ or_else_none _
@@ -220,28 +220,3 @@ unfolding all_announced passed_after_all
 all_announced-append run [] ys = refl
 all_announced-append run (x ∷ xs) ys =
     grind (arith, nat_tests, append_assoc, all_announced-append (passed_after run x) xs ys)
-
--- ---- pieces, and then more of them
-
--- The frames of the one and of the other.
-pub frames_of-append : (xs ys : List Piece) → frames_of (xs ++ ys) ≡ frames_of xs ++ frames_of ys
-unfolding frames_of
-frames_of-append [] ys = refl
-frames_of-append (Sent s ∷ xs) ys = ap (λ (fs : Transmission). s ∷ fs) (frames_of-append xs ys)
-frames_of-append (Passed u ∷ xs) ys = frames_of-append xs ys
-
--- What comes of the one, and then of the other.
-pub marks_of_each-append : (g : Task) (frames : Transmission) (pes n i k : ℕ) (xs ys : List Piece)
-    → n ≡ pes + length xs
-    → k ≡ i + length (frames_of xs)
-    → marks_of_each g frames pes i (xs ++ ys)
-    ≡ marks_of_each g frames pes i xs ++ marks_of_each g frames n k ys
-unfolding marks_of_each frames_of
-marks_of_each-append g frames pes n i k [] ys d e = grind (arith, nat_tests)
-marks_of_each-append g frames pes n i k (Sent s ∷ xs) ys d e =
-    let rest = marks_of_each-append g frames (suc pes) n (suc i) k xs ys (omega arith)
-    (omega arith) in
-    grind (arith, nat_tests, append_assoc)
-marks_of_each-append g frames pes n i k (Passed u ∷ xs) ys d e =
-    let rest = marks_of_each-append g frames (suc pes) n i k xs ys (omega arith) e in
-    grind (arith, nat_tests, append_assoc)

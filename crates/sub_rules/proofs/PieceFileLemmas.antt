@@ -1,10 +1,10 @@
--- The frame of a PTS: `frame_found`; one piece read, in terms of the value of the whole file:
+-- The frame of a PTS: `clock_in_day`; one piece read, in terms of the value of the whole file:
 -- `reads_sent`, `reads_off`, `reads_bad`, `pieces_end`; and a file up to the first piece that is
 -- passed over, one PES packet on: `file_at-next`.
 use Rattle.std.proofs.lemmas.Bool.Decides.{nat_tests}
 use Rattle.std.proofs.Common.{◌≡◌, ◌≢◌, ℕ, zero, suc, ◌+◌, ◌<◌, ◌≤◌, true, false, List, []}
 use Rattle.std.proofs.Common.{◌∷◌, ◌++◌, length-append, Option, Some, None, Result, Ok, Err, refl}
-use Rattle.std.proofs.Common.{sym, ap, ◌∙◌, arith, cond, MatchOption}
+use Rattle.std.proofs.Common.{sym, ap, ◌∙◌, arith, cond}
 use Rattle.std.proofs.KnownBytes.{Consumes-nil, Consumes-trans}
 use Rattle.std.proofs.lemmas.List.{append-nil}
 use Rattle.std.proofs.lemmas.List.Folds.{concat-append}
@@ -20,49 +20,30 @@ use Rattle.ttx_pes.specs.Reading.{answer_at, most_packets, rest_after}
 use Rattle.ttx_pes.specs.SentUnits.{packets_of_units}
 use Rattle.ttx_pes.specs.declared.fault.PesFault.{PesFault}
 use Rattle.stl_file.specs.TimeCode.{day}
-use Rattle.sub_plan.specs.FrameTime.{pts_of}
+use Rattle.sub_plan.proofs.ClockLemmas.{found_below}
+use Rattle.sub_plan.specs.FrameTime.{Clock, clock, clock_of, near_frame}
+use Rattle.sub_plan.specs.Options.{OptionsValue}
 use Rattle.sub_rules.specs.FrameRules.{Unread}
 use Rattle.sub_rules.specs.FrameRules.Unread.{BadPacket, NoFrame}
 use Rattle.sub_rules.specs.PesReading.{file_at}
 use Rattle.sub_rules.specs.Pieces.{PesFileValue, Piece, PieceFileValue, ReadsPiece, ReadsPieces}
-use Rattle.sub_rules.specs.Pieces.{TakesOnePiece, TakesPieces, file_of_pieces, frame_below}
-use Rattle.sub_rules.specs.Pieces.{frame_of_pts, piece_of, pieces_at, read_until_passed}
+use Rattle.sub_rules.specs.Pieces.{TakesOnePiece, TakesPieces, file_of_pieces, piece_of}
+use Rattle.sub_rules.specs.Pieces.{pieces_at, read_until_passed}
 use Rattle.sub_rules.specs.Pieces.{until_passed_over}
 use Rattle.sub_rules.specs.Pieces.Piece.{Passed, Sent}
-use Rattle.sub_rules.specs.Sendings.{IsFrameOf}
 
 -- ---- the frame of a PTS
 
--- What is told of the frames below a number: the frame that is found has the PTS, or none has.
-pub found_below :
-    (origin pts n : ℕ) (r : Option ℕ)
-    → frame_below origin pts n ≡ r
-    → MatchOption r ((f : ℕ) → f < n → pts_of origin f ≢ pts)
-    (λ f. (f < n) × (pts_of origin f ≡ pts))
-unfolding frame_below
-found_below origin pts zero (Some f) e = cc
-found_below origin pts zero None e = λ f l. absurd (omega arith)
-found_below origin pts (suc n) (Some f) e =
-    let ih = found_below origin pts n (Some f) in grind (arith, nat_tests)
-found_below origin pts (suc n) None e =
-    let ih = found_below origin pts n None in grind (arith, nat_tests)
+-- A clock reads frames of the day alone.
+clock-below :
+    (within origin pts frame : ℕ) → clock within origin pts ≡ Some frame → frame < day
+unfolding clock near_frame
+clock-below zero origin pts frame is = (found_below origin pts day (Some frame) is).0
+clock-below (suc n) origin pts frame is = grind (arith, nat_tests)
 
--- The frame of the day that has a PTS is found.
-pub frame_found :
-    (origin pts frame : ℕ)
-    → frame < day
-    → pts_of origin frame ≡ pts
-    → frame_of_pts origin pts ≡ Some frame
-frame_found origin pts frame in_day e =
-    grind (arith, nat_tests, found_below origin pts day (frame_of_pts origin pts))
-
--- Where no frame of the day has a PTS, none is found.
-pub no_frame_found :
-    (origin pts : ℕ)
-    → ((frame : ℕ) → frame < day → pts_of origin frame ≢ pts)
-    → frame_of_pts origin pts ≡ None
-no_frame_found origin pts none =
-    let all = found_below origin pts day (frame_of_pts origin pts) refl in grind arith
+pub clock_in_day :
+    (o : OptionsValue) (pts frame : ℕ) → clock_of o pts ≡ Some frame → frame < day
+clock_in_day o pts frame is = clock-below o.within o.origin pts frame is
 
 -- A PES packet is read only after fewer than the most.
 pub reads-below :
@@ -79,105 +60,104 @@ abbrev pub before : Piece → PieceFileValue → PieceFileValue
 before piece rest = record { pieces = piece ∷ rest.pieces; unread = rest.unread }
 
 -- What a reader answers, and then a file.
-abbrev pub pieces_by : ℕ → Result (Option PesValue) PesFault → PieceFileValue → PieceFileValue
-pieces_by origin (Ok (Some v)) rest = before (piece_of origin (Ok v)) rest
-pieces_by origin (Ok None) rest = record { pieces = []; unread = None }
-pieces_by origin (Err f) rest =
-    cond (is_of_piece f) (before (piece_of origin (Err f)) rest)
+abbrev pub pieces_by : Clock → Result (Option PesValue) PesFault → PieceFileValue → PieceFileValue
+pieces_by clock (Ok (Some v)) rest = before (piece_of clock (Ok v)) rest
+pieces_by clock (Ok None) rest = record { pieces = []; unread = None }
+pieces_by clock (Err f) rest =
+    cond (is_of_piece f) (before (piece_of clock (Err f)) rest)
     (record { pieces = []; unread = Some (BadPacket f) })
 
 -- The file of an answer and of what comes then.
-file_of-then : (origin : ℕ) (answer : Result (Option PesValue) PesFault) (more : PiecesValue)
-    → file_of_pieces origin (piece_then answer more)
-    ≡ pieces_by origin answer (file_of_pieces origin more)
-file_of-then origin answer more = grind (arith, nat_tests)
+file_of-then : (clock : Clock) (answer : Result (Option PesValue) PesFault) (more : PiecesValue)
+    → file_of_pieces clock (piece_then answer more)
+    ≡ pieces_by clock answer (file_of_pieces clock more)
+file_of-then clock answer more = grind (arith, nat_tests)
 
 -- A file is what its first piece is, and then the file of the others.
-pub pieces_at-next : (origin given : ℕ) (bytes : List ℕ)
+pub pieces_at-next : (clock : Clock) (given : ℕ) (bytes : List ℕ)
     (answer : Result (Option PesValue) PesFault)
     → given ≤ most_packets
     → answer_at given bytes ≡ answer
-    → pieces_at origin given bytes
-    ≡ pieces_by origin answer (pieces_at origin (given + 1) (behind_piece bytes))
+    → pieces_at clock given bytes
+    ≡ pieces_by clock answer (pieces_at clock (given + 1) (behind_piece bytes))
 unfolding pieces_at
-pieces_at-next origin given bytes answer few is =
-    ap (file_of_pieces origin) (pieces_after-next given bytes answer few is)
-    ∙ file_of-then origin answer (pieces_after (given + 1) (behind_piece bytes))
+pieces_at-next clock given bytes answer few is =
+    ap (file_of_pieces clock) (pieces_after-next given bytes answer few is)
+    ∙ file_of-then clock answer (pieces_after (given + 1) (behind_piece bytes))
 
 -- ---- what is read of one piece
 
 -- The first of the pieces that are left, by the answer.
-reads_piece : (origin n : ℕ) (bytes : List ℕ) (pieces : List Piece) (unread : Option Unread)
-    (piece : Piece) (answer : Result (Option PesValue) PesFault)
+reads_piece : (clock : Clock) (n : ℕ) (bytes : List ℕ) (pieces : List Piece)
+    (unread : Option Unread) (piece : Piece) (answer : Result (Option PesValue) PesFault)
     → n ≤ most_packets
-    → ReadsPieces origin n bytes pieces unread
+    → ReadsPieces clock n bytes pieces unread
     → answer_at n bytes ≡ answer
-    → ((rest : PieceFileValue) → pieces_by origin answer rest ≡ before piece rest)
-    → ReadsPiece origin n bytes pieces unread piece
-reads_piece origin n bytes pieces unread piece answer few reads is by =
-    grind (arith, nat_tests, pieces_at-next origin n bytes answer few is)
+    → ((rest : PieceFileValue) → pieces_by clock answer rest ≡ before piece rest)
+    → ReadsPiece clock n bytes pieces unread piece
+reads_piece clock n bytes pieces unread piece answer few reads is by =
+    grind (arith, nat_tests, pieces_at-next clock n bytes answer few is)
 
 -- A PES packet with a frame is a piece that is sent.
-pub reads_sent : (origin n : ℕ) (bytes : List ℕ) (pieces : List Piece) (unread : Option Unread)
-    (v : PesValue) (frame : ℕ)
+pub reads_sent : (clock : Clock) (n : ℕ) (bytes : List ℕ) (pieces : List Piece)
+    (unread : Option Unread) (v : PesValue) (frame : ℕ)
     → n ≤ most_packets
-    → ReadsPieces origin n bytes pieces unread
+    → ReadsPieces clock n bytes pieces unread
     → answer_at n bytes ≡ Ok (Some v)
-    → IsFrameOf origin v.pts frame
-    → ReadsPiece origin n bytes pieces unread
+    → clock v.pts ≡ Some frame
+    → ReadsPiece clock n bytes pieces unread
     (Sent (record { frame = frame; packets = packets_of_units v.units }))
 unfolding piece_of
-reads_sent origin n bytes pieces unread v frame few reads is of =
-    grind (arith, nat_tests, reads_piece, frame_found)
+reads_sent clock n bytes pieces unread v frame few reads is of =
+    grind (arith, nat_tests, reads_piece)
 
 -- One with none is passed over.
-pub reads_off : (origin n : ℕ) (bytes : List ℕ) (pieces : List Piece) (unread : Option Unread)
-    (v : PesValue)
+pub reads_off : (clock : Clock) (n : ℕ) (bytes : List ℕ) (pieces : List Piece)
+    (unread : Option Unread) (v : PesValue)
     → n ≤ most_packets
-    → ReadsPieces origin n bytes pieces unread
+    → ReadsPieces clock n bytes pieces unread
     → answer_at n bytes ≡ Ok (Some v)
-    → ((frame : ℕ) → frame < day → pts_of origin frame ≢ v.pts)
-    → ReadsPiece origin n bytes pieces unread (Passed NoFrame)
+    → clock v.pts ≡ None
+    → ReadsPiece clock n bytes pieces unread (Passed NoFrame)
 unfolding piece_of
-reads_off origin n bytes pieces unread v few reads is none =
-    grind (arith, nat_tests, reads_piece, no_frame_found)
+reads_off clock n bytes pieces unread v few reads is none =
+    grind (arith, nat_tests, reads_piece)
 
 -- A piece that is no PES packet is passed over.
-pub reads_bad : (origin n : ℕ) (bytes : List ℕ) (pieces : List Piece) (unread : Option Unread)
-    (f : PesFault)
+pub reads_bad : (clock : Clock) (n : ℕ) (bytes : List ℕ) (pieces : List Piece)
+    (unread : Option Unread) (f : PesFault)
     → n ≤ most_packets
-    → ReadsPieces origin n bytes pieces unread
+    → ReadsPieces clock n bytes pieces unread
     → answer_at n bytes ≡ Err f
     → is_of_piece f ≡ true
-    → ReadsPiece origin n bytes pieces unread (Passed (BadPacket f))
+    → ReadsPiece clock n bytes pieces unread (Passed (BadPacket f))
 unfolding piece_of
-reads_bad origin n bytes pieces unread f few reads is kind = grind (arith, nat_tests, reads_piece)
+reads_bad clock n bytes pieces unread f few reads is kind = grind (arith, nat_tests, reads_piece)
 
 -- Where no piece is left, the list is at its end.
-pub pieces_end : (origin n : ℕ) (bytes : List ℕ) (pieces : List Piece) (unread : Option Unread)
+pub pieces_end : (clock : Clock) (n : ℕ) (bytes : List ℕ) (pieces : List Piece)
+    (unread : Option Unread)
     → n ≤ most_packets
-    → ReadsPieces origin n bytes pieces unread
+    → ReadsPieces clock n bytes pieces unread
     → answer_at n bytes ≡ Ok None
     → (pieces ≡ []) × (unread ≡ None)
-pieces_end origin n bytes pieces unread few reads is =
-    grind (arith, nat_tests, pieces_at-next origin n bytes (Ok None) few is)
+pieces_end clock n bytes pieces unread few reads is =
+    grind (arith, nat_tests, pieces_at-next clock n bytes (Ok None) few is)
 
 -- Where bytes are left that are no piece, no piece is left.
-pub pieces_stop : (origin n : ℕ) (bytes : List ℕ) (pieces : List Piece) (unread : Option Unread)
-    (f : PesFault)
+pub pieces_stop : (clock : Clock) (n : ℕ) (bytes : List ℕ) (pieces : List Piece)
+    (unread : Option Unread) (f : PesFault)
     → n ≤ most_packets
-    → ReadsPieces origin n bytes pieces unread
+    → ReadsPieces clock n bytes pieces unread
     → answer_at n bytes ≡ Err f
     → is_of_piece f ≡ false
     → (pieces ≡ []) × (unread ≡ Some (BadPacket f))
-pieces_stop origin n bytes pieces unread f few reads is kind =
-    grind (arith, nat_tests, pieces_at-next origin n bytes (Err f) few is)
+pieces_stop clock n bytes pieces unread f few reads is kind =
+    grind (arith, nat_tests, pieces_at-next clock n bytes (Err f) few is)
 
 -- The fault of a piece is not that the source failed.
 pub no_failure : (f : PesFault) → is_of_piece f ≡ true → is_read f ≡ false
 no_failure f kind = grind (arith, nat_tests)
-
--- ---- up to the first piece that is passed over
 
 -- ---- up to the first piece that is passed over
 
@@ -191,50 +171,51 @@ file_with (Some frame) packets rest = record {
 }
 
 -- What a reader of PES packets answers, and then a file.
-abbrev pub file_by : ℕ → Result (Option PesValue) PesFault → PesFileValue → PesFileValue
-file_by origin (Err f) rest = record { frames = []; unread = Some (BadPacket f) }
-file_by origin (Ok None) rest = record { frames = []; unread = None }
-file_by origin (Ok (Some v)) rest =
-    file_with (frame_of_pts origin v.pts) (packets_of_units v.units) rest
+abbrev pub file_by : Clock → Result (Option PesValue) PesFault → PesFileValue → PesFileValue
+file_by clock (Err f) rest = record { frames = []; unread = Some (BadPacket f) }
+file_by clock (Ok None) rest = record { frames = []; unread = None }
+file_by clock (Ok (Some v)) rest =
+    file_with (clock v.pts) (packets_of_units v.units) rest
 
 -- One answer on.
-until_by : (origin : ℕ) (answer : Result (Option PesValue) PesFault) (rest : PieceFileValue)
-    → until_passed_over (pieces_by origin answer rest)
-    ≡ file_by origin answer (until_passed_over rest)
+until_by : (clock : Clock) (answer : Result (Option PesValue) PesFault) (rest : PieceFileValue)
+    → until_passed_over (pieces_by clock answer rest)
+    ≡ file_by clock answer (until_passed_over rest)
 unfolding read_until_passed piece_of
-until_by origin answer rest = grind (arith, nat_tests)
+until_by clock answer rest = grind (arith, nat_tests)
 
 -- The file of an answer and of what comes then.
-pub until_then : (origin : ℕ) (answer : Result (Option PesValue) PesFault) (more : PiecesValue)
-    → until_passed_over (file_of_pieces origin (piece_then answer more))
-    ≡ file_by origin answer (until_passed_over (file_of_pieces origin more))
-until_then origin answer more =
-    ap until_passed_over (file_of-then origin answer more)
-    ∙ until_by origin answer (file_of_pieces origin more)
+pub until_then : (clock : Clock) (answer : Result (Option PesValue) PesFault) (more : PiecesValue)
+    → until_passed_over (file_of_pieces clock (piece_then answer more))
+    ≡ file_by clock answer (until_passed_over (file_of_pieces clock more))
+until_then clock answer more =
+    ap until_passed_over (file_of-then clock answer more)
+    ∙ until_by clock answer (file_of_pieces clock more)
 
 -- After a PES packet the same bytes are left as after a piece.
-same_rest : (origin given : ℕ) (bytes : List ℕ) (answer : Result (Option PesValue) PesFault)
+same_rest : (clock : Clock) (given : ℕ) (bytes : List ℕ)
+    (answer : Result (Option PesValue) PesFault)
     → answer_at given bytes ≡ answer
-    → file_by origin answer (file_at origin (given + 1) (behind_piece bytes))
-    ≡ file_by origin answer (file_at origin (given + 1) (rest_after bytes))
-same_rest origin given bytes (Err f) is = refl
-same_rest origin given bytes (Ok None) is = refl
-same_rest origin given bytes (Ok (Some v)) is =
-    ap (λ (b : List ℕ). file_by origin (Ok (Some v)) (file_at origin (given + 1) b))
+    → file_by clock answer (file_at clock (given + 1) (behind_piece bytes))
+    ≡ file_by clock answer (file_at clock (given + 1) (rest_after bytes))
+same_rest clock given bytes (Err f) is = refl
+same_rest clock given bytes (Ok None) is = refl
+same_rest clock given bytes (Ok (Some v)) is =
+    ap (λ (b : List ℕ). file_by clock (Ok (Some v)) (file_at clock (given + 1) b))
     (sym (behind_packet given bytes v is))
 
 -- A file is what its first PES packet is, and then the file of the others.
 pub file_at-next :
-    (origin given : ℕ) (bytes : List ℕ)
+    (clock : Clock) (given : ℕ) (bytes : List ℕ)
     → given ≤ most_packets
-    → file_at origin given bytes
-    ≡ file_by origin (answer_at given bytes) (file_at origin (given + 1) (rest_after bytes))
+    → file_at clock given bytes
+    ≡ file_by clock (answer_at given bytes) (file_at clock (given + 1) (rest_after bytes))
 unfolding file_at pieces_at
-file_at-next origin given bytes few =
-    ap (λ (p : PiecesValue). until_passed_over (file_of_pieces origin p))
+file_at-next clock given bytes few =
+    ap (λ (p : PiecesValue). until_passed_over (file_of_pieces clock p))
     (pieces_after-next given bytes (answer_at given bytes) few refl)
-    ∙ until_then origin (answer_at given bytes) (pieces_after (given + 1) (behind_piece bytes))
-    ∙ same_rest origin given bytes (answer_at given bytes) refl
+    ∙ until_then clock (answer_at given bytes) (pieces_after (given + 1) (behind_piece bytes))
+    ∙ same_rest clock given bytes (answer_at given bytes) refl
 
 -- ---- what was taken
 

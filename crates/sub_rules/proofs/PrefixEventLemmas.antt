@@ -1,15 +1,19 @@
--- What is told of a frame is told by the frames up to it alone: `frame_events-prefix`,
--- `events_of_first-prefix`.
+-- What is told of a frame is told by the frames up to it alone: `frame_events-prefix`; and so are
+-- since which frame the page is not whole, `unfinished_since-prefix`, whether that is late,
+-- `is_late-prefix`, what stands broken, `standing_at-prefix`, and the marks of a frame.
 use Rattle.std.proofs.lemmas.Bool.Decides.{nat_tests}
-use Rattle.std.proofs.Common.{◌≡◌, ℕ, zero, suc, ◌-◌, ◌<◌, ◌≤◌, ◌++◌}
+use Rattle.std.proofs.Common.{◌≡◌, ℕ, zero, suc, ◌+◌, ◌-◌, ◌<◌, ◌≤◌, ◌++◌}
 use Rattle.std.proofs.Common.{length, get_or, Option, refl, arith}
 use Rattle.std.proofs.lemmas.List.{get_or_append_left, length-map, map-append}
 use lib.Seq.{take-append-le}
 use Rattle.sub_rules.specs.Events.{end_before, events_at_end}
 use Rattle.sub_rules.specs.Events.{first_header_events, frame_events, gap_events, gap_length}
-use Rattle.sub_rules.specs.Events.{is_gap, is_incomplete, latest, order_events}
-use Rattle.sub_rules.specs.Events.{standing_at, standing_before}
-use Rattle.sub_rules.specs.FrameRules.{Task, Unread, frame_at, packets_of_frame}
+use Rattle.sub_rules.specs.Events.{is_gap, is_incomplete, is_late, is_unfinished, latest}
+use Rattle.sub_rules.specs.Events.{order_events, since_frames, since_in_gap}
+use Rattle.sub_rules.specs.Events.{standing_at, standing_before, unfinished_since}
+use Rattle.sub_rules.specs.FrameRules.{Task, Unread, frame_at, packets_before, packets_of_frame}
+use Rattle.sub_rules.specs.PieceEvents.{marks_at_end, marks_of_arrival, marks_of_ending}
+use Rattle.sub_rules.specs.PieceEvents.{marks_of_gap, marks_of_packets}
 use Rattle.sub_rules.specs.Transmission.{Transmission}
 
 -- Frames, more of them, and a task with another end of reading.
@@ -20,54 +24,112 @@ module _ (g : Task) (u : Option Unread) (done more : Transmission) where
   abbrev all : Transmission
   all = done ++ more
 
-  at : (k : ℕ) → k < length done → frame_at all k ≡ frame_at done k
-  at k l = grind (arith, nat_tests, get_or, map-append, get_or_append_left, length-map)
+  pub frame_at-prefix : (k : ℕ) → k < length done → frame_at all k ≡ frame_at done k
+  frame_at-prefix k l =
+      grind (arith, nat_tests, get_or, map-append, get_or_append_left, length-map)
 
-  packets : (k : ℕ) → k < length done → packets_of_frame all k ≡ packets_of_frame done k
-  packets k l = grind (arith, nat_tests, get_or, map-append, get_or_append_left, length-map)
+  pub packets_of_frame-prefix : (k : ℕ) → k < length done
+      → packets_of_frame all k ≡ packets_of_frame done k
+  packets_of_frame-prefix k l =
+      grind (arith, nat_tests, get_or, map-append, get_or_append_left, length-map)
 
-  latest_same : (k : ℕ) → k ≤ length done → latest all k ≡ latest done k
+  pub packets_before-prefix : (n : ℕ) → n ≤ length done
+      → packets_before all n ≡ packets_before done n
+  packets_before-prefix n l = rw (take-append-le n done more l) refl
+
+  pub latest-prefix : (k : ℕ) → k ≤ length done → latest all k ≡ latest done k
   unfolding latest
-  latest_same zero l = refl
-  latest_same (suc k) l = rw (latest_same k (omega arith), at k (omega arith)) refl
+  latest-prefix zero l = refl
+  latest-prefix (suc k) l =
+      rw (latest-prefix k (omega arith), frame_at-prefix k (omega arith)) refl
 
-  standing_same : (n f : ℕ) → 0 < length done → n ≤ length done
+  pub gap_length-prefix : (i : ℕ) → i < length done → gap_length all i ≡ gap_length done i
+  unfolding gap_length
+  gap_length-prefix i h1 = grind (arith, nat_tests, frame_at-prefix, latest-prefix)
+
+  -- ---- within how many frames
+
+  unfinished_same : (n f : ℕ) → n ≤ length done → is_unfinished g all n f ≡ is_unfinished h done n f
+  unfolding is_incomplete
+  unfinished_same n f l = rw (take-append-le n done more l) refl
+
+  gap_since_same : (n : ℕ) (since : Option ℕ) (k : ℕ) → n ≤ length done
+      → since_in_gap g all n since k ≡ since_in_gap h done n since k
+  unfolding since_in_gap
+  gap_since_same n since zero l = refl
+  gap_since_same n since (suc k) l =
+      rw (
+        gap_since_same n since k l,
+        unfinished_same n (latest all n + suc k) l,
+        latest-prefix n l,
+      ) refl
+
+  since_same : (n : ℕ) → n ≤ length done → since_frames g all n ≡ since_frames h done n
+  unfolding since_frames
+  since_same zero l = refl
+  since_same (suc i) l =
+      rw (
+        gap_since_same i (since_frames g all i) (gap_length all i) (omega arith),
+        since_same i (omega arith),
+        gap_length-prefix i l,
+        unfinished_same (suc i) (frame_at all i) l,
+        frame_at-prefix i l,
+      ) refl
+
+  pub unfinished_since-prefix : (n f : ℕ) → n ≤ length done
+      → unfinished_since g all n f ≡ unfinished_since h done n f
+  unfolding unfinished_since
+  unfinished_since-prefix n f l =
+      rw (
+        gap_since_same n (since_frames g all n) (f - latest all n) l,
+        since_same n l,
+        latest-prefix n l,
+      ) refl
+
+  pub is_late-prefix : (n f : ℕ) → 0 < length done → n ≤ length done
+      → is_late g all n f ≡ is_late h done n f
+  unfolding is_late
+  is_late-prefix n f some l = rw (unfinished_since-prefix n f l, frame_at-prefix 0 some) refl
+
+  -- ---- what stands broken
+
+  pub standing_at-prefix : (n f : ℕ) → 0 < length done → n ≤ length done
       → standing_at g all n f ≡ standing_at h done n f
   unfolding standing_at is_gap is_incomplete
-  standing_same n f some l = rw (take-append-le n done more l, at 0 some) refl
+  standing_at-prefix n f some l =
+      rw (is_late-prefix n f some l, take-append-le n done more l, frame_at-prefix 0 some) refl
 
   before_same : (i f : ℕ) → 0 < length done → i ≤ length done
       → end_before all i f ≡ end_before done i f
-  before_same i f some l = rw (latest_same i l, at (i - 1) (omega arith)) refl
+  before_same i f some l = rw (latest-prefix i l, frame_at-prefix (i - 1) (omega arith)) refl
 
   stood_same : (i f : ℕ) → 0 < length done → i ≤ length done
       → standing_before g all i f ≡ standing_before h done i f
   unfolding standing_before
-  stood_same i f h1 h2 = grind (arith, nat_tests, before_same, standing_same)
+  stood_same i f h1 h2 = grind (arith, nat_tests, before_same, standing_at-prefix)
 
-  end_same : (i n f : ℕ) → 0 < length done → i ≤ length done → n ≤ length done
+  pub events_at_end-prefix : (i n f : ℕ) → 0 < length done → i ≤ length done → n ≤ length done
       → events_at_end g all i n f ≡ events_at_end h done i n f
-  end_same i n f some l m = grind (arith, nat_tests, stood_same, before_same, standing_same)
+  events_at_end-prefix i n f some l m =
+      grind (arith, nat_tests, stood_same, before_same, standing_at-prefix)
 
-  gap_same : (i n : ℕ) → 0 < length done → i ≤ length done
+  pub gap_events-prefix : (i n : ℕ) → 0 < length done → i ≤ length done
       → gap_events g all i n ≡ gap_events h done i n
   unfolding gap_events
-  gap_same i zero some l = refl
-  gap_same i (suc n) some l =
-      grind (arith, nat_tests, end_same, latest_same, gap_same i n some l)
+  gap_events-prefix i zero some l = refl
+  gap_events-prefix i (suc n) some l =
+      grind (arith, nat_tests, events_at_end-prefix, latest-prefix, gap_events-prefix i n some l)
 
-  length_same : (i : ℕ) → i < length done → gap_length all i ≡ gap_length done i
-  unfolding gap_length
-  length_same i h1 = grind (arith, nat_tests, at, latest_same)
-
-  order_same : (i : ℕ) → i < length done → order_events g all i ≡ order_events h done i
+  pub order_events-prefix : (i : ℕ) → i < length done
+      → order_events g all i ≡ order_events h done i
   unfolding order_events
-  order_same i h1 = grind (arith, nat_tests, at)
+  order_events-prefix i h1 = grind (arith, nat_tests, frame_at-prefix)
 
-  header_same : (i : ℕ) → i < length done
+  pub first_header_events-prefix : (i : ℕ) → i < length done
       → first_header_events g all i ≡ first_header_events h done i
   unfolding first_header_events
-  header_same i h1 = grind (arith, nat_tests, packets, at)
+  first_header_events-prefix i h1 =
+      grind (arith, nat_tests, packets_of_frame-prefix, frame_at-prefix)
 
   -- What is told of a frame.
   pub frame_events-prefix : (i : ℕ) → i < length done
@@ -76,12 +138,64 @@ module _ (g : Task) (u : Option Unread) (done more : Transmission) where
   frame_events-prefix i l =
       let some : 0 < length done = omega arith in
       rw (
-        order_same i l,
-        length_same i l,
-        gap_same i (gap_length done i) some (omega arith),
-        at i l,
-        packets i l,
+        order_events-prefix i l,
+        gap_length-prefix i l,
+        gap_events-prefix i (gap_length done i) some (omega arith),
+        frame_at-prefix i l,
+        packets_of_frame-prefix i l,
         take-append-le i done more (omega arith),
-        header_same i l,
-        end_same i (suc i) (frame_at done i) some (omega arith) (omega arith),
+        first_header_events-prefix i l,
+        events_at_end-prefix i (suc i) (frame_at done i) some (omega arith) (omega arith),
+      ) refl
+
+  -- ---- the marks of a frame
+
+  pub marks_at_end-prefix : (i n f : ℕ) → 0 < length done → i ≤ length done → n ≤ length done
+      → marks_at_end g all i n f ≡ marks_at_end h done i n f
+  marks_at_end-prefix i n f some l m =
+      rw (
+        unfinished_since-prefix n f m,
+        is_late-prefix n f some m,
+        events_at_end-prefix i n f some l m,
+      ) refl
+
+  pub marks_of_gap-prefix : (i n : ℕ) → 0 < length done → i ≤ length done
+      → marks_of_gap g all i n ≡ marks_of_gap h done i n
+  unfolding marks_of_gap
+  marks_of_gap-prefix i zero some l = refl
+  marks_of_gap-prefix i (suc n) some l =
+      rw (
+        marks_of_gap-prefix i n some l,
+        marks_at_end-prefix i i (latest all i + suc n) some l l,
+        latest-prefix i l,
+      ) refl
+
+  pub marks_of_arrival-prefix : (i : ℕ) → i < length done
+      → marks_of_arrival g all i ≡ marks_of_arrival h done i
+  marks_of_arrival-prefix i l =
+      rw (
+        order_events-prefix i l,
+        gap_length-prefix i l,
+        marks_of_gap-prefix i (gap_length done i) (omega arith) (omega arith),
+        frame_at-prefix i l,
+      ) refl
+
+  pub marks_of_packets-prefix : (i : ℕ) → i < length done
+      → marks_of_packets g all i ≡ marks_of_packets h done i
+  marks_of_packets-prefix i l =
+      rw (
+        frame_at-prefix i l,
+        packets_of_frame-prefix i l,
+        take-append-le i done more (omega arith),
+      ) refl
+
+  pub marks_of_ending-prefix : (i : ℕ) → i < length done
+      → marks_of_ending g all i ≡ marks_of_ending h done i
+  marks_of_ending-prefix i l =
+      rw (
+        first_header_events-prefix i l,
+        frame_at-prefix i l,
+        marks_at_end-prefix i (suc i) (frame_at done i) (omega arith) (omega arith) (omega arith),
+        packets_of_frame-prefix i l,
+        standing_at-prefix (suc i) (frame_at done i) (omega arith) (omega arith),
       ) refl

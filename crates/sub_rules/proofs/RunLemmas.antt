@@ -1,252 +1,43 @@
--- What is told of a PES file that is read on, by runs of quiet frames: of all pieces `all_are`, of
--- some `events_are`.
+-- What is told of a PES file that is read on, by runs of quiet frames, where the page has to be
+-- whole at the end of each frame: of all pieces `all_are`, of some `events_are`.
 use Rattle.std.proofs.lemmas.Bool.Decides.{nat_tests}
-use Rattle.std.proofs.Common.{◌≡◌, ℕ, zero, suc, ◌+◌, ◌-◌, ◌&&◌, ◌||◌, Bool, true, false, not, List}
-use Rattle.std.proofs.Common.{[], ◌∷◌, ◌++◌, length, map, Option, Some, None, is_some, refl, sym, ap}
-use Rattle.std.proofs.Common.{◌∙◌, subst, arith, append_assoc, if◌then◌else◌}
-use Rattle.std.proofs.lemmas.List.{append-nil, map-append}
-use Rattle.std.proofs.lemmas.List.Folds.{list_any-append}
+use Rattle.std.proofs.Common.{◌≡◌, ℕ, suc, ◌+◌, ◌-◌, ◌||◌, Bool, true}
+use Rattle.std.proofs.Common.{false, not, List, [], ◌∷◌, ◌++◌, length, map, Option, Some, None}
+use Rattle.std.proofs.Common.{is_some, refl, sym, ap}
+use Rattle.std.proofs.Common.{◌∙◌, subst, arith, append_assoc}
 use Rattle.std.specs.List.{list_any}
-use Rattle.ttx_page.specs.PacketKind.{kind}
-use Rattle.ttx_page.specs.Span.{holds_header}
-use Rattle.sub_rules.specs.Events.{events_of_first, frame_events, standing_at, unread_fault}
-use Rattle.sub_rules.specs.FrameRules.{Task, Unread, end_frame, frame_at, packets_of_frame}
-use Rattle.sub_rules.specs.PieceEvents.{all_announced, all_of_pieces, arriving_events}
-use Rattle.sub_rules.specs.PieceEvents.{closing_of_pieces, ended_run, events_of_pieces}
-use Rattle.sub_rules.specs.PieceEvents.{marks_of_closing, marks_of_each, marks_of_frame, no_run}
-use Rattle.sub_rules.specs.PieceEvents.{own_events, passed_after_all, told_of_pieces}
+use Rattle.sub_rules.specs.Events.{events_of_first}
+use Rattle.sub_rules.specs.Events.{frame_events}
+use Rattle.sub_rules.specs.Events.{unread_fault}
+use Rattle.sub_rules.specs.FrameRules.{Task, Unread, end_frame, frame_at}
+use Rattle.sub_rules.specs.PieceEvents.{all_announced, all_of_pieces, closing_of_pieces, ended_run}
+use Rattle.sub_rules.specs.PieceEvents.{events_of_pieces, marks_of_closing}
+use Rattle.sub_rules.specs.PieceEvents.{marks_of_pieces}
+use Rattle.sub_rules.specs.PieceEvents.{no_run}
+use Rattle.sub_rules.specs.PieceEvents.{passed_after_all, told_of_pieces}
 use Rattle.sub_rules.specs.Pieces.{Piece, frames_of}
 use Rattle.sub_rules.specs.Pieces.Piece.{Passed, Sent}
-use Rattle.sub_rules.specs.Transmission.{SentFrame, Transmission}
-use Rattle.sub_rules.specs.Trusted.{Mark, after_mark, at_pes, begun, doubted, is_order, no_trust}
-use Rattle.sub_rules.specs.Trusted.{stands_none, tells_none, told_by, told_with, trust_after}
-use Rattle.sub_rules.specs.Trusted.{trusted}
-use Rattle.sub_rules.specs.Trusted.Mark.{AtPes, Begins, Closes, Ends, Says}
+use Rattle.sub_rules.specs.Transmission.{Transmission}
+use Rattle.sub_rules.specs.Trusted.{Mark, after_mark, at_pes, doubted, is_order, no_trust}
+use Rattle.sub_rules.specs.Trusted.{tells_none, told_by, told_with, trust_after}
+use Rattle.sub_rules.specs.Trusted.Mark.{AtPes, Closes, Says}
 use Rattle.sub_rules.specs.declared.event.Event.{Event}
 use Rattle.sub_rules.specs.declared.event.Event.TheVariants.{Told}
 use Rattle.sub_rules.specs.declared.trust.Trust.{Trust}
-use Rattle.sub_rules.proofs.TrustedLemmas.{IsAfter, any_doubted, run_over, run_over-append}
-use Rattle.sub_rules.proofs.TrustedLemmas.{says_is, says_told, tells_none-at, tells_none-run}
+use Rattle.sub_rules.proofs.TrustedLemmas.{IsWholeRun}
+use Rattle.sub_rules.proofs.TrustedLemmas.{says_told, tells_none-at, tells_none-run}
 use Rattle.sub_rules.proofs.TrustedLemmas.{tells_none-two, told_by-append, trust_after-append}
-use Rattle.sub_rules.proofs.TrustedLemmas.{with_run, with_run-append, with_run-none}
-
--- ---- by runs
-
--- The number of the PES packet before frame i of the list; 0 before the first one.
-unfoldable pub frame_before : Transmission → ℕ → ℕ
-frame_before frames zero = 0
-frame_before frames (suc i) = frame_at frames i
-
--- Frame i of the list is quiet: the frames rise up to it, no packet of it breaks a rule on which a
--- receiver depends, and nothing stands broken at its end.
-unfoldable pub is_quiet : Task → Transmission → ℕ → Bool
-is_quiet g frames i =
-    not (list_any is_order (events_of_first g frames (suc i)))
-    && not (any_doubted (frame_before frames i) (own_events g frames i))
-    && stands_none (standing_at g frames (suc i) (frame_at frames i))
-
--- The run of quiet frames at the end of frame i of the list, by that at the end of the PES packet
--- before it.
-unfoldable pub run_at : Task → Transmission → ℕ → Option ℕ → Option ℕ
-run_at g frames i run =
-    if is_quiet g frames i
-    then begun (run_over (frame_before frames i) run (frame_events g frames i))
-    (holds_header (kind g.watched.page) (packets_of_frame frames i)) (frame_at frames i)
-    else None
-
--- What is told of frame i of the list, with what is trusted of the run before it.
-abbrev pub told_of_frame : Task → Transmission → ℕ → Option ℕ → List Event
-told_of_frame g frames i run = with_run (frame_before frames i) run (frame_events g frames i)
-
--- What is told of a piece that is passed over: with it the run before it is over.
-abbrev pub told_of_passed : Transmission → ℕ → ℕ → Option ℕ → Unread → List Event
-told_of_passed frames pes i run u =
-    with_run (frame_before frames i) run (Told (unread_fault pes (Some u)) ∷ [])
-
--- What is told of pieces, the first of them PES packet `pes` and, if it is sent, frame i of the
--- list, after a run of quiet frames.
-unfoldable pub told_of_each : Task → Transmission → ℕ → ℕ → Option ℕ → List Piece → List Event
-told_of_each g frames pes i run [] = []
-told_of_each g frames pes i run (Sent s ∷ pieces) =
-    map (at_pes pes) (told_of_frame g frames i run)
-    ++ told_of_each g frames (suc pes) (suc i) (run_at g frames i run) pieces
-told_of_each g frames pes i run (Passed u ∷ pieces) =
-    told_of_passed frames pes i run u ++ told_of_each g frames (suc pes) i None pieces
-
--- The run of quiet frames after them.
-unfoldable pub run_after_each : Task → Transmission → ℕ → Option ℕ → List Piece → Option ℕ
-run_after_each g frames i run [] = run
-run_after_each g frames i run (Sent s ∷ pieces) =
-    run_after_each g frames (suc i) (run_at g frames i run) pieces
-run_after_each g frames i run (Passed u ∷ pieces) = run_after_each g frames i None pieces
-
--- The first frame that is not trusted at the end of the list: the last frame, where bytes are left
--- that may have been sent in it.
-abbrev pub trust_end : Option Unread → ℕ → ℕ
-trust_end None last = suc last
-trust_end (Some unread) last = last
-
--- What is trusted of the last run, where anything is told.
-unfoldable pub last_of_run : Task → Transmission → Option ℕ → Bool → List Event
-last_of_run g frames run any =
-    if any then trusted run (trust_end g.unread (end_frame frames)) else []
-
--- What is told after the last piece.
-abbrev pub closing_told : Task → Transmission → ℕ → ℕ → List Event
-closing_told g frames pes n = map (at_pes pes) (closing_of_pieces g frames pes n)
-
--- What is told of all pieces, and with it up to which one runs of pieces go.
-unfoldable pub told_in_runs : Task → List Piece → List Event
-told_in_runs g pieces =
-    let frames = frames_of pieces in
-    let each = told_of_each g frames 0 0 None pieces in
-    let closing = closing_told g frames (length pieces) (length frames) in
-    let any = not (tells_none each) || not (tells_none closing) in
-    each ++ last_of_run g frames (run_after_each g frames 0 None pieces) any ++ closing
-
-unfoldable pub all_in_runs : Task → List Piece → List Event
-all_in_runs g pieces =
-    let told = told_in_runs g pieces in
-    all_announced no_run told ++ ended_run (passed_after_all no_run told)
-
--- ---- what is kept of a frame
-
--- What is kept after the first n frames of the list, with this run at the end of the last of them,
--- where something was told or not.
-pub record Judges
-    (g : Task) (frames : Transmission) (n : ℕ) (run : Option ℕ) (told : Bool) (t : Trust)
-    : Type 0 where
-  pub run_is : t.run ≡ run
-  pub last_is : t.last ≡ frame_before frames n
-  pub rises_is : t.rises ≡ not (list_any is_order (events_of_first g frames n))
-  pub told_is : t.told ≡ told
-
--- An event that tells of the order ends a run.
-order_doubted : (last : ℕ) (e : Event) → is_order e ≡ true → is_some (doubted last e) ≡ true
-unfolding is_order doubted
-order_doubted last e is = grind (arith, nat_tests)
-
-orders_doubted : (last : ℕ) (es : List Event) → any_doubted last es ≡ false
-    → list_any is_order es ≡ false
-orders_doubted last [] none = refl
-orders_doubted last (e ∷ es) none =
-    let rest = orders_doubted last es in
-    let here = order_doubted last e in
-    grind (arith, nat_tests)
-
-module _ (g : Task) (frames : Transmission) (n : ℕ) (t : Trust) {run : Option ℕ} {told : Bool}
-    (is : Judges g frames n run told t)
-  where
-    abbrev arriving : List Event
-    arriving = arriving_events g frames n
-
-    abbrev own : List Event
-    own = own_events g frames n
-
-    parts : frame_events g frames n ≡ arriving ++ own
-    unfolding frame_events
-    parts = grind (arith, append_assoc)
-
-    -- Before the packets, and after them.
-    abbrev arrived : Trust
-    arrived = after_mark Begins (trust_after t (map Says arriving))
-
-    abbrev taken : Trust
-    taken = trust_after arrived (map Says own)
-
-    pub frame_is : trust_after t (marks_of_frame g frames n)
-        ≡ after_mark
-        (Ends (frame_at frames n) (holds_header (kind g.watched.page) (packets_of_frame frames n))
-        (stands_none (standing_at g frames (suc n) (frame_at frames n)))) taken
-    unfolding trust_after
-    frame_is = grind (arith, trust_after-append)
-
-    -- What is told of it.
-    pub frame_told : told_by t (marks_of_frame g frames n)
-        ≡ map (at_pes t.pes) (told_of_frame g frames n run)
-    unfolding told_by told_with trust_after after_mark
-    frame_told =
-        let before = map Says arriving in
-        let after = map Says own in
-        let a = says_is t arriving in
-        let first : told_by t (before ++ Begins ∷ []) ≡ told_by t before =
-        told_by-append t before (Begins ∷ []) ∙ append-nil (told_by t before) in
-        let whole : told_by t (marks_of_frame g frames n)
-        ≡ told_by t before ++ told_by arrived after =
-        told_by-append t (before ++ Begins ∷ [] ++ after) _
-        ∙ append-nil _
-        ∙ told_by-append t (before ++ Begins ∷ []) after
-        ∙ rw (first, trust_after-append t before (Begins ∷ [])) refl in
-        let joined =
-        ap (map (at_pes t.pes)) (with_run-append t.last t.run arriving own)
-        ∙ map-append (at_pes t.pes) (with_run t.last t.run arriving) _ in
-        whole
-        ∙ rw (
-          says_told t arriving,
-          says_told arrived own,
-          a.pes_is,
-          a.last_is,
-          a.run_is,
-          sym joined,
-          sym parts,
-          is.last_is,
-          is.run_is,
-        ) refl
-
-    run_then : taken.run ≡ run_over (frame_before frames n) run (frame_events g frames n)
-    unfolding after_mark
-    run_then =
-        let a = says_is t arriving in
-        let b = says_is arrived own in
-        let joined = run_over-append t.last t.run arriving own in
-        b.run_is ∙ rw (a.run_is, a.last_is, sym joined, sym parts, is.last_is, is.run_is) refl
-
-    all_of : events_of_first g frames (suc n) ≡ events_of_first g frames n ++ (arriving ++ own)
-    unfolding events_of_first
-    all_of = ap (λ l. events_of_first g frames n ++ l) parts
-
-    rises_then : taken.rises ≡ not (list_any is_order (events_of_first g frames (suc n)))
-    unfolding after_mark
-    rises_then =
-        let a = says_is t arriving in
-        let b = says_is arrived own in
-        let first = is.rises_is in
-        let one = list_any-append is_order (events_of_first g frames n) (arriving ++ own) in
-        let two = list_any-append is_order arriving own in
-        rw (all_of, one, two) grind (arith, nat_tests)
-
-    told_then : taken.told ≡ (told || not (tells_none (frame_events g frames n)))
-    unfolding after_mark
-    told_then =
-        let a = says_is t arriving in
-        let b = says_is arrived own in
-        let first = is.told_is in
-        let two = tells_none-two arriving own in
-        rw (parts, two) grind (arith, nat_tests)
-
-    quiet_then :
-        (taken.is_clean && stands_none (standing_at g frames (suc n) (frame_at frames n)))
-        ≡ is_quiet g frames n
-    unfolding is_quiet after_mark
-    quiet_then =
-        let a = says_is t arriving in
-        let b = says_is arrived own in
-        let rises = rises_then in
-        let orders = orders_doubted t.last own in
-        rw (sym rises, sym is.last_is) grind (arith, nat_tests)
-
-    -- What is kept after it.
-    pub judges_next :
-        Judges g frames (suc n) (run_at g frames n run)
-        (told || not (tells_none (frame_events g frames n)))
-        (trust_after t (marks_of_frame g frames n))
-    unfolding run_at frame_before after_mark
-    judges_next = rw frame_is (record {
-      run_is = rw (quiet_then, run_then) refl;
-      last_is = refl;
-      rises_is = rises_then;
-      told_is = told_then;
-    })
+use Rattle.sub_rules.proofs.TrustedLemmas.{trusted_whole, whole_says, with_run}
+use Rattle.sub_rules.proofs.TrustedLemmas.{with_run-none}
+use Rattle.sub_rules.proofs.RunFrameLemmas.{Judges, frame_told, judges_next, marks_are}
+use Rattle.sub_rules.proofs.RunFrameLemmas.{pieces_marks}
+pub use Rattle.sub_rules.proofs.RunFrameLemmas.{arriving_events, closing_told, marks_of_frame}
+pub use Rattle.sub_rules.proofs.RunFrameLemmas.{own_events, told_of_frame, told_of_passed}
+pub use Rattle.sub_rules.proofs.RunFrameLemmas.{trust_end}
+unfoldable pub use Rattle.sub_rules.proofs.RunFrameLemmas.{all_in_runs, frame_before, is_quiet}
+unfoldable pub use Rattle.sub_rules.proofs.RunFrameLemmas.{last_of_run, marks_in_list}
+unfoldable pub use Rattle.sub_rules.proofs.RunFrameLemmas.{run_after_each, run_at, told_in_runs}
+unfoldable pub use Rattle.sub_rules.proofs.RunFrameLemmas.{told_of_each}
 
 -- ---- pieces
 
@@ -258,6 +49,11 @@ judges_at : (g : Task) (frames : Transmission) (n pes : ℕ) (t : Trust) {run : 
 unfolding after_mark
 judges_at g frames n pes t is = record {
   run_is = is.run_is;
+  whole = record {
+    whole_is = is.whole.whole_is;
+    since_is = is.whole.since_is;
+    late_is = is.whole.late_is;
+  };
   last_is = is.last_is;
   rises_is = is.rises_is;
   told_is = is.told_is;
@@ -271,6 +67,7 @@ judges_passed : (g : Task) (frames : Transmission) (n : ℕ) (t : Trust) {run : 
 unfolding after_mark doubted is_order
 judges_passed g frames n t pes u is = record {
   run_is = grind (arith, nat_tests);
+  whole = whole_says t (Told (unread_fault pes (Some u))) is.whole;
   last_is = is.last_is;
   rises_is = let rises = is.rises_is in grind (arith, nat_tests);
   told_is = refl;
@@ -284,7 +81,10 @@ passed_told : (g : Task) (frames : Transmission) (n pes : ℕ) (t : Trust) {run 
     ≡ told_of_passed frames pes n run u
 unfolding told_with after_mark with_run at_pes
 passed_told g frames n pes t u is =
-    let run_is = is.run_is in let last_is = is.last_is in grind (arith, nat_tests)
+    let run_is = is.run_is in
+    let last_is = is.last_is in
+    let whole = trusted_whole t (Some t.last) is.whole in
+    grind (arith, nat_tests)
 
 -- What is told of pieces, and what is kept after them.
 pub record ReadsEach
@@ -292,21 +92,22 @@ pub record ReadsEach
     (pieces : List Piece)
     : Type 0 where
   pub says :
-      told_by t (marks_of_each g frames pes i pieces) ≡ told_of_each g frames pes i run pieces
+      told_by t (marks_in_list g frames pes i pieces) ≡ told_of_each g frames pes i run pieces
   pub left :
       Judges g frames (i + length (frames_of pieces)) (run_after_each g frames i run pieces)
       (told || not (tells_none (told_of_each g frames pes i run pieces)))
-      (trust_after t (marks_of_each g frames pes i pieces))
+      (trust_after t (marks_in_list g frames pes i pieces))
 
 pub each_are : (g : Task) (frames : Transmission) (pes i : ℕ) (run : Option ℕ) (told : Bool)
     (t : Trust) (pieces : List Piece)
     → Judges g frames i run told t
     → ReadsEach g frames pes i run told t pieces
-unfolding told_by told_with trust_after after_mark marks_of_each told_of_each run_after_each frames_of
+unfolding told_by told_with trust_after after_mark marks_in_list told_of_each run_after_each frames_of
 each_are g frames pes i run told t [] is = record {
   says = refl;
   left = record {
     run_is = is.run_is;
+    whole = is.whole;
     last_is = is.last_is ∙ ap (frame_before frames) (omega arith);
     rises_is = is.rises_is ∙ ap (λ k. not (list_any is_order (events_of_first g frames k)))
         (omega arith);
@@ -328,16 +129,17 @@ each_are g frames pes i run told t (Sent s ∷ pieces) is =
     ∙ tells_none-run (frame_before frames i) run (frame_events g frames i) in
     let joined =
     trust_after-append t0 (marks_of_frame g frames i)
-    (marks_of_each g frames (suc pes) (suc i) pieces) in
+    (marks_in_list g frames (suc pes) (suc i) pieces) in
     let count : suc i + length (frames_of pieces) ≡ i + suc (length (frames_of pieces)) =
     omega arith in
     record {
       says =
           told_by-append t0 (marks_of_frame g frames i)
-          (marks_of_each g frames (suc pes) (suc i) pieces)
+          (marks_in_list g frames (suc pes) (suc i) pieces)
           ∙ rw (first, rest.says) refl;
       left = rw (joined, sym count) (record {
         run_is = left.run_is;
+        whole = left.whole;
         last_is = left.last_is;
         rises_is = left.rises_is;
         told_is = left.told_is ∙ rw (two, one) grind (arith, nat_tests);
@@ -353,6 +155,7 @@ each_are g frames pes i run told t (Passed u ∷ pieces) is =
       says = rw (first, rest.says) refl;
       left = record {
         run_is = left.run_is;
+        whole = left.whole;
         last_is = left.last_is;
         rises_is = left.rises_is;
         told_is =
@@ -385,8 +188,15 @@ closing_are g frames pes n t all is =
     let c = closing_of_pieces g frames pes n in
     let t0 = after_mark (AtPes pes) t in
     let t1 = after_mark (Closes (is_some g.unread) (not (tells_none c))) t0 in
-    let says = says_told t1 c in
+    let closed : IsWholeRun t1 = record {
+      whole_is = λ some. cc;
+      since_is = is.whole.since_is;
+      late_is = is.whole.late_is;
+    } in
+    let says = says_told t1 c closed in
     let none = with_run-none t1.last c in
+    let since = is.whole.since_is in
+    let whole = is.whole.whole_is in
     let same = tells_none-at pes c in
     let last = last_before frames in
     let run_is = is.run_is in
@@ -398,31 +208,45 @@ closing_are g frames pes n t all is =
 
 judges_none : (g : Task) (frames : Transmission) → Judges g frames 0 None false no_trust
 unfolding events_of_first frame_before
-judges_none g frames = record { run_is = refl; last_is = refl; rises_is = refl; told_is = refl }
+judges_none g frames = record {
+  run_is = refl;
+  whole = record { whole_is = λ some. refl; since_is = refl; late_is = refl };
+  last_is = refl;
+  rises_is = refl;
+  told_is = refl;
+}
 
--- What is told of some pieces.
-pub events_are : (g : Task) (frames : Transmission) (pieces : List Piece)
-    → events_of_pieces g frames pieces
-    ≡ all_announced no_run (told_of_each g frames 0 0 None pieces)
+-- What is told of some pieces, by the list of the frames that they send and of more.
+pub events_are : (g : Task) (frames more : Transmission) (pieces : List Piece)
+    → g.within ≡ 0
+    → frames ≡ frames_of pieces ++ more
+    → events_of_pieces g pieces ≡ all_announced no_run (told_of_each g frames 0 0 None pieces)
 unfolding events_of_pieces
-events_are g frames pieces =
-    ap (all_announced no_run)
+events_are g frames more pieces none all =
+    ap (λ (ms : List Mark). all_announced no_run (told_by no_trust ms))
+    (marks_are g none [] frames more 0 0 pieces refl all)
+    ∙ ap (all_announced no_run)
     (each_are g frames 0 0 None false no_trust pieces (judges_none g frames)).says
 
 -- What is told of all.
-told_are : (g : Task) (pieces : List Piece) → told_of_pieces g pieces ≡ told_in_runs g pieces
+told_are : (g : Task) (pieces : List Piece) → g.within ≡ 0
+    → told_of_pieces g pieces ≡ told_in_runs g pieces
 unfolding told_of_pieces told_in_runs
-told_are g pieces =
+told_are g pieces zero_within =
     let frames = frames_of pieces in
+    let marks = marks_in_list g frames 0 0 pieces in
     let each = each_are g frames 0 0 None false no_trust pieces (judges_none g frames) in
     let count : 0 + length frames ≡ length frames = omega arith in
     let closing =
     closing_are g frames (length pieces) (length frames) _ refl
     (subst (λ (k : ℕ). Judges g frames k (run_after_each g frames 0 None pieces)
     (false || not (tells_none (told_of_each g frames 0 0 None pieces)))
-    (trust_after no_trust (marks_of_each g frames 0 0 pieces))) count each.left) in
-    told_by-append no_trust (marks_of_each g frames 0 0 pieces)
-    (marks_of_closing g frames (length pieces) (length frames))
+    (trust_after no_trust marks)) count each.left) in
+    let listed : marks_of_pieces g pieces
+    ≡ marks ++ marks_of_closing g frames (length pieces) (length frames) =
+    pieces_marks g zero_within pieces in
+    ap (told_by no_trust) listed
+    ∙ told_by-append no_trust marks (marks_of_closing g frames (length pieces) (length frames))
     ∙ rw (each.says, closing)
     (sym (append_assoc (told_of_each g frames 0 0 None pieces) (last_of_run g frames
     (run_after_each g frames 0 None pieces)
@@ -430,8 +254,9 @@ told_are g pieces =
     || not (tells_none (closing_told g frames (length pieces) (length frames)))))
     (closing_told g frames (length pieces) (length frames))))
 
-pub all_are : (g : Task) (pieces : List Piece) → all_of_pieces g pieces ≡ all_in_runs g pieces
+pub all_are : (g : Task) (pieces : List Piece) → g.within ≡ 0
+    → all_of_pieces g pieces ≡ all_in_runs g pieces
 unfolding all_of_pieces all_in_runs
-all_are g pieces =
+all_are g pieces none =
     ap (λ (told : List Event). all_announced no_run told
-    ++ ended_run (passed_after_all no_run told)) (told_are g pieces)
+    ++ ended_run (passed_after_all no_run told)) (told_are g pieces none)

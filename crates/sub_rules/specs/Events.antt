@@ -8,12 +8,12 @@
 -- PES packets up to there count: those before, for a frame without one; with its own, for its own.
 use Rattle.std.specs.Prelude.{ℕ, zero, suc, max, ◌+◌, ◌-◌, ◌&&◌, ◌==◌, Bool, true, false, not, List}
 use Rattle.std.specs.Prelude.{[], ◌∷◌, ◌++◌, map, length, take, Option, Some, None, is_some}
-use Rattle.std.specs.Prelude.{option_and_then, option_map, nat_le, nat_lt, if◌then◌else◌}
-use Rattle.std.specs.Prelude.{slice_index_or}
+use Rattle.std.specs.Prelude.{◌||◌, option_and_then, option_map, nat_le, nat_lt, if◌then◌else◌}
+use Rattle.std.specs.Prelude.{slice_index_or, unwrap_or}
 use Rattle.std.specs.List.{list_any}
 use Rattle.ttx_packet.specs.OneBit.{first_below}
 use Rattle.ttx_packet.specs.PageId.{PageIdValue}
-use Rattle.ttx_page.specs.Page.{Rows, cell}
+use Rattle.ttx_page.specs.Page.{Rows, cell, space}
 use Rattle.ttx_page.specs.PacketKind.{kind}
 use Rattle.ttx_page.specs.Shown.{shown}
 use Rattle.ttx_page.specs.Span.{holds_header, is_open_after}
@@ -76,12 +76,99 @@ unfoldable pub is_incomplete : Task → Transmission → ℕ → Bool
 is_incomplete g frames n =
     g.watched.complete && is_open_after (kind g.watched.page) (packets_before frames n)
 
+-- ---- within how many frames the page has to be whole
+
+-- The end of frame f, after n frames of the list, is unfinished: a cell shows another code than is
+-- due, or the page is open where complete pages are asked for.
+abbrev pub is_unfinished : Task → Transmission → ℕ → ℕ → Bool
+is_unfinished g frames n f = is_some (wrong_cell g frames n f) || is_incomplete g frames n
+
+-- The greatest number of the first n frames of the list.
+unfoldable pub latest : Transmission → ℕ → ℕ
+latest frames zero = 0
+latest frames (suc n) = max (latest frames n) (frame_at frames n)
+
+-- How many frames of the day lie after all of the first i frames of the list and before frame i.
+unfoldable pub gap_length : Transmission → ℕ → ℕ
+gap_length frames zero = 0
+gap_length frames (suc i) = frame_at frames (suc i) - (latest frames (suc i) + 1)
+
+-- The frame of the earliest of the unfinished ends that follow one another up to that of frame f,
+-- by the one of those up to the end before it.
+abbrev pub unfinished_from : Option ℕ → Bool → ℕ → Option ℕ
+unfinished_from since unfinished f = if unfinished then Some (unwrap_or since f) else None
+
+-- That up to the first k ends of frames of the day after the first n frames of the list, by the one
+-- at the end of the last of these.
+unfoldable pub since_in_gap : Task → Transmission → ℕ → Option ℕ → ℕ → Option ℕ
+since_in_gap g frames n since zero = since
+since_in_gap g frames n since (suc k) =
+    let f = latest frames n + suc k in
+    unfinished_from (since_in_gap g frames n since k) (is_unfinished g frames n f) f
+
+-- That up to the end of frame n - 1 of the list; none before the first one.
+unfoldable pub since_frames : Task → Transmission → ℕ → Option ℕ
+since_frames g frames zero = None
+since_frames g frames (suc i) =
+    unfinished_from (since_in_gap g frames i (since_frames g frames i) (gap_length frames i))
+    (is_unfinished g frames (suc i) (frame_at frames i)) (frame_at frames i)
+
+-- That up to the end of frame f, after n frames of the list; none where that end is finished.
+unfoldable pub unfinished_since : Task → Transmission → ℕ → ℕ → Option ℕ
+unfinished_since g frames n f =
+    since_in_gap g frames n (since_frames g frames n) (f - latest frames n)
+
+-- The next frame is the TCO of a subtitle none of whose frames with an end was finished: it began
+-- with the first of these unfinished ends or after it, or had begun before the first frame of the
+-- list, where that is the first of them.
+abbrev pub is_missed : Option ℕ → ℕ → ℕ → Bool
+is_missed None first since = false
+is_missed (Some tci) first since = nat_le since tci || (since == first && nat_lt tci first)
+
+-- An end of frame f, up to which the ends are unfinished since this frame, is overdue: the page had
+-- to be whole by now. A finished end is not.
+abbrev pub is_overdue : Task → ℕ → Option ℕ → ℕ → Bool
+is_overdue g first None f = false
+is_overdue g first (Some since) f =
+    nat_le (since + g.within) f || is_missed (g.ending (f + 1)) first since
+
+-- The end of frame f, after n frames of the list, is late where it is unfinished. Within 0 frames
+-- each is; else those that are overdue.
+unfoldable pub is_late : Task → Transmission → ℕ → ℕ → Bool
+is_late g frames n f =
+    g.within == 0 || is_overdue g (frame_at frames 0) (unfinished_since g frames n f) f
+
+-- The code was due at the cell at frame f, or at one of the n frames before it, from the first
+-- frame of the list on.
+unfoldable pub was_due : (ℕ → Rows) → ℕ → ℕ → ℕ → ℕ → ℕ → ℕ → Bool
+was_due due first f zero row column code = cell (due f) row column == code
+was_due due first f (suc n) row column code =
+    was_due due first f n row column code
+    || (nat_le (first + suc n) f && (cell (due (f - suc n)) row column == code))
+
+-- The first cell that shows after these packets, at the end of frame f, neither a space nor a code
+-- that was due there at that frame or one of the last n, from the first frame on.
+unfoldable pub undue_after : PageIdValue → List (List ℕ) → (ℕ → Rows) → ℕ → ℕ → ℕ → Option (ℕ × ℕ)
+undue_after page packets due first f n =
+    first_cell
+    (λ row column.
+    not (shown page packets row column == space)
+    && not (was_due due first f n row column (shown page packets row column)))
+
+-- What of the page's content stands broken at the end of frame f, after n frames of the list: where
+-- it is late each cell has to show what is due, and else what was due within these frames.
+abbrev pub broken_cell : Task → Transmission → ℕ → ℕ → Option (ℕ × ℕ)
+broken_cell g frames n f =
+    if is_late g frames n f
+    then wrong_cell g frames n f
+    else undue_after g.watched.page (packets_before frames n) g.due (frame_at frames 0) f g.within
+
 -- What stands broken at the end of frame f, after n frames of the list.
 unfoldable pub standing_at : Task → Transmission → ℕ → ℕ → Standing
 standing_at g frames n f = record {
-  content = wrong_cell g frames n f;
+  content = broken_cell g frames n f;
   gap = is_gap g frames n f;
-  incomplete = is_incomplete g frames n;
+  incomplete = is_late g frames n f && is_incomplete g frames n;
 }
 
 -- ---- what is told at an end
@@ -115,11 +202,6 @@ end_events old before new f =
 
 -- ---- the ends in their order
 
--- The greatest number of the first n frames of the list.
-unfoldable pub latest : Transmission → ℕ → ℕ
-latest frames zero = 0
-latest frames (suc n) = max (latest frames n) (frame_at frames n)
-
 -- The frame of the end before that of frame f, up to which i frames of the list count: the frame
 -- before, where that has no PES packet; else that of the PES packet before.
 abbrev pub end_before : Transmission → ℕ → ℕ → ℕ
@@ -136,11 +218,6 @@ standing_before g frames (suc i) f = standing_at g frames (suc i) (end_before fr
 abbrev pub events_at_end : Task → Transmission → ℕ → ℕ → ℕ → List Event
 events_at_end g frames i n f =
     end_events (standing_before g frames i f) (end_before frames i f) (standing_at g frames n f) f
-
--- How many frames of the day lie after all of the first i frames of the list and before frame i.
-unfoldable pub gap_length : Transmission → ℕ → ℕ
-gap_length frames zero = 0
-gap_length frames (suc i) = frame_at frames (suc i) - (latest frames (suc i) + 1)
 
 -- What is told at the ends of the first n of these.
 unfoldable pub gap_events : Task → Transmission → ℕ → ℕ → List Event
@@ -182,12 +259,17 @@ unfoldable pub rules_told : Watched → ℕ → ℕ → List (List ℕ) → List
 rules_told w frame k before p =
     map (λ (r : PacketRule). Told (packet_fault r frame k)) (broken_rules w before p)
 
+-- What is told of the first n of some packets of a frame, which are counted in it from this number
+-- on, sent after these packets.
+unfoldable pub packets_told : Watched → ℕ → ℕ → List (List ℕ) → List (List ℕ) → ℕ → List Event
+packets_told w frame from before packets zero = []
+packets_told w frame from before packets (suc n) =
+    packets_told w frame from before packets n
+    ++ rules_told w frame (from + n) (before ++ take n packets) (slice_index_or packets n [])
+
 -- What is told of the first n packets of a frame, sent after these packets.
-unfoldable pub packet_events : Watched → ℕ → List (List ℕ) → List (List ℕ) → ℕ → List Event
-packet_events w frame before packets zero = []
-packet_events w frame before packets (suc n) =
-    packet_events w frame before packets n
-    ++ rules_told w frame n (before ++ take n packets) (slice_index_or packets n [])
+abbrev pub packet_events : Watched → ℕ → List (List ℕ) → List (List ℕ) → ℕ → List Event
+packet_events w frame before packets n = packets_told w frame 0 before packets n
 
 -- What is told of the first frame after its packets: it has a header of the page.
 unfoldable pub first_header_events : Task → Transmission → ℕ → List Event
@@ -226,17 +308,30 @@ unread_fault pes (Some (BadPacket f)) = fault.Pes pes f
 unread_fault pes (Some NoFrame) = fault.OffFrame pes
 unread_fault pes None = fault.Empty
 
+-- The last TCO is after this frame.
+abbrev pub is_short : Option ℕ → ℕ → Bool
+is_short None frame = false
+is_short (Some last_out) frame = nat_lt frame last_out
+
+-- The last end is unfinished and not late: the page may be whole in a frame that does not come.
+unfoldable pub is_pending : Task → Transmission → Bool
+is_pending g frames =
+    let n = length frames in
+    is_some (unfinished_since g frames n (end_frame frames))
+    && not (is_late g frames n (end_frame frames))
+
 -- What is told of what follows the list: of the bytes that are left; else that the last TCO is
--- after the last frame.
-abbrev pub late_events : Option ℕ → ℕ → List Event
-late_events None frame = []
-late_events (Some last_out) frame =
-    if nat_le last_out frame then [] else Told (fault.Late frame) ∷ []
+-- after the last frame, or that the page was not whole at its end.
+abbrev pub late_events : Task → Transmission → List Event
+late_events g frames =
+    if is_short g.last_out (end_frame frames) || is_pending g frames
+    then Told (fault.Late (end_frame frames)) ∷ []
+    else []
 
 -- What is told where frames were read, by what keeps the file from being read to its end.
 abbrev pub rest_events : Task → Transmission → Option Unread → List Event
 rest_events g frames (Some unread) = Told (unread_fault (length frames) (Some unread)) ∷ []
-rest_events g frames None = late_events g.last_out (end_frame frames)
+rest_events g frames None = late_events g frames
 
 -- What is told after the last frame of the list; of a list without one, why it has none.
 unfoldable pub closing_events : Task → Transmission → ℕ → List Event

@@ -1,8 +1,8 @@
 -- The faults of a pair of files, a row each: the number and the name by which one is told (own),
 -- where it is, and what follows where it is told; and which of them are those of a device, of memory
 -- or of the one file.
-use Rattle.std.specs.Prelude.{ℕ, List, Bool, true, false, not, ◌||◌, Option, Some, None}
-use Rattle.std.specs.Prelude.{codes}
+use Rattle.std.specs.Prelude.{ℕ, List, Bool, true, false, Option, Some, None}
+use Rattle.std.specs.Prelude.{codes, unwrap_or}
 use Rattle.sub_io.specs.FaultCode.{FaultCodeValue, fault_code}
 use Rattle.stl_file.specs.declared.fault.StlFault.TheVariants as stl
 use Rattle.stl_rows.specs.Fault as load
@@ -73,14 +73,15 @@ check_code f = (fault_row f).code
 abbrev pub place_of : CheckFault → FaultPlace
 place_of f = (fault_row f).place
 
--- The frame that is quiet no more where a fault is told, if one is, by its place: of a PES packet
--- that of the one before it, `last`, in which it may have been sent too.
-abbrev pub doubted_frame : ℕ → Bool → FaultPlace → Option ℕ
-doubted_frame last true (place.Pes n) = Some last
-doubted_frame last true (place.Frame f) = Some f
-doubted_frame last true (place.Packet f k) = Some f
-doubted_frame last true (place.Cell f r c) = Some f
-doubted_frame last _ _ = None
+-- The first frame that is trusted no more where a fault is told, if one is, by its place: of a PES
+-- packet that of the one before it, `last`, in which it may have been sent too; at a late end the
+-- one since which the page is not whole.
+abbrev pub doubted_frame : ℕ → Option ℕ → Bool → FaultPlace → Option ℕ
+doubted_frame last late true (place.Pes n) = Some last
+doubted_frame last late true (place.Frame f) = Some (unwrap_or late f)
+doubted_frame last late true (place.Packet f k) = Some f
+doubted_frame last late true (place.Cell f r c) = Some (unwrap_or late f)
+doubted_frame last late _ _ = None
 
 -- A refusal that names a PES packet names this one.
 abbrev pub fault_at_pes : ℕ → CheckFault → CheckFault

@@ -8,6 +8,7 @@ use Rattle.ttx_page.specs.PacketKind.{kind}
 use Rattle.ttx_page.specs.Shown.{shown}
 use Rattle.ttx_page.specs.Span.{holds_header, is_open_after}
 use Rattle.ttx_pes.specs.declared.fault.PesFault.{PesFault}
+use Rattle.stl_rows.specs.DuePage.{tci_of_ending}
 use Rattle.stl_rows.specs.Programme.{ProgrammeValue, first_in, last_out}
 use Rattle.sub_plan.specs.Options.{OptionsValue}
 use Rattle.sub_plan.specs.Schedule.{due_in}
@@ -20,13 +21,16 @@ pub data Unread : Type 0 where
   BadPacket : PesFault → Unread
   NoFrame : Unread
 
--- What a transmission is checked against: the page and its national option, the repeat bound, the
--- page that is due at each frame, the first TCI and the last TCO; and what keeps the PES file from
--- being read to its end, if anything does.
+-- What a transmission is checked against: the page and its national option, the repeat bound,
+-- within how many frames the page that is due has to be whole, the page that is due at each frame,
+-- the TCI of the subtitle whose TCO a frame is, the first TCI and the last TCO; and what keeps the
+-- PES file from being read to its end, if anything does.
 pub record Task : Type 0 where
   pub watched : Watched
   pub every : ℕ
+  pub within : ℕ
   pub due : ℕ → Rows
+  pub ending : ℕ → Option ℕ
   pub first_in : Option ℕ
   pub last_out : Option ℕ
   pub unread : Option Unread
@@ -40,12 +44,14 @@ watched_of programme options = record {
   complete = options.asks_complete;
 }
 
--- The task of a programme, where this is watched with this repeat bound.
-abbrev pub task_with : ProgrammeValue → Watched → ℕ → Option Unread → Task
-task_with programme watched every unread = record {
+-- The task of a programme, where this is watched with this repeat bound, within these frames.
+abbrev pub task_with : ProgrammeValue → Watched → ℕ → ℕ → Option Unread → Task
+task_with programme watched every within unread = record {
   watched = watched;
   every = every;
+  within = within;
   due = due_in programme;
+  ending = tci_of_ending programme.records;
   first_in = first_in programme.records;
   last_out = last_out programme.records;
   unread = unread;
@@ -54,7 +60,7 @@ task_with programme watched every unread = record {
 -- The task of a programme and options.
 abbrev pub task_of : ProgrammeValue → OptionsValue → Option Unread → Task
 task_of programme options unread =
-    task_with programme (watched_of programme options) options.every unread
+    task_with programme (watched_of programme options) options.every options.within unread
 
 -- The number of frame i of the list, from 0.
 abbrev pub frame_at : Transmission → ℕ → ℕ

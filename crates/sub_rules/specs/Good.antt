@@ -48,11 +48,8 @@ IsControlled national page packet =
 -- A packet X/25 to X/28 of the page's magazine, which would change more of the page than its rows.
 abbrev pub IsEnhancement : PageIdValue → List ℕ → Type 0
 IsEnhancement page packet =
-    (a : PacketAddress)
-    × (address packet ≡ Some a)
-    × (a.magazine ≡ page.magazine)
-    × (25 ≤ a.packet_number)
-    × (a.packet_number ≤ 28)
+    (a : PacketAddress) × (address packet ≡ Some a) × (a.magazine ≡ page.magazine)
+    × (25 ≤ a.packet_number) × (a.packet_number ≤ 28)
 
 -- A clean span: each row has 40 bytes of odd parity, two packets of one row are equal, and no
 -- packet X/25 to X/28 is among them.
@@ -64,8 +61,7 @@ pub record IsCleanSpan (page : PageIdValue) (packets : List (List ℕ)) : Type 0
 -- Wherever one stops to listen, in a frame or at its end, the span is clean.
 abbrev pub HasCleanSpans : PageIdValue → Transmission → Type 0
 HasCleanSpans page transmission =
-    (f n : ℕ)
-    → f ≤ last_frame transmission
+    (f n : ℕ) → f ≤ last_frame transmission
     → IsCleanSpan page (span (kind page) (take n (on_air_until transmission f)))
 
 -- The frame holds a header of the page.
@@ -86,14 +82,13 @@ Repeats page every transmission =
 abbrev pub ShowsDuePages : ProgrammeValue → PageIdValue → Transmission → Type 0
 ShowsDuePages programme page transmission =
     (f row column : ℕ)
-    → first_frame transmission ≤ f
-    → f ≤ last_frame transmission
+    → first_frame transmission ≤ f → f ≤ last_frame transmission
     → IsCell row column
     → shown page (on_air_until transmission f) row column ≡ cell (due_in programme f) row column
 
--- A good transmission of a programme on a page, with a repeat bound. The origin of the options is
--- not looked at: it tells how PES packets are a transmission.
-pub record Good
+-- Rules 1 to 6, of all but what is shown: a transmission of a programme on a page, with a repeat
+-- bound. The origin of the options is not looked at: it tells how PES packets are a transmission.
+pub record KeepsRules
     (programme : ProgrammeValue) (transmission : Transmission) (options : OptionsValue)
     : Type 0 where
   -- 1. There is a frame, the frames rise, packets are 42 bytes, and the frames reach from the first
@@ -117,5 +112,12 @@ pub record Good
   -- another.
   pub opens : HoldsHeader options.page transmission (first_frame transmission)
   pub repeats : Repeats options.page options.every transmission
+
+-- A good transmission of a programme.
+pub record Good
+    (programme : ProgrammeValue) (transmission : Transmission) (options : OptionsValue)
+    : Type 0 where
+  -- 1 to 6.
+  pub rules : KeepsRules programme transmission options
   -- 7. At each frame's end the page that is due is shown.
   pub content : ShowsDuePages programme options.page transmission

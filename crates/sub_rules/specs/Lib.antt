@@ -2,6 +2,7 @@ pub mod Events
 pub mod Fault
 pub mod FrameRules
 pub mod Good
+pub mod GoodWithin
 pub mod PacketRules
 pub mod PacketTests
 pub mod PesFrames

@@ -1,12 +1,13 @@
 -- How PES packets are a transmission: by the PTS of frame 0, each PTS is that of a frame of the day
 -- (EN 300 472, PTS: 33 bits at 90 kHz).
-use Rattle.std.specs.Prelude.{◌≡◌, ℕ, ◌<◌, ◌≤◌, List, length, map}
+use Rattle.std.specs.Prelude.{◌≡◌, ℕ, ◌<◌, ◌≤◌, List, length, map, Some}
 use Rattle.std.specs.List.{AllZip, concat}
 use Rattle.ttx_pes.specs.DataUnit.{UnitValue}
 use Rattle.ttx_pes.specs.PesPacket.{IsPesPacket, PesValue}
 use Rattle.ttx_pes.specs.Reading.{most_packets}
 use Rattle.stl_file.specs.TimeCode.{day}
-use Rattle.sub_plan.specs.FrameTime.{pts_of}
+use Rattle.sub_plan.specs.FrameTime.{Clock, pts_of}
+use Rattle.sub_rules.specs.Pieces.{joined}
 use Rattle.sub_rules.specs.Transmission.{SentFrame, Transmission, IsRising}
 
 -- A PES packet is sent as a frame: its PTS is that of the frame, which is a frame of the day, and
@@ -25,4 +26,25 @@ pub record Carries (origin : ℕ) (bytes : List ℕ) (frames : Transmission) : T
   pub few : length packets ≤ most_packets
   pub joined : bytes ≡ concat packets
   pub sent : AllZip (IsSentAs origin) values frames
+  pub rising : IsRising frames
+
+-- A PES packet is read as a frame by a clock, and its Teletext units carry the frame's packets.
+pub record IsReadAs (clock : Clock) (pes : PesValue) (s : SentFrame) : Type 0 where
+  pub frame : clock pes.pts ≡ Some s.frame
+  pub packets : s.packets ≡ map (λ (u : UnitValue). u.packet) pes.units
+
+-- The bytes are a PES file that carries the transmission within frames: PES packets, joined, at
+-- most as many as a day has frames. By the clock each is read as a frame, those of one frame that
+-- follow one another are sent as one, and the frames rise.
+pub record CarriesBy
+    (clock : Clock) (within : ℕ) (bytes : List ℕ) (frames : Transmission)
+    : Type 0 where
+  pub values : List PesValue
+  pub packets : List (List ℕ)
+  pub sendings : Transmission
+  pub each : AllZip IsPesPacket values packets
+  pub few : length packets ≤ most_packets
+  pub is_whole : bytes ≡ concat packets
+  pub read : AllZip (IsReadAs clock) values sendings
+  pub are : frames ≡ joined within sendings
   pub rising : IsRising frames

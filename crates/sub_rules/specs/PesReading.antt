@@ -3,30 +3,42 @@
 use Rattle.std.specs.Prelude.{◌≡◌, ◌↔◌, ℕ, List, Option, None}
 use Rattle.sub_io.specs.Reading.{AreBytes}
 use Rattle.sub_rules.specs.FrameRules.{Unread}
-use Rattle.sub_rules.specs.PesFrames.{Carries}
-use Rattle.sub_rules.specs.Pieces.{PesFileValue, pieces_at, until_passed_over}
+use Rattle.sub_plan.specs.FrameTime.{Clock, clock_of}
+use Rattle.sub_plan.specs.Options.{OptionsValue}
+use Rattle.sub_rules.specs.PesFrames.{Carries, CarriesBy}
+use Rattle.sub_rules.specs.Pieces.{PesFileValue, joined, pieces_at, until_passed_over}
 use Rattle.sub_rules.specs.Transmission.{IsRising, Transmission}
 
 -- What the bytes that are left after `given` PES packets are read as: up to the first piece that is
 -- passed over where reading goes on.
-unfoldable pub file_at : ℕ → ℕ → List ℕ → PesFileValue
-file_at origin given bytes = until_passed_over (pieces_at origin given bytes)
+unfoldable pub file_at : Clock → ℕ → List ℕ → PesFileValue
+file_at clock given bytes = until_passed_over (pieces_at clock given bytes)
 
 -- What the bytes of a PES file are read as.
-abbrev pub pes_file_of : ℕ → List ℕ → PesFileValue
-pes_file_of origin bytes = file_at origin 0 bytes
+abbrev pub pes_file_of : Clock → List ℕ → PesFileValue
+pes_file_of clock bytes = file_at clock 0 bytes
 
 -- After `given` PES packets the bytes are read as these frames, up to what is unread.
-abbrev pub ReadsAs : ℕ → ℕ → List ℕ → Transmission → Option Unread → Type 0
-ReadsAs origin given bytes frames unread =
-    file_at origin given bytes ≡ record { frames = frames; unread = unread }
+abbrev pub ReadsAs : Clock → ℕ → List ℕ → Transmission → Option Unread → Type 0
+ReadsAs clock given bytes frames unread =
+    file_at clock given bytes ≡ record { frames = frames; unread = unread }
 
 -- Bytes are read to their end as frames that rise, exactly where they are a PES file that carries
 -- these frames.
 -- So what is read packet by packet is what the grammar says of the whole file.
 abbrev pub LawOfPesFiles : Type 0
 LawOfPesFiles =
-    (origin : ℕ) (bytes : List ℕ) (frames : Transmission)
+    (clock : Clock) (within : ℕ) (bytes : List ℕ) (frames : Transmission)
     → AreBytes bytes
-    → ((pes_file_of origin bytes ≡ record { frames = frames; unread = None }) × IsRising frames)
-    ↔ Carries origin bytes frames
+    → (((pes_file_of clock bytes).unread ≡ None)
+    × (frames ≡ joined within (pes_file_of clock bytes).frames)
+    × IsRising frames)
+    ↔ CarriesBy clock within bytes frames
+
+-- Within 0 frames these are the transmissions that the bytes carry by the PTS of each frame of the
+-- day.
+abbrev pub LawOfExactFrames : Type 0
+LawOfExactFrames =
+    (options : OptionsValue) (bytes : List ℕ) (frames : Transmission)
+    → options.within ≡ 0
+    → CarriesBy (clock_of options) options.within bytes frames ↔ Carries options.origin bytes frames

@@ -2,20 +2,27 @@
 -- frames that are sent what is told of a transmission, and in its place the number of each piece
 -- that is passed over. Of such pieces one directly after the other with one number the first is
 -- told, and up to which one they go, directly before whatever is told next.
-use Rattle.std.specs.Prelude.{ℕ, zero, suc, ◌&&◌, ◌==◌, ◌≡◌, Bool, true, false, not, List, []}
+--
+-- A checker can't look ahead: what comes of a PES packet goes by the frames sent up to it.
+-- Within frames the PES packets of one frame are one sending, so its end comes where one of another
+-- frame does, or none.
+use Rattle.std.specs.Prelude.{ℕ, zero, suc, ◌+◌, ◌-◌, ◌&&◌, ◌==◌, ◌≡◌, Bool, false, not, List, []}
 use Rattle.std.specs.Prelude.{◌∷◌, ◌++◌, length, map, Option, Some, None, is_some, if◌then◌else◌}
 use Rattle.ttx_page.specs.PacketKind.{kind}
 use Rattle.ttx_page.specs.Span.{holds_header}
 use Rattle.sub_rules.specs.Events.{closing_events, events, events_at_end, first_header_events}
-use Rattle.sub_rules.specs.Events.{first_told, gap_events, gap_length, order_events, packet_events}
-use Rattle.sub_rules.specs.Events.{standing_at, unread_fault}
+use Rattle.sub_rules.specs.Events.{first_told, gap_length, is_late, latest, order_events}
+use Rattle.sub_rules.specs.Events.{packet_events, packets_told, standing_at, unfinished_since}
+use Rattle.sub_rules.specs.Events.{unread_fault}
 use Rattle.sub_rules.specs.Fault.{check_code, fault_row, place_of}
-use Rattle.sub_rules.specs.FrameRules.{Task, Unread, frame_at, packets_before, packets_of_frame}
-use Rattle.sub_rules.specs.Pieces.{Piece, frames_of, read_until_passed}
+use Rattle.sub_rules.specs.FrameRules.{Task, Unread, end_frame, frame_at, packets_before}
+use Rattle.sub_rules.specs.FrameRules.{packets_of_frame}
+use Rattle.sub_rules.specs.Pieces.{Piece, frames_of, goes_on_with, joined, read_until_passed}
+use Rattle.sub_rules.specs.Pieces.{sent_after}
 use Rattle.sub_rules.specs.Pieces.Piece.{Passed, Sent}
-use Rattle.sub_rules.specs.Transmission.{Transmission}
+use Rattle.sub_rules.specs.Transmission.{SentFrame, Transmission}
 use Rattle.sub_rules.specs.Trusted.{Mark, no_trust, stands_none, tells_none, told_by}
-use Rattle.sub_rules.specs.Trusted.Mark.{AtPes, Begins, Closes, Ends, Says}
+use Rattle.sub_rules.specs.Trusted.Mark.{AtEnd, AtPes, Begins, Closes, Ends, Says}
 use Rattle.sub_rules.specs.declared.event.Event.{Event}
 use Rattle.sub_rules.specs.declared.event.Event.TheVariants.{PassedUntil, Told}
 use Rattle.sub_rules.specs.declared.fault.CheckFault.{CheckFault}
@@ -23,40 +30,91 @@ use Rattle.sub_rules.specs.declared.fault_place.FaultPlace.{FaultPlace}
 use Rattle.sub_rules.specs.declared.fault_place.FaultPlace.TheVariants as place
 use Rattle.sub_rules.specs.declared.passed_run.PassedRun.{PassedRun}
 
+-- ---- ends
+
+-- What comes at the end of frame f, up to which i frames of the list counted at the end before, and
+-- now n: within frames, since which the page is not whole, and whether that is late; and what is
+-- told.
+abbrev pub marks_at_end : Task → Transmission → ℕ → ℕ → ℕ → List Mark
+marks_at_end g frames i n f =
+    (if g.within == 0
+    then []
+    else AtEnd f (unfinished_since g frames n f) (is_late g frames n f) ∷ [])
+    ++ map Says (events_at_end g frames i n f)
+
+-- What comes at the ends of the first n frames of the day after all of the first i frames of the
+-- list and before frame i.
+unfoldable pub marks_of_gap : Task → Transmission → ℕ → ℕ → List Mark
+marks_of_gap g frames i zero = []
+marks_of_gap g frames i (suc n) =
+    marks_of_gap g frames i n ++ marks_at_end g frames i i (latest frames i + suc n)
+
 -- ---- each piece by itself
 
--- What is told of frame i of the list before its packets: of its number, and of the frames of the
--- day before it.
-abbrev pub arriving_events : Task → Transmission → ℕ → List Event
-arriving_events g frames i =
-    order_events g frames i ++ gap_events g frames i (gap_length frames i)
+-- What comes before the packets of frame i of the list: what is told of its number, and the ends of
+-- the frames of the day before it.
+abbrev pub marks_of_arrival : Task → Transmission → ℕ → List Mark
+marks_of_arrival g frames i =
+    map Says (order_events g frames i)
+    ++ marks_of_gap g frames i (gap_length frames i)
+    ++ Begins (frame_at frames i) ∷ []
 
--- What is told of its packets, and at its end.
-abbrev pub own_events : Task → Transmission → ℕ → List Event
-own_events g frames i =
-    packet_events g.watched (frame_at frames i) (packets_before frames i)
-    (packets_of_frame frames i) (length (packets_of_frame frames i))
-    ++ first_header_events g frames i
-    ++ events_at_end g frames i (suc i) (frame_at frames i)
+-- What comes of its packets.
+abbrev pub marks_of_packets : Task → Transmission → ℕ → List Mark
+marks_of_packets g frames i =
+    map Says
+    (packet_events g.watched (frame_at frames i) (packets_before frames i)
+    (packets_of_frame frames i) (length (packets_of_frame frames i)))
 
--- Both, and where its packets and its end are.
-abbrev pub marks_of_frame : Task → Transmission → ℕ → List Mark
-marks_of_frame g frames i =
-    map Says (arriving_events g frames i)
-    ++ Begins ∷ []
-    ++ map Says (own_events g frames i)
+-- What comes at its end.
+abbrev pub marks_of_ending : Task → Transmission → ℕ → List Mark
+marks_of_ending g frames i =
+    map Says (first_header_events g frames i)
+    ++ marks_at_end g frames i (suc i) (frame_at frames i)
     ++ Ends (frame_at frames i) (holds_header (kind g.watched.page) (packets_of_frame frames i))
     (stands_none (standing_at g frames (suc i) (frame_at frames i))) ∷ []
 
--- What comes of pieces, the first of them PES packet `pes` and, if it is sent, frame i of the list.
+-- Within frames a frame ends where a PES packet of another one comes, or none: what comes at the
+-- end of the last frame that was sent.
+unfoldable pub marks_of_waiting : Task → Transmission → List Mark
+marks_of_waiting g [] = []
+marks_of_waiting g (s ∷ sent) =
+    if g.within == 0 then [] else marks_of_ending g (s ∷ sent) (length sent)
+
+-- What comes of more packets of the last frame that was sent.
+abbrev pub marks_of_more : Task → Transmission → List (List ℕ) → List Mark
+marks_of_more g sent packets =
+    map Says
+    (packets_told g.watched (end_frame sent)
+    (length (packets_of_frame sent (length sent - 1)))
+    (packets_before sent (length sent)) packets (length packets))
+
+-- What comes of another frame, where these were sent before it.
+abbrev pub marks_of_next : Task → Transmission → SentFrame → List Mark
+marks_of_next g sent s =
+    let frames = sent ++ s ∷ [] in
+    let i = length sent in
+    marks_of_arrival g frames i
+    ++ marks_of_packets g frames i
+    ++ (if g.within == 0 then marks_of_ending g frames i else [])
+
+-- What comes of a PES packet that is sent, where these frames were sent before it.
+unfoldable pub marks_of_sent : Task → Transmission → ℕ → SentFrame → List Mark
+marks_of_sent g sent pes s =
+    if goes_on_with g.within sent s
+    then AtPes pes ∷ marks_of_more g sent s.packets
+    else marks_of_waiting g sent ++ AtPes pes ∷ marks_of_next g sent s
+
+-- What comes of pieces, the first of them PES packet `pes`, where these frames were sent before it.
 -- What a piece that is passed over puts on air is not known: its fault doubts the frame before.
-unfoldable pub marks_of_each : Task → Transmission → ℕ → ℕ → List Piece → List Mark
-marks_of_each g frames pes i [] = []
-marks_of_each g frames pes i (Sent s ∷ pieces) =
-    AtPes pes ∷ marks_of_frame g frames i ++ marks_of_each g frames (suc pes) (suc i) pieces
-marks_of_each g frames pes i (Passed u ∷ pieces) =
+unfoldable pub marks_of_each : Task → Transmission → ℕ → List Piece → List Mark
+marks_of_each g sent pes [] = []
+marks_of_each g sent pes (Sent s ∷ pieces) =
+    marks_of_sent g sent pes s
+    ++ marks_of_each g (sent_after g.within sent s) (suc pes) pieces
+marks_of_each g sent pes (Passed u ∷ pieces) =
     AtPes pes ∷ Says (Told (unread_fault pes (Some u)))
-    ∷ marks_of_each g frames (suc pes) i pieces
+    ∷ marks_of_each g sent (suc pes) pieces
 
 -- What is told where there are pieces and none is sent: nothing but what keeps the bytes from being
 -- read on.
@@ -75,11 +133,17 @@ marks_of_closing g frames pes n =
     AtPes pes ∷ Closes (is_some g.unread) (not (tells_none (closing_of_pieces g frames pes n)))
     ∷ map Says (closing_of_pieces g frames pes n)
 
+-- The frames that are sent by pieces, within frames those of PES packets of one frame as one.
+abbrev pub sent_by_pieces : Task → List Piece → Transmission
+sent_by_pieces g pieces = joined g.within (frames_of pieces)
+
 -- What comes of all pieces of a file.
 abbrev pub marks_of_pieces : Task → List Piece → List Mark
 marks_of_pieces g pieces =
-    marks_of_each g (frames_of pieces) 0 0 pieces
-    ++ marks_of_closing g (frames_of pieces) (length pieces) (length (frames_of pieces))
+    let frames = sent_by_pieces g pieces in
+    marks_of_each g [] 0 pieces
+    ++ marks_of_waiting g frames
+    ++ marks_of_closing g frames (length pieces) (length frames)
 
 -- ---- pieces that are passed over one directly after the other
 
@@ -148,9 +212,8 @@ passed_after_all run (e ∷ es) = passed_after_all (passed_after run e) es
 -- ---- the whole
 
 -- What is told of pieces, where nothing is told after them.
-unfoldable pub events_of_pieces : Task → Transmission → List Piece → List Event
-events_of_pieces g frames pieces =
-    all_announced no_run (told_by no_trust (marks_of_each g frames 0 0 pieces))
+unfoldable pub events_of_pieces : Task → List Piece → List Event
+events_of_pieces g pieces = all_announced no_run (told_by no_trust (marks_of_each g [] 0 pieces))
 
 -- What is told of each piece, and after the last one.
 unfoldable pub told_of_pieces : Task → List Piece → List Event
@@ -169,10 +232,11 @@ abbrev pub until_passed : Task → List Piece → Task
 until_passed g pieces = record g { unread = (read_until_passed pieces g.unread).unread }
 
 -- Of a PES file that is read on the refusal is told first that is told of it where reading stops at
--- the first piece that is passed over.
+-- the first piece that is passed over, where each end is told at once.
 -- So who reads the whole list finds at its front what is told where nothing else is asked for.
 abbrev pub LawOfFirstTold : Type 0
 LawOfFirstTold =
     (g : Task) (pieces : List Piece)
+    → g.within ≡ 0
     → first_told (all_of_pieces g pieces)
     ≡ first_told (events (until_passed g pieces) (read_until_passed pieces g.unread).frames)

@@ -1,7 +1,7 @@
 -- A PES file as pieces: those that are sent as frames of the day, and those that are passed over,
 -- since they are no PES packets of the grammar or their PTS is that of no frame of the day (own).
-use Rattle.std.specs.Prelude.{◌≡◌, ℕ, zero, suc, ◌+◌, ◌==◌, if◌then◌else◌, List, [], ◌∷◌, length}
-use Rattle.std.specs.Prelude.{map, Option, Some, None, Result, Ok, Err}
+use Rattle.std.specs.Prelude.{◌≡◌, ℕ, ◌+◌, ◌==◌, ◌&&◌, Bool, false, not, if◌then◌else◌, List, []}
+use Rattle.std.specs.Prelude.{◌∷◌, ◌++◌, length, map, Option, Some, None, Result, Ok, Err}
 use Rattle.std.specs.Io.KnownBytes.{Consumes}
 use Rattle.std.specs.List.{AllByRecursion, concat}
 use Rattle.ttx_pes.specs.declared.fault.PesFault.{PesFault}
@@ -9,12 +9,10 @@ use Rattle.ttx_pes.specs.PesPacket.{PesValue}
 use Rattle.ttx_pes.specs.Pieces.{IsPiece, PiecesValue, behind_piece, pieces_after}
 use Rattle.ttx_pes.specs.Reader.{FailsWithin}
 use Rattle.ttx_pes.specs.SentUnits.{packets_of_units}
-use Rattle.stl_file.specs.TimeCode.{day}
-use Rattle.sub_plan.specs.FrameTime.{pts_of}
+use Rattle.sub_plan.specs.FrameTime.{Clock}
 use Rattle.sub_rules.specs.Events.{unread_fault}
-use Rattle.sub_rules.specs.FrameRules.{Unread}
+use Rattle.sub_rules.specs.FrameRules.{Unread, end_frame}
 use Rattle.sub_rules.specs.FrameRules.Unread.{BadPacket, NoFrame}
-use Rattle.sub_rules.specs.Sendings.{IsFrameOf}
 use Rattle.sub_rules.specs.Transmission.{SentFrame, Transmission}
 use Rattle.sub_rules.specs.declared.fault.CheckFault.{CheckFault}
 use Rattle.sub_rules.specs.declared.piece.NextPiece.{NextPiece}
@@ -25,30 +23,20 @@ pub data Piece : Type 0 where
   Sent : SentFrame → Piece
   Passed : Unread → Piece
 
--- A PES file, read with an origin: its pieces, up to what keeps it from being read to its end.
+-- A PES file, read by a clock: its pieces, up to what keeps it from being read to its end.
 pub record PieceFileValue : Type 0 where
   pub pieces : List Piece
   pub unread : Option Unread
-
--- Of the frames below a number, the one that has this PTS.
-unfoldable pub frame_below : ℕ → ℕ → ℕ → Option ℕ
-frame_below origin pts zero = None
-frame_below origin pts (suc n) =
-    if pts_of origin n == pts then Some n else frame_below origin pts n
-
--- The frame of the day that has this PTS.
-abbrev pub frame_of_pts : ℕ → ℕ → Option ℕ
-frame_of_pts origin pts = frame_below origin pts day
 
 -- A PES packet of this frame and these packets; passed over where its PTS is that of none.
 abbrev pub piece_with : Option ℕ → List (List ℕ) → Piece
 piece_with None packets = Passed NoFrame
 piece_with (Some frame) packets = Sent (record { frame = frame; packets = packets })
 
--- What is read of a piece, by the PTS of frame 0.
-unfoldable pub piece_of : ℕ → Result PesValue PesFault → Piece
-piece_of origin (Ok v) = piece_with (frame_of_pts origin v.pts) (packets_of_units v.units)
-piece_of origin (Err f) = Passed (BadPacket f)
+-- What is read of a piece, by the clock.
+unfoldable pub piece_of : Clock → Result PesValue PesFault → Piece
+piece_of clock (Ok v) = piece_with (clock v.pts) (packets_of_units v.units)
+piece_of clock (Err f) = Passed (BadPacket f)
 
 -- What keeps bytes from being read on.
 abbrev pub unread_by : Option PesFault → Option Unread
@@ -56,49 +44,50 @@ unread_by None = None
 unread_by (Some f) = Some (BadPacket f)
 
 -- What pieces are as a file.
-abbrev pub file_of_pieces : ℕ → PiecesValue → PieceFileValue
-file_of_pieces origin value = record {
-  pieces = map (piece_of origin) value.pieces;
+abbrev pub file_of_pieces : Clock → PiecesValue → PieceFileValue
+file_of_pieces clock value = record {
+  pieces = map (piece_of clock) value.pieces;
   unread = unread_by value.left;
 }
 
 -- What the bytes that are left after `given` pieces are read as.
-unfoldable pub pieces_at : ℕ → ℕ → List ℕ → PieceFileValue
-pieces_at origin given bytes = file_of_pieces origin (pieces_after given bytes)
+unfoldable pub pieces_at : Clock → ℕ → List ℕ → PieceFileValue
+pieces_at clock given bytes = file_of_pieces clock (pieces_after given bytes)
 
 -- What the bytes of a PES file are read as, where reading goes on after a piece that is passed
 -- over.
-abbrev pub piece_file_of : ℕ → List ℕ → PieceFileValue
-piece_file_of origin bytes = pieces_at origin 0 bytes
+abbrev pub piece_file_of : Clock → List ℕ → PieceFileValue
+piece_file_of clock bytes = pieces_at clock 0 bytes
 
 -- After `given` pieces the bytes are read as these, up to what is unread.
-abbrev pub ReadsPieces : ℕ → ℕ → List ℕ → List Piece → Option Unread → Type 0
-ReadsPieces origin given bytes pieces unread =
-    pieces_at origin given bytes ≡ record { pieces = pieces; unread = unread }
+abbrev pub ReadsPieces : Clock → ℕ → List ℕ → List Piece → Option Unread → Type 0
+ReadsPieces clock given bytes pieces unread =
+    pieces_at clock given bytes ≡ record { pieces = pieces; unread = unread }
 
 -- The first of the pieces that are left after n pieces, and those that follow it.
 pub record ReadsPiece
-    (origin n : ℕ) (bytes : List ℕ) (pieces : List Piece) (unread : Option Unread) (piece : Piece)
+    (clock : Clock) (n : ℕ) (bytes : List ℕ) (pieces : List Piece) (unread : Option Unread)
+    (piece : Piece)
     : Type 0 where
   pub more : List Piece
   pub first : pieces ≡ piece ∷ more
-  pub left : ReadsPieces origin (n + 1) (behind_piece bytes) more unread
+  pub left : ReadsPieces clock (n + 1) (behind_piece bytes) more unread
 
 -- What is read of the bytes that are left after n pieces, which are read as these pieces, by an
 -- answer, with the value v of the PES packet that is sent: the first of the pieces; or that there
 -- is none, and what keeps the bytes from being read on.
-abbrev pub TellsPiece : ℕ → ℕ → List ℕ → List Piece → Option Unread → PesValue
+abbrev pub TellsPiece : Clock → ℕ → List ℕ → List Piece → Option Unread → PesValue
     → Result (Option NextPiece) CheckFault → Type 0
-TellsPiece origin n bytes pieces unread v (Ok None) = (pieces ≡ []) × (unread ≡ None)
-TellsPiece origin n bytes pieces unread v (Ok (Some (next.Sent s))) =
-    ReadsPiece origin n bytes pieces unread
+TellsPiece clock n bytes pieces unread v (Ok None) = (pieces ≡ []) × (unread ≡ None)
+TellsPiece clock n bytes pieces unread v (Ok (Some (next.Sent s))) =
+    ReadsPiece clock n bytes pieces unread
     (Sent (record { frame = s.frame; packets = packets_of_units v.units }))
-    × IsFrameOf origin v.pts s.frame
-TellsPiece origin n bytes pieces unread v (Ok (Some (next.Passed f))) =
+    × (clock v.pts ≡ Some s.frame)
+TellsPiece clock n bytes pieces unread v (Ok (Some (next.Passed f))) =
     (u : Unread)
     × (f ≡ unread_fault n (Some u))
-    × ReadsPiece origin n bytes pieces unread (Passed u)
-TellsPiece origin n bytes pieces unread v (Err f) =
+    × ReadsPiece clock n bytes pieces unread (Passed u)
+TellsPiece clock n bytes pieces unread v (Err f) =
     (pieces ≡ []) × (u : Unread) × (unread ≡ Some u) × (f ≡ unread_fault n (Some u))
 
 -- The bytes that were taken are a piece.
@@ -125,6 +114,34 @@ unfoldable pub frames_of : List Piece → Transmission
 frames_of [] = []
 frames_of (Sent s ∷ pieces) = s ∷ frames_of pieces
 frames_of (Passed u ∷ pieces) = frames_of pieces
+
+-- More packets of the last frame of the list.
+unfoldable pub with_packets : List (List ℕ) → Transmission → Transmission
+with_packets packets [] = []
+with_packets packets (s ∷ []) =
+    record { frame = s.frame; packets = s.packets ++ packets } ∷ []
+with_packets packets (s ∷ next ∷ frames) = s ∷ with_packets packets (next ∷ frames)
+
+-- Within frames a PES packet of the last frame goes on with what is sent in it.
+abbrev pub goes_on_with : ℕ → Transmission → SentFrame → Bool
+goes_on_with within [] s = false
+goes_on_with within (first ∷ sent) s =
+    not (within == 0) && (end_frame (first ∷ sent) == s.frame)
+
+-- The frames that are sent, one PES packet on.
+abbrev pub sent_after : ℕ → Transmission → SentFrame → Transmission
+sent_after within sent s =
+    if goes_on_with within sent s then with_packets s.packets sent else sent ++ s ∷ []
+
+-- The frames that are sent by these PES packets after others, by which these were.
+unfoldable pub joined_after : ℕ → Transmission → Transmission → Transmission
+joined_after within sent [] = sent
+joined_after within sent (s ∷ frames) = joined_after within (sent_after within sent s) frames
+
+-- The frames that are sent by PES packets of these: within frames those of PES packets of one frame
+-- that follow one another are one frame with the packets of all. Within 0 each is one.
+abbrev pub joined : ℕ → Transmission → Transmission
+joined within frames = joined_after within [] frames
 
 -- The frames of a PES file, one for each PES packet, up to what keeps it from being read to its
 -- end, if anything does.

@@ -6,11 +6,15 @@
 -- so that one is not trusted either. Of each run of quiet frames the frames from the first one with
 -- a header of the page on are trusted. That is told where the run is over, before what ends it.
 --
+-- Where the page need not be whole at each end, what is trusted is so only where it was at one of
+-- them; and where a run is over at a late end, those are not since which the page is not whole.
+--
 -- So what is told of a file is passed on one mark after another: what is told, and where a piece of
 -- the file, the packets of a frame and its end are. From each mark to the next it is kept which
 -- frames may be trusted.
 use Rattle.std.specs.Prelude.{ℕ, suc, ◌-◌, ◌&&◌, ◌||◌, Bool, true, false, not, List, [], ◌∷◌}
-use Rattle.std.specs.Prelude.{◌++◌, Option, Some, None, is_none, nat_lt, if◌then◌else◌}
+use Rattle.std.specs.Prelude.{◌++◌, Option, Some, None, is_none, is_some, nat_lt, unwrap_or}
+use Rattle.std.specs.Prelude.{if◌then◌else◌}
 use Rattle.sub_rules.specs.Events.{Standing}
 use Rattle.sub_rules.specs.Fault.{doubted_frame, fault_at_pes, fault_row}
 use Rattle.sub_rules.specs.declared.event.Event.{Event}
@@ -20,11 +24,12 @@ use Rattle.sub_rules.specs.declared.trust.Trust.{Trust}
 
 -- ---- what ends a run of quiet frames
 
--- The frame that is quiet no more where this event is told, after a PES packet of frame `last`: a
--- refusal may end one, nothing else.
-unfoldable pub doubted : ℕ → Event → Option ℕ
-doubted last (Told f) = doubted_frame last (fault_row f).doubts (fault_row f).place
-doubted last event = None
+-- The first frame that is trusted no more where this event is told, after a PES packet of frame
+-- `last`: a refusal may end a run, nothing else. What is told at a late end ends it with the frame
+-- since which the page is not whole.
+unfoldable pub doubted : ℕ → Option ℕ → Event → Option ℕ
+doubted last late (Told f) = doubted_frame last late (fault_row f).doubts (fault_row f).place
+doubted last late event = None
 
 -- It tells that the frames do not rise.
 unfoldable pub is_order : Event → Bool
@@ -34,15 +39,15 @@ is_order event = false
 -- ---- a run that is over
 
 -- The frames from that of the run's first header up to the one before frame f are trusted: where
--- there are any.
-abbrev pub trusted : Option ℕ → ℕ → List Event
-trusted None f = []
-trusted (Some from) f = if nat_lt from f then Trusted from (f - 1) ∷ [] else []
+-- the page was whole at the end of one of them, the first of which is this one.
+abbrev pub trusted : Option ℕ → Option ℕ → ℕ → List Event
+trusted (Some from) (Some whole) f = if nat_lt whole f then Trusted from (f - 1) ∷ [] else []
+trusted run whole f = []
 
--- What is told where a frame is quiet no more, if one is.
-abbrev pub trusted_before : Option ℕ → Option ℕ → List Event
-trusted_before run None = []
-trusted_before run (Some f) = trusted run f
+-- What is told where a frame is trusted no more, if one is.
+abbrev pub trusted_before : Option ℕ → Option ℕ → Option ℕ → List Event
+trusted_before run whole None = []
+trusted_before run whole (Some f) = trusted run whole f
 
 -- What is left of the run then.
 abbrev pub kept : Option ℕ → Option ℕ → Option ℕ
@@ -60,6 +65,18 @@ abbrev pub begun : Option ℕ → Bool → ℕ → Option ℕ
 begun (Some from) has_header f = Some from
 begun None has_header f = if has_header then Some f else None
 
+-- The first frame of the run at whose end the page was whole, where this frame is one of it: since
+-- which frame the ends up to its own are unfinished says whether it was whole here.
+abbrev pub first_whole : Option ℕ → Option ℕ → ℕ → Option ℕ
+first_whole (Some whole) since f = Some whole
+first_whole None None f = Some f
+first_whole None (Some since) f = None
+
+-- It, at the end of a frame of a run that goes on or begins here.
+abbrev pub whole_in : Option ℕ → Option ℕ → Option ℕ → ℕ → Option ℕ
+whole_in None whole since f = first_whole None since f
+whole_in (Some from) whole since f = first_whole whole since f
+
 -- Nothing is told.
 abbrev pub tells_none : List Event → Bool
 tells_none [] = true
@@ -73,51 +90,78 @@ unfoldable pub at_pes : ℕ → Event → Event
 at_pes pes (Told refusal) = Told (fault_at_pes pes refusal)
 at_pes pes event = event
 
--- What follows is told of this PES packet; this is told; the packets of a frame follow; a frame
--- ends, with this number, by whether it has a header of the page and whether nothing stands broken;
--- the file ends, by whether bytes are left that may have been sent in the last frame, and whether
--- anything is told after this.
+-- What follows is told of this PES packet; this is told; the packets of a frame with this number
+-- follow; what follows is told at the end of a frame, up to which the ends are unfinished since
+-- this one, and which is late or is not; a frame of PES packets ends, with this number, by whether
+-- it has a header of the page and whether nothing stands broken; the file ends, by whether bytes
+-- are left that may have been sent in the last frame, and whether anything is told after this.
 pub data Mark : Type 0 where
   AtPes : ℕ → Mark
   Says : Event → Mark
-  Begins : Mark
+  Begins : ℕ → Mark
+  AtEnd : ℕ → Option ℕ → Bool → Mark
   Ends : ℕ → Bool → Bool → Mark
   Closes : Bool → Bool → Mark
+
+-- The frame since which the page is not whole, where what is told now is told at a late end.
+abbrev pub late_since : Trust → Option ℕ
+late_since t = if t.is_late then t.since else None
+
+-- The first frame that is not trusted at the end of the file: that since which the page is not
+-- whole at the last end; else the last frame, where bytes are left that may have been sent in it.
+abbrev pub closing_frame : Trust → Bool → ℕ
+closing_frame t are_left = unwrap_or t.since (if are_left then t.last else suc t.last)
 
 -- What is told with a mark. At the end of the file what is trusted of the last run is told only
 -- where anything else is.
 unfoldable pub told_with : Mark → Trust → List Event
-told_with (Says e) t = trusted_before t.run (doubted t.last e) ++ at_pes t.pes e ∷ []
+told_with (Says e) t =
+    trusted_before t.run t.whole (doubted t.last (late_since t) e) ++ at_pes t.pes e ∷ []
 told_with (Closes are_left more) t =
-    if t.told || more then trusted t.run (if are_left then t.last else suc t.last) else []
+    if t.told || more then trusted t.run t.whole (closing_frame t are_left) else []
 told_with mark t = []
 
 -- What is kept after it.
 unfoldable pub after_mark : Mark → Trust → Trust
 after_mark (AtPes pes) t = record t { pes = pes }
 after_mark (Says e) t = record t {
-  run = kept t.run (doubted t.last e);
+  run = kept t.run (doubted t.last (late_since t) e);
   rises = t.rises && not (is_order e);
-  is_clean = t.is_clean && is_none (doubted t.last e);
+  is_clean = t.is_clean && is_none (doubted t.last (late_since t) e);
   told = true;
 }
-after_mark Begins t = record t { is_clean = t.rises }
+after_mark (Begins f) t = record t { last = f; is_clean = t.rises }
+after_mark (AtEnd f since late) t = record t {
+  since = since;
+  is_late = late;
+  whole = if is_some t.run then first_whole t.whole since f else t.whole;
+}
 after_mark (Ends f has_header none) t = record t {
   run = if t.is_clean && none then begun t.run has_header f else None;
-  last = f;
+  whole = whole_in t.run t.whole t.since f;
 }
 after_mark (Closes are_left more) t = record t { run = None }
 
 -- Before the first mark.
 abbrev pub no_trust : Trust
-no_trust =
-    record { pes = 0; run = None; last = 0; rises = true; is_clean = true; told = false }
+no_trust = record {
+  pes = 0;
+  run = None;
+  whole = None;
+  last = 0;
+  rises = true;
+  is_clean = true;
+  since = None;
+  is_late = false;
+  told = false;
+}
 
 -- What is told with marks, one after another, and what is kept after them.
 unfoldable pub told_by : Trust → List Mark → List Event
 told_by t [] = []
 told_by t (m ∷ ms) = told_with m t ++ told_by (after_mark m t) ms
 
+-- What is kept after marks, one after another.
 unfoldable pub trust_after : Trust → List Mark → Trust
 trust_after t [] = t
 trust_after t (m ∷ ms) = trust_after (after_mark m t) ms

@@ -21,17 +21,19 @@ pub struct FaultRow {
 }
 
 impl FaultRow {
-    /// The frame that may not stay as it is where the fault is told after a PES packet of frame
-    /// `last`: that of its place. What is told of a PES packet may have been sent in the last one.
-    pub fn doubted(&self, last: u32) -> Option<u32>
-        ensures { result ≡ doubted_frame last self.now.doubts self.now.place }
+    /// The first frame that may not stay as it is where the fault is told after a PES packet of
+    /// frame `last`: that of its place. What is told of a PES packet may have been sent in the last
+    /// one; and at a late end the page is not whole since the frame `late`.
+    pub fn doubted(&self, last: u32, late: Option<u32>) -> Option<u32>
+        ensures { result ≡ doubted_frame last late self.now.doubts self.now.place }
     {
         match self.place {
             _ if !self.doubts => None,
             FaultPlace::Pes { .. } => Some(last),
-            FaultPlace::Frame { frame }
-            | FaultPlace::Packet { frame, .. }
-            | FaultPlace::Cell { frame, .. } => Some(frame),
+            FaultPlace::Packet { frame, .. } => Some(frame),
+            FaultPlace::Frame { frame } | FaultPlace::Cell { frame, .. } => {
+                Some(late.unwrap_or(frame))
+            }
             FaultPlace::Nowhere | FaultPlace::Block { .. } | FaultPlace::Text { .. } => None,
         }
     }

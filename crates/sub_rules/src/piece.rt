@@ -10,6 +10,7 @@ ghost use Rattle.ttx_pes.specs.Reader.{FailsWithin, TakesPesPacket};
 ghost use Rattle.ttx_pes.specs.Reading.{answer_at, most_packets};
 ghost use Rattle.ttx_pes.specs.declared.progress.Progress.TheVariants.{Reading};
 ghost use Rattle.stl_file.specs.TimeCode.{day};
+ghost use Rattle.sub_plan.specs.FrameTime.{clock_of};
 ghost use Rattle.sub_rules.specs.Fault.{is_pes_read};
 ghost use Rattle.sub_rules.specs.FrameRules.{Unread};
 ghost use Rattle.sub_rules.specs.Pieces.{Piece, ReadsPieces, TakesOnePiece, TellsPiece};
@@ -40,6 +41,7 @@ pub enum NextPiece {
 ///
 /// `Pes` with the fault of bytes that are no piece: `Truncated`, `Start`, `Length` or `TooMany`;
 /// `Read` where the source failed.
+#[inline(always)]
 pub fn next_piece<S: Source>(
     reader: &mut ComparingReader,
     source: &mut S,
@@ -51,8 +53,8 @@ pub fn next_piece<S: Source>(
     requires few { pes ≤ most_packets }
     ensures exact { (pieces : List Piece) (unread : Option Unread)
         → IfTold (S.remaining source.old) (λ bytes. failed is_pes_read result ≡ false
-        → ReadsPieces options.now.origin pes bytes pieces unread
-        → TellsPiece options.now.origin pes bytes pieces unread reader.new.frame result) }
+        → ReadsPieces (clock_of options.now) pes bytes pieces unread
+        → TellsPiece (clock_of options.now) pes bytes pieces unread reader.new.frame result) }
     // Exactly the bytes of the piece were taken.
     ensures taken { IfOk result (λ piece. IsSome piece
         → TakesOnePiece (S.remaining source.old) (S.remaining source.new)) }
@@ -97,8 +99,8 @@ pub fn next_piece<S: Source>(
 fn piece_of(pts: u64, options: &Options, pes: u32, again: bool) -> NextPiece
     ensures exact { (v : PesValue) (bytes : List ℕ) (pieces : List Piece) (unread : Option Unread)
         → v.pts ≡ pts → pes ≤ most_packets → answer_at pes bytes ≡ Ok (Some v)
-        → ReadsPieces options.now.origin pes bytes pieces unread
-        → TellsPiece options.now.origin pes bytes pieces unread v (Ok (Some result)) }
+        → ReadsPieces (clock_of options.now) pes bytes pieces unread
+        → TellsPiece (clock_of options.now) pes bytes pieces unread v (Ok (Some result)) }
     ensures again { (sending : Sending) → result ≡ NextPiece.Sent sending
         → sending.again ≡ again }
     ensures day { (sending : Sending) → result ≡ NextPiece.Sent sending → sending.frame < day }

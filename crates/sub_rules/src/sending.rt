@@ -8,6 +8,7 @@ ghost use Rattle.ttx_pes.specs.Reader.{FailsWithin, TakesPesPacket};
 ghost use Rattle.ttx_pes.specs.Reading.{answer_at, most_packets, rest_after};
 ghost use Rattle.ttx_pes.specs.declared.progress.Progress.TheVariants.{Reading};
 ghost use Rattle.stl_file.specs.TimeCode.{day};
+ghost use Rattle.sub_plan.specs.FrameTime.{clock_of};
 ghost use Rattle.sub_rules.specs.Sendings.{TellsFrame, as_frame};
 ghost use Rattle.sub_rules.specs.Fault.{is_pes_read, is_pes_write, is_subtitle_fault};
 
@@ -43,7 +44,7 @@ pub fn next_sending<S: Source>(
     requires failures { CanFail (S.failure_count source.old) }
     requires reading { reader.old.progress ≡ Reading pes }
     ensures exact { IfTold (S.remaining source.old) (λ bytes. failed is_pes_read result ≡ false
-        → TellsFrame options.now.origin pes bytes reader.new.frame (as_frame result)) }
+        → TellsFrame (clock_of options.now) pes bytes reader.new.frame (as_frame result)) }
     // What was taken is a PES packet of the grammar.
     ensures taken { (sending : Sending) → result ≡ Ok (Some sending)
         → TakesPesPacket (S.remaining source.old) (S.remaining source.new) reader.new.frame }
@@ -85,7 +86,7 @@ fn sending_of(
     again: bool,
 ) -> Result<Option<Sending>, CheckFault>
     ensures exact { (bytes : List ℕ) (v : PesValue) → answer_at pes bytes ≡ Ok (Some v)
-        → v.pts ≡ pts → TellsFrame options.now.origin pes bytes v (as_frame result) }
+        → v.pts ≡ pts → TellsFrame (clock_of options.now) pes bytes v (as_frame result) }
     ensures again { (sending : Sending) → result ≡ Ok (Some sending) → sending.again ≡ again }
     ensures some { result ≢ Ok None }
     ensures own { failed is_subtitle_fault result ≡ false }

@@ -179,6 +179,7 @@ impl KeptFrame {
     }
 
     // Takes the next packet, and compares it with the one that is kept.
+    #[inline(always)]
     pub(crate) fn read_next<S: Source>(
         &mut self,
         given: u32,

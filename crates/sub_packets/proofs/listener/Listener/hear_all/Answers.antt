@@ -10,7 +10,7 @@ use Rattle.ttx_pes.specs.DataUnit.{UnitValue}
 use Rattle.ttx_page.specs.PacketKind.{is_this_page, kind}
 use Rattle.sub_io.specs.Telling.{Tells, TellsPrefix}
 use Rattle.sub_io.proofs.TellingLemmas.{TellsSome-none, TellsSome-trans, Tells-none}
-use Rattle.sub_rules.specs.Events.{packet_events}
+use Rattle.sub_rules.specs.Events.{packets_told}
 use Rattle.sub_packets.specs.Listener.{BreakNone, Knows, KnowsLast, rule_set}
 use Rattle.sub_rules.specs.PacketRules.{header_count, packets_of_units}
 use Rattle.sub_rules.specs.Events.{packet_fault}
@@ -24,7 +24,7 @@ use Rattle.sub_packets.proofs.SentAgainLemmas.{kept_last}
 use Rattle.sub_packets.proofs.listener.Listener.hear_all.Goals as goal
 
 pub loop-k-init : goal.loop-k-init
-unfolding packet_events
+unfolding packets_told
 loop-k-init g c = record {
   same = refl;
   due = refl;
@@ -71,7 +71,7 @@ loop-k-preserved-then-is_passed g c =
       known = λ heard known.
           let before = i.known heard known in
           let run = passed_run w ps c.loop-k.self i.same k c.next_heard-k.result low high passes
-          c.args.frame heard before.0 in (
+          c.args.frame c.args.from heard before.0 in (
             run.knows,
             rw run.told before.1,
             λ e. run.clean (before.2 e),
@@ -110,20 +110,21 @@ loop-k-preserved g c =
           let before = i.known heard known in
           let told =
           subst (λ v. Tells g.A.Audience.is_told c.loop-k.audience c.judge.new.audience
-          (map (λ r. Told (packet_fault r c.args.frame k))
+          (map (λ r. Told (packet_fault r c.args.frame (c.args.from + k)))
           (filter (λ r. breaks r v (heard ++ take k ps) p) packet_rules)))
           i.same (heard_one.told (heard ++ take k ps) before.0) in
           let new = heard_one.knows (heard ++ take k ps) before.0 in (
             subst (λ xs. Knows xs c.judge.new.self)
                 (append_assoc heard (take k ps) (p ∷ []) ∙ ap (λ xs. heard ++ xs) (sym more)) new,
-            told_one w c.args.frame heard ps k p _ _ _ at before.1 told,
+            told_one w c.args.frame c.args.from heard ps k p _ _ _ at before.1 told,
             λ e.
                 let parts : (c.loop-k.is_clean && c.in_ok-heard.heard.is_clean) ≡ true =
                 sym c.stays_clean-is_clean.ensures ∙ e in
                 let clean =
                 subst (λ v. rule_set (λ r. breaks r v (heard ++ take k ps) p) ≡ 0) i.same
                 (heard_one.clean (heard ++ take k ps) before.0 (grind (arith, nat_tests))) in
-                clean_one w c.args.frame heard ps k p at (before.2 (grind (arith, nat_tests))) clean,
+                clean_one w c.args.frame c.args.from heard ps k p at
+                (before.2 (grind (arith, nat_tests))) clean,
           );
     }
 
@@ -141,12 +142,12 @@ returns-in_err-heard-clause-knows g c heard known =
     let before = i.known heard known in
     let told =
     subst (λ v. TellsPrefix g.A.Audience.is_told c.loop-k.audience c.judge.new.audience
-    (map (λ r. Told (packet_fault r c.args.frame k))
+    (map (λ r. Told (packet_fault r c.args.frame (c.args.from + k)))
     (filter (λ r. breaks r v (heard ++ take k ps) p) packet_rules)))
     i.same (c.in_err-heard.ensures.told (heard ++ take k ps) before.0) in
     stopped c.from_residual.result _ _ c.from_residual.ensures.0
-    (told_part w c.args.frame heard ps k p _ _ _ at before.1 (length ps) (omega (arith, l, long))
-    told)
+    (told_part w c.args.frame c.args.from heard ps k p _ _ _ at before.1 (length ps)
+    (omega (arith, l, long)) told)
 
 pub returns-clause-knows : goal.returns-clause-knows
 returns-clause-knows g c heard known =
@@ -170,5 +171,5 @@ returns-clause-knows g c heard known =
       count,
       subst
           (λ n. Tells g.A.Audience.is_told c.args.audience.now c.loop-k.audience
-          (packet_events w c.args.frame heard ps n)) k r.1,
+          (packets_told w c.args.frame c.args.from heard ps n)) k r.1,
     )

@@ -3,7 +3,7 @@ use Rattle.std.proofs.Common.{◌≡◌, ◌≤◌, ◌<◌, ℕ, List, [], ◌+
 use Rattle.std.proofs.Common.{◌-◌, true, false}
 use Rattle.ttx_page.specs.PacketKind.{is_this_page, kind}
 use Rattle.sub_io.specs.Telling.{Tells, TellsSome}
-use Rattle.sub_rules.specs.Events.{packet_events}
+use Rattle.sub_rules.specs.Events.{packets_told}
 use Rattle.sub_packets.specs.Listener.{BreakNone, Knows}
 use Rattle.sub_rules.specs.PacketRules.{header_count, packets_of_units}
 use Rattle.sub_packets.proofs.listener.Listener.hear_all.Given as goal
@@ -31,7 +31,7 @@ invariant-loop-k g l = record {
       → Knows heard l.initial.self
       → Knows (heard ++ take l.k (packets_of_units l.units)) l.self
       × Tells g.A.Audience.is_told l.initial.audience l.audience
-      (packet_events l.initial.self.watched l.frame heard (packets_of_units l.units) l.k)
+      (packets_told l.initial.self.watched l.frame l.from heard (packets_of_units l.units) l.k)
       × (l.is_clean ≡ true
       → BreakNone l.initial.self.watched heard (packets_of_units l.units) l.k);
 }

@@ -2,7 +2,7 @@
 use Rattle.std.proofs.Common.{length}
 use Rattle.sub_io.proofs.TellingLemmas.{Tells-none}
 use Rattle.sub_rules.specs.PacketRules.{packets_of_units}
-use Rattle.sub_packets.proofs.PacketEventLemmas.{packet_events-none}
+use Rattle.sub_packets.proofs.PacketEventLemmas.{packets_told-none}
 use Rattle.sub_packets.proofs.SentAgainLemmas.{heard_again}
 use Rattle.sub_packets.proofs.listener.Listener.hear_sending.Goals as goal
 
@@ -15,7 +15,7 @@ returns-in-Some-clause-knows g c heard last known same =
     (same c.if-again.true) in (
       again.1,
       again.2,
-      rw (packet_events-none w c.args.frame heard ps (length ps) again.0)
+      rw (packets_told-none w c.args.frame c.args.from heard ps (length ps) again.0)
           (Tells-none c.args.audience.now),
     )
 

@@ -1,0 +1,197 @@
+-- The frames at which the same page is due, `due_same`; what was due within the last frames,
+-- `left_first`, `left_more` and `left_all`; and the first cell that is left, `undue_is`.
+use Rattle.std.proofs.lemmas.Bool.Decides.{nat_tests}
+use Rattle.std.proofs.lemmas.Bool.{cases_lt}
+use Rattle.std.proofs.lemmas.List.{get_or-replicate}
+use Rattle.std.proofs.lemmas.Grind.{get_or-set_at}
+use Rattle.std.proofs.Common.{◌≡◌, ℕ, zero, suc, ◌+◌, ◌-◌, ◌<◌, ◌≤◌, ◌==◌}
+use Rattle.std.proofs.Common.{cond, List, [], length, Option, Some, None, MatchOption, get_or}
+use Rattle.std.proofs.Common.{set, replicate, refl, sym, ap, ◌∙◌, subst, arith, inl, inr}
+use Rattle.std.proofs.Common.{get_or-set_other}
+use Rattle.stl_rows.specs.DuePage.{IsEdge}
+use Rattle.stl_rows.specs.Programme.{ProgrammeValue}
+use Rattle.stl_rows.proofs.DuePageLemmas.{due_back}
+use Rattle.ttx_page.proofs.DifferingLemmas.{cells_same}
+use Rattle.ttx_page.specs.Differing.{columns_differing, differing, row_differing}
+use Rattle.ttx_page.specs.Page.{DiffersFirst, IsCell, IsRow, Rows, blank, blank_row, cell, row_at}
+use Rattle.ttx_page.specs.Page.{space}
+use Rattle.sub_plan.specs.Schedule.{due_in}
+use Rattle.sub_packets.specs.Listener.{Knows}
+use Rattle.sub_packets.specs.Undue.{IsLeft, unless_due}
+use Rattle.sub_packets.specs.declared.listener.Listener.{Listener}
+use Rattle.sub_packets.proofs.WrongCellLemmas.{first_cell-none, first_difference, shown_is}
+use Rattle.sub_rules.specs.Events.{undue_after, was_due}
+
+-- ---- frames at which the same page is due
+
+-- Where no edge lies between two frames, the same page is due. For `frame_before`.
+pub due_same : (programme : ProgrammeValue) (f at : ℕ)
+    → f ≤ at
+    → ((e : ℕ) → IsEdge programme.records e → f < e → e ≤ at → ⊥)
+    → due_in programme f ≡ due_in programme at
+due_same programme f at until none =
+    let back : at - (at - f) ≡ f = omega arith in
+    subst (λ g. due_in programme g ≡ due_in programme at) back
+    (due_back programme.national programme.records at (at - f) (omega arith)
+    (λ e edge after low. none e edge (omega arith) low))
+
+-- ---- what was due
+
+module _ (page : ℕ → Rows) (first f : ℕ) where
+  -- One frame more, at which the same page was due as at the one after it.
+  was_due-one : (n row column code : ℕ)
+      → (first + suc n ≤ f → page (f - suc n) ≡ page (f - n))
+      → was_due page first f (suc n) row column code ≡ was_due page first f n row column code
+  unfolding was_due
+  was_due-one zero row column code same =
+      let here : f - 0 ≡ f = omega arith in grind (arith, nat_tests)
+  was_due-one (suc n) row column code same = grind (arith, nat_tests)
+
+  -- More frames, at which the same page was due as at the last of them.
+  was_due-same : (n m row column code : ℕ)
+      → n ≤ m
+      → ((j : ℕ) → n ≤ j → j < m → first + suc j ≤ f → page (f - suc j) ≡ page (f - j))
+      → was_due page first f m row column code ≡ was_due page first f n row column code
+  was_due-same n zero row column code low same =
+      let here : n ≡ 0 = omega arith in rw here refl
+  was_due-same n (suc m) row column code low same =
+      elim (cases_lt n (suc m)) [
+        | inl less ↦
+            was_due-one m row column code (same m (omega (arith, less)) (omega arith))
+            ∙ was_due-same n m row column code (omega (arith, less))
+            (λ j after before. same j after (omega arith))
+        | inr here ↦ let all : n ≡ suc m = omega (arith, here) in rw all refl
+      ]
+
+  -- The codes that are due at the frame itself are left out. For `left_of`.
+  pub left_first : (shown left : Rows)
+      → ((row column : ℕ) → IsCell row column
+      → cell left row column ≡ unless_due (cell (page f) row column) (cell shown row column))
+      → IsLeft page first f (f - f) shown left
+  unfolding was_due
+  left_first shown left cells row column is =
+      let none : f - f ≡ 0 = omega arith in rw none (cells row column is)
+
+  -- And those that were due at a frame before, where the same page was due since the one after it.
+  -- For `left_of`.
+  pub left_more : (at before : ℕ) (shown left new : Rows)
+      → before < at
+      → at ≤ f
+      → first ≤ before
+      → ((g : ℕ) → before < g → g ≤ at → page g ≡ page at)
+      → IsLeft page first f (f - at) shown left
+      → ((row column : ℕ) → IsCell row column
+      → cell new row column ≡ unless_due (cell (page before) row column) (cell left row column))
+      → IsLeft page first f (f - before) shown new
+  unfolding was_due
+  left_more at before shown left new less until low same old cells row column is =
+      let m = f - suc before in
+      let next : f - before ≡ suc m = omega arith in
+      let there : f - suc m ≡ before = omega arith in
+      let kept = old row column is in
+      let now = cells row column is in
+      let alike =
+      was_due-same (f - at) m row column (cell shown row column) (omega arith)
+      (λ j after earlier counts.
+      same (f - suc j) (omega arith) (omega arith)
+      ∙ sym (same (f - j) (omega arith) (omega arith))) in
+      rw next (grind (arith, nat_tests))
+
+  -- Those of all these frames, where the same page was due since the earliest of them. For
+  -- `left_of`.
+  pub left_all : (at n : ℕ) (shown left : Rows)
+      → at ≤ f
+      → f ≤ at + n
+      → ((g : ℕ) → first ≤ g → f ≤ g + n → g ≤ at → page g ≡ page at)
+      → IsLeft page first f (f - at) shown left
+      → IsLeft page first f n shown left
+  left_all at n shown left until reach same old row column is =
+      let alike =
+      was_due-same (f - at) n row column (cell shown row column) (omega arith)
+      (λ j after earlier counts.
+      same (f - suc j) (omega arith) (omega arith) (omega arith)
+      ∙ sym (same (f - j) (omega arith) (omega arith) (omega arith))) in
+      rw alike (old row column is)
+
+-- ---- the first cell that is left
+
+-- A cell of the blank page is a space.
+cell-blank : (row column : ℕ) → IsCell row column → cell blank row column ≡ space
+unfolding blank blank_row
+cell-blank row column is =
+    rw (get_or-replicate 24 (row - 1) (replicate 40 space) [] (omega (arith, is.0, is.1)))
+    (get_or-replicate 40 column space 0 is.2)
+
+-- Equal pages show the same in each cell.
+by_cells : (a b : Rows) (o : Option (ℕ × ℕ)) (P : ℕ × ℕ → Type 0)
+    → MatchOption o (a ≡ b) P
+    → MatchOption o
+    ((row column : ℕ) → IsCell row column → cell a row column ≡ cell b row column) P
+by_cells a b None P same = λ row column is. ap (λ page. cell page row column) same
+by_cells a b (Some place) P differ = differ
+
+-- The first cell that is left shows a code that was not due. For `first_undue`.
+pub undue_is :
+    (heard : List (List ℕ)) (s : Listener) (page : ℕ → Rows) (first f n : ℕ) (left : Rows)
+    (o : Option (ℕ × ℕ))
+    → Knows heard s
+    → IsLeft page first f n s.comparison.page left
+    → MatchOption o (left ≡ blank) (λ place. DiffersFirst left blank place.0 place.1)
+    → o ≡ undue_after s.watched.page heard page first f n
+unfolding undue_after
+undue_is heard s page first f n left o known is_left found =
+    first_difference _ left blank o
+    (λ row column is.
+    let kept = shown_is heard s known row column is in
+    let rest = is_left row column is in
+    let space_is = cell-blank row column is in
+    grind (arith, nat_tests))
+    (by_cells left blank o (λ place. DiffersFirst left blank place.0 place.1) found)
+
+-- Nothing is left of a page of spaces. For `first_undue`.
+pub undue_none :
+    (heard : List (List ℕ)) (s : Listener) (page : ℕ → Rows) (first f n : ℕ)
+    → Knows heard s
+    → differing blank s.comparison.page ≡ 0
+    → undue_after s.watched.page heard page first f n ≡ None
+unfolding undue_after
+undue_none heard s page first f n known same =
+    first_cell-none _
+    (λ row column is.
+    let kept = shown_is heard s known row column is in
+    let space_is = cell-blank row column is in
+    let equal = cells_same blank s.comparison.page same row column is in
+    grind (arith, nat_tests))
+
+-- ---- rows
+
+-- Where no column differs the codes are equal.
+columns_same : (n : ℕ) (xs ys : List ℕ)
+    → columns_differing n xs ys ≡ 0
+    → (k : ℕ)
+    → k < n
+    → get_or xs k 0 ≡ get_or ys k 0
+unfolding columns_differing
+columns_same zero xs ys e k l = absurd (omega arith)
+columns_same (suc n) xs ys e k l = grind (arith, nat_tests, columns_same n xs ys)
+
+-- A row of spaces stays as it is. For `excuse_row`.
+pub blank_stays : (left : Rows) (row column due : ℕ)
+    → row_differing (row_at left row) blank_row ≡ 0
+    → column < 40
+    → cell left row column ≡ unless_due due (cell left row column)
+unfolding blank_row
+blank_stays left row column due same l =
+    let is = columns_same 40 (row_at left row) blank_row same column l in
+    let space_is = get_or-replicate 40 column space 0 l in
+    grind (arith, nat_tests)
+
+-- A row that is set shows its codes; the others stay. For `excuse_row`.
+pub cell-set : (left : Rows) (row r column : ℕ) (codes : List ℕ)
+    → length left ≡ 24
+    → IsRow row
+    → 1 ≤ r
+    → cell (set left (row - 1) codes) r column
+    ≡ cond (r == row) (get_or codes column 0) (cell left r column)
+cell-set left row r column codes long is low =
+    grind (arith, nat_tests, get_or-set_at, get_or-set_other)

@@ -1,0 +1,146 @@
+-- Two lists of frames with the same numbers, and the same packets in the first n frames: what looks
+-- at no others is the same of both. So more packets of the last frame change nothing of what was
+-- told before its end.
+use Rattle.std.proofs.Common.{◌≡◌, ℕ, zero, suc, ◌+◌, ◌-◌, ◌≤◌, map, take}
+use Rattle.std.proofs.Common.{Option, refl, sym, ap, ◌∙◌, arith, take-take}
+use Rattle.sub_rules.specs.Events.{end_before, events_at_end, gap_events, gap_length, is_gap}
+use Rattle.sub_rules.specs.Events.{is_incomplete, is_late, is_unfinished, latest, order_events}
+use Rattle.sub_rules.specs.Events.{since_frames, since_in_gap, standing_at, standing_before}
+use Rattle.sub_rules.specs.Events.{unfinished_since}
+use Rattle.sub_rules.specs.FrameRules.{Task, frame_at, packets_before}
+use Rattle.sub_rules.specs.PieceEvents.{marks_at_end, marks_of_arrival, marks_of_gap}
+use Rattle.sub_rules.specs.Transmission.{SentFrame, Transmission}
+
+module _ (g : Task) (xs ys : Transmission) (n : ℕ)
+    (numbers : map (λ (s : SentFrame). s.frame) xs ≡ map (λ (s : SentFrame). s.frame) ys)
+    (first : take n xs ≡ take n ys)
+  where
+    -- ---- numbers
+
+    pub frame_at-same : (k : ℕ) → frame_at xs k ≡ frame_at ys k
+    frame_at-same k = rw numbers refl
+
+    pub latest-same : (k : ℕ) → latest xs k ≡ latest ys k
+    unfolding latest
+    latest-same zero = refl
+    latest-same (suc k) = rw (latest-same k, frame_at-same k) refl
+
+    pub gap_length-same : (i : ℕ) → gap_length xs i ≡ gap_length ys i
+    unfolding gap_length
+    gap_length-same zero = refl
+    gap_length-same (suc i) = rw (latest-same (suc i), frame_at-same (suc i)) refl
+
+    pub order_events-same : (i : ℕ) → order_events g xs i ≡ order_events g ys i
+    unfolding order_events
+    order_events-same zero = rw (frame_at-same 0) refl
+    order_events-same (suc i) = rw (frame_at-same i, frame_at-same (suc i)) refl
+
+    end_same : (i f : ℕ) → end_before xs i f ≡ end_before ys i f
+    end_same i f = rw (latest-same i, frame_at-same (i - 1)) refl
+
+    -- ---- packets
+
+    frames_same : (k : ℕ) → k ≤ n → take k xs ≡ take k ys
+    frames_same k l = sym (take-take k n xs l) ∙ ap (take k) first ∙ take-take k n ys l
+
+    pub packets_before-same : (k : ℕ) → k ≤ n → packets_before xs k ≡ packets_before ys k
+    packets_before-same k l = rw (frames_same k l) refl
+
+    unfinished_same : (k f : ℕ) → k ≤ n → is_unfinished g xs k f ≡ is_unfinished g ys k f
+    unfolding is_incomplete
+    unfinished_same k f l = rw (frames_same k l) refl
+
+    gap_since_same : (k : ℕ) (since : Option ℕ) (m : ℕ) → k ≤ n
+        → since_in_gap g xs k since m ≡ since_in_gap g ys k since m
+    unfolding since_in_gap
+    gap_since_same k since zero l = refl
+    gap_since_same k since (suc m) l =
+        rw (
+          gap_since_same k since m l,
+          unfinished_same k (latest xs k + suc m) l,
+          latest-same k,
+        ) refl
+
+    since_same : (k : ℕ) → k ≤ n → since_frames g xs k ≡ since_frames g ys k
+    unfolding since_frames
+    since_same zero l = refl
+    since_same (suc i) l =
+        rw (
+          gap_since_same i (since_frames g xs i) (gap_length xs i) (omega arith),
+          since_same i (omega arith),
+          gap_length-same i,
+          unfinished_same (suc i) (frame_at xs i) l,
+          frame_at-same i,
+        ) refl
+
+    pub unfinished_since-same : (k f : ℕ) → k ≤ n
+        → unfinished_since g xs k f ≡ unfinished_since g ys k f
+    unfolding unfinished_since
+    unfinished_since-same k f l =
+        rw (
+          gap_since_same k (since_frames g xs k) (f - latest xs k) l,
+          since_same k l,
+          latest-same k,
+        ) refl
+
+    pub is_late-same : (k f : ℕ) → k ≤ n → is_late g xs k f ≡ is_late g ys k f
+    unfolding is_late
+    is_late-same k f l = rw (unfinished_since-same k f l, frame_at-same 0) refl
+
+    pub standing_at-same : (k f : ℕ) → k ≤ n → standing_at g xs k f ≡ standing_at g ys k f
+    unfolding standing_at is_gap is_incomplete
+    standing_at-same k f l = rw (is_late-same k f l, frames_same k l, frame_at-same 0) refl
+
+    pub standing_before-same : (i f : ℕ) → i ≤ n
+        → standing_before g xs i f ≡ standing_before g ys i f
+    unfolding standing_before
+    standing_before-same zero f l = refl
+    standing_before-same (suc i) f l =
+        ap (standing_at g xs (suc i)) (end_same (suc i) f)
+        ∙ standing_at-same (suc i) (end_before ys (suc i) f) l
+
+    pub events_at_end-same : (i k f : ℕ) → i ≤ n → k ≤ n
+        → events_at_end g xs i k f ≡ events_at_end g ys i k f
+    events_at_end-same i k f l m =
+        rw (standing_before-same i f l, end_same i f, standing_at-same k f m) refl
+
+    pub gap_events-same : (i m : ℕ) → i ≤ n → gap_events g xs i m ≡ gap_events g ys i m
+    unfolding gap_events
+    gap_events-same i zero l = refl
+    gap_events-same i (suc m) l =
+        rw (
+          gap_events-same i m l,
+          events_at_end-same i i (latest xs i + suc m) l l,
+          latest-same i,
+        ) refl
+
+    -- ---- marks
+
+    pub marks_at_end-same : (i k f : ℕ) → i ≤ n → k ≤ n
+        → marks_at_end g xs i k f ≡ marks_at_end g ys i k f
+    marks_at_end-same i k f l m =
+        rw (
+          unfinished_since-same k f m,
+          is_late-same k f m,
+          events_at_end-same i k f l m,
+        ) refl
+
+    pub marks_of_gap-same : (i m : ℕ) → i ≤ n → marks_of_gap g xs i m ≡ marks_of_gap g ys i m
+    unfolding marks_of_gap
+    marks_of_gap-same i zero l = refl
+    marks_of_gap-same i (suc m) l =
+        rw (
+          marks_of_gap-same i m l,
+          marks_at_end-same i i (latest xs i + suc m) l l,
+          latest-same i,
+        ) refl
+
+    pub marks_of_arrival-same : (i : ℕ) → i ≤ n
+        → marks_of_arrival g xs i ≡ marks_of_arrival g ys i
+    marks_of_arrival-same i l =
+        rw (
+          order_events-same i,
+          gap_length-same i,
+          marks_of_gap-same i (gap_length ys i) l,
+          frame_at-same i,
+        ) refl

@@ -1,0 +1,319 @@
+-- PES packets that are sent as one frame: within 0 frames each is one, `joined-none`; one PES
+-- packet on, `sent_after-other`, `sent_after-same`; more packets of the last frame,
+-- `with_packets-push`, `with_packets-frames`; some PES packets, and then others,
+-- `joined_after-append`, `marks_of_each-append`; some packets of a frame, and then others,
+-- `packets_told-append`.
+use Rattle.std.proofs.lemmas.Bool.Decides.{nat_tests}
+use Rattle.std.proofs.Common.{◌≡◌, ℕ, zero, suc, ◌+◌, ◌<◌, ◌≤◌, true, false, List, [], ◌∷◌}
+use Rattle.std.proofs.Common.{◌++◌, length, map, take, All, refl, sym, ap, ◌∙◌, arith}
+use Rattle.std.proofs.Common.{append_assoc, cond, length-append, Bool}
+use Rattle.std.proofs.Math.Seq.{take-append-add}
+use Rattle.std.proofs.lemmas.List.{append-nil, get_or_append_left, get_or-append-add}
+use Rattle.std.proofs.lemmas.List.Elements.{All-append, All-cons, All-head, All-nil}
+use Rattle.std.proofs.lemmas.List.Elements.{All-tail}
+use Rattle.std.specs.List.{AllByRecursion}
+use lib.Seq.{take-append-le}
+use Rattle.sub_rules.specs.Events.{packets_told}
+use Rattle.sub_rules.specs.FrameRules.{Task, end_frame, frame_at, packets_before}
+use Rattle.sub_rules.specs.FrameRules.{packets_of_frame}
+use Rattle.sub_rules.specs.PieceEvents.{marks_of_each}
+use Rattle.sub_rules.specs.Pieces.{Piece, frames_of, goes_on_with, joined, joined_after, sent_after}
+use Rattle.sub_rules.specs.Pieces.{with_packets}
+use Rattle.sub_rules.specs.Pieces.Piece.{Passed, Sent}
+use Rattle.sub_rules.specs.Transmission.{EachPacket, SentFrame, Transmission}
+use Rattle.sub_rules.specs.declared.packet_rule.Watched.{Watched}
+use Rattle.sub_rules.proofs.PacketLists.{Each-append}
+
+-- ---- one PES packet on
+
+-- Within 0 frames no frame goes on.
+pub goes_on-none : (sent : Transmission) (s : SentFrame) → goes_on_with 0 sent s ≡ false
+goes_on-none [] s = refl
+goes_on-none (first ∷ sent) s = refl
+
+-- Another frame comes after those before it.
+pub sent_after-other : (within : ℕ) (sent : Transmission) (s : SentFrame)
+    → goes_on_with within sent s ≡ false
+    → sent_after within sent s ≡ sent ++ s ∷ []
+sent_after-other within sent s other = rw other refl
+
+-- More of the last frame goes on with it.
+pub sent_after-same : (within : ℕ) (sent : Transmission) (s : SentFrame)
+    → goes_on_with within sent s ≡ true
+    → sent_after within sent s ≡ with_packets s.packets sent
+sent_after-same within sent s same = rw same refl
+
+-- Within 0 frames each is another one.
+pub sent_after-none : (sent : Transmission) (s : SentFrame) → sent_after 0 sent s ≡ sent ++ s ∷ []
+sent_after-none sent s = sent_after-other 0 sent s (goes_on-none sent s)
+
+-- ---- all of them
+
+-- Some PES packets, and then others.
+pub joined_after-append : (within : ℕ) (sent xs ys : Transmission)
+    → joined_after within sent (xs ++ ys)
+    ≡ joined_after within (joined_after within sent xs) ys
+unfolding joined_after
+joined_after-append within sent [] ys = refl
+joined_after-append within sent (x ∷ xs) ys =
+    joined_after-append within (sent_after within sent x) xs ys
+
+-- And one more.
+pub joined_after-push : (within : ℕ) (sent xs : Transmission) (s : SentFrame)
+    → joined_after within sent (xs ++ s ∷ [])
+    ≡ sent_after within (joined_after within sent xs) s
+unfolding joined_after
+joined_after-push within sent xs s = joined_after-append within sent xs (s ∷ [])
+
+-- Within 0 frames each PES packet is a frame.
+pub joined_after-none : (sent frames : Transmission) → joined_after 0 sent frames ≡ sent ++ frames
+unfolding joined_after
+joined_after-none sent [] = sym (append-nil sent)
+joined_after-none sent (s ∷ frames) =
+    ap (λ (x : Transmission). joined_after 0 x frames) (sent_after-none sent s)
+    ∙ joined_after-none (sent ++ s ∷ []) frames
+    ∙ append_assoc sent (s ∷ []) frames
+
+pub joined-none : (frames : Transmission) → joined 0 frames ≡ frames
+joined-none frames = joined_after-none [] frames
+
+pub joined-within : (within : ℕ) (frames : Transmission) → within ≡ 0
+    → joined within frames ≡ frames
+joined-within within frames none =
+    ap (λ (w : ℕ). joined w frames) none ∙ joined-none frames
+
+-- ---- more packets of the last frame
+
+-- The last frame, and what is sent in it too.
+abbrev pub with_more : List (List ℕ) → SentFrame → SentFrame
+with_more packets s = record { frame = s.frame; packets = s.packets ++ packets }
+
+pub with_packets-push : (packets : List (List ℕ)) (init : Transmission) (s : SentFrame)
+    → with_packets packets (init ++ s ∷ []) ≡ init ++ with_more packets s ∷ []
+unfolding with_packets
+with_packets-push packets [] s = refl
+with_packets-push packets (x ∷ []) s = refl
+with_packets-push packets (x ∷ y ∷ init) s =
+    ap (λ (l : Transmission). x ∷ l) (with_packets-push packets (y ∷ init) s)
+
+-- The numbers of the frames stay.
+pub with_packets-frames : (packets : List (List ℕ)) (sent : Transmission)
+    → map (λ (s : SentFrame). s.frame) (with_packets packets sent)
+    ≡ map (λ (s : SentFrame). s.frame) sent
+unfolding with_packets
+with_packets-frames packets [] = refl
+with_packets-frames packets (s ∷ []) = refl
+with_packets-frames packets (s ∷ next ∷ frames) =
+    ap (λ (l : List ℕ). s.frame ∷ l) (with_packets-frames packets (next ∷ frames))
+
+pub with_packets-length : (packets : List (List ℕ)) (sent : Transmission)
+    → length (with_packets packets sent) ≡ length sent
+unfolding with_packets
+with_packets-length packets [] = refl
+with_packets-length packets (s ∷ []) = refl
+with_packets-length packets (s ∷ next ∷ frames) =
+    ap suc (with_packets-length packets (next ∷ frames))
+
+pub with_packets-frame_at : (packets : List (List ℕ)) (sent : Transmission) (i : ℕ)
+    → frame_at (with_packets packets sent) i ≡ frame_at sent i
+with_packets-frame_at packets sent i = rw (with_packets-frames packets sent) refl
+
+pub with_packets-end_frame : (packets : List (List ℕ)) (sent : Transmission)
+    → end_frame (with_packets packets sent) ≡ end_frame sent
+with_packets-end_frame packets sent =
+    rw (with_packets-frames packets sent, with_packets-length packets sent) refl
+
+-- The frames before the last one stay.
+pub with_packets-take : (packets : List (List ℕ)) (sent : Transmission) (n : ℕ)
+    → n < length sent
+    → take n (with_packets packets sent) ≡ take n sent
+unfolding with_packets
+with_packets-take packets [] n l = absurd (omega arith)
+with_packets-take packets (s ∷ sent) zero l = refl
+with_packets-take packets (s ∷ []) (suc n) l = absurd (omega arith)
+with_packets-take packets (s ∷ next ∷ frames) (suc n) l =
+    ap (λ (t : Transmission). s ∷ t) (with_packets-take packets (next ∷ frames) n (omega arith))
+
+pub with_packets-before : (packets : List (List ℕ)) (sent : Transmission) (n : ℕ)
+    → n < length sent
+    → packets_before (with_packets packets sent) n ≡ packets_before sent n
+with_packets-before packets sent n l = rw (with_packets-take packets sent n l) refl
+
+pub with_packets-packets : (packets : List (List ℕ)) (sent : Transmission) (i : ℕ)
+    → suc i < length sent
+    → packets_of_frame (with_packets packets sent) i ≡ packets_of_frame sent i
+unfolding with_packets
+with_packets-packets packets [] i l = absurd (omega arith)
+with_packets-packets packets (s ∷ []) i l = absurd (omega arith)
+with_packets-packets packets (s ∷ next ∷ frames) zero l = refl
+with_packets-packets packets (s ∷ next ∷ frames) (suc i) l =
+    with_packets-packets packets (next ∷ frames) i (omega arith)
+
+-- The last frame has these too, and so have all.
+pub with_packets-last : (packets : List (List ℕ)) (sent : Transmission) (i : ℕ)
+    → suc i ≡ length sent
+    → packets_of_frame (with_packets packets sent) i ≡ packets_of_frame sent i ++ packets
+unfolding with_packets
+with_packets-last packets [] i l = absurd (omega arith)
+with_packets-last packets (s ∷ []) zero l = refl
+with_packets-last packets (s ∷ []) (suc i) l = absurd (omega arith)
+with_packets-last packets (s ∷ next ∷ frames) zero l = absurd (omega arith)
+with_packets-last packets (s ∷ next ∷ frames) (suc i) l =
+    with_packets-last packets (next ∷ frames) i (omega arith)
+
+pub with_packets-all : (packets : List (List ℕ)) (sent : Transmission)
+    → 0 < length sent
+    → packets_before (with_packets packets sent) (length sent)
+    ≡ packets_before sent (length sent) ++ packets
+unfolding with_packets
+with_packets-all packets [] l = absurd (omega arith)
+with_packets-all packets (s ∷ []) l = grind (arith, nat_tests, append-nil)
+with_packets-all packets (s ∷ next ∷ frames) l =
+    ap (λ (t : List (List ℕ)). s.packets ++ t)
+    (with_packets-all packets (next ∷ frames) (omega arith))
+    ∙ sym (append_assoc s.packets (packets_before (next ∷ frames) (length (next ∷ frames))) packets)
+
+-- ---- what holds of each packet
+
+module _ (P : List ℕ → Type 0) where
+  -- It holds of each packet of a frame.
+  abbrev Of : SentFrame → Type 0
+  Of s = All P s.packets
+
+  each_with : (packets : List (List ℕ)) (sent : Transmission) → EachPacket P sent → All P packets
+      → EachPacket P (with_packets packets sent)
+  unfolding with_packets
+  each_with packets [] each more = each
+  each_with packets (s ∷ []) each more =
+      All-cons Of (with_more packets s) []
+      (All-append P s.packets packets (All-head Of s [] each) more) (All-tail Of s [] each)
+  each_with packets (s ∷ next ∷ frames) each more =
+      All-cons Of s (with_packets packets (next ∷ frames)) (All-head Of s (next ∷ frames) each)
+      (each_with packets (next ∷ frames) (All-tail Of s (next ∷ frames) each) more)
+
+  -- It holds of what is sent one PES packet on.
+  pub sent_after-each : (within : ℕ) (sent : Transmission) (s : SentFrame) → EachPacket P sent
+      → All P s.packets
+      → EachPacket P (sent_after within sent s)
+  sent_after-each within sent s each more = go (goes_on_with within sent s)
+    where
+      go : (same : Bool)
+          → EachPacket P (cond same (with_packets s.packets sent) (sent ++ s ∷ []))
+      go true = each_with s.packets sent each more
+      go false = All-append Of sent (s ∷ []) each (All-cons Of s [] more (All-nil Of))
+
+  pub joined_after-each : (within : ℕ) (sent frames : Transmission) → EachPacket P sent
+      → EachPacket P frames
+      → EachPacket P (joined_after within sent frames)
+  unfolding joined_after
+  joined_after-each within sent [] each more = each
+  joined_after-each within sent (s ∷ frames) each more =
+      joined_after-each within (sent_after within sent s) frames
+      (sent_after-each within sent s each (All-head Of s frames more)) (All-tail Of s frames more)
+
+  -- The same, as each packet of a file that was read is told.
+  abbrev pub EachRead : Transmission → Type 0
+  EachRead frames = AllByRecursion (λ (s : SentFrame). AllByRecursion P s.packets) frames
+
+  read_with : (packets : List (List ℕ)) (sent : Transmission) → EachRead sent
+      → AllByRecursion P packets
+      → EachRead (with_packets packets sent)
+  unfolding with_packets
+  read_with packets [] each more = each
+  read_with packets (s ∷ []) each more = (Each-append P s.packets packets each.0 more, tt)
+  read_with packets (s ∷ next ∷ frames) each more =
+      (each.0, read_with packets (next ∷ frames) each.1 more)
+
+  pub sent_after-read : (within : ℕ) (sent : Transmission) (s : SentFrame) → EachRead sent
+      → AllByRecursion P s.packets
+      → EachRead (sent_after within sent s)
+  sent_after-read within sent s each more = go (goes_on_with within sent s)
+    where
+      go : (same : Bool) → EachRead (cond same (with_packets s.packets sent) (sent ++ s ∷ []))
+      go true = read_with s.packets sent each more
+      go false =
+          Each-append (λ (x : SentFrame). AllByRecursion P x.packets) sent (s ∷ []) each (more, tt)
+
+  pub joined_after-read : (within : ℕ) (sent frames : Transmission) → EachRead sent
+      → EachRead frames
+      → EachRead (joined_after within sent frames)
+  unfolding joined_after
+  joined_after-read within sent [] each more = each
+  joined_after-read within sent (s ∷ frames) each more =
+      joined_after-read within (sent_after within sent s) frames
+      (sent_after-read within sent s each more.0) more.1
+
+-- ---- pieces
+
+-- The frames of the one and of the other.
+pub frames_of-append : (xs ys : List Piece) → frames_of (xs ++ ys) ≡ frames_of xs ++ frames_of ys
+unfolding frames_of
+frames_of-append [] ys = refl
+frames_of-append (Sent s ∷ xs) ys = ap (λ (fs : Transmission). s ∷ fs) (frames_of-append xs ys)
+frames_of-append (Passed u ∷ xs) ys = frames_of-append xs ys
+
+-- What comes of the one, and then of the other.
+pub marks_of_each-append : (g : Task) (sent : Transmission) (pes n : ℕ) (xs ys : List Piece)
+    → n ≡ pes + length xs
+    → marks_of_each g sent pes (xs ++ ys)
+    ≡ marks_of_each g sent pes xs
+    ++ marks_of_each g (joined_after g.within sent (frames_of xs)) n ys
+unfolding marks_of_each frames_of joined_after
+marks_of_each-append g sent pes n [] ys d = ap (λ (k : ℕ). marks_of_each g sent k ys) (omega arith)
+marks_of_each-append g sent pes n (Sent s ∷ xs) ys d =
+    let next = sent_after g.within sent s in
+    let rest = marks_of_each-append g next (suc pes) n xs ys (omega arith) in
+    grind (arith, nat_tests, append_assoc)
+marks_of_each-append g sent pes n (Passed u ∷ xs) ys d =
+    let rest = marks_of_each-append g sent (suc pes) n xs ys (omega arith) in
+    grind (arith, nat_tests, append_assoc)
+
+-- ---- packets of a frame
+
+-- What is told of the first packets goes by them alone.
+pub packets_told-first :
+    (w : Watched) (frame from : ℕ) (before xs ys : List (List ℕ)) (n : ℕ)
+    → n ≤ length xs
+    → packets_told w frame from before (xs ++ ys) n ≡ packets_told w frame from before xs n
+unfolding packets_told
+packets_told-first w frame from before xs ys zero l = refl
+packets_told-first w frame from before xs ys (suc n) l =
+    rw (
+      packets_told-first w frame from before xs ys n (omega arith),
+      take-append-le n xs ys (omega arith),
+      get_or_append_left xs ys [] n (omega arith),
+    ) refl
+
+-- What is told of some packets, and then of the first n of others.
+packets_told-then :
+    (w : Watched) (frame from : ℕ) (before xs ys : List (List ℕ)) (n : ℕ)
+    → packets_told w frame from before (xs ++ ys) (length xs + n)
+    ≡ packets_told w frame from before xs (length xs)
+    ++ packets_told w frame (from + length xs) (before ++ xs) ys n
+unfolding packets_told
+packets_told-then w frame from before xs ys zero =
+    let none : length xs + 0 ≡ length xs = omega arith in
+    ap (packets_told w frame from before (xs ++ ys)) none
+    ∙ packets_told-first w frame from before xs ys (length xs) (omega arith)
+    ∙ sym (append-nil (packets_told w frame from before xs (length xs)))
+packets_told-then w frame from before xs ys (suc n) =
+    let more : length xs + suc n ≡ suc (length xs + n) = omega arith in
+    let number : from + (length xs + n) ≡ from + length xs + n = omega arith in
+    ap (packets_told w frame from before (xs ++ ys)) more
+    ∙ rw (
+      packets_told-then w frame from before xs ys n,
+      take-append-add xs ys n,
+      get_or-append-add xs ys n [],
+      number,
+      sym (append_assoc before xs (take n ys)),
+    ) (append_assoc (packets_told w frame from before xs (length xs)) _ _)
+
+-- What is told of packets of a frame that come in two parts.
+pub packets_told-append :
+    (w : Watched) (frame from : ℕ) (before xs ys : List (List ℕ))
+    → packets_told w frame from before (xs ++ ys) (length (xs ++ ys))
+    ≡ packets_told w frame from before xs (length xs)
+    ++ packets_told w frame (from + length xs) (before ++ xs) ys (length ys)
+packets_told-append w frame from before xs ys =
+    ap (packets_told w frame from before (xs ++ ys)) (length-append xs ys)
+    ∙ packets_told-then w frame from before xs ys (length ys)
