@@ -3,6 +3,7 @@ use Rattle.std.proofs.lemmas.Bool.Decides.{nat_tests}
 use Rattle.std.proofs.Common.{Option, Some, None, ◌≡◌, ℕ, zero, suc, ◌+◌, ◌-◌, ◌<◌, ◌≤◌, true, List}
 use Rattle.std.proofs.Common.{refl, ap, ◌∙◌, arith}
 use Rattle.stl_file.specs.Subtitle.{SubtitleValue}
+use Rattle.stl_file.specs.TimeCode.{day}
 use Rattle.stl_rows.specs.declared.national.National.{National}
 use Rattle.stl_rows.specs.DuePage.{due, TellsNextEdge}
 use Rattle.stl_rows.specs.Programme.{ProgrammeValue}
@@ -47,13 +48,14 @@ same_edge records frame f (Some edge) tells low before =
 
 -- What is kept at a frame is so at a later one before the next edge. For `move_to`.
 pub IsAtFrame-later :
-    (p : ProgrammeValue) (every : ℕ) (s : Listener) (first latest frame : ℕ) (edge : Option ℕ)
-    (f : ℕ)
-    → IsAtFrame p every s first latest frame edge
+    (p : ProgrammeValue) (every : ℕ) (s : Listener) (first latest last frame : ℕ)
+    (edge : Option ℕ) (f : ℕ)
+    → f < day
+    → IsAtFrame p every s first latest last frame edge
     → frame ≤ f
     → is_before f edge ≡ true
-    → IsAtFrame p every s first latest f edge
-IsAtFrame-later p every s first latest frame edge f is low before =
+    → IsAtFrame p every s first latest last f edge
+IsAtFrame-later p every s first latest last frame edge f small is low before =
     let k : frame + (f - frame) ≡ f = omega arith in
     grind (arith, nat_tests, due_until, same_edge)
 

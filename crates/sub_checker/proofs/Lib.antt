@@ -1,6 +1,12 @@
+pub mod ClosingLemmas
 pub mod EdgeLemmas
+pub mod EndingLemmas
 pub mod FollowingLemmas
+pub mod HearingLemmas
+pub mod MoreLemmas
 pub mod PassingLemmas
 pub mod PieceWaysLemmas
 pub mod ReadsOnLemmas
+pub mod StageLemmas
+pub mod TakingLemmas
 pub mod TellingLemmas

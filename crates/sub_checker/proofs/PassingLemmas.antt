@@ -1,8 +1,7 @@
 -- What a device passes on of what it is told: `passes_result`, `passes_some`; of marks in parts:
--- `pass_then`, `stop_first`, `stop_then`; and of a frame: `passed_frame`.
-use Rattle.std.proofs.Common.{◌≡◌, ℕ, suc, ◌+◌, List, [], ◌∷◌, ◌++◌, Bool, false, map, take, drop}
-use Rattle.std.proofs.Common.{refl, arith, sym, ap, ◌∙◌, subst, Option, Result, Ok, Err}
-use Rattle.std.proofs.Common.{append_assoc}
+-- `pass_then`, `stop_first`, `stop_then`.
+use Rattle.std.proofs.Common.{◌≡◌, ℕ, List, [], ◌∷◌, ◌++◌, Bool, false, map, take, drop, refl, sym}
+use Rattle.std.proofs.Common.{ap, ◌∙◌, subst, Option, Result, Ok, Err}
 use Rattle.std.proofs.lemmas.Bool.{true≢false}
 use Rattle.std.proofs.lemmas.List.{append-nil, map-append, take-append-drop}
 use Rattle.std.specs.Prelude.{OnOk, is_err}
@@ -11,23 +10,17 @@ use Rattle.sub_io.specs.Telling.{first_alone}
 use Rattle.sub_io.proofs.TellingLemmas.{Tells-none, Tells-one, Tells-trans, TellsPrefix-first}
 use Rattle.sub_io.proofs.TellingLemmas.{TellsPrefix-second, TellsPrefix-whole}
 use Rattle.sub_io.proofs.TellingLemmas.{TellsUntilStopped-after}
-use Rattle.ttx_page.specs.PacketKind.{kind}
-use Rattle.ttx_page.specs.Span.{holds_header}
-use Rattle.sub_rules.specs.Events.{standing_at}
-use Rattle.sub_rules.specs.FrameRules.{Task, frame_at, packets_of_frame}
-use Rattle.sub_rules.specs.PieceEvents.{all_announced, announced, arriving_events, marks_of_frame}
-use Rattle.sub_rules.specs.PieceEvents.{own_events, passed_after, passed_after_all}
-use Rattle.sub_rules.specs.Transmission.{Transmission}
-use Rattle.sub_rules.specs.Trusted.{Mark, after_mark, at_pes, doubted, stands_none, told_by}
+use Rattle.sub_rules.specs.PieceEvents.{all_announced, announced, passed_after, passed_after_all}
+use Rattle.sub_rules.specs.Trusted.{Mark, after_mark, at_pes, doubted, late_since, told_by}
 use Rattle.sub_rules.specs.Trusted.{told_with, trust_after, trusted_before}
-use Rattle.sub_rules.specs.Trusted.Mark.{AtPes, Begins, Ends, Says}
+use Rattle.sub_rules.specs.Trusted.Mark.{AtEnd, AtPes, Begins, Closes, Ends, Says}
 use Rattle.sub_rules.specs.declared.event.Event.{Event}
 use Rattle.sub_rules.specs.declared.passed_run.PassedRun.{PassedRun}
 use Rattle.sub_rules.specs.declared.trust.Trust.{Trust}
 use Rattle.sub_rules.proofs.PieceEventLemmas.{all_announced-append, passed_after-append}
 use Rattle.sub_rules.proofs.TrustedLemmas.{told_by-append, trust_after-append}
-use Rattle.sub_checker.specs.Following.{taking_events}
-use Rattle.sub_checker.specs.Passing.{Passes, PassesMarks, at_mark, passed_on, passing_after}
+use Rattle.sub_checker.specs.Passing.{Passes, PassesMarks, at_mark, passed_on}
+use Rattle.sub_checker.specs.Passing.{passing_after}
 use Rattle.sub_checker.specs.declared.passing.Passing.{Passing}
 use Rattle.sub_checker.specs.declared.passing.Stage.{Stage}
 
@@ -166,7 +159,7 @@ both_kept run mid xs e is =
 
 -- What is told with an event. For `pass`.
 pub says_with : (t u : Trust) (e named : Event) (first : Option Event)
-    → first_alone first ≡ trusted_before t.run (doubted t.last e)
+    → first_alone first ≡ trusted_before t.run t.whole (doubted t.last (late_since t) e)
     → u ≡ after_mark (Says e) t
     → named ≡ at_pes u.pes e
     → first_alone first ++ named ∷ [] ≡ told_with (Says e) t
@@ -174,18 +167,42 @@ unfolding told_with after_mark
 says_with t u e named first before kept is = rw (before, is, kept) refl
 
 -- Of which frame the last PES packet was.
-pub ends_last : (f : ℕ) (has none : Bool) (t : Trust) → (after_mark (Ends f has none) t).last ≡ f
+pub begins_last : (f : ℕ) (t : Trust) → (after_mark (Begins f) t).last ≡ f
+unfolding after_mark
+begins_last f t = refl
+
+pub ends_last : (f : ℕ) (has none : Bool) (t : Trust)
+    → (after_mark (Ends f has none) t).last ≡ t.last
 unfolding after_mark
 ends_last f has none t = refl
+
+pub at_end_last : (f : ℕ) (since : Option ℕ) (late : Bool) (t : Trust)
+    → (after_mark (AtEnd f since late) t).last ≡ t.last
+unfolding after_mark
+at_end_last f since late t = refl
 
 pub pes_last : (pes : ℕ) (t : Trust) → (after_mark (AtPes pes) t).last ≡ t.last
 unfolding after_mark
 pes_last pes t = refl
 
+pub closes_last : (left more : Bool) (p : Passing)
+    → (passing_after p (Closes left more ∷ [])).trust.last ≡ p.trust.last
+unfolding passing_after trust_after after_mark
+closes_last left more p = refl
+
 pub says_last : (e : Event) (p : Passing)
     → (passing_after p (Says e ∷ [])).trust.last ≡ p.trust.last
 unfolding passing_after trust_after after_mark
 says_last e p = refl
+
+pub all_last : (es : List Event) (p : Passing)
+    → (passing_after p (map Says es)).trust.last ≡ p.trust.last
+unfolding passing_after trust_after
+all_last [] p = refl
+all_last (e ∷ es) p =
+    ap (λ (q : Passing). q.trust.last) (after-append p (Says e ∷ []) (map Says es))
+    ∙ all_last es (passing_after p (Says e ∷ []))
+    ∙ says_last e p
 
 -- With this mark nothing is told.
 pub silent : {D : Type 0} (IsTold : D → Event → D → Type 0) (s t : Stage D) (m : Mark)
@@ -331,6 +348,14 @@ module _ {D : Type 0} (Behind : D → Event → D → Type 0) (has_stopped : D �
       let p = passes_all old new some.items some.told in
       (p.same, record { items = take p.cut.0 _; told = p.cut.2 })
 
+  -- The frame of the last PES packet stays, where the device behind had not said stop.
+  pub passes_last : (old new : Stage D) → TellsSome IsPassedOn old new
+      → has_stopped new.device.now ≡ false
+      → new.passing.trust.last ≡ old.passing.trust.last
+  passes_last old new some fine =
+      let p = passes_all old new some.items some.told in
+      ap (λ (q : Passing). q.trust.last) (p.kept fine) ∙ all_last some.items old.passing
+
   -- All of these, or a prefix.
   pub passes_whole : (old new : Stage D) (es : List Event)
       → has_stopped new.device.now ≡ false
@@ -366,90 +391,15 @@ pub silent_pes : (pes : ℕ) (t : Trust) → told_with (AtPes pes) t ≡ []
 unfolding told_with
 silent_pes pes t = refl
 
-silent_begins : (t : Trust) → told_with Begins t ≡ []
+pub silent_begins : (f : ℕ) (t : Trust) → told_with (Begins f) t ≡ []
 unfolding told_with
-silent_begins t = refl
+silent_begins f t = refl
 
-silent_ends : (f : ℕ) (has none : Bool) (t : Trust) → told_with (Ends f has none) t ≡ []
+pub silent_at_end : (f : ℕ) (since : Option ℕ) (late : Bool) (t : Trust)
+    → told_with (AtEnd f since late) t ≡ []
+unfolding told_with
+silent_at_end f since late t = refl
+
+pub silent_ends : (f : ℕ) (has none : Bool) (t : Trust) → told_with (Ends f has none) t ≡ []
 unfolding told_with
 silent_ends f has none t = refl
-
--- ---- a frame of the list. For `go_on`.
-
-module _ {D : Type 0} (Behind : D → Event → D → Type 0) (has_stopped : D → Bool)
-    (g : Task) (frames : Transmission) (n : ℕ) (s0 s1 : Stage D)
-  where
-    abbrev arriving : List Event
-    arriving = arriving_events g frames n
-
-    abbrev taking : List Event
-    taking = taking_events g frames n
-
-    abbrev end : Mark
-    end = Ends (frame_at frames n) (holds_header (kind g.watched.page) (packets_of_frame frames n))
-        (stands_none (standing_at g frames (suc n) (frame_at frames n)))
-
-    parts : marks_of_frame g frames n
-        ≡ (map Says arriving ++ Begins ∷ []) ++ (map Says taking ++ end ∷ [])
-    parts =
-        let own : own_events g frames n ≡ taking = grind (arith, append_assoc) in
-        append_assoc (map Says arriving ++ Begins ∷ []) (map Says (own_events g frames n)) (end ∷ [])
-        ∙ ap (λ (es : List Event). (map Says arriving ++ Begins ∷ []) ++ (map Says es ++ end ∷ []))
-        own
-
-    -- The device said stop before its packets.
-    pub stopped_before : TellsPrefix (IsPassedOn Behind has_stopped) s0 s1 arriving
-        → TellsPrefix Behind s0.device.now s1.device.now
-        (passed_on s0.passing (marks_of_frame g frames n))
-    stopped_before some =
-        rw parts
-        (stop_first Behind _ _ _ (map Says arriving ++ Begins ∷ []) _
-        (stop_first Behind _ _ _ (map Says arriving) _
-        (passes_prefix Behind has_stopped s0 s1 arriving some)))
-
-    module _ (s2 s3 : Stage D) (here : s2 ≡ at_mark Begins s1)
-        (before : Tells (IsPassedOn Behind has_stopped) s0 s1 arriving)
-        (fine : has_stopped s1.device.now ≡ false)
-      where
-        first : IsWhole Behind s0.device.now s0.passing (map Says arriving ++ Begins ∷ [])
-            s2.device.now s2.passing
-        first =
-            whole_then Behind _ _ _ _ _ _ (map Says arriving) (Begins ∷ [])
-            (passes_whole Behind has_stopped s0 s1 arriving fine before)
-            (silent Behind s1 s2 Begins here (silent_begins _))
-
-        -- It did so after that.
-        pub stopped_after : TellsPrefix (IsPassedOn Behind has_stopped) s2 s3 taking
-            → TellsPrefix Behind s0.device.now s3.device.now
-            (passed_on s0.passing (marks_of_frame g frames n))
-        stopped_after some =
-            rw parts
-            (stop_then Behind _ _ _ _ _ (map Says arriving ++ Begins ∷ []) _ first
-            (stop_first Behind _ _ _ (map Says taking) _
-            (passes_prefix Behind has_stopped s2 s3 taking some)))
-
-        -- It did not.
-        pub passed_frame : (s4 : Stage D) (frame : ℕ) (has none : Bool)
-            → Tells (IsPassedOn Behind has_stopped) s2 s3 taking
-            → has_stopped s3.device.now ≡ false
-            → s4 ≡ at_mark (Ends frame has none) s3
-            → frame ≡ frame_at frames n
-            → has ≡ holds_header (kind g.watched.page) (packets_of_frame frames n)
-            → none ≡ stands_none (standing_at g frames (n + 1) (frame_at frames n))
-            → IsWhole Behind s0.device.now s0.passing (marks_of_frame g frames n) s4.device.now
-            s4.passing
-        passed_frame s4 frame has none after still last at holds stands =
-            let next : n + 1 ≡ suc n = omega arith in
-            let same : Ends frame has none ≡ end =
-            rw (
-              at,
-              holds,
-              stands ∙ ap (λ k. stands_none (standing_at g frames k (frame_at frames n)))
-                  next,
-            ) refl in
-            rw parts
-            (whole_then Behind _ _ _ _ _ _ (map Says arriving ++ Begins ∷ []) _ first
-            (whole_then Behind _ _ _ _ _ _ (map Says taking) (end ∷ [])
-            (passes_whole Behind has_stopped s2 s3 taking still after)
-            (silent Behind s3 s4 end (last ∙ ap (λ (m : Mark). at_mark m s3) same)
-            (silent_ends _ _ _ _))))

@@ -1,19 +1,18 @@
 -- What is read of a PES file, piece by piece: `reads_on_none`, `reads_on_sent`, `reads_on_passed`;
 -- and what was taken, where the source fails: `packets_taken`.
 use Rattle.std.proofs.lemmas.Bool.Decides.{nat_tests}
-use Rattle.std.proofs.Common.{◌≡◌, ℕ, ◌+◌, ◌-◌, ◌<◌, ◌≤◌}
-use Rattle.std.proofs.Common.{List, [], ◌∷◌, ◌++◌, length, Option, Some}
-use Rattle.std.proofs.Common.{refl, sym, ap, subst, ◌∙◌, append_assoc, arith, length-append}
+use Rattle.std.proofs.Common.{◌≡◌, ℕ, ◌+◌, ◌≤◌, List, [], ◌∷◌, ◌++◌, length, Option, Some, refl}
+use Rattle.std.proofs.Common.{sym, ap, subst, ◌∙◌, append_assoc, arith, length-append, Result, Err}
 use Rattle.std.proofs.lemmas.List.{append-nil}
-use Rattle.sub_rules.specs.FrameRules.{Unread, packets_of_frame}
+use Rattle.sub_rules.specs.FrameRules.{Unread}
 use Rattle.sub_rules.specs.Pieces.{Piece, ReadsPiece, ReadsPieces, frames_of}
 use Rattle.sub_rules.specs.Pieces.Piece.{Passed, Sent}
+use Rattle.sub_plan.specs.FrameTime.{Clock, clock_of}
 use Rattle.sub_plan.specs.Options.{OptionsValue}
 use Rattle.ttx_pes.specs.Pieces.{behind_piece}
-use Rattle.sub_rules.specs.Sendings.{IsFrameOf, IsSentFrame}
 use Rattle.sub_rules.specs.Transmission.{SentFrame, Transmission}
 use Rattle.sub_rules.specs.declared.fault.CheckFault.{CheckFault}
-use Rattle.sub_rules.proofs.PieceEventLemmas.{frames_of-append}
+use Rattle.sub_rules.proofs.JoinedLemmas.{frames_of-append}
 use Rattle.sub_checker.specs.Telling.{AreTaken, AreWhole}
 use Rattle.std.proofs.lemmas.List.Elements.{All-from_recursion}
 use Rattle.std.proofs.lemmas.Slice.Zip.{AllZip-long}
@@ -25,9 +24,8 @@ use Rattle.ttx_pes.specs.PesPacket.{IsPesPacket, IsPesValue, PesValue}
 use Rattle.ttx_pes.specs.Reader.{TakesPackets, TakesPesPacket}
 use Rattle.sub_rules.proofs.PacketLists.{Each-push}
 use Rattle.sub_rules.specs.PacketRules.{packets_of_units}
-use Rattle.sub_rules.specs.PesFrames.{IsSentAs}
+use Rattle.sub_rules.specs.PesFrames.{IsReadAs}
 use Rattle.sub_checker.specs.declared.telling.Accepted.{Accepted}
-use Rattle.std.proofs.Common.{Result, Err}
 use Rattle.ttx_pes.specs.DataUnit.{IsUnit, UnitValue}
 
 -- ---- frames and their packets
@@ -51,16 +49,6 @@ zip_push R [] (b ∷ ys) x y h r = elim h [ ]
 zip_push R (a ∷ xs) [] x y h r = elim h [ ]
 zip_push R (a ∷ xs) (b ∷ ys) x y h r = (h.0, zip_push R xs ys x y h.1 r)
 
--- What is sent again is what was sent before; the first sending is sent again after itself. For
--- `judge`.
-pub again_is :
-    (frames : Transmission) (n frame : ℕ) (ps kept : List (List ℕ))
-    → IsSentFrame frames n frame ps
-    → (0 < n → packets_of_frame frames (n - 1) ≡ kept)
-    → kept ≡ ps
-    → packets_of_frame frames (n - 1) ≡ ps
-again_is frames n frame ps kept is before same = grind (arith, nat_tests)
-
 -- ---- pieces that are read
 
 -- Of the pieces of a file these first ones are read, and the others are left.
@@ -73,17 +61,17 @@ pub record ReadsOn
   pub count : length done ≡ pes
   pub rest : List ℕ
   pub rest_is : remaining ≡ Some rest
-  pub left : ReadsPieces options.origin pes rest ahead unread
+  pub left : ReadsPieces (clock_of options) pes rest ahead unread
   pub taken :
       length (frames_of done) ≡ length done
-      → AreTaken options.origin bytes (frames_of done) rest
+      → AreTaken (clock_of options) bytes (frames_of done) rest
   pub whole : AreWhole (frames_of done)
 
 -- Before the first of them.
 pub reads_on_none : (options : OptionsValue) (all : List Piece) (unread : Option Unread)
     (remaining : Option (List ℕ)) (bytes : List ℕ)
     → remaining ≡ Some bytes
-    → ReadsPieces options.origin 0 bytes all unread
+    → ReadsPieces (clock_of options) 0 bytes all unread
     → ReadsOn options bytes all unread remaining 0 []
 unfolding frames_of
 reads_on_none options all unread remaining bytes told reads = record {
@@ -93,7 +81,7 @@ reads_on_none options all unread remaining bytes told reads = record {
   rest = bytes;
   rest_is = told;
   left = reads;
-  taken = λ e. record { values = []; packets = []; each = tt; sent = tt; joined = refl };
+  taken = λ e. record { values = []; packets = []; each = tt; read = tt; joined = refl };
   whole = tt;
 }
 
@@ -105,26 +93,25 @@ frames_few (Sent s ∷ pieces) = let l = frames_few pieces in omega arith
 frames_few (Passed u ∷ pieces) = let l = frames_few pieces in omega arith
 
 -- One packet more is taken.
-taken_sent : (origin : ℕ) (bytes rest : List ℕ) (frames : Transmission) (v : PesValue) (frame : ℕ)
-    (old new : Option (List ℕ))
-    → AreTaken origin bytes frames rest
+taken_sent : (clock : Clock) (bytes rest : List ℕ) (frames : Transmission) (v : PesValue)
+    (frame : ℕ) (old new : Option (List ℕ))
+    → AreTaken clock bytes frames rest
     → old ≡ Some rest
     → new ≡ Some (behind_piece rest)
     → TakesPesPacket old new v
-    → IsFrameOf origin v.pts frame
-    → AreTaken origin bytes
+    → clock v.pts ≡ Some frame
+    → AreTaken clock bytes
     (frames ++ record { frame = frame; packets = packets_of_units v.units } ∷ [])
     (behind_piece rest)
-taken_sent origin bytes rest frames v frame old new taken was is takes of =
+taken_sent clock bytes rest frames v frame old new taken was is takes of =
     let parts : rest ≡ takes.bytes ++ behind_piece rest = rw (was, is) at takes.consumed in
     record {
       values = taken.values ++ v ∷ [];
       packets = taken.packets ++ takes.bytes ∷ [];
       each = zip_push IsPesPacket taken.values taken.packets v takes.bytes taken.each
           takes.is_packet;
-      sent = zip_push (IsSentAs origin) taken.values frames v _ taken.sent (record {
-        in_day = of.in_day;
-        pts = sym of.is;
+      read = zip_push (IsReadAs clock) taken.values frames v _ taken.read (record {
+        frame = of;
         packets = refl;
       });
       joined = grind (arith, concat-append, append_assoc);
@@ -139,18 +126,18 @@ each_packet (v ∷ values) (b ∷ packets) each = ((v, each.0), each_packet valu
 each_packet [] (b ∷ packets) each = elim each [ ]
 each_packet (v ∷ values) [] each = elim each [ ]
 
-pub packets_taken : {origin : ℕ} (bytes : List ℕ) (frames : Transmission) (rest : List ℕ) (n : ℕ)
+pub packets_taken : {clock : Clock} (bytes : List ℕ) (frames : Transmission) (rest : List ℕ) (n : ℕ)
     (old new : Option (List ℕ))
-    → AreTaken origin bytes frames rest
+    → AreTaken clock bytes frames rest
     → length frames ≡ n
     → old ≡ Some bytes
     → new ≡ Some rest
     → TakesPackets n old new
-packets_taken {origin} bytes frames rest n old new taken number was is = record {
+packets_taken {clock} bytes frames rest n old new taken number was is = record {
   packets = taken.packets;
   number =
       AllZip-long IsPesPacket taken.values taken.packets taken.each
-      ∙ sym (AllZip-long (IsSentAs origin) taken.values frames taken.sent) ∙ number;
+      ∙ sym (AllZip-long (IsReadAs clock) taken.values frames taken.read) ∙ number;
   each = each_packet taken.values taken.packets taken.each;
   consumed = rw (was, is) taken.joined;
 }
@@ -178,9 +165,9 @@ module _ (options : OptionsValue) (bytes : List ℕ) (all : List Piece) (unread 
     (left : after ≡ Some (behind_piece at.rest))
   where
     reads_on_more : (p : Piece)
-        → ReadsPiece options.origin pes at.rest at.ahead unread p
+        → ReadsPiece (clock_of options) pes at.rest at.ahead unread p
         → (length (frames_of (done ++ p ∷ [])) ≡ length (done ++ p ∷ [])
-        → AreTaken options.origin bytes (frames_of (done ++ p ∷ [])) (behind_piece at.rest))
+        → AreTaken (clock_of options) bytes (frames_of (done ++ p ∷ [])) (behind_piece at.rest))
         → AreWhole (frames_of (done ++ p ∷ []))
         → ReadsOn options bytes all unread after (pes + 1) (done ++ p ∷ [])
     reads_on_more p next taken whole = record {
@@ -197,9 +184,9 @@ module _ (options : OptionsValue) (bytes : List ℕ) (all : List Piece) (unread 
     }
 
     pub reads_on_sent : (v : PesValue) (frame : ℕ)
-        → ReadsPiece options.origin pes at.rest at.ahead unread
+        → ReadsPiece (clock_of options) pes at.rest at.ahead unread
         (Sent (record { frame = frame; packets = packets_of_units v.units }))
-        → IsFrameOf options.origin v.pts frame
+        → clock_of options v.pts ≡ Some frame
         → TakesPesPacket before after v
         → IsPesValue v
         → ReadsOn options bytes all unread after (pes + 1)
@@ -211,9 +198,9 @@ module _ (options : OptionsValue) (bytes : List ℕ) (all : List Piece) (unread 
         frames_of-append done (Sent s ∷ []) in
         reads_on_more (Sent s) next
         (λ e.
-        subst (λ (fs : Transmission). AreTaken options.origin bytes fs (behind_piece at.rest))
+        subst (λ (fs : Transmission). AreTaken (clock_of options) bytes fs (behind_piece at.rest))
         (sym list)
-        (taken_sent options.origin bytes at.rest (frames_of done) v frame before after
+        (taken_sent (clock_of options) bytes at.rest (frames_of done) v frame before after
         (at.taken (omega (
           arith,
           e,
@@ -224,7 +211,7 @@ module _ (options : OptionsValue) (bytes : List ℕ) (all : List Piece) (unread 
         (subst AreWhole (sym list) (whole_sent (frames_of done) v frame at.whole value))
 
     pub reads_on_passed : (u : Unread)
-        → ReadsPiece options.origin pes at.rest at.ahead unread (Passed u)
+        → ReadsPiece (clock_of options) pes at.rest at.ahead unread (Passed u)
         → ReadsOn options bytes all unread after (pes + 1) (done ++ Passed u ∷ [])
     unfolding frames_of
     reads_on_passed u next =

@@ -1,14 +1,23 @@
 -- How far the check has come, as the checker keeps it. Private functions alone cite this.
-use Rattle.std.specs.Prelude.{◌≡◌, ℕ, ◌+◌, ◌<◌, ◌≤◌, ◌&&◌, List, Option, Some, None, max, nat_le}
-use Rattle.std.specs.Prelude.{nat_lt}
+use Rattle.std.specs.Prelude.{◌≡◌, ℕ, ◌+◌, ◌*◌, ◌<◌, ◌≤◌, ◌&&◌, ◌||◌, ◌==◌, List, [], ◌∷◌, ◌++◌}
+use Rattle.std.specs.Prelude.{Option, Some, None, max, map, nat_le, nat_lt, is_some, not}
 use Rattle.std.specs.Prelude.{Bool, false, true, if◌then◌else◌}
 use Rattle.stl_file.specs.TimeCode.{day}
-use Rattle.stl_rows.specs.DuePage.{TellsNextEdge}
 use Rattle.stl_rows.specs.Programme.{ProgrammeValue}
 use Rattle.ttx_page.specs.PacketKind.{kind}
 use Rattle.ttx_page.specs.Span.{is_open_after}
-use Rattle.sub_rules.specs.Events.{Standing, wrong_after}
+use Rattle.ttx_pes.specs.DataUnit.{UnitValue}
+use Rattle.sub_rules.specs.Events.{Standing, end_events, is_missed, undue_after, unfinished_from}
+use Rattle.sub_rules.specs.Events.{wrong_after}
+use Rattle.stl_rows.specs.DuePage.{TellsNextEdge, tci_of_ending}
+use Rattle.sub_rules.specs.PacketRules.{header_count, packets_of_units}
+use Rattle.sub_rules.specs.Transmission.{SentFrame}
+use Rattle.sub_rules.specs.Trusted.{Mark}
+use Rattle.sub_rules.specs.Trusted.Mark.{AtEnd, Says}
+use Rattle.sub_rules.specs.declared.sending.Sending.{Sending}
+use Rattle.sub_packets.specs.Listener.{KnowsLast}
 use Rattle.sub_packets.specs.declared.listener.Listener.{Listener}
+use Rattle.sub_checker.specs.declared.counts.Counts.{Counts}
 use Rattle.sub_checker.specs.declared.standing.StandingRules.{StandingRules}
 use Rattle.sub_plan.specs.Schedule.{due_in}
 
@@ -20,21 +29,47 @@ as_standing s = record { content = s.content; gap = s.gap; incomplete = s.incomp
 abbrev pub none_stands : StandingRules
 none_stands = record { content = None; gap = false; incomplete = false }
 
--- The programme, the repeat bound, what is kept of the packets, the frame of the first PES packet,
--- the greatest one of all, the frame that a page is due at, that of the last end and what stood
--- broken there, one more than the first frame at whose end a header is too long ago, and how many
--- headers of the page there were.
+-- ---- what is counted
+
+-- Nothing was heard.
+abbrev pub nothing_counted : Counts
+nothing_counted =
+    record { frames = 0; headers = 0; headers_before = 0; packets = 0; is_open = false }
+
+-- More headers of the page.
+abbrev pub with_headers : ℕ → Counts → Counts
+with_headers headers n = record n { headers = n.headers + headers }
+
+-- So many PES packets may have been counted.
+pub record AreFew (pes : ℕ) (n : Counts) : Type 0 where
+  pub frames : n.frames ≤ pes
+  pub headers : n.headers ≤ 255 * pes
+  pub packets : n.packets ≤ 255 * pes
+
+-- What is sent by a PES packet with these units.
+abbrev pub sent_as : Sending → List UnitValue → SentFrame
+sent_as sending units = record { frame = sending.frame; packets = packets_of_units units }
+
+-- ---- what is kept
+
+-- The programme, the repeat bound, within how many frames the page has to be whole, what is kept of
+-- the packets, the frame of the first PES packet, the greatest one of all, the frame that a page is
+-- due at, that of the last end and what stood broken there, the first of the frames up to it at
+-- whose ends the page was not whole, one more than the first frame at whose end a header is too
+-- long ago, and what was counted.
 pub record CheckerValue : Type 0 where
   pub programme : ProgrammeValue
   pub every : ℕ
+  pub within : ℕ
   pub listener : Listener
   pub first : ℕ
   pub latest : ℕ
   pub frame : ℕ
   pub last : ℕ
   pub standing : StandingRules
+  pub since : Option ℕ
   pub late_at : ℕ
-  pub headers : ℕ
+  pub counts : Counts
 
 -- The checker at another frame, with the page that is due there.
 abbrev pub at_frame : ℕ → CheckerValue → CheckerValue
@@ -62,27 +97,99 @@ is_before frame (Some edge) = nat_lt frame edge
 abbrev pub later_by : Bool → ℕ → ℕ → ℕ → ℕ
 later_by found frame every before = if found then max before (frame + every + 1) else before
 
--- What stands broken, where these packets were heard.
-abbrev pub stands : List (List ℕ) → CheckerValue → StandingRules
-stands heard c = record {
-  content = wrong_after c.listener.watched.page heard c.listener.comparison.due;
-  gap = nat_le c.late_at (c.frame + 1);
-  incomplete =
-      c.listener.watched.complete && is_open_after (kind c.listener.watched.page) heard;
+-- The checker with more headers of the page in the frame that was reached.
+abbrev pub counted : ℕ → CheckerValue → CheckerValue
+counted headers c = record c {
+  counts = with_headers headers c.counts;
+  late_at = later_by (nat_lt 0 headers) c.frame c.every c.late_at;
 }
 
--- The checker after the end of its frame.
+-- After these packets more were heard.
+pub record Hears (heard packets : List (List ℕ)) (old new : CheckerValue) : Type 0 where
+  pub listener : Listener
+  pub headers : ℕ
+  pub new_is : new ≡ counted headers (record old { listener = listener })
+  pub watched : listener.watched ≡ old.listener.watched
+  pub due : listener.comparison.due ≡ old.listener.comparison.due
+  pub knows : KnowsLast (heard ++ packets) packets listener
+  pub count : headers ≡ header_count old.listener.watched.page packets
+
+-- ---- the end of the frame that was reached, where these packets were heard
+
+-- The page had to be whole by the end of frame f, where it is not since this frame.
+abbrev pub is_overdue_at : ProgrammeValue → ℕ → ℕ → Option ℕ → ℕ → Bool
+is_overdue_at programme within first None f = false
+is_overdue_at programme within first (Some since) f =
+    nat_le (since + within) f || is_missed (tci_of_ending programme.records (f + 1)) first since
+
+-- The page is not whole.
+abbrev pub is_unfinished_now : List (List ℕ) → CheckerValue → Bool
+is_unfinished_now heard c =
+    is_some (wrong_after c.listener.watched.page heard c.listener.comparison.due)
+    || (c.listener.watched.complete && is_open_after (kind c.listener.watched.page) heard)
+
+-- Since which frame it is not, and whether that is late where it is not.
+abbrev pub since_now : List (List ℕ) → CheckerValue → Option ℕ
+since_now heard c = unfinished_from c.since (is_unfinished_now heard c) c.frame
+
+abbrev pub late_now : List (List ℕ) → CheckerValue → Bool
+late_now heard c =
+    c.within == 0 || is_overdue_at c.programme c.within c.first (since_now heard c) c.frame
+
+-- What stands broken.
+abbrev pub stands : List (List ℕ) → CheckerValue → StandingRules
+stands heard c = record {
+  content =
+      if late_now heard c
+      then wrong_after c.listener.watched.page heard c.listener.comparison.due
+      else undue_after c.listener.watched.page heard (due_in c.programme) c.first c.frame c.within;
+  gap = nat_le c.late_at (c.frame + 1);
+  incomplete =
+      late_now heard c
+      && (c.listener.watched.complete && is_open_after (kind c.listener.watched.page) heard);
+}
+
+-- What comes there.
+abbrev pub end_marks : List (List ℕ) → CheckerValue → List Mark
+end_marks heard c =
+    (if c.within == 0 then [] else AtEnd c.frame (since_now heard c) (late_now heard c) ∷ [])
+    ++ map Says
+    (end_events (as_standing c.standing) c.last (as_standing (stands heard c)) c.frame)
+
+-- The checker after it.
 abbrev pub after_end : List (List ℕ) → CheckerValue → CheckerValue
-after_end heard c = record c { standing = stands heard c; last = c.frame }
+after_end heard c = record c {
+  standing = stands heard c;
+  last = c.frame;
+  since = if c.within == 0 then c.since else since_now heard c;
+}
+
+-- The checker after one at which nothing stands broken, and nothing did at the one before.
+abbrev pub quiet_end : CheckerValue → CheckerValue
+quiet_end c = record c {
+  last = c.frame;
+  since = if c.within == 0 then c.since else None;
+}
+
+-- The page is not whole at the last end, and that is not late.
+abbrev pub is_pending_now : CheckerValue → Bool
+is_pending_now c =
+    not (c.within == 0)
+    && is_some c.since
+    && not (is_overdue_at c.programme c.within c.first c.since c.last)
+
+-- ---- the invariant
 
 -- The page that is kept as due and the next edge are those of the frame, and the numbers are such
 -- that none is too large.
 pub record IsAtFrame
-    (programme : ProgrammeValue) (every : ℕ) (listener : Listener) (first latest frame : ℕ)
+    (programme : ProgrammeValue) (every : ℕ) (listener : Listener) (first latest last frame : ℕ)
     (edge : Option ℕ)
     : Type 0 where
   pub due_is : listener.comparison.due ≡ due_in programme frame
   pub edge_is : TellsNextEdge programme.records frame edge
   pub first_before : first ≤ latest
   pub in_day : latest < day
+  pub last_in_day : last < day
+  pub frame_in_day : frame < day
   pub bound : every ≤ 1500

@@ -1,22 +1,32 @@
 -- The parts of the check of one frame of the list, and what is kept after the first n frames.
 -- Private functions alone cite this.
-use Rattle.std.specs.Prelude.{◌≡◌, ℕ, suc, ◌+◌, ◌-◌, ◌<◌, List, ◌++◌, length, nat_le}
+use Rattle.std.specs.Prelude.{◌≡◌, ℕ, zero, suc, ◌+◌, ◌-◌, ◌<◌, ◌==◌, List, [], ◌++◌, length, map}
+use Rattle.std.specs.Prelude.{nat_le, false, true, Option, None, if◌then◌else◌}
 use Rattle.sub_rules.specs.Transmission.{Transmission}
 use Rattle.sub_checker.specs.Checker.{CheckerValue, as_standing}
-use Rattle.sub_rules.specs.Events.{end_before, events_at_end, first_header_events, is_gap, latest}
-use Rattle.sub_rules.specs.Events.{nothing_stands, packet_events, standing_at, standing_before}
-use Rattle.sub_rules.specs.declared.event.Event.{Event}
+use Rattle.sub_rules.specs.Events.{end_before, gap_length, is_gap, latest, nothing_stands}
+use Rattle.sub_rules.specs.Events.{order_events, since_frames, standing_at, standing_before}
+use Rattle.sub_rules.specs.Events.{unfinished_since}
 use Rattle.sub_packets.specs.Listener.{KnowsLast}
 use Rattle.sub_rules.specs.FrameRules.{Task, frame_at, packets_of_frame, packets_before, task_with}
 use Rattle.sub_rules.specs.PacketRules.{header_count}
+use Rattle.sub_rules.specs.PieceEvents.{marks_of_arrival, marks_of_closing, marks_of_ending}
+use Rattle.sub_rules.specs.PieceEvents.{marks_of_gap, marks_of_packets, marks_of_waiting}
+use Rattle.sub_rules.specs.Trusted.{Mark}
+use Rattle.sub_rules.specs.Trusted.Mark.{AtEnd, Says}
+use Rattle.sub_checker.specs.Passing.{at_mark}
+use Rattle.sub_checker.specs.declared.passing.Stage.{Stage}
 
 -- ---- what is kept
 
--- What is kept of the packets is what the first n frames of the list say.
-pub record Remembers (g : Task) (frames : Transmission) (n : ℕ) (c : CheckerValue) : Type 0 where
-  pub task_is : g ≡ task_with c.programme c.listener.watched c.every g.unread
-  pub knows : KnowsLast (packets_before frames n) (packets_of_frame frames (n - 1)) c.listener
-  pub count : c.headers ≡ header_count g.watched.page (packets_before frames n)
+-- What is kept of the packets is what the first n frames of the list say, and of the PES packet
+-- that was heard last what its packets do.
+pub record Remembers
+    (g : Task) (frames : Transmission) (n : ℕ) (last : List (List ℕ)) (c : CheckerValue)
+    : Type 0 where
+  pub task_is : g ≡ task_with c.programme c.listener.watched c.every c.within g.unread
+  pub knows : KnowsLast (packets_before frames n) last c.listener
+  pub count : c.counts.headers ≡ header_count g.watched.page (packets_before frames n)
 
 -- What is kept from the first PES packet on: its frame, and from when on a header of the page is
 -- too long ago.
@@ -24,39 +34,94 @@ pub record HasBegun (g : Task) (frames : Transmission) (n : ℕ) (c : CheckerVal
   pub first_is : c.first ≡ frame_at frames 0
   pub late_is : (f : ℕ) → is_gap g frames n f ≡ nat_le c.late_at (f + 1)
 
+-- Since which frame the page was not whole at the end before that of frame f, up to which n frames
+-- of the list counted.
+unfoldable pub since_before : Task → Transmission → ℕ → ℕ → Option ℕ
+since_before g frames zero f = None
+since_before g frames (suc i) f = unfinished_since g frames (suc i) (f - 1)
+
 -- What is kept after the first n frames of the list, at the end of the last of them.
-pub record Follows (g : Task) (frames : Transmission) (n : ℕ) (c : CheckerValue) : Type 0 where
-  pub known : Remembers g frames n c
+pub record Follows
+    (g : Task) (frames : Transmission) (n : ℕ) (last : List (List ℕ)) (c : CheckerValue)
+    : Type 0 where
+  pub known : Remembers g frames n last c
   pub none : n ≡ 0 → as_standing c.standing ≡ nothing_stands
   pub begun : 0 < n → HasBegun g frames n c
   pub latest_is : 0 < n → c.latest ≡ latest frames n
   pub standing_is :
       0 < n → as_standing c.standing ≡ standing_at g frames n (frame_at frames (n - 1))
   pub last_is : 0 < n → c.last ≡ frame_at frames (n - 1)
+  pub since_is : 0 < g.within → c.since ≡ since_frames g frames n
+  pub number : c.counts.frames ≡ n
 
 -- What is kept after the first n frames of the list, where the next end is that of frame f.
-pub record Waits (g : Task) (frames : Transmission) (n f : ℕ) (c : CheckerValue) : Type 0 where
-  pub known : Remembers g frames n c
+pub record Waits
+    (g : Task) (frames : Transmission) (n f : ℕ) (last : List (List ℕ)) (c : CheckerValue)
+    : Type 0 where
+  pub known : Remembers g frames n last c
   pub begun : HasBegun g frames n c
   pub standing_is : as_standing c.standing ≡ standing_before g frames n f
   pub last_is : 0 < n → c.last ≡ end_before frames n f
+  pub since_is : 0 < g.within → c.since ≡ since_before g frames n f
+  pub number : c.counts.frames ≡ n
 
 -- That, at frame n of the list, before its packets.
-pub record Arrives (g : Task) (frames : Transmission) (n : ℕ) (c : CheckerValue) : Type 0 where
-  pub waits : Waits g frames n (frame_at frames n) c
+pub record Arrives
+    (g : Task) (frames : Transmission) (n : ℕ) (last : List (List ℕ)) (c : CheckerValue)
+    : Type 0 where
+  pub waits : Waits g frames n (frame_at frames n) last c
   pub frame_is : c.frame ≡ frame_at frames n
   pub latest_is : c.latest ≡ latest frames (suc n)
 
--- ---- what is told
+-- That, after its packets, where its end is still to come.
+pub record Heard
+    (g : Task) (frames : Transmission) (n : ℕ) (last : List (List ℕ)) (c : CheckerValue)
+    : Type 0 where
+  pub known : Remembers g frames (suc n) last c
+  pub begun : HasBegun g frames (suc n) c
+  pub standing_is : as_standing c.standing ≡ standing_before g frames n (frame_at frames n)
+  pub last_is : 0 < n → c.last ≡ end_before frames n (frame_at frames n)
+  pub since_is : 0 < g.within → c.since ≡ since_before g frames n (frame_at frames n)
+  pub number : c.counts.frames ≡ suc n
+  pub frame_is : c.frame ≡ frame_at frames n
+  pub latest_is : c.latest ≡ latest frames (suc n)
 
--- What is told of frame i of the list after its packets.
-abbrev pub ending_events : Task → Transmission → ℕ → List Event
-ending_events g frames i =
-    first_header_events g frames i ++ events_at_end g frames i (suc i) (frame_at frames i)
+-- And more of its packets may come.
+pub record Opens
+    (g : Task) (frames : Transmission) (n : ℕ) (last : List (List ℕ)) (c : CheckerValue)
+    : Type 0 where
+  pub heard : Heard g frames n last c
+  pub before : c.counts.headers_before ≡ header_count g.watched.page (packets_before frames n)
+  pub packets : c.counts.packets ≡ length (packets_of_frame frames n)
 
--- What is told of the packets of frame i of the list, and then.
-abbrev pub taking_events : Task → Transmission → ℕ → List Event
-taking_events g frames i =
-    packet_events g.watched (frame_at frames i) (packets_before frames i)
-    (packets_of_frame frames i) (length (packets_of_frame frames i))
-    ++ ending_events g frames i
+-- What is kept between two PES packets, where these frames were sent: after the end of the last
+-- one, or within frames before it.
+pub record Keeps (g : Task) (sent : Transmission) (last : List (List ℕ)) (c : CheckerValue) : Type 0
+  where
+    pub closed : c.counts.is_open ≡ false → Follows g sent (length sent) last c
+    pub none : c.counts.is_open ≡ false → 0 < g.within → sent ≡ []
+    pub some : c.counts.is_open ≡ true → 0 < length sent
+    pub within : c.counts.is_open ≡ true → 0 < g.within
+    pub opens : c.counts.is_open ≡ true → Opens g sent (length sent - 1) last c
+
+-- ---- what comes
+
+-- What comes before frame i of the list begins.
+abbrev pub reaching_marks : Task → Transmission → ℕ → List Mark
+reaching_marks g frames i =
+    map Says (order_events g frames i) ++ marks_of_gap g frames i (gap_length frames i)
+
+-- What comes of frame i of the list, without its end where that comes later.
+abbrev pub next_marks : Task → Transmission → ℕ → List Mark
+next_marks g frames i =
+    marks_of_arrival g frames i
+    ++ marks_of_packets g frames i
+    ++ (if g.within == 0 then marks_of_ending g frames i else [])
+
+-- What comes after the last one of `pes` pieces.
+abbrev pub last_marks : Task → Transmission → ℕ → List Mark
+last_marks g list pes = marks_of_waiting g list ++ marks_of_closing g list pes (length list)
+
+-- After an end at which nothing stands broken, and nothing did at the one before.
+abbrev pub quiet_stage : {D : Type 0} → CheckerValue → Stage D → Stage D
+quiet_stage c s = if c.within == 0 then s else at_mark (AtEnd c.frame None false) s

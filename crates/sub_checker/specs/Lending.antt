@@ -10,6 +10,7 @@ use Rattle.ttx_pes.specs.Reader.{FailsWithin, TakesPesPacket}
 use Rattle.ttx_pes.specs.Reading.{most_packets}
 use Rattle.ttx_pes.specs.declared.fault.PesFault.TheVariants.{Read}
 use Rattle.ttx_pes.specs.declared.progress.Progress.TheVariants.{Reading}
+use Rattle.sub_plan.specs.FrameTime.{Clock}
 use Rattle.sub_rules.specs.Fault.{is_pes_read}
 use Rattle.sub_rules.specs.FrameRules.{Unread}
 use Rattle.sub_rules.specs.Pieces.{Piece, ReadsPieces, TakesOnePiece, TellsPiece}
@@ -22,14 +23,14 @@ use Rattle.sub_rules.specs.declared.sending.Sending.{Sending}
 -- What `next_piece` says of an answer, by what the source told before and tells after, and the
 -- reader before and after.
 pub record ReadsNext
-    (origin pes : ℕ) (told rest : Option (List ℕ)) (old new : ComparingValue)
+    (clock : Clock) (pes : ℕ) (told rest : Option (List ℕ)) (old new : ComparingValue)
     (result : Result (Option NextPiece) CheckFault)
     : Type 0 where
   pub exact :
       (pieces : List Piece) (unread : Option Unread)
       → IfTold told (λ bytes. failed is_pes_read result ≡ false
-      → ReadsPieces origin pes bytes pieces unread
-      → TellsPiece origin pes bytes pieces unread new.frame result)
+      → ReadsPieces clock pes bytes pieces unread
+      → TellsPiece clock pes bytes pieces unread new.frame result)
   pub taken : IfOk result (λ piece. IsSome piece → TakesOnePiece told rest)
   pub sent :
       (sending : Sending) → result ≡ Ok (Some (Sent sending)) → TakesPesPacket told rest new.frame

@@ -1,8 +1,9 @@
 -- What is passed on to a device of what comes one mark after another: what is told of it, with the
 -- frames that are trusted, and of pieces that are passed over up to which one they go. Private
 -- functions alone cite this.
-use Rattle.std.specs.Prelude.{◌≡◌, Bool, false, List, [], ◌∷◌, OnOk, Result}
-use Rattle.sub_io.specs.Telling.{Tells, TellsPrefix, TellsUntilStopped}
+use Rattle.std.specs.Prelude.{◌≡◌, ◌<◌, Bool, false, List, [], ◌∷◌, OnOk, Result}
+use Rattle.stl_file.specs.TimeCode.{day}
+use Rattle.sub_io.specs.Telling.{Tells, TellsPrefix, TellsSome, TellsUntilStopped}
 use Rattle.sub_rules.specs.PieceEvents.{all_announced, no_run, passed_after_all}
 use Rattle.sub_rules.specs.Trusted.{Mark, after_mark, no_trust, told_by, trust_after}
 use Rattle.sub_rules.specs.Trusted.Mark.{Says}
@@ -36,6 +37,23 @@ pub record PassesMarks
     : Type 0 where
   pub told : TellsUntilStopped IsTold old new (passed_on p marks) result
   pub kept : OnOk result (then ≡ passing_after p marks)
+
+-- A stage passed these on to its device; or a part, where that said stop.
+abbrev pub PassesOn : {D X E : Type 0} → (D → Event → D → Type 0) → Stage D → List Mark → Stage D
+    → Result X E → Type 0
+PassesOn IsTold old marks new result =
+    PassesMarks IsTold old.device.now old.passing marks new.device.now new.passing result
+
+-- A stage passed some on to its device, which had not said stop.
+pub record Moves
+    {D : Type 0} (IsTold : D → Event → D → Type 0) (has_stopped : D → Bool) (old new : Stage D)
+    : Type 0 where
+  pub same : new.device.ghost_name ≡ old.device.ghost_name
+  pub some : TellsSome IsTold old.device.now new.device.now
+  pub in_day :
+      has_stopped new.device.now ≡ false
+      → old.passing.trust.last < day
+      → new.passing.trust.last < day
 
 -- A device that was told an event passed it on to the one behind it, which had not said stop; where
 -- that did not do so then, it was told all.

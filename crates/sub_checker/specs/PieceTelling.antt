@@ -4,9 +4,10 @@ use Rattle.std.specs.Prelude.{Result, Ok, Err}
 use Rattle.sub_io.specs.Telling.{Tells, TellsPrefix}
 use Rattle.ttx_pes.specs.Reading.{most_packets}
 use Rattle.ttx_pes.specs.declared.fault.PesFault.TheVariants.{Read}
+use Rattle.sub_plan.specs.FrameTime.{Clock}
 use Rattle.sub_rules.specs.Fault.{fault_at_pes}
 use Rattle.sub_rules.specs.FrameRules.{Task}
-use Rattle.sub_rules.specs.PieceEvents.{all_of_pieces, ended_run, events_of_pieces}
+use Rattle.sub_rules.specs.PieceEvents.{all_of_pieces, ended_run, events_of_pieces, sent_by_pieces}
 use Rattle.sub_rules.specs.Pieces.{Piece, frames_of}
 use Rattle.sub_rules.specs.Trusted.{Mark}
 use Rattle.sub_rules.specs.declared.event.Event.{Event}
@@ -18,31 +19,31 @@ use Rattle.sub_checker.specs.declared.passing.Passing.{Passing}
 use Rattle.sub_checker.specs.declared.telling.Accepted.{Accepted}
 
 -- The bytes were read as pieces, and what these send is counted: where each is sent, and nothing is
--- left, the bytes are a PES file of their frames.
+-- left, the bytes are PES packets that are read as their frames.
 pub record IsReadOn
-    (g : Task) (origin : ℕ) (bytes : List ℕ) (pieces : List Piece) (a : Accepted)
+    (g : Task) (clock : Clock) (bytes : List ℕ) (pieces : List Piece) (a : Accepted)
     : Type 0 where
   pub few : length pieces ≤ most_packets
   pub taken :
       length (frames_of pieces) ≡ length pieces
       → g.unread ≡ None
-      → AreTaken origin bytes (frames_of pieces) []
+      → AreTaken clock bytes (frames_of pieces) []
   pub whole : AreWhole (frames_of pieces)
-  pub counts : CountsRead g.watched.page (frames_of pieces) a
+  pub counts : CountsRead g.watched.page (sent_by_pieces g pieces) a
 
 -- What a device was told of pieces that are read of these bytes. Where the source failed, what is
 -- told of the pieces that were read whole.
-abbrev pub TellsPieces : {D : Type 0} → Task → ℕ → List ℕ → List Piece
+abbrev pub TellsPieces : {D : Type 0} → Task → Clock → List ℕ → List Piece
     → (D → Event → D → Type 0) → D → D → Result (Option Accepted) CheckFault → Type 0
-TellsPieces g origin bytes pieces IsTold old new (Ok (Some a)) =
-    Tells IsTold old new (all_of_pieces g pieces) × IsReadOn g origin bytes pieces a
-TellsPieces g origin bytes pieces IsTold old new (Ok None) =
+TellsPieces g clock bytes pieces IsTold old new (Ok (Some a)) =
+    Tells IsTold old new (all_of_pieces g pieces) × IsReadOn g clock bytes pieces a
+TellsPieces g clock bytes pieces IsTold old new (Ok None) =
     TellsPrefix IsTold old new (all_of_pieces g pieces)
-TellsPieces g origin bytes pieces IsTold old new (Err f) =
+TellsPieces g clock bytes pieces IsTold old new (Err f) =
     (n : ℕ)
     × (n ≤ length pieces)
     × (f ≡ fault.Pes n Read)
-    × Tells IsTold old new (events_of_pieces g (frames_of pieces) (take n pieces))
+    × Tells IsTold old new (events_of_pieces g (take n pieces))
 
 -- ---- private functions alone cite what follows
 

@@ -5,6 +5,7 @@ ghost use Rattle.sub_io.specs.HandingOn.{HoldsWhileWaiting, KeepsTold};
 ghost use Rattle.ttx_pes.specs.LentPacket.{NothingWaits};
 ghost use Rattle.ttx_pes.specs.Reading.{most_packets};
 ghost use Rattle.ttx_pes.specs.declared.progress.Progress.TheVariants.{Reading};
+ghost use Rattle.sub_plan.specs.FrameTime.{clock_of};
 ghost use Rattle.sub_rules.specs.Fault.{is_pes_read};
 ghost use Rattle.sub_checker.specs.Lending.{ReadsNext};
 
@@ -31,7 +32,7 @@ pub(crate) fn next_followed<S: Source, A: LiveAudience<Event>>(
     ensures refused { IfNone result (S.failure_count source.new ≡ S.failure_count source.old) }
     ensures count { IfSome result (λ read.
         CountsIf S.failure_count source.old (failed is_pes_read read) source.new) }
-    ensures reads { IfSome result (λ read. ReadsNext options.now.origin pes
+    ensures reads { IfSome result (λ read. ReadsNext (clock_of options.now) pes
         (S.remaining source.old) (S.remaining source.new) reader.old reader.new read) }
     ensures holds { HoldsWhileWaiting A.is_waiting A.held audience.old
         → IfSome result (λ _. HoldsWhileWaiting A.is_waiting A.held audience.new) }
@@ -57,7 +58,7 @@ fn read_settled<S: Source, A: Live>(
     requires few { pes ≤ most_packets }
     requires settled { NothingWaits (A.is_waiting _audience.now) (S.lent source.old) }
     ensures count { CountsIf S.failure_count source.old (failed is_pes_read result) source.new }
-    ensures reads { ReadsNext options.now.origin pes
+    ensures reads { ReadsNext (clock_of options.now) pes
         (S.remaining source.old) (S.remaining source.new) reader.old reader.new result }
     ensures asked { failed is_pes_read result ≡ true → A.is_waiting _audience.now ≡ false }
 {

@@ -9,11 +9,17 @@
 //! ```
 #![tactic(auto)]
 
+mod arriving;
 mod checker;
+mod closing;
 mod closing_pieces;
+mod counts;
+mod ending;
+mod late_end;
 mod lending;
 mod passing;
 mod standing;
+mod taking;
 mod telling;
 mod telling_pieces;
 

@@ -6,7 +6,7 @@ ghost use Rattle.stl_file.specs.TimeCode.{day};
 ghost use Rattle.sub_io.specs.Telling.{TellsUntilStopped, first_alone};
 ghost use Rattle.sub_rules.specs.PieceEvents.{all_announced, announced, passed_after};
 ghost use Rattle.sub_rules.specs.PieceEvents.{passed_after_all};
-ghost use Rattle.sub_rules.specs.Trusted.Mark.{AtPes, Begins, Closes, Ends, Says};
+ghost use Rattle.sub_rules.specs.Trusted.Mark.{AtEnd, AtPes, Begins, Closes, Ends, Says};
 ghost use Rattle.sub_checker.specs.Passing.{Passes, PassesMarks, at_mark, nothing_passed};
 
 use sub_io::{Audience, Stopped};
@@ -51,14 +51,22 @@ impl<A: Audience<Event>> Stage<'_, A> {
     }
 
     /// The packets of a frame follow.
-    pub fn begin_frame(&mut self)
-        ensures { self.new ≡ at_mark Begins self.old }
+    pub fn begin_frame(&mut self, frame: u32)
+        ensures { self.new ≡ at_mark (Begins frame) self.old }
     {
-        self.passing.trust.begin_frame();
+        self.passing.trust.begin_frame(frame);
     }
 
-    /// The end of a frame of a PES packet: whether that has a header of the page, and whether
-    /// nothing stands broken.
+    /// What follows is told at the end of a frame: since which frame the page is not whole, and
+    /// whether that is late.
+    pub fn at_end(&mut self, frame: u32, since: Option<u32>, is_late: bool)
+        ensures { self.new ≡ at_mark (AtEnd frame since is_late) self.old }
+    {
+        self.passing.trust.at_end(frame, since, is_late);
+    }
+
+    /// The end of a frame of PES packets: whether that has a header of the page, and whether nothing
+    /// stands broken.
     pub fn end_frame(&mut self, frame: u32, has_header: bool, none_stands: bool)
         ensures { self.new ≡ at_mark (Ends frame has_header none_stands) self.old }
     {

@@ -1,6 +1,6 @@
 //! What is told of a PES file that is read on behind the pieces that are passed over.
-ghost use Rattle.std.specs.Prelude.{◌≡◌, ℕ, ◌+◌, ◌-◌, ◌*◌, ◌<◌, ◌≤◌, [], ◌∷◌, Err, IfErr, IfOk};
-ghost use Rattle.std.specs.Prelude.{List, OnOk, Option, false, is_err, is_none, length, take, true};
+ghost use Rattle.std.specs.Prelude.{◌≡◌, ℕ, ◌+◌, ◌<◌, ◌≤◌, [], ◌∷◌, Err, IfErr, IfOk, List, OnOk};
+ghost use Rattle.std.specs.Prelude.{Option, false, is_err, is_none, length, take, true};
 ghost use Rattle.sub_io.specs.Device.{CanFail, CountsIf, failed};
 ghost use Rattle.sub_io.specs.Reading.{IfTold};
 ghost use Rattle.sub_io.specs.Telling.{TellsSome};
@@ -9,16 +9,17 @@ ghost use Rattle.ttx_pes.specs.Reader.{FailsAtPacket};
 ghost use Rattle.ttx_pes.specs.Reading.{most_packets};
 ghost use Rattle.stl_file.specs.TimeCode.{day};
 ghost use Rattle.stl_rows.specs.Programme.{IsProgramme};
+ghost use Rattle.sub_plan.specs.FrameTime.{clock_of};
 ghost use Rattle.sub_plan.specs.Options.{IsOptions};
 ghost use Rattle.sub_rules.specs.Fault.{is_pes_read};
-ghost use Rattle.sub_rules.specs.FrameRules.{Task, Unread, packets_of_frame, task_of};
+ghost use Rattle.sub_rules.specs.FrameRules.{Task, Unread, task_of};
 ghost use Rattle.sub_rules.specs.PacketRules.{packets_of_units};
-ghost use Rattle.sub_rules.specs.PieceEvents.{marks_of_frame};
-ghost use Rattle.sub_rules.specs.Pieces.{FailsAtPiece, Piece, ReadsPieces, frames_of};
-ghost use Rattle.sub_rules.specs.Sendings.{IsSentFrame};
+ghost use Rattle.sub_rules.specs.PieceEvents.{marks_of_sent};
+ghost use Rattle.sub_rules.specs.Pieces.{FailsAtPiece, Piece, ReadsPieces, frames_of, sent_after};
 ghost use Rattle.sub_rules.specs.Transmission.{Transmission};
 ghost use Rattle.sub_rules.specs.Trusted.Mark.{AtPes, Says};
-ghost use Rattle.sub_checker.specs.Following.{Follows};
+ghost use Rattle.sub_checker.specs.Checker.{AreFew, sent_as};
+ghost use Rattle.sub_checker.specs.Following.{Keeps};
 ghost use Rattle.sub_checker.specs.Passing.{PassesMarks, nothing_passed};
 ghost use Rattle.sub_checker.specs.PieceTelling.{TellsPieces};
 
@@ -36,8 +37,6 @@ use ttx_pes::{ComparingReader, PesFault, SentUnits};
 /// What is kept beside the checker from one piece to the next.
 #[derive(Drop)]
 pub(crate) struct Kept {
-    /// How many pieces were sent.
-    pub frames: u32,
     /// The piece before was passed over.
     pub passed: bool,
     /// What is passed on to the device.
@@ -64,9 +63,9 @@ pub fn tell_pieces<S: Source, A: LiveAudience<Event>>(
     requires still { A.is_waiting audience.old ≡ false }
     ensures exact { (pieces : List Piece) (unread : Option Unread)
         → IfTold (S.remaining source.old) (λ bytes.
-        ReadsPieces options.now.origin 0 bytes pieces unread
-        → TellsPieces (task_of programme.now options.now unread) options.now.origin bytes pieces
-        A.is_told audience.old audience.new result) }
+        ReadsPieces (clock_of options.now) 0 bytes pieces unread
+        → TellsPieces (task_of programme.now options.now unread) (clock_of options.now) bytes
+        pieces A.is_told audience.old audience.new result) }
     ensures stopped { IfOk result (λ counts. A.has_stopped audience.new ≡ is_none counts) }
     ensures some { TellsSome A.is_told audience.old audience.new }
     ensures goes_on { IfErr result (λ _. A.has_stopped audience.new ≡ false) }
@@ -76,7 +75,7 @@ pub fn tell_pieces<S: Source, A: LiveAudience<Event>>(
     ensures sent { (pes : ℕ) (pieces : List Piece) (unread : Option Unread)
         → result ≡ Err (CheckFault.Pes pes PesFault.Read)
         → IfTold (S.remaining source.old) (λ bytes.
-        ReadsPieces options.now.origin 0 bytes pieces unread
+        ReadsPieces (clock_of options.now) 0 bytes pieces unread
         → length (frames_of (take pes pieces)) ≡ pes
         → FailsAtPacket pes (S.remaining source.old) (S.remaining source.new)) }
     ensures only { IfErr result (λ f. is_pes_read f ≡ true) }
@@ -99,12 +98,12 @@ pub fn tell_pieces<S: Source, A: LiveAudience<Event>>(
                 if is_source_failure(&fault) {
                     return Err(fault);
                 }
-                return Ok(finish(&checker, pes, Some(fault), &mut kept, audience));
+                return Ok(finish(&mut checker, pes, Some(fault), &mut kept, audience));
             }
             Ok(next) => next,
         };
         let Some(piece) = next else {
-            return Ok(finish(&checker, pes, None, &mut kept, audience));
+            return Ok(finish(&mut checker, pes, None, &mut kept, audience));
         };
         match piece {
             NextPiece::Passed(fault) => match tell_passed(pes, fault, &mut kept, audience) {
@@ -137,18 +136,16 @@ fn after_piece(passed: bool, sending: Sending) -> Sending
 impl Kept {
     // Before the first piece.
     fn new() -> Self
-        ensures frames { result.frames ≡ 0 }
         ensures passing { result.passing ≡ nothing_passed }
     {
         Kept {
-            frames: 0,
             passed: false,
             passing: Passing::new(),
         }
     }
 }
 
-// Tells what is told of a piece that is sent as the next of the frames.
+// Tells what is told of a piece that is sent.
 fn tell_sent<A: Audience<Event>>(
     checker: &mut Checker<'_>,
     pes: u32,
@@ -159,33 +156,29 @@ fn tell_sent<A: Audience<Event>>(
 ) -> Result<(), Stopped>
     requires goes_on { A.has_stopped audience.old ≡ false }
     requires few { length units.now ≤ most_units }
-    requires fewer { kept.old.frames ≤ most_packets }
-    requires room { checker.old.headers ≤ 255 * kept.old.frames }
+    requires fewer { pes ≤ most_packets }
+    requires room { AreFew pes checker.old.counts }
     requires day { sending.frame < day }
+    requires last { kept.old.passing.trust.last < day }
     ensures stopped { A.has_stopped audience.new ≡ is_err result }
     ensures some { TellsSome A.is_told audience.old audience.new }
-    ensures frames { kept.new.frames ≡ kept.old.frames + 1 }
-    ensures headers { OnOk result (checker.new.headers ≤ 255 * (kept.old.frames + 1)) }
+    ensures room { OnOk result (AreFew (pes + 1) checker.new.counts) }
     ensures day { OnOk result (kept.new.passing.trust.last < day) }
-    ensures told { (g : Task) (list : Transmission)
-        → Follows g list kept.old.frames checker.old
-        → IsSentFrame list kept.old.frames sending.frame (packets_of_units units.now)
-        → (sending.again ≡ true
-        → kept.old.passed ≡ false
-        → packets_of_frame list (kept.old.frames - 1) ≡ packets_of_units units.now)
+    ensures told { (g : Task) (sent : Transmission) (last : List (List ℕ))
+        → Keeps g sent last checker.old
+        → (sending.again ≡ true → kept.old.passed ≡ false → last ≡ packets_of_units units.now)
         → PassesMarks A.is_told audience.old kept.old.passing
-        (AtPes pes ∷ marks_of_frame g list kept.old.frames) audience.new kept.new.passing result
-        × OnOk result (Follows g list (kept.old.frames + 1) checker.new) }
+        (marks_of_sent g sent pes (sent_as sending units.now)) audience.new kept.new.passing result
+        × OnOk result (Keeps g (sent_after g.within sent (sent_as sending units.now))
+        (packets_of_units units.now) checker.new) }
 {
     let mut stage = Stage {
         device: audience,
         passing: kept.passing,
     };
-    stage.go_to(pes);
     let sending = after_piece(kept.passed, sending);
-    let told = checker.go_on(kept.frames, sending, units, &mut stage);
+    let told = checker.go_on(pes, sending, units, &mut stage);
     kept.passing = stage.passing;
-    kept.frames += 1;
     kept.passed = false;
     told
 }
@@ -203,7 +196,6 @@ fn tell_passed<A: Audience<Event>>(
     ensures told { PassesMarks A.is_told audience.old kept.old.passing
         (AtPes pes ∷ Says (Event.Told fault) ∷ []) audience.new kept.new.passing result }
     ensures day { OnOk result (kept.new.passing.trust.last ≡ kept.old.passing.trust.last) }
-    ensures frames { kept.new.frames ≡ kept.old.frames }
     ensures passed { kept.new.passed ≡ true }
 {
     let mut stage = Stage {

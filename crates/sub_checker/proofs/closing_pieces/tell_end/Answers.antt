@@ -1,5 +1,5 @@
 -- What is told last, and then up to which piece a run goes.
-use Rattle.std.proofs.Common.{◌∙◌, ap, subst, sym, List}
+use Rattle.std.proofs.Common.{◌∙◌, ap, subst, List}
 use Rattle.std.proofs.lemmas.Result.{err_from_is_err_and}
 use Rattle.sub_io.proofs.TellingLemmas.{TellsPrefix-first, TellsUntilStopped-after}
 use Rattle.sub_io.specs.Telling.{TellsUntilStopped}
@@ -9,14 +9,14 @@ use Rattle.sub_checker.specs.declared.passing.Passing.{Passing}
 use Rattle.sub_checker.proofs.closing_pieces.tell_end.Goals as goal
 
 pub returns-in_err-tell_closing-clause-told : goal.returns-in_err-tell_closing-clause-told
-returns-in_err-tell_closing-clause-told g c = λ task list follows all is.
+returns-in_err-tell_closing-clause-told g c = λ task list last keeps is.
     let p = err_from_is_err_and c.from_residual.result c.from_residual.ensures.1 in
-    let first = c.in_err-tell_closing.ensures.told task list follows all is in
+    let first = c.in_err-tell_closing.ensures.told task list last keeps is in
     rw p.1 (TellsPrefix-first _ _ _ _ first.told)
 
 pub returns-clause-told : goal.returns-clause-told
-returns-clause-told g c = λ task list follows all is.
-    let first = c.in_ok-tell_closing.ensures.told task list follows all is in
+returns-clause-told g c = λ task list last keeps is.
+    let first = c.in_ok-tell_closing.ensures.told task list last keeps is in
     TellsUntilStopped-after _ _ _ _ _ c.tell_some.result first.told
     (subst (λ (es : List Event). TellsUntilStopped g.A.Audience.is_told c.tell_closing.new.audience
     c.tell_some.new.audience es c.tell_some.result)

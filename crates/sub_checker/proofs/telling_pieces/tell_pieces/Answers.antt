@@ -8,10 +8,11 @@ use Rattle.sub_io.proofs.TellingLemmas.{TellsSome-none, Tells-none}
 use Rattle.sub_io.specs.Telling.{Tells}
 use Rattle.ttx_pes.specs.Comparing.{ComparingValue}
 use Rattle.sub_rules.proofs.PieceFileLemmas.{takes_no_pieces}
+use Rattle.sub_plan.specs.FrameTime.{clock_of}
 use Rattle.sub_rules.specs.FrameRules.{task_of}
 use Rattle.sub_rules.specs.Pieces.{Piece, frames_of}
-use Rattle.sub_rules.specs.PieceEvents.{events_of_pieces}
-use Rattle.sub_checker.proofs.PieceWaysLemmas.{front, list_long, next_sent, none_of_pieces}
+use Rattle.sub_rules.specs.PieceEvents.{events_of_pieces, marks_of_sent}
+use Rattle.sub_checker.proofs.PieceWaysLemmas.{frames_sent, front, none_of_pieces}
 use Rattle.sub_checker.proofs.PieceWaysLemmas.{passed_marks, sent_marks}
 use Rattle.sub_checker.proofs.PieceWaysLemmas.{step_passed, step_sent, told_before}
 use Rattle.sub_checker.proofs.PieceWaysLemmas.{told_stop, told_whole, tracks_none}
@@ -23,30 +24,30 @@ use Rattle.sub_io.proofs.TellingLemmas.{TellsSome-trans}
 use Rattle.ttx_pes.specs.DataUnit.{UnitValue}
 use Rattle.sub_rules.proofs.PieceFileLemmas.{takes_more_pieces}
 use Rattle.sub_rules.specs.Events.{unread_fault}
-use Rattle.sub_rules.specs.FrameRules.{packets_of_frame}
 use Rattle.sub_rules.specs.PacketRules.{packets_of_units}
-use Rattle.sub_rules.specs.Pieces.{ReadsPiece}
+use Rattle.sub_rules.specs.Pieces.{ReadsPiece, sent_after}
 use Rattle.sub_rules.specs.Pieces.Piece.{Passed, Sent}
-use Rattle.sub_rules.specs.Sendings.{IsSentFrame}
 use Rattle.sub_rules.specs.Transmission.{SentFrame}
 use Rattle.sub_rules.specs.Trusted.{Mark}
 use Rattle.sub_rules.specs.Trusted.Mark.{AtPes, Says}
 use Rattle.sub_rules.specs.declared.event.Event.TheVariants.{Told}
 use Rattle.sub_rules.specs.declared.piece.NextPiece.{NextPiece}
-use Rattle.sub_checker.specs.Passing.{passed_on}
+use Rattle.sub_checker.specs.Checker.{sent_as}
+use Rattle.sub_checker.specs.Following.{Keeps}
+use Rattle.sub_checker.specs.Passing.{passed_on, passing_after}
 use Rattle.sub_checker.specs.declared.passing.Passing.{Passing}
-use Rattle.sub_checker.proofs.ReadsOnLemmas.{again_is, named_pes, packets_taken, reads_on_none}
+use Rattle.sub_checker.proofs.ReadsOnLemmas.{named_pes, packets_taken, reads_on_none}
 use Rattle.sub_checker.proofs.telling_pieces.tell_pieces.Goals.{
   in-Passed+in-Ok-tell_passed,
   in-Sent+in-Ok-tell_sent,
 }
+use Rattle.sub_checker.proofs.TakingLemmas.{few_later}
 use Rattle.sub_checker.proofs.TellingLemmas.{all_same}
 use Rattle.sub_checker.proofs.telling_pieces.tell_pieces.Goals as goal
 
 pub pieces-init : goal.pieces-init
-pieces-init g c = rw c.new-kept.ensures.frames (record {
+pieces-init g c = record {
   few = omega arith;
-  fewer = omega arith;
   reading = ap (λ (r : ComparingValue). r.progress) c.new-reader.ensures;
   taken = takes_no_pieces _;
   failures = refl;
@@ -56,31 +57,31 @@ pieces-init g c = rw c.new-kept.ensures.frames (record {
       omega (arith, none);
   some = TellsSome-none c.args.audience.now;
   holds = λ none still. none;
-  headers = omega (arith, c.new-checker.ensures.none);
+  room = c.new-checker.ensures.none;
   told = λ pieces unread bytes told reads.
       let task = task_of c.args.programme.now c.args.options.now unread in (
         [],
         reads_on_none c.args.options.now pieces unread _ bytes told reads,
-        tracks_none task pieces _ _
-            (c.new-checker.ensures.follows (frames_of pieces) unread) c.new-kept.ensures.passing,
-        λ no some. absurd (omega arith),
-        all_same _ _ _ _ (none_of_pieces task (frames_of pieces)) (Tells-none _),
+        packets_of_units c.new-reader.result.frame.units,
+        tracks_none task _ _ _ (c.new-checker.ensures.keeps _ unread) c.new-kept.ensures.passing,
+        λ no. refl,
+        all_same _ _ _ _ (none_of_pieces task) (Tells-none _),
       );
-})
+}
 
 pub returns-then-is_source_failure-clause-exact : goal.returns-then-is_source_failure-clause-exact
 returns-then-is_source_failure-clause-exact g c = λ pieces unread bytes told reads.
     let i = c.pieces.invariant.told pieces unread bytes told reads in
     let here = rw c.in-Err.is at c.in-Some.ensures.reads in
     let so_far =
-    c.next_followed.ensures.told.kept c.args.audience.now _ c.requires.still i.4 in
-    let at = front c.args.programme.now i.1 i.2 in (
+    c.next_followed.ensures.told.kept c.args.audience.now _ c.requires.still i.5 in
+    let at = front c.args.programme.now i.1 i.3 in (
       c.pieces.pes,
       at.0,
       here.place (sym c.is_source_failure.ensures ∙ c.if-is_source_failure.true),
       subst (λ (l : List Piece). Tells g.A.Audience.is_told c.args.audience.now
           c.next_followed.new.audience (events_of_pieces (task_of c.args.programme.now
-          c.args.options.now unread) (frames_of pieces) l)) (sym at.1) so_far,
+          c.args.options.now unread) l)) (sym at.1) so_far,
     )
 
 pub returns-then-is_source_failure-clause-sent : goal.returns-then-is_source_failure-clause-sent
@@ -88,7 +89,7 @@ returns-then-is_source_failure-clause-sent g c = λ pes pieces unread is bytes t
     let i = c.pieces.invariant.told pieces unread bytes told reads in
     let here = rw c.in-Err.is at c.in-Some.ensures.reads in
     let failed = sym c.is_source_failure.ensures ∙ c.if-is_source_failure.true in
-    let at = front c.args.programme.now i.1 i.2 in
+    let at = front c.args.programme.now i.1 i.3 in
     let same = named_pes c.in-Err.fault c.pieces.pes pes (here.place failed) is in
     let done : take pes pieces ≡ i.0 =
     ap (λ (n : ℕ). take n pieces) same ∙ at.1 in
@@ -108,16 +109,15 @@ returns-in-Err-clause-exact g c = λ pieces unread bytes told reads.
     let task = task_of c.args.programme.now c.args.options.now unread in
     let here = rw c.in-Err.is at c.in-Some.ensures.reads in
     let so_far =
-    c.next_followed.ensures.told.kept c.args.audience.now _ c.requires.still i.4 in
+    c.next_followed.ensures.told.kept c.args.audience.now _ c.requires.still i.5 in
     let end = here.exact i.1.ahead unread i.1.rest i.1.rest_is
     (sym c.is_source_failure.ensures ∙ c.if-is_source_failure.false) i.1.left in
-    told_whole c.args.programme.now i.1 i.2 c.pieces.invariant.few end.0 _ _ _
+    told_whole c.args.programme.now i.1 i.3 c.pieces.invariant.few end.0 _ _ _
     c.finish.result so_far
-    (c.finish.ensures.told task (frames_of pieces) i.2.follows
-    (list_long c.args.programme.now i.1 i.2 c.pieces.invariant.few end.0)
+    (c.finish.ensures.told task (frames_sent task i.0) i.2 i.3.keeps
     (ap (λ (f : CheckFault). Some f) end.3
     ∙ ap (ending_fault c.pieces.pes) (sym end.2)))
-    c.finish.ensures.counts
+    (c.finish.ensures.counts task (frames_sent task i.0) i.2 i.3.keeps)
 
 pub returns-in_default-next-clause-exact : goal.returns-in_default-next-clause-exact
 returns-in_default-next-clause-exact g c = λ pieces unread bytes told reads.
@@ -125,15 +125,14 @@ returns-in_default-next-clause-exact g c = λ pieces unread bytes told reads.
     let task = task_of c.args.programme.now c.args.options.now unread in
     let here = rw c.in-Ok.is at c.in-Some.ensures.reads in
     let so_far =
-    c.next_followed.ensures.told.kept c.args.audience.now _ c.requires.still i.4 in
+    c.next_followed.ensures.told.kept c.args.audience.now _ c.requires.still i.5 in
     let end = rw c.in_default-next.is at
     (here.exact i.1.ahead unread i.1.rest i.1.rest_is refl i.1.left) in
-    told_whole c.args.programme.now i.1 i.2 c.pieces.invariant.few end.0 _ _ _
+    told_whole c.args.programme.now i.1 i.3 c.pieces.invariant.few end.0 _ _ _
     c.finish-in_default-next.result so_far
-    (c.finish-in_default-next.ensures.told task (frames_of pieces) i.2.follows
-    (list_long c.args.programme.now i.1 i.2 c.pieces.invariant.few end.0)
+    (c.finish-in_default-next.ensures.told task (frames_sent task i.0) i.2 i.3.keeps
     (ap (ending_fault c.pieces.pes) (sym end.1)))
-    c.finish-in_default-next.ensures.counts
+    (c.finish-in_default-next.ensures.counts task (frames_sent task i.0) i.2 i.3.keeps)
 
 pub returns-in-Err-tell_passed-clause-exact : goal.returns-in-Err-tell_passed-clause-exact
 returns-in-Err-tell_passed-clause-exact g c = λ pieces unread bytes told reads.
@@ -141,15 +140,15 @@ returns-in-Err-tell_passed-clause-exact g c = λ pieces unread bytes told reads.
     let task = task_of c.args.programme.now c.args.options.now unread in
     let here = rw c.in-Ok.is at c.in-Some.ensures.reads in
     let so_far =
-    c.next_followed.ensures.told.kept c.args.audience.now _ c.requires.still i.4 in
+    c.next_followed.ensures.told.kept c.args.audience.now _ c.requires.still i.5 in
     let at = rw (c.in-Some-next.is, c.in-Passed.is) at
     (here.exact i.1.ahead unread i.1.rest i.1.rest_is refl i.1.left) in
     let is : c.in-Passed.fault ≡ unread_fault c.pieces.pes (Some at.0) = at.1 in
-    let next : ReadsPiece c.args.options.now.origin c.pieces.pes i.1.rest i.1.ahead unread
+    let next : ReadsPiece (clock_of c.args.options.now) c.pieces.pes i.1.rest i.1.ahead unread
     (Passed at.0) = at.2 in
     let same = ap (λ (f : CheckFault). AtPes c.pieces.pes ∷ Says (Told f) ∷ []) is in
-    told_stop c.args.programme.now i.1 i.2 (Passed at.0) next.more _ _ _ _ next.first
-    (passed_marks task pieces i.0 c.pieces.pes c.pieces.kept.frames i.1.count i.2.sent_is at.0)
+    told_stop c.args.programme.now i.1 i.3 (Passed at.0) next.more _ _ _ _ next.first
+    (passed_marks task i.0 c.pieces.pes i.1.count at.0)
     so_far
     (subst (λ (l : List Mark). TellsPrefix g.A.Audience.is_told c.next_followed.new.audience
     c.tell_passed.new.audience (passed_on c.pieces.kept.passing l)) same
@@ -161,7 +160,7 @@ returns-in-Err-tell_sent-clause-exact g c = λ pieces unread bytes told reads.
     let task = task_of c.args.programme.now c.args.options.now unread in
     let here = rw c.in-Ok.is at c.in-Some.ensures.reads in
     let so_far =
-    c.next_followed.ensures.told.kept c.args.audience.now _ c.requires.still i.4 in
+    c.next_followed.ensures.told.kept c.args.audience.now _ c.requires.still i.5 in
     let at = rw (c.in-Some-next.is, c.in-Sent.is) at
     (here.exact i.1.ahead unread i.1.rest i.1.rest_is refl i.1.left) in
     let given = ap (λ x. let r : Result (Option NextPiece) CheckFault = Ok x in r)
@@ -170,19 +169,19 @@ returns-in-Err-tell_sent-clause-exact g c = λ pieces unread bytes told reads.
       frame = c.in-Sent.sending.frame;
       packets = packets_of_units c.next_followed.new.reader.frame.units;
     } in
-    let next : ReadsPiece c.args.options.now.origin c.pieces.pes i.1.rest i.1.ahead unread
+    let next : ReadsPiece (clock_of c.args.options.now) c.pieces.pes i.1.rest i.1.ahead unread
     (Sent s) = at.0 in
-    let first = next_sent c.args.programme.now i.1 i.2 s next.more next.first in
-    let sent =
-    subst (λ (us : List UnitValue). IsSentFrame (frames_of pieces) c.pieces.kept.frames
-    c.in-Sent.sending.frame (packets_of_units us)) (sym c.units_of-units.ensures.value) first in
-    let go = c.in-Err-tell_sent.ensures.told task (frames_of pieces) i.2.follows sent
-    (λ again no. again_is (frames_of pieces) c.pieces.kept.frames _ _ _ sent (i.3 no)
-    (ap packets_of_units
-    (sym (here.again c.in-Sent.sending given again) ∙ sym c.units_of-units.ensures.value))) in
-    told_stop c.args.programme.now i.1 i.2 (Sent s) next.more _ _ _ _ next.first
-    (sent_marks task pieces i.0 c.pieces.pes c.pieces.kept.frames i.1.count i.2.sent_is s)
-    so_far go.0.told
+    let units = c.units_of-units.ensures.value in
+    let go = c.in-Err-tell_sent.ensures.told task (frames_sent task i.0) i.2 i.3.keeps
+    (λ again no. i.4 no
+    ∙ ap packets_of_units (sym (here.again c.in-Sent.sending given again) ∙ sym units)) in
+    told_stop c.args.programme.now i.1 i.3 (Sent s) next.more _ _ _ _ next.first
+    (sent_marks task i.0 c.pieces.pes i.1.count s)
+    so_far
+    (subst (λ (us : List UnitValue). TellsPrefix g.A.Audience.is_told c.next_followed.new.audience
+    c.tell_sent.new.audience (passed_on c.pieces.kept.passing
+    (marks_of_sent task (frames_sent task i.0) c.pieces.pes (sent_as c.in-Sent.sending us))))
+    units go.0.told)
 
 pub pieces-preserved : goal.pieces-preserved
 pieces-preserved g c =
@@ -191,15 +190,13 @@ pieces-preserved g c =
     let below = (rw c.in-Some-next.is at here.below) refl in
     let counted = rw c.in-Ok.is at c.in-Some.ensures.count in
     let before = inv.failures in
-    let fewer = inv.fewer in
     let one = (rw c.in-Some-next.is at here.taken) refl in
     let some =
     TellsSome-kept _ _ _ _ _ inv.some c.requires.still c.next_followed.ensures.told in
     elim c.match-piece.branch [
       | in-Passed+in-Ok-tell_passed w ↦
-          rw (w.audience-is, w.checker-is, w.kept-is, w.in-Ok-tell_passed.ensures.frames) (record {
+          rw (w.audience-is, w.checker-is, w.kept-is) (record {
             few = omega (arith, below);
-            fewer = omega arith;
             reading = (rw c.in-Some-next.is at here.progress) refl;
             taken = takes_more_pieces c.pieces.pes _ _ _ inv.taken one;
             failures = omega (arith, counted, before);
@@ -210,29 +207,29 @@ pieces-preserved g c =
             holds = λ none.
                 holds-told _ _ _ _ _ g.met.A.LiveAudience.stays_told _ _
                 (c.in-Some.ensures.holds (inv.holds none)) w.in-Ok-tell_passed.ensures.some;
-            headers = inv.headers;
+            room = few_later c.pieces.pes _ inv.room;
             told = λ pieces unread bytes told reads.
                 let i = inv.told pieces unread bytes told reads in
                 let so_far = c.next_followed.ensures.told.kept c.args.audience.now _
-                c.requires.still i.4 in
+                c.requires.still i.5 in
                 let at = rw (c.in-Some-next.is, w.in-Passed.is) at
                 (here.exact i.1.ahead unread i.1.rest i.1.rest_is refl i.1.left) in
                 let left = (rw c.in-Some-next.is at (here.left i.1.rest i.1.rest_is)) refl in
-                let s = step_passed c.args.programme.now i.1 i.2 g.A.Audience.is_told _ at.0
+                let s = step_passed c.args.programme.now i.1 i.3 g.A.Audience.is_told _ at.0
                 w.in-Passed.fault w.tell_passed.new.kept.passing _ _ _ left at.2 at.1
                 w.in-Ok-tell_passed.ensures.told.kept so_far
                 w.in-Ok-tell_passed.ensures.told.told in (
                   i.0 ++ Passed at.0 ∷ [],
                   s.reads,
+                  i.2,
                   s.kept,
-                  λ no some. absurd (true≢false (sym w.in-Ok-tell_passed.ensures.passed ∙ no)),
+                  λ no. absurd (true≢false (sym w.in-Ok-tell_passed.ensures.passed ∙ no)),
                   s.told,
                 );
           })
       | in-Sent+in-Ok-tell_sent w ↦
-          rw (w.audience-is, w.checker-is, w.kept-is, w.in-Ok-tell_sent.ensures.frames) (record {
+          rw (w.audience-is, w.checker-is, w.kept-is) (record {
             few = omega (arith, below);
-            fewer = omega arith;
             reading = (rw c.in-Some-next.is at here.progress) refl;
             taken = takes_more_pieces c.pieces.pes _ _ _ inv.taken one;
             failures = omega (arith, counted, before);
@@ -242,12 +239,12 @@ pieces-preserved g c =
             holds = λ none.
                 holds-told _ _ _ _ _ g.met.A.LiveAudience.stays_told _ _
                 (c.in-Some.ensures.holds (inv.holds none)) w.in-Ok-tell_sent.ensures.some;
-            headers = w.in-Ok-tell_sent.ensures.headers;
+            room = w.in-Ok-tell_sent.ensures.room;
             told = λ pieces unread bytes told reads.
                 let i = inv.told pieces unread bytes told reads in
                 let task = task_of c.args.programme.now c.args.options.now unread in
                 let so_far = c.next_followed.ensures.told.kept c.args.audience.now _
-                c.requires.still i.4 in
+                c.requires.still i.5 in
                 let at = rw (c.in-Some-next.is, w.in-Sent.is) at
                 (here.exact i.1.ahead unread i.1.rest i.1.rest_is refl i.1.left) in
                 let left = (rw c.in-Some-next.is at (here.left i.1.rest i.1.rest_is)) refl in
@@ -257,28 +254,35 @@ pieces-preserved g c =
                   frame = w.in-Sent.sending.frame;
                   packets = packets_of_units c.next_followed.new.reader.frame.units;
                 } in
-                let next : ReadsPiece c.args.options.now.origin c.pieces.pes i.1.rest i.1.ahead
+                let next : ReadsPiece (clock_of c.args.options.now) c.pieces.pes i.1.rest i.1.ahead
                 unread (Sent s) = at.0 in
-                let first = next_sent c.args.programme.now i.1 i.2 s next.more next.first in
-                let sent =
-                subst (λ (us : List UnitValue). IsSentFrame (frames_of pieces)
-                c.pieces.kept.frames w.in-Sent.sending.frame (packets_of_units us))
-                (sym w.units_of-units.ensures.value) first in
-                let go = w.in-Ok-tell_sent.ensures.told task (frames_of pieces) i.2.follows sent
-                (λ again no. again_is (frames_of pieces) c.pieces.kept.frames _ _ _ sent (i.3 no)
-                (ap packets_of_units
-                (sym (here.again w.in-Sent.sending given again)
-                ∙ sym w.units_of-units.ensures.value))) in
-                let step = step_sent c.args.programme.now i.1 i.2 g.A.Audience.is_told _
-                c.next_followed.new.reader.frame w.in-Sent.sending.frame w.tell_sent.new.checker
-                w.tell_sent.new.kept.passing _ _ _ left next at.1
+                let units = w.units_of-units.ensures.value in
+                let go =
+                w.in-Ok-tell_sent.ensures.told task (frames_sent task i.0) i.2 i.3.keeps
+                (λ again no. i.4 no
+                ∙ ap packets_of_units (sym (here.again w.in-Sent.sending given again)
+                ∙ sym units)) in
+                let step = step_sent c.args.programme.now i.1 i.3 g.A.Audience.is_told _
+                c.next_followed.new.reader.frame w.in-Sent.sending.frame
+                (packets_of_units c.next_followed.new.reader.frame.units)
+                w.tell_sent.new.checker w.tell_sent.new.kept.passing _ _ _ left next at.1
                 (here.sent w.in-Sent.sending given) w.units_of-units.ensures.frame
-                go.1 go.0.kept so_far go.0.told in (
+                (subst (λ (us : List UnitValue). Keeps task (sent_after task.within
+                (frames_sent task i.0) (sent_as w.in-Sent.sending us)) (packets_of_units us)
+                w.tell_sent.new.checker) units go.1)
+                (subst (λ (us : List UnitValue). w.tell_sent.new.kept.passing
+                ≡ passing_after c.pieces.kept.passing (marks_of_sent task (frames_sent task i.0)
+                c.pieces.pes (sent_as w.in-Sent.sending us))) units go.0.kept)
+                so_far
+                (subst (λ (us : List UnitValue). Tells g.A.Audience.is_told
+                c.next_followed.new.audience w.tell_sent.new.audience
+                (passed_on c.pieces.kept.passing (marks_of_sent task (frames_sent task i.0)
+                c.pieces.pes (sent_as w.in-Sent.sending us)))) units go.0.told) in (
                   i.0 ++ Sent s ∷ [],
                   step.reads,
+                  packets_of_units c.next_followed.new.reader.frame.units,
                   step.kept,
-                  λ no some. ap (packets_of_frame (frames_of pieces)) (omega arith)
-                      ∙ first.packets_are,
+                  λ no. refl,
                   step.told,
                 );
           })
@@ -288,8 +292,8 @@ pieces-preserved g c =
 pub returns-in_default-clause-exact : goal.returns-in_default-clause-exact
 returns-in_default-clause-exact g c = λ pieces unread bytes told reads.
     let i = c.pieces.invariant.told pieces unread bytes told reads in
-    told_before c.args.programme.now i.1 i.2 _ _
-    (c.next_followed.ensures.told.kept c.args.audience.now _ c.requires.still i.4)
+    told_before c.args.programme.now i.1 i.3 _ _
+    (c.next_followed.ensures.told.kept c.args.audience.now _ c.requires.still i.5)
 
 -- ---- some was told
 

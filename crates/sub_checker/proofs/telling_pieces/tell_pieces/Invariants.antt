@@ -1,14 +1,16 @@
 -- After `pes` pieces, what is kept is what they say, and all that is told of them was told.
-use Rattle.std.proofs.Common.{◌≡◌, ◌<◌, ◌≤◌, ◌-◌, ◌*◌, ℕ, List, Option, Some, false}
+use Rattle.std.proofs.Common.{◌≡◌, ◌<◌, ◌≤◌, ◌-◌, ℕ, List, Option, Some, false}
 use Rattle.ttx_pes.specs.Reading.{most_packets}
 use Rattle.ttx_pes.specs.declared.progress.Progress.TheVariants.{Reading}
 use Rattle.stl_file.specs.TimeCode.{day}
 use Rattle.sub_io.specs.HandingOn.{HoldsWhileWaiting}
 use Rattle.sub_io.specs.Telling.{Tells, TellsSome}
-use Rattle.sub_rules.specs.FrameRules.{Unread, packets_of_frame, task_of}
+use Rattle.sub_plan.specs.FrameTime.{clock_of}
+use Rattle.sub_rules.specs.FrameRules.{Unread, task_of}
 use Rattle.sub_rules.specs.PacketRules.{packets_of_units}
 use Rattle.sub_rules.specs.PieceEvents.{events_of_pieces}
-use Rattle.sub_rules.specs.Pieces.{Piece, ReadsPieces, TakesPieces, frames_of}
+use Rattle.sub_rules.specs.Pieces.{Piece, ReadsPieces, TakesPieces}
+use Rattle.sub_checker.specs.Checker.{AreFew}
 use Rattle.sub_checker.proofs.PieceWaysLemmas.{Tracks}
 use Rattle.sub_checker.proofs.ReadsOnLemmas.{ReadsOn}
 use Rattle.sub_checker.proofs.telling_pieces.tell_pieces.Given as goal
@@ -16,7 +18,6 @@ use Rattle.sub_checker.proofs.telling_pieces.tell_pieces.Given as goal
 abbrev pub invariant-pieces : goal.invariant-pieces
 invariant-pieces g l = record {
   few : l.pes ≤ most_packets;
-  fewer : l.kept.frames ≤ l.pes;
   reading : l.reader.progress ≡ Reading l.pes;
   taken : TakesPieces l.pes (g.S.Source.remaining l.fn.source) (g.S.Source.remaining l.source);
   failures : g.S.Source.failure_count l.source ≡ g.S.Source.failure_count l.fn.source;
@@ -26,21 +27,18 @@ invariant-pieces g l = record {
   holds :
       g.A.Live.held l.fn.audience ≡ 0
       → HoldsWhileWaiting g.A.Live.is_waiting g.A.Live.held l.audience;
-  headers : l.checker.headers ≤ 255 * l.kept.frames;
+  room : AreFew l.pes l.checker.counts;
   told :
       (pieces : List Piece) (unread : Option Unread) (bytes : List ℕ)
       → g.S.Source.remaining l.fn.source ≡ Some bytes
-      → ReadsPieces l.options.origin 0 bytes pieces unread
+      → ReadsPieces (clock_of l.options) 0 bytes pieces unread
       → (done : List Piece)
       × ReadsOn l.options bytes pieces unread (g.S.Source.remaining l.source) l.pes done
-      × Tracks (task_of l.programme l.options unread) pieces done l.kept.frames l.checker
-      l.kept.passing
-      × (l.kept.passed ≡ false
-      → 0 < l.kept.frames
-      → packets_of_frame (frames_of pieces) (l.kept.frames - 1)
-      ≡ packets_of_units l.reader.frame.units)
+      × (last : List (List ℕ))
+      × Tracks (task_of l.programme l.options unread) done last l.checker l.kept.passing
+      × (l.kept.passed ≡ false → last ≡ packets_of_units l.reader.frame.units)
       × Tells g.A.Audience.is_told l.fn.audience l.audience
-      (events_of_pieces (task_of l.programme l.options unread) (frames_of pieces) done);
+      (events_of_pieces (task_of l.programme l.options unread) done);
 }
 
 abbrev pub decreases-pieces : goal.decreases-pieces

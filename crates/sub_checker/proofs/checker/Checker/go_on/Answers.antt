@@ -1,122 +1,79 @@
--- The frame, and then its packets: what is passed on of them, by PassingLemmas.
-use Rattle.std.proofs.Common.{◌≡◌, ◌∙◌, ap, sym, subst, arith, ℕ, ◌+◌, ◌-◌, ◌<◌}
+-- More packets of the last frame, or another one: by TakingLemmas.
+use Rattle.std.proofs.Common.{◌∙◌, ◌++◌, [], ◌∷◌, length, refl, sym, subst}
+use Rattle.std.specs.Prelude.{OnOk}
 use Rattle.std.proofs.lemmas.Result.{err_from_is_err_and}
-use Rattle.stl_file.specs.TimeCode.{day}
-use Rattle.sub_io.specs.Telling.{TellsSome}
-use Rattle.sub_io.proofs.TellingLemmas.{TellsSome-trans}
-use Rattle.sub_rules.specs.Events.{standing_at}
-use Rattle.sub_rules.specs.FrameRules.{frame_at}
-use Rattle.sub_rules.specs.Trusted.{stands_none}
-use Rattle.sub_checker.specs.Following.{Follows}
-use Rattle.sub_checker.specs.declared.passing.Stage.{Stage}
-use Rattle.sub_checker.proofs.FollowingLemmas.{header_more}
-use Rattle.sub_checker.proofs.PassingLemmas.{ends_last, passed_frame, passes_some, stopped_after}
-use Rattle.sub_checker.proofs.PassingLemmas.{stopped_before}
+use Rattle.sub_rules.specs.PacketRules.{packets_of_units}
+use Rattle.sub_rules.specs.Transmission.{SentFrame, Transmission}
+use Rattle.sub_rules.proofs.JoinedLemmas.{sent_after-other, sent_after-same}
+use Rattle.sub_checker.specs.Checker.{sent_as}
+use Rattle.sub_checker.specs.Following.{Keeps}
+use Rattle.sub_checker.proofs.FollowingLemmas.{Follows-prefix}
+use Rattle.sub_checker.proofs.PassingLemmas.{silent_pes}
+use Rattle.sub_checker.proofs.StageLemmas.{Moves-marked, Moves-pes, Moves-trans, passes_two}
+use Rattle.sub_checker.proofs.StageLemmas.{stops_one, whole_mark, whole_ok}
+use Rattle.sub_checker.proofs.TakingLemmas.{goes_on_is, is_sent, more_is, next_is, one_longer}
 use Rattle.sub_checker.proofs.checker.Checker.go_on.Goals as goal
 
-pub returns-in_err-reach-clause-same : goal.returns-in_err-reach-clause-same
-returns-in_err-reach-clause-same g c =
-    (passes_some g.A.Audience.is_told g.A.Audience.has_stopped c.args.stage.now
-    c.reach.new.audience c.in_err-reach.ensures.some).0
+pub returns-then-goes_on-clause-moves : goal.returns-then-goes_on-clause-moves
+returns-then-goes_on-clause-moves g c =
+    Moves-marked g.A.Audience.is_told g.A.Audience.has_stopped _ c.args.stage.now
+    c.go_to.new.self c.take_more.new.stage c.go_to.ensures
+    (Moves-pes g.A.Audience.is_told g.A.Audience.has_stopped c.args.stage.now c.go_to.new.self
+    c.args.pes c.go_to.ensures) c.requires.goes_on c.take_more.ensures.moves
 
-pub returns-in_err-reach-clause-some : goal.returns-in_err-reach-clause-some
-returns-in_err-reach-clause-some g c =
-    (passes_some g.A.Audience.is_told g.A.Audience.has_stopped c.args.stage.now
-    c.reach.new.audience c.in_err-reach.ensures.some).1
+pub returns-then-goes_on-clause-told : goal.returns-then-goes_on-clause-told
+returns-then-goes_on-clause-told g c = λ task sent last keeps again.
+    let s : SentFrame = sent_as c.args.sending c.args.units.now in
+    let same =
+    goes_on_is task sent last c.args.self.now s c.goes_on.result keeps c.goes_on.ensures
+    ∙ c.if-goes_on.true in
+    let more = c.take_more.ensures.told task sent last keeps again in (
+      passes_two (more_is task sent c.args.pes s same)
+          (whole_mark refl c.go_to.ensures (silent_pes c.args.pes _)) more.0,
+      subst (λ (l : Transmission). OnOk c.take_more.result (Keeps task l
+          (packets_of_units c.args.units.now) c.take_more.new.self))
+          (sym (sent_after-same task.within sent s same)) more.1,
+    )
 
-pub returns-in_err-reach-clause-told : goal.returns-in_err-reach-clause-told
-returns-in_err-reach-clause-told g c = λ task frames follows sent again.
+pub returns-in_err-end_waiting-clause-told : goal.returns-in_err-end_waiting-clause-told
+returns-in_err-end_waiting-clause-told g c = λ task sent last keeps again.
     let p = err_from_is_err_and c.from_residual.result c.from_residual.ensures.1 in
-    let reached = c.in_err-reach.ensures.told task frames follows sent.frame_is in
-    rw p.1 (
-      record {
-        told =
-            stopped_before g.A.Audience.is_told g.A.Audience.has_stopped task frames c.args.pes
-            c.args.stage.now c.reach.new.audience reached.0;
-        kept = tt;
-      },
-      tt,
-    )
+    let s : SentFrame = sent_as c.args.sending c.args.units.now in
+    let other =
+    goes_on_is task sent last c.args.self.now s c.goes_on.result keeps c.goes_on.ensures
+    ∙ c.if-goes_on.false in
+    let end = c.in_err-end_waiting.ensures.told task sent last keeps in
+    rw p.1 (stops_one _ (next_is task sent c.args.pes s other) end.0, tt)
 
-pub returns-in_err-take-clause-same : goal.returns-in_err-take-clause-same
-returns-in_err-take-clause-same g c =
-    (passes_some g.A.Audience.is_told g.A.Audience.has_stopped _ c.take.new.audience
-    c.in_err-take.ensures.some).0
-    ∙ ap (λ (s : Stage g.row.A.Denot). s.device.ghost_name) c.begin_frame.ensures
-    ∙ (passes_some g.A.Audience.is_told g.A.Audience.has_stopped c.args.stage.now
-    c.reach.new.audience c.in_ok-reach.ensures.some).0
+pub take_next-requires-clause-room : goal.take_next-requires-clause-room
+take_next-requires-clause-room g c =
+    c.in_ok-end_waiting.ensures.few c.args.pes c.requires.room
 
-pub returns-in_err-take-clause-some : goal.returns-in_err-take-clause-some
-returns-in_err-take-clause-some g c =
-    TellsSome-trans _ c.reach.new.audience.device.now _
-    (passes_some g.A.Audience.is_told g.A.Audience.has_stopped c.args.stage.now
-    c.reach.new.audience c.in_ok-reach.ensures.some).1
-    (subst (λ (s : Stage g.row.A.Denot). TellsSome g.A.Audience.is_told s.device.now
-    c.take.new.audience.device.now) c.begin_frame.ensures
-    (passes_some g.A.Audience.is_told g.A.Audience.has_stopped _ c.take.new.audience
-    c.in_err-take.ensures.some).1)
-
-pub returns-in_err-take-clause-told : goal.returns-in_err-take-clause-told
-returns-in_err-take-clause-told g c = λ task frames follows sent again.
-    let r = c.from_residual-in_err-take in
-    let p = err_from_is_err_and r.result r.ensures.1 in
-    let reached = c.in_ok-reach.ensures.told task frames follows sent.frame_is in
-    let taken =
-    c.in_err-take.ensures.told task frames reached.1 sent.there sent.packets_are again in
-    rw p.1 (
-      record {
-        told =
-            stopped_after g.A.Audience.is_told g.A.Audience.has_stopped task frames c.args.pes
-            c.args.stage.now c.reach.new.audience c.begin_frame.new.self c.take.new.audience
-            c.begin_frame.ensures reached.0 c.in_ok-reach.ensures.stopped taken.0;
-        kept = tt;
-      },
-      tt,
-    )
-
-pub returns-clause-same : goal.returns-clause-same
-returns-clause-same g c =
-    ap (λ (s : Stage g.row.A.Denot). s.device.ghost_name) c.end_frame.ensures
-    ∙ (passes_some g.A.Audience.is_told g.A.Audience.has_stopped _ c.take.new.audience
-    c.in_ok-take.ensures.some).0
-    ∙ ap (λ (s : Stage g.row.A.Denot). s.device.ghost_name) c.begin_frame.ensures
-    ∙ (passes_some g.A.Audience.is_told g.A.Audience.has_stopped c.args.stage.now
-    c.reach.new.audience c.in_ok-reach.ensures.some).0
-
-pub returns-clause-some : goal.returns-clause-some
-returns-clause-some g c =
-    TellsSome-trans _ c.reach.new.audience.device.now _
-    (passes_some g.A.Audience.is_told g.A.Audience.has_stopped c.args.stage.now
-    c.reach.new.audience c.in_ok-reach.ensures.some).1
-    (subst (λ (s : Stage g.row.A.Denot). TellsSome g.A.Audience.is_told s.device.now
-    c.end_frame.new.self.device.now) c.begin_frame.ensures
-    (subst (λ (s : Stage g.row.A.Denot). TellsSome g.A.Audience.is_told
-    c.begin_frame.new.self.device.now s.device.now) (sym c.end_frame.ensures)
-    (passes_some g.A.Audience.is_told g.A.Audience.has_stopped _ c.take.new.audience
-    c.in_ok-take.ensures.some).1))
+pub returns-clause-moves : goal.returns-clause-moves
+returns-clause-moves g c =
+    Moves-trans g.A.Audience.is_told g.A.Audience.has_stopped c.args.stage.now
+    c.end_waiting.new.stage c.take_next.new.stage c.in_ok-end_waiting.ensures.moves
+    c.in_ok-end_waiting.ensures.stopped
+    (Moves-marked g.A.Audience.is_told g.A.Audience.has_stopped _ c.end_waiting.new.stage
+    c.go_to-2.new.self c.take_next.new.stage c.go_to-2.ensures
+    (Moves-pes g.A.Audience.is_told g.A.Audience.has_stopped c.end_waiting.new.stage
+    c.go_to-2.new.self c.args.pes c.go_to-2.ensures) c.in_ok-end_waiting.ensures.stopped
+    c.take_next.ensures.moves)
 
 pub returns-clause-told : goal.returns-clause-told
-returns-clause-told g c = λ task frames follows sent again.
-    let reached = c.in_ok-reach.ensures.told task frames follows sent.frame_is in
-    let taken =
-    c.in_ok-take.ensures.told task frames reached.1 sent.there sent.packets_are again in
-    let before = subst (Follows task frames c.args.pes) (sym c.self.view_is) follows in
-    let after = subst (Follows task frames (c.args.pes + 1)) (sym c.self-2.view_is) taken.1 in
-    let back : c.args.pes + 1 - 1 ≡ c.args.pes = omega arith in
-    let stands =
-    c.has_none.ensures.none
-    ∙ ap stands_none (after.standing_is (omega arith))
-    ∙ ap (λ k. stands_none (standing_at task frames (c.args.pes + 1) (frame_at frames k))) back in
-    let whole =
-    passed_frame g.A.Audience.is_told g.A.Audience.has_stopped task frames c.args.pes
-    c.args.stage.now c.reach.new.audience c.begin_frame.new.self c.take.new.audience
-    c.begin_frame.ensures reached.0 c.in_ok-reach.ensures.stopped c.end_frame.new.self
-    c.args.sending.frame _ _ taken.0 c.in_ok-take.ensures.stopped c.end_frame.ensures
-    (sym sent.frame_is) (header_more task frames c.args.pes _ _ sent.there before after) stands in
-    (record { told = whole.told; kept = whole.kept }, taken.1)
-
-pub returns-clause-day : goal.returns-clause-day
-returns-clause-day g c =
-    subst (λ (n : ℕ). n < day)
-    (sym (ap (λ (s : Stage g.row.A.Denot). s.passing.trust.last) c.end_frame.ensures
-    ∙ ends_last _ _ _ _)) c.requires.day
+returns-clause-told g c = λ task sent last keeps again.
+    let s : SentFrame = sent_as c.args.sending c.args.units.now in
+    let other =
+    goes_on_is task sent last c.args.self.now s c.goes_on.result keeps c.goes_on.ensures
+    ∙ c.if-goes_on.false in
+    let end = c.in_ok-end_waiting.ensures.told task sent last keeps in
+    let next =
+    c.take_next.ensures.told task (sent ++ s ∷ []) (length sent) last
+    (Follows-prefix task sent (s ∷ []) last c.end_waiting.new.self end.1) (one_longer sent s)
+    (is_sent sent s) again in (
+      passes_two (next_is task sent c.args.pes s other) (whole_ok refl end.0)
+          (passes_two refl (whole_mark refl c.go_to-2.ensures (silent_pes c.args.pes _)) next.0),
+      subst (λ (l : Transmission). OnOk c.take_next.result (Keeps task l
+          (packets_of_units c.args.units.now) c.take_next.new.self))
+          (sym (sent_after-other task.within sent s other)) next.1,
+    )

@@ -1,40 +1,81 @@
 -- Order, and the ends of the frames before.
-use Rattle.std.proofs.Common.{◌∙◌, sym, subst}
+use Rattle.std.proofs.Common.{◌∙◌, ◌++◌, List, ap, map, refl, sym, subst}
 use Rattle.std.proofs.lemmas.Result.{err_from_is_err_and}
-use Rattle.sub_io.proofs.TellingLemmas.{Tells-trans, TellsPrefix-first, TellsPrefix-second}
+use Rattle.sub_rules.specs.Events.{gap_length}
+use Rattle.sub_rules.specs.PieceEvents.{marks_of_gap}
+use Rattle.sub_rules.specs.Trusted.Mark.{Says}
+use Rattle.sub_rules.specs.declared.event.Event.{Event}
 use Rattle.sub_checker.specs.Following.{Arrives, Follows}
 use Rattle.sub_checker.proofs.FollowingLemmas.{arrives_next, order_are}
-use Rattle.sub_checker.proofs.TellingLemmas.{all_same, prefix_same}
+use Rattle.sub_checker.proofs.StageLemmas.{Moves-tells, Moves-trans, passes_err, passes_ok}
+use Rattle.sub_checker.proofs.StageLemmas.{passes_two, told_ok, told_part}
 use Rattle.sub_checker.proofs.checker.Checker.go_to.Goals as goal
 
+pub returns-in_err-tell_if-clause-moves : goal.returns-in_err-tell_if-clause-moves
+returns-in_err-tell_if-clause-moves g c =
+    Moves-tells g.A.Audience.is_told g.A.Audience.has_stopped c.args.stage.now
+    c.tell_if.new.audience c.in_err-tell_if.ensures.told.2
+
+pub returns-in_err-cross_gap-clause-moves : goal.returns-in_err-cross_gap-clause-moves
+returns-in_err-cross_gap-clause-moves g c =
+    Moves-trans g.A.Audience.is_told g.A.Audience.has_stopped c.args.stage.now
+    c.tell_if.new.audience c.cross_gap.new.stage
+    (Moves-tells g.A.Audience.is_told g.A.Audience.has_stopped c.args.stage.now
+    c.tell_if.new.audience c.in_ok-tell_if.ensures.told) c.in_ok-tell_if.ensures.stopped
+    c.in_err-cross_gap.ensures.moves
+
+pub returns-clause-moves : goal.returns-clause-moves
+returns-clause-moves g c =
+    Moves-trans g.A.Audience.is_told g.A.Audience.has_stopped c.args.stage.now
+    c.tell_if.new.audience c.cross_gap.new.stage
+    (Moves-tells g.A.Audience.is_told g.A.Audience.has_stopped c.args.stage.now
+    c.tell_if.new.audience c.in_ok-tell_if.ensures.told) c.in_ok-tell_if.ensures.stopped
+    c.in_ok-cross_gap.ensures.moves
+
 pub returns-in_err-tell_if-clause-told : goal.returns-in_err-tell_if-clause-told
-returns-in_err-tell_if-clause-told g c = λ task frames follows is.
+returns-in_err-tell_if-clause-told g c = λ task frames n last follows some is.
     let p = err_from_is_err_and c.from_residual.result c.from_residual.ensures.1 in
-    let here = subst (Follows task frames c.args.pes) (sym c.self.view_is) follows in
-    let some = c.requires.later in
-    let order = order_are task frames c.args.pes c.args.frame _ some is (here.last_is some) in
-    rw p.1
-    (TellsPrefix-first _ _ _ _ (prefix_same _ _ _ _ order c.in_err-tell_if.ensures.told), tt)
+    let here = subst (Follows task frames n last) (sym c.self.view_is) follows in
+    let order =
+    order_are task frames n c.args.frame _ _ _ some is (here.last_is some) here.number refl in
+    rw p.1 (
+      told_part g.A.Audience.is_told g.A.Audience.has_stopped c.args.stage.now
+          c.tell_if.new.audience _ (marks_of_gap task frames n (gap_length frames n))
+          (ap (λ (es : List Event). map Says es ++ marks_of_gap task frames n
+          (gap_length frames n)) order)
+          c.in_err-tell_if.ensures.told,
+      tt,
+    )
 
 pub returns-in_err-cross_gap-clause-told : goal.returns-in_err-cross_gap-clause-told
-returns-in_err-cross_gap-clause-told g c = λ task frames follows is.
+returns-in_err-cross_gap-clause-told g c = λ task frames n last follows some is.
     let r = c.from_residual-in_err-cross_gap in
     let p = err_from_is_err_and r.result r.ensures.1 in
-    let here = subst (Follows task frames c.args.pes) (sym c.self.view_is) follows in
-    let some = c.requires.later in
-    let order = order_are task frames c.args.pes c.args.frame _ some is (here.last_is some) in
-    let gap = c.in_err-cross_gap.ensures.told task frames c.args.pes follows some is in
-    rw p.1
-    (TellsPrefix-second _ _ _ _ _ (all_same _ _ _ _ order c.in_ok-tell_if.ensures.told) gap.0, tt)
+    let here = subst (Follows task frames n last) (sym c.self.view_is) follows in
+    let order =
+    order_are task frames n c.args.frame _ _ _ some is (here.last_is some) here.number refl in
+    let gap = c.in_err-cross_gap.ensures.told task frames n last follows some is in
+    rw p.1 (
+      passes_two refl
+          (told_ok g.A.Audience.is_told g.A.Audience.has_stopped c.args.stage.now
+          c.tell_if.new.audience _ (ap (map Says) order) c.in_ok-tell_if.ensures.stopped
+          c.in_ok-tell_if.ensures.told)
+          (passes_err refl gap.0),
+      tt,
+    )
 
 pub returns-clause-told : goal.returns-clause-told
-returns-clause-told g c = λ task frames follows is.
-    let here = subst (Follows task frames c.args.pes) (sym c.self.view_is) follows in
-    let some = c.requires.later in
-    let order = order_are task frames c.args.pes c.args.frame _ some is (here.last_is some) in
-    let gap = c.in_ok-cross_gap.ensures.told task frames c.args.pes follows some is in (
-      Tells-trans _ _ _ _ _ (all_same _ _ _ _ order c.in_ok-tell_if.ensures.told) gap.0,
-      subst (Arrives task frames c.args.pes) (sym c.arrive.ensures)
-          (arrives_next task frames c.args.pes c.args.frame _ gap.1 is
+returns-clause-told g c = λ task frames n last follows some is.
+    let here = subst (Follows task frames n last) (sym c.self.view_is) follows in
+    let order =
+    order_are task frames n c.args.frame _ _ _ some is (here.last_is some) here.number refl in
+    let gap = c.in_ok-cross_gap.ensures.told task frames n last follows some is in (
+      passes_two refl
+          (told_ok g.A.Audience.is_told g.A.Audience.has_stopped c.args.stage.now
+          c.tell_if.new.audience _ (ap (map Says) order) c.in_ok-tell_if.ensures.stopped
+          c.in_ok-tell_if.ensures.told)
+          (passes_ok refl gap.0),
+      subst (Arrives task frames n last) (sym c.arrive.ensures)
+          (arrives_next task frames n c.args.frame last _ gap.1 is
           (c.in_ok-cross_gap.ensures.latest ∙ follows.latest_is some)),
     )

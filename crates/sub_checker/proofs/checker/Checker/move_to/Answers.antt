@@ -6,25 +6,27 @@ use Rattle.sub_checker.proofs.checker.Checker.move_to.Goals as goal
 
 pub invariant_of-self : goal.invariant_of-self
 invariant_of-self c =
-    IsAtFrame-later _ _ _ _ _ _ _ c.args.f c.self.invariant c.if-self-f.true
+    IsAtFrame-later _ _ _ _ _ _ _ _ c.args.f c.requires.day c.self.invariant c.if-self-f.true
     (sym c.is_before.ensures ∙ c.if-is_before.true)
 
 pub returns-then-is_before : goal.returns-then-is_before
 returns-then-is_before c =
     let i = c.self.inside in
     let at =
-    IsAtFrame-later _ _ _ _ _ _ _ c.args.f c.self.invariant c.if-self-f.true
+    IsAtFrame-later _ _ _ _ _ _ _ _ c.args.f c.requires.day c.self.invariant c.if-self-f.true
     (sym c.is_before.ensures ∙ c.if-is_before.true) in
     let before : CheckerValue = record {
       programme = i.programme.now;
       every = i.every;
+      within = i.within;
       listener = i.listener;
       first = i.first;
       latest = i.latest;
       frame = i.frame;
       last = i.last;
       standing = i.standing;
+      since = i.since;
       late_at = i.late_at;
-      headers = i.headers;
+      counts = i.counts;
     } in
     at_frame-stays c.args.f before at.due_is ∙ ap (at_frame c.args.f) c.self.view_is

@@ -1,18 +1,28 @@
 -- The first PES packet, or another one.
-use Rattle.std.proofs.Common.{◌∙◌, ap, sym, subst}
+use Rattle.std.proofs.Common.{◌≡◌, ◌∙◌, ◌<◌, ℕ, ap, arith, sym, subst}
 use Rattle.std.specs.Prelude.{OnOk}
-use Rattle.sub_io.specs.Telling.{TellsUntilStopped}
-use Rattle.sub_checker.specs.Following.{Arrives, Follows}
+use Rattle.sub_checker.specs.Following.{Arrives, Follows, reaching_marks}
+use Rattle.sub_checker.specs.Passing.{PassesOn}
 use Rattle.sub_rules.specs.FrameRules.{frame_at}
-use Rattle.sub_rules.specs.PieceEvents.{arriving_events}
 use Rattle.sub_checker.proofs.checker.Checker.reach.Goals as goal
 
-pub returns-then-pes-eq0-clause-told : goal.returns-then-pes-eq0-clause-told
-returns-then-pes-eq0-clause-told g c = λ task frames follows is.
-    let e = c.if-pes-eq0.true in
-    subst (λ n.
-    TellsUntilStopped g.A.Audience.is_told c.args.audience.now
-    c.begin.new.audience (arriving_events task frames n) c.begin.result
-    × OnOk c.begin.result (Arrives task frames n c.begin.new.self)) (sym e)
-    (c.begin.ensures.told task frames (subst (λ n. Follows task frames n c.args.self.now) e follows)
-    (ap (frame_at frames) (sym e) ∙ is))
+-- A number that is not 0, by another one that is not.
+some : {n m : ℕ} → m ≡ n → (m ≡ 0 → ⊥) → 0 < n
+some same h = omega (arith, same, h)
+
+pub returns-then-self-eq0-clause-told : goal.returns-then-self-eq0-clause-told
+returns-then-self-eq0-clause-told g c = λ task frames n last follows is.
+    let here = subst (Follows task frames n last) (sym c.self.view_is) follows in
+    let none : n ≡ 0 = sym here.number ∙ c.if-self-eq0.true in
+    subst (λ (k : ℕ).
+    PassesOn g.A.Audience.is_told c.args.stage.now (reaching_marks task frames k)
+    c.begin.new.stage c.begin.result
+    × OnOk c.begin.result (Arrives task frames k last c.begin.new.self)) (sym none)
+    (c.begin.ensures.told task frames last
+    (subst (λ (k : ℕ). Follows task frames k last c.args.self.now) none follows)
+    (ap (frame_at frames) (sym none) ∙ is))
+
+pub returns-else-self-eq0-clause-told : goal.returns-else-self-eq0-clause-told
+returns-else-self-eq0-clause-told g c = λ task frames n last follows is.
+    let here = subst (Follows task frames n last) (sym c.self.view_is) follows in
+    c.go_to.ensures.told task frames n last follows (some here.number c.if-self-eq0.false) is

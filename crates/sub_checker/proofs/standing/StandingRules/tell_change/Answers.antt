@@ -1,7 +1,7 @@
 -- The three rules one after another.
 use Rattle.std.proofs.lemmas.Result.{err_from_is_err_and}
 use Rattle.sub_io.proofs.TellingLemmas.{TellsPrefix-first, TellsUntilStopped-after}
-use Rattle.sub_checker.proofs.FollowingLemmas.{end_events_are}
+use Rattle.sub_checker.proofs.EndingLemmas.{end_events_are}
 use Rattle.sub_checker.proofs.TellingLemmas.{stopped_first, stopped_then, told_then}
 use Rattle.sub_checker.proofs.standing.StandingRules.tell_change.Goals as goal
 

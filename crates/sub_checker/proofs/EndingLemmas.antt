@@ -1,0 +1,444 @@
+-- What stands at the end of a frame, and what comes there, by what is kept: `marks_are`,
+-- `stands_are`, `since_are`; since which frame the page is not whole, `gap_on`, `frame_on`; and
+-- where nothing stands, `quiet_marks`, `quiet_after`.
+use Rattle.std.proofs.lemmas.Bool.Decides.{nat_tests}
+use Rattle.std.proofs.Common.{◌≡◌, ℕ, zero, suc, ◌+◌, ◌-◌, ◌<◌, ◌≤◌, Bool, true, false, ◌&&◌, ◌||◌}
+use Rattle.std.proofs.Common.{nat_le, cond, not, List, [], ◌∷◌, ◌++◌, map, Option, Some, None}
+use Rattle.std.proofs.Common.{is_some, refl, sym, ap, ◌∙◌, arith, ◌==◌}
+use Rattle.std.proofs.lemmas.Bool.{true≢false}
+use Rattle.std.specs.Prelude.{option_and_then, option_map}
+use Rattle.ttx_packet.specs.OneBit.{first_below}
+use Rattle.ttx_packet.specs.PageId.{PageIdValue}
+use Rattle.ttx_packet.proofs.OneBitLemmas.{first_below_is}
+use Rattle.ttx_page.specs.Page.{Rows, cell, space}
+use Rattle.ttx_page.specs.PacketKind.{kind}
+use Rattle.ttx_page.specs.Shown.{shown}
+use Rattle.ttx_page.specs.Span.{is_open_after}
+use Rattle.sub_plan.specs.Schedule.{due_in}
+use Rattle.sub_checker.specs.Checker.{CheckerValue, after_end, as_standing, end_marks}
+use Rattle.sub_checker.specs.Checker.{is_overdue_at, is_unfinished_now, late_now, none_stands}
+use Rattle.sub_checker.specs.Checker.{quiet_end, since_now, stands}
+use Rattle.sub_checker.specs.declared.standing.StandingRules.{StandingRules}
+use Rattle.sub_checker.specs.Following.{HasBegun, Remembers, since_before}
+use Rattle.sub_rules.specs.Events.{Standing, content_events, end_before, end_events}
+use Rattle.sub_rules.specs.Events.{events_at_end, first_cell, gap_length, rule_events}
+use Rattle.sub_rules.specs.Events.{is_incomplete, is_late, is_overdue, is_unfinished}
+use Rattle.sub_rules.specs.Events.{latest, since_frames, since_in_gap, standing_at}
+use Rattle.sub_rules.specs.Events.{standing_before, undue_after, unfinished_from}
+use Rattle.sub_rules.specs.Events.{unfinished_since, was_due, wrong_after, wrong_cell}
+use Rattle.sub_rules.specs.FrameRules.{Task, frame_at, packets_before}
+use Rattle.sub_rules.specs.PieceEvents.{marks_at_end}
+use Rattle.sub_rules.specs.Transmission.{Transmission}
+use Rattle.sub_rules.specs.Trusted.{Mark}
+use Rattle.sub_rules.specs.Trusted.Mark.{AtEnd, Says}
+use Rattle.sub_rules.specs.declared.end_rule.EndRule.TheVariants as end
+use Rattle.sub_rules.specs.declared.event.Event.{Event}
+use Rattle.sub_rules.specs.declared.fault.CheckFault.TheVariants as fault
+
+-- ---- since which frame the page is not whole
+
+-- At the end of a frame of the day after the latest one.
+pub gap_on :
+    (g : Task) (frames : Transmission) (n f : ℕ)
+    → 0 < n
+    → latest frames n < f
+    → unfinished_since g frames n f
+    ≡ unfinished_from (since_before g frames n f) (is_unfinished g frames n f) f
+unfolding unfinished_since since_before since_in_gap
+gap_on g frames zero f some later = absurd (omega arith)
+gap_on g frames (suc m) f some later =
+    let l = latest frames (suc m) in
+    let parts : f ≡ l + suc (f - 1 - l) = omega (arith, later) in
+    let size : f - l ≡ suc (f - 1 - l) = omega (arith, later) in
+    ap (since_in_gap g frames (suc m) (since_frames g frames (suc m))) size
+    ∙ ap (λ (d : ℕ). unfinished_from
+    (since_in_gap g frames (suc m) (since_frames g frames (suc m)) (f - 1 - l))
+    (is_unfinished g frames (suc m) d) d) (sym parts)
+
+-- At the end of the last of the first frames.
+pub since_last : (g : Task) (frames : Transmission) (n : ℕ)
+    → unfinished_since g frames (suc n) (frame_at frames n) ≡ since_frames g frames (suc n)
+unfolding unfinished_since since_in_gap latest
+since_last g frames n =
+    let none : frame_at frames n - latest frames (suc n) ≡ 0 = grind (arith, nat_tests) in
+    ap (since_in_gap g frames (suc n) (since_frames g frames (suc n))) none
+
+-- Up to the end before it.
+before_last : (g : Task) (frames : Transmission) (n : ℕ)
+    → since_in_gap g frames n (since_frames g frames n) (gap_length frames n)
+    ≡ since_before g frames n (frame_at frames n)
+unfolding since_before unfinished_since since_in_gap since_frames gap_length
+before_last g frames zero = refl
+before_last g frames (suc n) =
+    ap (since_in_gap g frames (suc n) (since_frames g frames (suc n))) (omega arith)
+
+pub frame_on : (g : Task) (frames : Transmission) (n : ℕ)
+    → unfinished_since g frames (suc n) (frame_at frames n)
+    ≡ unfinished_from (since_before g frames n (frame_at frames n))
+    (is_unfinished g frames (suc n) (frame_at frames n)) (frame_at frames n)
+unfolding since_frames
+frame_on g frames n =
+    since_last g frames n
+    ∙ ap (λ (s : Option ℕ). unfinished_from s (is_unfinished g frames (suc n) (frame_at frames n))
+    (frame_at frames n)) (before_last g frames n)
+
+-- The end before, where no frame of the day lies between.
+pub since_low : (g : Task) (frames : Transmission) (n f : ℕ)
+    → f ≤ latest frames n + 1
+    → since_before g frames n f ≡ since_frames g frames n
+unfolding since_before unfinished_since since_in_gap since_frames
+since_low g frames zero f low = refl
+since_low g frames (suc n) f low =
+    let none : f - 1 - latest frames (suc n) ≡ 0 = omega (arith, low) in
+    ap (since_in_gap g frames (suc n) (since_frames g frames (suc n))) none
+
+-- And where one does.
+pub since_high : (g : Task) (frames : Transmission) (n f e : ℕ)
+    → 0 < n
+    → e ≡ f + 1
+    → since_before g frames n e ≡ unfinished_since g frames n f
+unfolding since_before
+since_high g frames zero f e some is = absurd (omega arith)
+since_high g frames (suc n) f e some is =
+    ap (unfinished_since g frames (suc n)) (omega (arith, is))
+
+-- ---- the end before
+
+-- The end before, where the frame is not after the one after the latest.
+pub end_before_low : (frames : Transmission) (n f : ℕ) → f ≤ latest frames n + 1
+    → end_before frames n f ≡ frame_at frames (n - 1)
+end_before_low frames n f l = grind (arith, nat_tests)
+
+-- And where it is.
+pub end_before_high : (frames : Transmission) (n f : ℕ) → latest frames n < f
+    → end_before frames n (f + 1) ≡ f
+end_before_high frames n f l = grind (arith, nat_tests)
+
+-- ---- an end
+
+-- What is told at an end, rule by rule.
+pub end_events_are :
+    (old : Standing) (before : ℕ) (new : Standing) (f : ℕ)
+    → end_events old before new f
+    ≡ content_events old.content before new.content f
+    ++ (rule_events end.Gap (fault.Gap f) old.gap before new.gap
+    ++ rule_events end.Incomplete (fault.Incomplete f) old.incomplete before new.incomplete)
+unfolding end_events
+end_events_are old before new f = grind (arith, nat_tests)
+
+-- What is told at the end of a frame, by what is kept.
+ends_are :
+    (g : Task) (frames : Transmission) (i n f : ℕ) (old new : Standing) (last : ℕ)
+    → old ≡ standing_before g frames i f
+    → (0 < i → last ≡ end_before frames i f)
+    → new ≡ standing_at g frames n f
+    → end_events old last new f ≡ events_at_end g frames i n f
+unfolding standing_before end_events
+ends_are g frames zero n f old new last is at now = rw (is, now) refl
+ends_are g frames (suc i) n f old new last is at now = rw (is, now, at (omega arith)) refl
+
+-- Whether the page had to be whole, by what is kept.
+pub overdue_is : (g : Task) (c : CheckerValue) (first : ℕ) (since : Option ℕ) (f : ℕ)
+    (last : List (List ℕ)) (frames : Transmission) (n : ℕ)
+    → Remembers g frames n last c
+    → is_overdue g first since f ≡ is_overdue_at c.programme c.within first since f
+overdue_is g c first None f last frames n known = refl
+overdue_is g c first (Some s) f last frames n known =
+    ap (λ (t : Task). is_overdue t first (Some s) f) known.task_is
+
+-- By whether a number is 0: what is so for 0, and what follows where it is not.
+late_by : (w : ℕ) (a b : Bool) → (0 < w → a ≡ b) → (w == 0 || a) ≡ (w == 0 || b)
+late_by w a b same = grind (arith, nat_tests)
+
+module _ (g : Task) (frames : Transmission) (i n f : ℕ) (last : List (List ℕ)) (c : CheckerValue)
+    (known : Remembers g frames n last c) (begun : HasBegun g frames n c) (at : c.frame ≡ f)
+    (due : c.listener.comparison.due ≡ due_in c.programme c.frame)
+    (stood : as_standing c.standing ≡ standing_before g frames i f)
+    (before : 0 < i → c.last ≡ end_before frames i f)
+    (since : 0 < g.within → c.since ≡ since_before g frames i f)
+    (on : unfinished_since g frames n f
+    ≡ unfinished_from (since_before g frames i f) (is_unfinished g frames n f) f)
+  where
+    -- What was heard up to it.
+    abbrev so_far : List (List ℕ)
+    so_far = packets_before frames n
+
+    within_is : g.within ≡ c.within
+    within_is = ap (λ (t : Task). t.within) known.task_is
+
+    wrong_is : wrong_after c.listener.watched.page so_far c.listener.comparison.due
+        ≡ wrong_cell g frames n f
+    wrong_is =
+        ap (wrong_after c.listener.watched.page so_far) (due ∙ ap (due_in c.programme) at)
+        ∙ ap (λ (t : Task). wrong_cell t frames n f) (sym known.task_is)
+
+    incomplete_is :
+        (c.listener.watched.complete && is_open_after (kind c.listener.watched.page) so_far)
+        ≡ is_incomplete g frames n
+    unfolding is_incomplete
+    incomplete_is = ap (λ (t : Task). is_incomplete t frames n) (sym known.task_is)
+
+    unfinished_is : is_unfinished_now so_far c ≡ is_unfinished g frames n f
+    unfinished_is = rw (wrong_is, incomplete_is) refl
+
+    -- Since which frame the page is not whole.
+    since_is : 0 < g.within → since_now so_far c ≡ unfinished_since g frames n f
+    since_is l = rw (since l, unfinished_is, at) (sym on)
+
+    late_is : late_now so_far c ≡ is_late g frames n f
+    unfolding is_late
+    late_is =
+        late_by c.within _ _
+        (λ l.
+        ap (λ (s : Option ℕ). is_overdue_at c.programme c.within c.first s c.frame)
+        (since_is (rw within_is l))
+        ∙ rw (begun.first_is, at) (sym (overdue_is g c (frame_at frames 0)
+        (unfinished_since g frames n f) f last frames n known)))
+        ∙ ap (λ (w : ℕ). w == 0
+        || is_overdue g (frame_at frames 0) (unfinished_since g frames n f) f) (sym within_is)
+
+    undue_is :
+        undue_after c.listener.watched.page so_far (due_in c.programme) c.first c.frame c.within
+        ≡ undue_after g.watched.page so_far g.due (frame_at frames 0) f g.within
+    undue_is =
+        rw (begun.first_is, at)
+        (ap (λ (t : Task). undue_after t.watched.page so_far t.due (frame_at frames 0) f t.within)
+        (sym known.task_is))
+
+    -- What stands broken.
+    pub stands_are : as_standing (stands so_far c) ≡ standing_at g frames n f
+    unfolding standing_at
+    stands_are = rw (late_is, wrong_is, undue_is, incomplete_is, begun.late_is f, at) refl
+
+    -- What comes there.
+    pub marks_are : end_marks so_far c ≡ marks_at_end g frames i n f
+    marks_are =
+        ap (λ (ms : List Mark). ms ++ map Says (end_events (as_standing c.standing) c.last
+        (as_standing (stands so_far c)) c.frame)) firsts
+        ∙ ap (λ (es : List Event). (cond (g.within == 0) []
+        (AtEnd f (unfinished_since g frames n f) (is_late g frames n f) ∷ [])) ++ map Says es)
+        (ap (end_events (as_standing c.standing) c.last (as_standing (stands so_far c))) at
+        ∙ ends_are g frames i n f (as_standing c.standing) (as_standing (stands so_far c)) c.last
+        stood before stands_are)
+      where
+        by : (w : ℕ) → (0 < w → since_now so_far c ≡ unfinished_since g frames n f)
+            → cond (w == 0) [] (AtEnd c.frame (since_now so_far c) (late_now so_far c) ∷ [])
+            ≡ cond (w == 0) []
+            (AtEnd f (unfinished_since g frames n f) (is_late g frames n f) ∷ [])
+        by zero same = refl
+        by (suc w) same = rw (late_is, same (omega arith), at) refl
+
+        firsts : cond (c.within == 0) []
+            (AtEnd c.frame (since_now so_far c) (late_now so_far c) ∷ [])
+            ≡ cond (g.within == 0) []
+            (AtEnd f (unfinished_since g frames n f) (is_late g frames n f) ∷ [])
+        firsts =
+            by c.within (λ l. since_is (rw within_is l))
+            ∙ ap (λ (w : ℕ). cond (w == 0) []
+            (AtEnd f (unfinished_since g frames n f) (is_late g frames n f) ∷ [])) (sym within_is)
+
+    -- Since which frame the page is not whole, as it is kept then.
+    pub since_are : 0 < g.within → (after_end so_far c).since ≡ unfinished_since g frames n f
+    since_are l = by c.within (rw (sym within_is) l)
+      where
+        by : (w : ℕ) → 0 < w
+            → cond (w == 0) c.since (since_now so_far c) ≡ unfinished_since g frames n f
+        by zero m = absurd (omega arith)
+        by (suc w) m =
+            let not_each : (suc w == 0) ≡ false = grind (arith, nat_tests) in
+            rw not_each (since_is l)
+
+-- ---- where the page is whole
+
+-- Where no number passes a test, none passes one that is harder.
+below_less : (n : ℕ) (p q : ℕ → Bool) → ((k : ℕ) → q k ≡ true → p k ≡ true)
+    → first_below n p ≡ None
+    → first_below n q ≡ None
+below_less zero p q less none = refl
+below_less (suc n) p q less none =
+    let rest = below_less n p q less in let one = less n in grind (arith, nat_tests)
+
+some_less : (n : ℕ) (p q : ℕ → Bool) → ((k : ℕ) → q k ≡ true → p k ≡ true)
+    → is_some (first_below n q) ≡ true
+    → is_some (first_below n p) ≡ true
+some_less n p q less some =
+    let rest = below_less n p q less in grind (arith, nat_tests)
+
+-- And no cell does.
+module _ (p q : ℕ → ℕ → Bool) (less : (row column : ℕ) → q row column ≡ true → p row column ≡ true)
+  where
+    abbrev row_test : (ℕ → ℕ → Bool) → ℕ → Bool
+    row_test t above = is_some (first_below 40 (t (above + 1)))
+
+    abbrev in_row : ℕ → Option (ℕ × ℕ)
+    in_row above = option_map (λ column. (above + 1, column)) (first_below 40 (p (above + 1)))
+
+    some_in : (o : Option ℕ) (above : ℕ) → is_some o ≡ true
+        → (let pairs : Option (ℕ × ℕ) = option_map (λ column. (above + 1, column)) o in
+        pairs ≡ None) → ⊥
+    some_in None above t n = grind arith
+    some_in (Some k) above t n = grind arith
+
+    no_row : (o : Option ℕ) → first_below 24 (row_test p) ≡ o → option_and_then in_row o ≡ None
+        → first_below 24 (row_test p) ≡ None
+    no_row None is e = is
+    no_row (Some above) is e =
+        let first = first_below_is 24 (row_test p) above is in
+        absurd (some_in (first_below 40 (p (above + 1))) above first.1 e)
+
+    cell_less : first_cell p ≡ None → first_cell q ≡ None
+    unfolding first_cell
+    cell_less none =
+        let rows = below_less 24 (row_test p) (row_test q)
+        (λ above. some_less 40 (p (above + 1)) (q (above + 1)) (less (above + 1)))
+        (no_row (first_below 24 (row_test p)) refl none) in
+        rw rows refl
+
+-- What is due now was due within any frames.
+due_now : (due : ℕ → Rows) (first f n row column code : ℕ)
+    → (cell (due f) row column == code) ≡ true
+    → was_due due first f n row column code ≡ true
+unfolding was_due
+due_now due first f zero row column code is = is
+due_now due first f (suc n) row column code is = rw (due_now due first f n row column code is) refl
+
+-- So a page that shows what is due shows nothing that was not.
+pub no_undue : (page : PageIdValue) (heard : List (List ℕ)) (due : ℕ → Rows) (now : Rows)
+    (first f n : ℕ)
+    → now ≡ due f
+    → wrong_after page heard now ≡ None
+    → undue_after page heard due first f n ≡ None
+unfolding wrong_after undue_after
+no_undue page heard due now first f n is none =
+    cell_less
+    (λ row column. not (shown page heard row column == cell now row column))
+    (λ row column.
+    not (shown page heard row column == space)
+    && not (was_due due first f n row column (shown page heard row column)))
+    less none
+  where
+    less : (row column : ℕ)
+        → (not (shown page heard row column == space)
+        && not (was_due due first f n row column (shown page heard row column))) ≡ true
+        → not (shown page heard row column == cell now row column) ≡ true
+    less row column undue =
+        let known = due_now due first f n row column (shown page heard row column) in
+        rw is grind (arith, nat_tests)
+
+-- Where no cell differs from what is due. For `first_undue`.
+pub none_undue : (heard : List (List ℕ)) (c : CheckerValue) (o : Option (ℕ × ℕ)) (b : Bool)
+    → c.listener.comparison.due ≡ due_in c.programme c.frame
+    → is_some o ≡ not b
+    → b ≡ true
+    → o ≡ wrong_after c.listener.watched.page heard c.listener.comparison.due
+    → None
+    ≡ undue_after c.listener.watched.page heard (due_in c.programme) c.first c.frame c.within
+none_undue heard c (Some x) b due is none same = absurd (true≢false (is ∙ ap not none))
+none_undue heard c None b due is none same =
+    sym (no_undue c.listener.watched.page heard (due_in c.programme) c.listener.comparison.due
+    c.first c.frame c.within due (sym same))
+
+-- Nothing stands broken there, as few comparisons tell. For `is_quiet`.
+pub quiet_stands : (heard : List (List ℕ)) (c : CheckerValue)
+    → c.listener.comparison.due ≡ due_in c.programme c.frame
+    → wrong_after c.listener.watched.page heard c.listener.comparison.due ≡ None
+    → (c.listener.watched.complete && is_open_after (kind c.listener.watched.page) heard) ≡ false
+    → c.frame + 1 < c.late_at
+    → (stands heard c ≡ none_stands) × (since_now heard c ≡ None)
+quiet_stands heard c due right shut early =
+    let undue =
+    no_undue c.listener.watched.page heard (due_in c.programme) c.listener.comparison.due c.first
+    c.frame c.within due right in
+    let soon : nat_le c.late_at (c.frame + 1) ≡ false = grind (arith, nat_tests) in (
+      rw (right, undue, shut, soon) (by (c.within == 0 || false)),
+      rw (right, shut) refl,
+    )
+  where
+    by : (late : Bool)
+        → (let s : StandingRules = record {
+          content = cond late None None;
+          gap = false;
+          incomplete = late && false;
+        } in s)
+        ≡ none_stands
+    by true = refl
+    by false = refl
+
+-- ---- an end, by what is found there
+
+-- Where the page has to be whole at the end of each frame.
+pub once_marks : (heard : List (List ℕ)) (d c : CheckerValue) (s : StandingRules)
+    → d ≡ c
+    → c.within ≡ 0
+    → s ≡ stands heard c
+    → end_marks heard c
+    ≡ map Says (end_events (as_standing d.standing) d.last (as_standing s) d.frame)
+once_marks heard d c s same each is = rw (same, is, each) refl
+
+pub once_after : (heard : List (List ℕ)) (d c : CheckerValue) (s : StandingRules)
+    → d ≡ c
+    → c.within ≡ 0
+    → s ≡ stands heard c
+    → record d { standing = s; last = d.frame } ≡ after_end heard c
+once_after heard d c s same each is = rw (same, is, each) refl
+
+-- Where it need not.
+pub within_marks : (heard : List (List ℕ)) (d c : CheckerValue) (s : StandingRules)
+    (since : Option ℕ) (late : Bool)
+    → d ≡ c
+    → 0 < c.within
+    → s ≡ stands heard c
+    → since ≡ since_now heard c
+    → late ≡ late_now heard c
+    → end_marks heard c
+    ≡ (AtEnd d.frame since late ∷ [])
+    ++ map Says (end_events (as_standing d.standing) d.last (as_standing s) d.frame)
+within_marks heard d c s since late same some is since_is late_is =
+    let not_each : (c.within == 0) ≡ false = grind (arith, nat_tests) in
+    rw (same, is, since_is, late_is, not_each) refl
+
+pub within_after : (heard : List (List ℕ)) (d c : CheckerValue) (s : StandingRules)
+    (since : Option ℕ)
+    → d ≡ c
+    → 0 < c.within
+    → s ≡ stands heard c
+    → since ≡ since_now heard c
+    → record d { standing = s; since = since; last = d.frame } ≡ after_end heard c
+within_after heard d c s since same some is since_is =
+    let not_each : (c.within == 0) ≡ false = grind (arith, nat_tests) in
+    rw (same, is, since_is, not_each) refl
+
+-- Where nothing stands broken, and nothing did.
+none_told : (old new : StandingRules) (before f : ℕ)
+    → old ≡ none_stands
+    → new ≡ none_stands
+    → end_events (as_standing old) before (as_standing new) f ≡ []
+unfolding end_events
+none_told old new before f none none_now = rw (none, none_now) refl
+
+pub quiet_marks : (heard : List (List ℕ)) (c : CheckerValue)
+    → c.standing ≡ none_stands
+    → stands heard c ≡ none_stands
+    → since_now heard c ≡ None
+    → end_marks heard c ≡ cond (c.within == 0) [] (AtEnd c.frame None false ∷ [])
+quiet_marks heard c stood stand since =
+    ap (λ (es : List Event). cond (c.within == 0) []
+    (AtEnd c.frame (since_now heard c) (late_now heard c) ∷ []) ++ map Says es)
+    (none_told c.standing (stands heard c) c.last c.frame stood stand)
+    ∙ by c.within
+  where
+    by : (w : ℕ)
+        → cond (w == 0) [] (AtEnd c.frame (since_now heard c) (w == 0
+        || is_overdue_at c.programme c.within c.first (since_now heard c) c.frame) ∷ []) ++ []
+        ≡ cond (w == 0) [] (AtEnd c.frame None false ∷ [])
+    by zero = refl
+    by (suc w) =
+        let not_each : (suc w == 0) ≡ false = grind (arith, nat_tests) in
+        rw (not_each, since) refl
+
+pub quiet_after : (heard : List (List ℕ)) (c : CheckerValue)
+    → c.standing ≡ none_stands
+    → stands heard c ≡ none_stands
+    → since_now heard c ≡ None
+    → quiet_end c ≡ after_end heard c
+quiet_after heard c stood stand since = rw (stand, since, sym stood) refl

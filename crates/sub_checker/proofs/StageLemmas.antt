@@ -1,0 +1,268 @@
+-- What a stage passes on, in parts: all of one and then of another, `whole_two`, `passes_two`;
+-- where its device said stop, `stops_one`, `stops_two`; events that it was told, `told_ok`,
+-- `told_err`, `told_part`; and that some was passed on, `Moves-trans` and its kin.
+use Rattle.std.proofs.Common.{◌≡◌, ℕ, ◌<◌, ◌==◌, List, [], ◌∷◌, ◌++◌, Bool, true, false, cond, map}
+use Rattle.std.proofs.Common.{None, Option, Result, Ok, Err, refl, sym, ap, ◌∙◌, subst}
+use Rattle.std.proofs.Common.{append_assoc}
+use Rattle.stl_file.specs.TimeCode.{day}
+use Rattle.sub_io.specs.Telling.{Tells, TellsPrefix, TellsSome}
+use Rattle.sub_io.proofs.TellingLemmas.{Tells-none, TellsSome-none, TellsSome-trans}
+use Rattle.sub_rules.specs.Trusted.{Mark, after_mark, told_with}
+use Rattle.sub_rules.specs.Trusted.Mark.{AtEnd, AtPes, Begins, Closes, Ends, Says}
+use Rattle.sub_rules.specs.declared.event.Event.{Event}
+use Rattle.sub_checker.specs.Checker.{CheckerValue}
+use Rattle.sub_checker.specs.Following.{quiet_stage}
+use Rattle.sub_checker.specs.Passing.{Moves, PassesMarks, at_mark}
+use Rattle.sub_checker.specs.declared.passing.Passing.{Passing}
+use Rattle.sub_checker.specs.declared.passing.Stage.{Stage}
+use Rattle.sub_checker.proofs.PassingLemmas.{IsPassedOn, IsWhole, after-none, at_end_last}
+use Rattle.sub_checker.proofs.PassingLemmas.{begins_last, closes_last, ends_last, pass_then}
+use Rattle.sub_checker.proofs.PassingLemmas.{passed-none, passes_last, passes_prefix, passes_some}
+use Rattle.sub_checker.proofs.PassingLemmas.{passes_whole, pes_last, silent, silent_at_end}
+use Rattle.sub_checker.proofs.PassingLemmas.{stop_first, stop_then, whole_then}
+
+-- ---- parts of what is passed on
+
+module _ {D : Type 0} {IsTold : D → Event → D → Type 0} where
+  -- The same by another name.
+  pub passes_same : {X E : Type 0} {a b : D} {p q : Passing} {xs zs : List Mark} {r : Result X E}
+      → zs ≡ xs
+      → PassesMarks IsTold a p xs b q r
+      → PassesMarks IsTold a p zs b q r
+  passes_same is on = rw is on
+
+  -- Where the device did not say stop, all of these.
+  pub whole_ok : {X E : Type 0} {a b : D} {p q : Passing} {xs zs : List Mark} {x : X}
+      → zs ≡ xs
+      → PassesMarks IsTold a p xs b q (let o : Result X E = Ok x in o)
+      → IsWhole IsTold a p zs b q
+  whole_ok is on = rw is (record { told = on.told; kept = on.kept })
+
+  pub ok_whole : {X E : Type 0} {a b : D} {p q : Passing} {xs zs : List Mark} {x : X}
+      → zs ≡ xs
+      → IsWhole IsTold a p xs b q
+      → PassesMarks IsTold a p zs b q (let o : Result X E = Ok x in o)
+  ok_whole is on = rw is (record { told = on.told; kept = on.kept })
+
+  -- A result of another type.
+  pub passes_ok : {X E Y F : Type 0} {a b : D} {p q : Passing} {xs zs : List Mark} {x : X} {y : Y}
+      → zs ≡ xs
+      → PassesMarks IsTold a p xs b q (let o : Result X E = Ok x in o)
+      → PassesMarks IsTold a p zs b q (let o : Result Y F = Ok y in o)
+  passes_ok is on = rw is (record { told = on.told; kept = on.kept })
+
+  pub passes_err : {X E Y F : Type 0} {a b : D} {p q : Passing} {xs zs : List Mark} {e : E}
+      {f : F}
+      → zs ≡ xs
+      → PassesMarks IsTold a p xs b q (let o : Result X E = Err e in o)
+      → PassesMarks IsTold a p zs b q (let o : Result Y F = Err f in o)
+  passes_err is on = rw is (record { told = on.told; kept = tt })
+
+  -- None.
+  pub whole_none : {a : D} {p : Passing} {zs : List Mark} → zs ≡ [] → IsWhole IsTold a p zs a p
+  whole_none {a} {p} is =
+      rw is (record {
+        told = subst (Tells IsTold a a) (sym (passed-none p)) (Tells-none a);
+        kept = sym (after-none p);
+      })
+
+  -- A mark with which nothing is told; and after an end at which nothing stands broken.
+  pub whole_mark : {s t : Stage D} {m : Mark} {zs : List Mark}
+      → zs ≡ m ∷ []
+      → t ≡ at_mark m s
+      → told_with m s.passing.trust ≡ []
+      → IsWhole IsTold s.device.now s.passing zs t.device.now t.passing
+  whole_mark {s} {t} {m} is at none = rw is (silent IsTold s t m at none)
+
+  pub whole_quiet : (s t : Stage D) (c : CheckerValue) {zs : List Mark}
+      → zs ≡ cond (c.within == 0) [] (AtEnd c.frame None false ∷ [])
+      → t ≡ quiet_stage c s
+      → IsWhole IsTold s.device.now s.passing zs t.device.now t.passing
+  whole_quiet s t c is at = rw is (by (c.within == 0) at)
+    where
+      by : (z : Bool) → t ≡ cond z s (at_mark (AtEnd c.frame None false) s)
+          → IsWhole IsTold s.device.now s.passing (cond z [] (AtEnd c.frame None false ∷ []))
+          t.device.now t.passing
+      by true at =
+          subst (λ (u : Stage D). IsWhole IsTold s.device.now s.passing [] u.device.now u.passing)
+          (sym at) (whole_none refl)
+      by false at = whole_mark refl at (silent_at_end _ _ _ _)
+
+  -- The one part, and then the other.
+  pub whole_two : {a b c : D} {p q s : Passing} {xs ys zs : List Mark}
+      → zs ≡ xs ++ ys
+      → IsWhole IsTold a p xs b q
+      → IsWhole IsTold b q ys c s
+      → IsWhole IsTold a p zs c s
+  whole_two is first second = rw is (whole_then IsTold _ _ _ _ _ _ _ _ first second)
+
+  pub passes_two : {X E : Type 0} {a b c : D} {p q s : Passing} {xs ys zs : List Mark}
+      {r : Result X E}
+      → zs ≡ xs ++ ys
+      → IsWhole IsTold a p xs b q
+      → PassesMarks IsTold b q ys c s r
+      → PassesMarks IsTold a p zs c s r
+  passes_two is first second = rw is (pass_then IsTold _ _ _ _ _ _ _ _ _ first second)
+
+  -- The device said stop in the one part, or in the other.
+  pub stops_one : {X E Y F : Type 0} {a b : D} {p q : Passing} {xs zs : List Mark} {e : E}
+      {f : F} (ys : List Mark)
+      → zs ≡ xs ++ ys
+      → PassesMarks IsTold a p xs b q (let o : Result X E = Err e in o)
+      → PassesMarks IsTold a p zs b q (let o : Result Y F = Err f in o)
+  stops_one ys is first =
+      rw is (record { told = stop_first IsTold _ _ _ _ ys first.told; kept = tt })
+
+  pub stops_two : {X E Y F : Type 0} {a b c : D} {p q s : Passing} {xs ys zs : List Mark}
+      {e : E} {f : F} (rest : List Mark)
+      → zs ≡ xs ++ ys ++ rest
+      → IsWhole IsTold a p xs b q
+      → PassesMarks IsTold b q ys c s (let o : Result X E = Err e in o)
+      → PassesMarks IsTold a p zs c s (let o : Result Y F = Err f in o)
+  stops_two {xs} {ys} rest is first second =
+      rw (is ∙ append_assoc xs ys rest) (record {
+        told =
+            stop_then IsTold _ _ _ _ _ _ _ first
+            (stop_first IsTold _ _ _ _ rest second.told);
+        kept = tt;
+      })
+
+-- ---- events that a stage was told
+
+module _ {D : Type 0} (IsTold : D → Event → D → Type 0) (has_stopped : D → Bool) where
+  pub told_ok : (s t : Stage D) (es : List Event) {zs : List Mark}
+      → zs ≡ map Says es
+      → has_stopped t.device.now ≡ false
+      → Tells (IsPassedOn IsTold has_stopped) s t es
+      → IsWhole IsTold s.device.now s.passing zs t.device.now t.passing
+  told_ok s t es is fine told = rw is (passes_whole IsTold has_stopped s t es fine told)
+
+  -- A part of them, where the device said stop.
+  pub told_err : {X E : Type 0} {e : E} (s t : Stage D) (es : List Event) {zs : List Mark}
+      → zs ≡ map Says es
+      → TellsPrefix (IsPassedOn IsTold has_stopped) s t es
+      → PassesMarks IsTold s.device.now s.passing zs t.device.now t.passing
+      (let o : Result X E = Err e in o)
+  told_err s t es is told =
+      rw is (record { told = passes_prefix IsTold has_stopped s t es told; kept = tt })
+
+  -- And others would have followed.
+  pub told_part : {X E : Type 0} {e : E} (s t : Stage D) (es : List Event) (ys : List Mark)
+      {zs : List Mark}
+      → zs ≡ map Says es ++ ys
+      → TellsPrefix (IsPassedOn IsTold has_stopped) s t es
+      → PassesMarks IsTold s.device.now s.passing zs t.device.now t.passing
+      (let o : Result X E = Err e in o)
+  told_part s t es ys is told =
+      rw is (record {
+        told =
+            stop_first IsTold s.device.now t.device.now s.passing (map Says es) ys
+            (passes_prefix IsTold has_stopped s t es told);
+        kept = tt;
+      })
+
+-- ---- that some was passed on
+
+module _ {D : Type 0} (IsTold : D → Event → D → Type 0) (has_stopped : D → Bool) where
+  -- One step, and then another.
+  pub Moves-trans : (a b c : Stage D)
+      → Moves IsTold has_stopped a b
+      → has_stopped b.device.now ≡ false
+      → Moves IsTold has_stopped b c
+      → Moves IsTold has_stopped a c
+  Moves-trans a b c first fine second = record {
+    same = second.same ∙ first.same;
+    some = TellsSome-trans _ _ _ first.some second.some;
+    in_day = λ still before. second.in_day still (first.in_day fine before);
+  }
+
+  -- None.
+  pub Moves-none : (a : Stage D) → Moves IsTold has_stopped a a
+  Moves-none a = record {
+    same = refl;
+    some = TellsSome-none _;
+    in_day = λ still before. before;
+  }
+
+  -- Events that the device was told.
+  pub Moves-told : (a b : Stage D)
+      → TellsSome (IsPassedOn IsTold has_stopped) a b
+      → Moves IsTold has_stopped a b
+  Moves-told a b some =
+      let both = passes_some IsTold has_stopped a b some in
+      record {
+        same = both.0;
+        some = both.1;
+        in_day = λ still before.
+            subst (λ (n : ℕ). n < day)
+            (sym (passes_last IsTold has_stopped a b some still)) before;
+      }
+
+  pub Moves-tells : (a b : Stage D) {es : List Event}
+      → Tells (IsPassedOn IsTold has_stopped) a b es
+      → Moves IsTold has_stopped a b
+  Moves-tells a b {es} told = Moves-told a b (record { items = es; told = told })
+
+  -- A mark with which nothing is told.
+  mark_moves : (a b : Stage D) (m : Mark)
+      → b ≡ at_mark m a
+      → (a.passing.trust.last < day → (after_mark m a.passing.trust).last < day)
+      → Moves IsTold has_stopped a b
+  mark_moves a b m is keeps = rw is (record {
+    same = refl;
+    some = TellsSome-none _;
+    in_day = λ still before. keeps before;
+  })
+
+  pub Moves-pes : (a b : Stage D) (pes : ℕ) → b ≡ at_mark (AtPes pes) a
+      → Moves IsTold has_stopped a b
+  Moves-pes a b pes is = mark_moves a b (AtPes pes) is (λ l. rw (pes_last pes _) l)
+
+  pub Moves-begins : (a b : Stage D) (f : ℕ) → b ≡ at_mark (Begins f) a → f < day
+      → Moves IsTold has_stopped a b
+  Moves-begins a b f is here = mark_moves a b (Begins f) is (λ l. rw (begins_last f _) here)
+
+  pub Moves-at_end : (a b : Stage D) (f : ℕ) (since : Option ℕ) (late : Bool)
+      → b ≡ at_mark (AtEnd f since late) a
+      → Moves IsTold has_stopped a b
+  Moves-at_end a b f since late is =
+      mark_moves a b (AtEnd f since late) is (λ l. rw (at_end_last f since late _) l)
+
+  pub Moves-quiet : (a b : Stage D) (c : CheckerValue) → b ≡ quiet_stage c a
+      → Moves IsTold has_stopped a b
+  Moves-quiet a b c is = by (c.within == 0) is
+    where
+      by : (z : Bool) → b ≡ cond z a (at_mark (AtEnd c.frame None false) a)
+          → Moves IsTold has_stopped a b
+      by true at = subst (λ (s : Stage D). Moves IsTold has_stopped a s) (sym at) (Moves-none a)
+      by false at = Moves-at_end a b c.frame None false at
+
+  pub Moves-ends : (a b : Stage D) (f : ℕ) (has none : Bool)
+      → b ≡ at_mark (Ends f has none) a
+      → Moves IsTold has_stopped a b
+  Moves-ends a b f has none is =
+      mark_moves a b (Ends f has none) is (λ l. rw (ends_last f has none _) l)
+
+  -- A mark with which nothing is told, and then another step.
+  pub Moves-marked : (m : Mark) (a b c : Stage D)
+      → b ≡ at_mark m a
+      → Moves IsTold has_stopped a b
+      → has_stopped a.device.now ≡ false
+      → Moves IsTold has_stopped b c
+      → Moves IsTold has_stopped a c
+  Moves-marked m a b c is first fine second =
+      Moves-trans a b c first (ap (λ (s : Stage D). has_stopped s.device.now) is ∙ fine) second
+
+  -- The end of the file.
+  pub Moves-closes : (a b : Stage D) {X E : Type 0} {x : X} {left more : Bool}
+      → b.device.ghost_name ≡ a.device.ghost_name
+      → PassesMarks IsTold a.device.now a.passing (Closes left more ∷ []) b.device.now b.passing
+      (let o : Result X E = Ok x in o)
+      → Moves IsTold has_stopped a b
+  Moves-closes a b {X} {E} {x} {left} {more} same on = record {
+    same = same;
+    some = record { items = _; told = on.told };
+    in_day = λ fine before.
+        subst (λ (n : ℕ). n < day)
+        (sym (ap (λ (q : Passing). q.trust.last) on.kept ∙ closes_last left more a.passing)) before;
+  }

@@ -1,0 +1,412 @@
+-- What is kept between two PES packets: `Keeps-closed`, `Keeps-open`, `waiting_none`,
+-- `waiting_some`; whether one goes on with the frame before, `goes_on_is`; what comes of one of
+-- another frame, `arrived`, `next_is`; and what is kept then, `more_keeps`, `next_keeps`.
+use Rattle.std.proofs.lemmas.Bool.Decides.{nat_tests}
+use Rattle.std.proofs.Common.{◌≡◌, ℕ, zero, suc, ◌+◌, ◌-◌, ◌<◌, ◌≤◌, ◌==◌, Bool, ◌&&◌, not, true}
+use Rattle.std.proofs.Common.{false, cond, List, [], ◌∷◌, ◌++◌, length, map, refl, sym, ap, ◌∙◌}
+use Rattle.std.proofs.Common.{subst, arith, append_assoc, length-append, Result}
+use Rattle.std.specs.Prelude.{OnOk}
+use Rattle.std.proofs.lemmas.Bool.{true≢false}
+use Rattle.std.proofs.lemmas.List.{append-nil}
+use Rattle.ttx_page.specs.PacketKind.{kind}
+use Rattle.ttx_page.specs.Span.{holds_header}
+use Rattle.sub_rules.specs.Events.{first_header_events, latest, standing_at}
+use Rattle.sub_rules.specs.FrameRules.{Task, end_frame, frame_at, packets_before}
+use Rattle.sub_rules.specs.FrameRules.{packets_of_frame}
+use Rattle.sub_rules.specs.PacketRules.{header_count}
+use Rattle.sub_rules.specs.PieceEvents.{marks_at_end, marks_of_arrival, marks_of_ending}
+use Rattle.sub_rules.specs.PieceEvents.{marks_of_more}
+use Rattle.sub_rules.specs.PieceEvents.{marks_of_packets, marks_of_sent, marks_of_waiting}
+use Rattle.sub_rules.specs.Pieces.{goes_on_with, with_packets}
+use Rattle.sub_rules.proofs.JoinedLemmas.{with_packets-length}
+use Rattle.sub_rules.specs.Sendings.{IsSentFrame}
+use Rattle.sub_rules.specs.Transmission.{SentFrame, Transmission}
+use Rattle.sub_rules.specs.Trusted.{Mark, stands_none}
+use Rattle.sub_rules.specs.Trusted.Mark.{AtPes, Begins, Ends, Says}
+use Rattle.sub_rules.specs.declared.event.Event.{Event}
+use Rattle.sub_checker.specs.Checker.{AreFew, CheckerValue, Hears, counted}
+use Rattle.sub_checker.specs.Following.{Arrives, Follows, Heard, Keeps, Opens, next_marks}
+use Rattle.sub_checker.specs.Following.{reaching_marks}
+use Rattle.sub_checker.specs.Passing.{at_mark}
+use Rattle.sub_checker.specs.Steps.{AreCounted}
+use Rattle.sub_checker.specs.Telling.{CountsRead}
+use Rattle.sub_checker.specs.declared.telling.Accepted.{Accepted}
+use Rattle.sub_checker.specs.declared.counts.Counts.{Counts}
+use Rattle.sub_checker.specs.declared.passing.Stage.{Stage}
+use Rattle.sub_checker.specs.declared.passing.Passing.{Passing}
+use Rattle.sub_checker.proofs.HearingLemmas.{heard_here}
+use Rattle.sub_checker.proofs.MoreLemmas.{opens_more}
+use Rattle.sub_checker.proofs.PassingLemmas.{IsWhole, silent_begins}
+use Rattle.sub_checker.proofs.StageLemmas.{whole_mark, whole_two}
+
+-- ---- what is kept between two PES packets
+
+-- After an end.
+pub Keeps-closed : (g : Task) (sent : Transmission) (last : List (List ℕ)) (c : CheckerValue)
+    → c.counts.is_open ≡ false
+    → g.within ≡ 0
+    → Follows g sent (length sent) last c
+    → Keeps g sent last c
+Keeps-closed g sent last c shut each follows = record {
+  closed = λ _. follows;
+  none = λ _ l. absurd (omega (arith, each, l));
+  some = λ e. absurd (true≢false (sym e ∙ shut));
+  within = λ e. absurd (true≢false (sym e ∙ shut));
+  opens = λ e. absurd (true≢false (sym e ∙ shut));
+}
+
+-- Before one.
+pub Keeps-open : (g : Task) (sent : Transmission) (n : ℕ) (last : List (List ℕ))
+    (c : CheckerValue)
+    → c.counts.is_open ≡ true
+    → 0 < g.within
+    → length sent ≡ suc n
+    → Opens g sent n last c
+    → Keeps g sent last c
+Keeps-open g sent n last c opened within all opens = record {
+  closed = λ e. absurd (true≢false (sym opened ∙ e));
+  none = λ e _. absurd (true≢false (sym opened ∙ e));
+  some = λ _. omega (arith, all);
+  within = λ _. within;
+  opens = λ _. subst (λ (k : ℕ). Opens g sent k last c) (omega (arith, all)) opens;
+}
+
+-- No end is still to come.
+pub waiting_none : (g : Task) (sent : Transmission) (last : List (List ℕ)) (c : CheckerValue)
+    → Keeps g sent last c
+    → c.counts.is_open ≡ false
+    → marks_of_waiting g sent ≡ []
+unfolding marks_of_waiting
+waiting_none g [] last c keeps shut = refl
+waiting_none g (s ∷ sent) last c keeps shut = by g.within (λ l. keeps.none shut l)
+  where
+    by : (w : ℕ) → (0 < w → s ∷ sent ≡ [])
+        → cond (w == 0) [] (marks_of_ending g (s ∷ sent) (length sent)) ≡ []
+    by zero none = refl
+    by (suc w) none = let no = none (omega arith) in cc
+
+-- The last frame's end is.
+pub waiting_some : (g : Task) (sent : Transmission) (last : List (List ℕ)) (c : CheckerValue)
+    → Keeps g sent last c
+    → c.counts.is_open ≡ true
+    → marks_of_waiting g sent ≡ marks_of_ending g sent (length sent - 1)
+unfolding marks_of_waiting
+waiting_some g [] last c keeps opened = let some = keeps.some opened in absurd (omega arith)
+waiting_some g (s ∷ sent) last c keeps opened =
+    let some = keeps.within opened in
+    let not_each : (g.within == 0) ≡ false = grind (arith, nat_tests) in
+    let size : length sent ≡ suc (length sent) - 1 = omega arith in
+    ap (λ (b : Bool). cond b [] (marks_of_ending g (s ∷ sent) (length sent))) not_each
+    ∙ ap (marks_of_ending g (s ∷ sent)) size
+
+-- What else is counted changes nothing.
+heard_counts : (g : Task) (sent : Transmission) (n : ℕ) (last : List (List ℕ))
+    (c d : CheckerValue) (m : Counts)
+    → d ≡ record c { counts = m }
+    → m.frames ≡ c.counts.frames
+    → m.headers ≡ c.counts.headers
+    → Heard g sent n last c
+    → Heard g sent n last d
+heard_counts g sent n last c d m is frames headers heard =
+    rw is (record {
+      known = record {
+        task_is = heard.known.task_is;
+        knows = heard.known.knows;
+        count = headers ∙ heard.known.count;
+      };
+      begun = record { first_is = heard.begun.first_is; late_is = heard.begun.late_is };
+      standing_is = heard.standing_is;
+      last_is = heard.last_is;
+      since_is = heard.since_is;
+      number = frames ∙ heard.number;
+      frame_is = heard.frame_is;
+      latest_is = heard.latest_is;
+    })
+
+-- Before an end nothing else changes. For `end_open`.
+pub heard_shut : (g : Task) (sent : Transmission) (n : ℕ) (last : List (List ℕ))
+    (c d : CheckerValue)
+    → d ≡ record c { counts = record c.counts { is_open = false } }
+    → Heard g sent n last c
+    → Heard g sent n last d
+heard_shut g sent n last c d is heard =
+    heard_counts g sent n last c d (record c.counts { is_open = false }) is refl refl heard
+
+-- More packets of the last frame. For `take_more`.
+pub more_keeps : (g : Task) (sent : Transmission) (last ps : List (List ℕ))
+    (c v e : CheckerValue) (k : ℕ)
+    → Keeps g sent last c
+    → c.counts.is_open ≡ true
+    → Hears (packets_before sent (suc (length sent - 1))) ps c v
+    → e ≡ record v { counts = record v.counts { packets = k } }
+    → k ≡ v.counts.packets + length ps
+    → Keeps g (with_packets ps sent) ps e
+more_keeps g sent last ps c v e k keeps opened hears is sum =
+    let n : ℕ = length sent - 1 in
+    let some = keeps.some opened in
+    let all : length sent ≡ suc (length sent - 1) = omega (arith, some) in
+    let opens = keeps.opens opened in
+    let new = hears.new_is in
+    let same = is
+    ∙ ap (λ (w : CheckerValue). record w { counts = record w.counts { packets = k } }) new in
+    Keeps-open g (with_packets ps sent) (length sent - 1) ps e
+    (ap (λ (w : CheckerValue). w.counts.is_open) same ∙ opened)
+    (keeps.within opened) (with_packets-length ps sent ∙ all)
+    (opens_more g sent (length sent - 1) last ps c v opens.heard all hears e k same opens.before
+    opens.packets (sum ∙ ap (λ (w : CheckerValue). w.counts.packets + length ps) new))
+
+-- ---- the next PES packet
+
+-- It is of the frame before.
+pub goes_on_is : (g : Task) (sent : Transmission) (last : List (List ℕ)) (c : CheckerValue)
+    (s : SentFrame) (same : Bool)
+    → Keeps g sent last c
+    → same ≡ (c.counts.is_open && s.frame == c.frame)
+    → goes_on_with g.within sent s ≡ same
+goes_on_is g [] last c s same keeps is = by c.counts.is_open refl
+  where
+    by : (b : Bool) → c.counts.is_open ≡ b → false ≡ same
+    by true opened = let some = keeps.some opened in absurd (omega arith)
+    by false shut = sym (is ∙ ap (λ (b : Bool). b && s.frame == c.frame) shut)
+goes_on_is g (first ∷ sent) last c s same keeps is = by c.counts.is_open refl
+  where
+    by : (b : Bool) → c.counts.is_open ≡ b
+        → (not (g.within == 0) && (end_frame (first ∷ sent) == s.frame)) ≡ same
+    by true opened =
+        let within = keeps.within opened in
+        let at = (keeps.opens opened).heard.frame_is in
+        grind (arith, nat_tests)
+    by false shut = rest g.within (λ l. keeps.none shut l)
+      where
+        rest : (w : ℕ) → (0 < w → first ∷ sent ≡ [])
+            → (not (w == 0) && (end_frame (first ∷ sent) == s.frame)) ≡ same
+        rest zero none = sym (is ∙ ap (λ (b : Bool). b && s.frame == c.frame) shut)
+        rest (suc w) none = let no = none (omega arith) in cc
+
+-- What comes of it then, and where it is of another frame.
+pub more_is : (g : Task) (sent : Transmission) (pes : ℕ) (s : SentFrame)
+    → goes_on_with g.within sent s ≡ true
+    → marks_of_sent g sent pes s ≡ AtPes pes ∷ marks_of_more g sent s.packets
+unfolding marks_of_sent
+more_is g sent pes s same = rw same refl
+
+pub next_is : (g : Task) (sent : Transmission) (pes : ℕ) (s : SentFrame)
+    → goes_on_with g.within sent s ≡ false
+    → marks_of_sent g sent pes s
+    ≡ marks_of_waiting g sent ++ AtPes pes ∷ next_marks g (sent ++ s ∷ []) (length sent)
+unfolding marks_of_sent
+next_is g sent pes s other = rw other refl
+
+-- It is the last frame of the list.
+pub is_sent : (sent : Transmission) (s : SentFrame)
+    → IsSentFrame (sent ++ s ∷ []) (length sent) s.frame s.packets
+is_sent sent s = record {
+  there = omega (arith, length-append sent (s ∷ []));
+  frame_is = at sent;
+  packets_are = packets sent;
+}
+  where
+    at : (xs : Transmission) → frame_at (xs ++ s ∷ []) (length xs) ≡ s.frame
+    at [] = refl
+    at (x ∷ xs) = at xs
+
+    packets : (xs : Transmission) → packets_of_frame (xs ++ s ∷ []) (length xs) ≡ s.packets
+    packets [] = refl
+    packets (x ∷ xs) = packets xs
+
+pub one_longer : (sent : Transmission) (s : SentFrame)
+    → length (sent ++ s ∷ []) ≡ suc (length sent)
+one_longer sent s = length-append sent (s ∷ []) ∙ omega arith
+
+-- The way to its frame, and then the mark there. For `take_next`.
+pub arrived : {D : Type 0} {IsTold : D → Event → D → Type 0} {a : D} {p : Passing}
+    {s t : Stage D} (g : Task) (frames : Transmission) (n frame : ℕ)
+    → frame_at frames n ≡ frame
+    → IsWhole IsTold a p (reaching_marks g frames n) s.device.now s.passing
+    → t ≡ at_mark (Begins frame) s
+    → IsWhole IsTold a p (marks_of_arrival g frames n) t.device.now t.passing
+arrived g frames n frame at reached begins =
+    whole_two (ap (λ (f : ℕ). reaching_marks g frames n ++ Begins f ∷ []) at) reached
+    (whole_mark refl begins (silent_begins _ _))
+
+-- Its marks where its end comes at once, and where it does not. For `take_next`.
+pub next_each : (g : Task) (frames : Transmission) (n : ℕ) → g.within ≡ 0
+    → next_marks g frames n
+    ≡ marks_of_arrival g frames n ++ marks_of_packets g frames n ++ marks_of_ending g frames n
+next_each g frames n each =
+    let is_each : (g.within == 0) ≡ true = grind (arith, nat_tests) in
+    ap (λ (b : Bool). marks_of_arrival g frames n ++ marks_of_packets g frames n
+    ++ cond b (marks_of_ending g frames n) []) is_each
+
+pub next_within : (g : Task) (frames : Transmission) (n : ℕ) → 0 < g.within
+    → next_marks g frames n ≡ marks_of_arrival g frames n ++ marks_of_packets g frames n
+next_within g frames n within =
+    let not_each : (g.within == 0) ≡ false = grind (arith, nat_tests) in
+    ap (λ (b : Bool). marks_of_arrival g frames n ++ marks_of_packets g frames n
+    ++ cond b (marks_of_ending g frames n) []) not_each
+    ∙ append-nil (marks_of_arrival g frames n ++ marks_of_packets g frames n)
+
+-- ---- what is counted
+
+-- One piece more.
+pub few_later : (pes : ℕ) (n : Counts) → AreFew pes n → AreFew (pes + 1) n
+few_later pes n few =
+    let f = few.frames in
+    let h = few.headers in
+    let p = few.packets in
+    record { frames = omega arith; headers = omega arith; packets = omega arith }
+
+-- One PES packet more.
+pub few_more : (pes : ℕ) (old new : Counts) (headers frames packets : ℕ)
+    → AreFew pes old
+    → headers ≤ 255
+    → new.headers ≡ old.headers + headers
+    → new.frames ≤ old.frames + 1
+    → new.packets ≤ old.packets + 255
+    → AreFew (pes + 1) new
+few_more pes old new headers frames packets few small more one some =
+    let f = few.frames in
+    let h = few.headers in
+    let p = few.packets in
+    record { frames = omega arith; headers = omega arith; packets = omega arith }
+
+-- The way to its frame comes first, and then its packets.
+pub reached_part : (g : Task) (frames : Transmission) (n : ℕ)
+    → next_marks g frames n
+    ≡ reaching_marks g frames n
+    ++ (Begins (frame_at frames n) ∷ []
+    ++ (marks_of_packets g frames n ++ cond (g.within == 0) (marks_of_ending g frames n) []))
+reached_part g frames n =
+    let ends = cond (g.within == 0) (marks_of_ending g frames n) [] in
+    append_assoc (reaching_marks g frames n ++ Begins (frame_at frames n) ∷ [])
+    (marks_of_packets g frames n) ends
+    ∙ append_assoc (reaching_marks g frames n) (Begins (frame_at frames n) ∷ [])
+    (marks_of_packets g frames n ++ ends)
+
+-- What comes at the end of a frame, the events of the first one before the rest. For `end_sent`.
+abbrev pub ending_rest : Task → Transmission → ℕ → List Mark
+ending_rest g frames n =
+    marks_at_end g frames n (suc n) (frame_at frames n)
+    ++ Ends (frame_at frames n) (holds_header (kind g.watched.page) (packets_of_frame frames n))
+    (stands_none (standing_at g frames (suc n) (frame_at frames n))) ∷ []
+
+pub ending_part : (g : Task) (frames : Transmission) (n : ℕ)
+    → marks_of_ending g frames n
+    ≡ map Says (first_header_events g frames n) ++ ending_rest g frames n
+ending_part g frames n = append_assoc (map Says (first_header_events g frames n)) _ _
+
+-- ---- what was read
+
+-- What is counted of what is kept. For `finish`.
+pub counts_read : (g : Task) (sent : Transmission) (last : List (List ℕ)) (c : CheckerValue)
+    (a : Accepted)
+    → Keeps g sent last c
+    → AreCounted c a
+    → CountsRead g.watched.page sent a
+counts_read g sent last c a keeps counts = by c.counts.is_open refl
+  where
+    by : (b : Bool) → c.counts.is_open ≡ b → CountsRead g.watched.page sent a
+    by false shut =
+        let follows = keeps.closed shut in
+        record {
+          none = λ e. counts.none (follows.number ∙ e);
+          frames_are = λ l.
+              let some : 0 < c.counts.frames = omega (arith, l, follows.number) in
+              ap (λ (f : ℕ). a.frames + f) (sym (follows.begun l).first_is)
+              ∙ counts.frames_are some
+              ∙ ap (λ (f : ℕ). f + 1) (follows.latest_is l);
+          transmissions_are = counts.transmissions_are ∙ follows.known.count;
+        }
+    by true opened =
+        let some = keeps.some opened in
+        let heard = (keeps.opens opened).heard in
+        let all : suc (length sent - 1) ≡ length sent = omega (arith, some) in
+        let many : 0 < c.counts.frames = omega (arith, heard.number) in
+        record {
+          none = λ e. absurd (omega (arith, some, e));
+          frames_are = λ l.
+              ap (λ (f : ℕ). a.frames + f) (sym heard.begun.first_is)
+              ∙ counts.frames_are many
+              ∙ ap (λ (f : ℕ). f + 1) (heard.latest_is ∙ ap (latest sent) all);
+          transmissions_are =
+              counts.transmissions_are
+              ∙ heard.known.count
+              ∙ ap (λ (k : ℕ). header_count g.watched.page (packets_before sent k)) all;
+        }
+
+-- ---- the packets of another frame
+
+module _ (g : Task) (frames : Transmission) (n : ℕ) (last ps : List (List ℕ)) (c v : CheckerValue)
+    (arrives : Arrives g frames n last c) (there : n < length frames)
+    (are : packets_of_frame frames n ≡ ps) (hears : Hears (packets_before frames n) ps c v)
+  where
+    -- What is kept after them. For `take_next`.
+    pub next_heard : (e : CheckerValue)
+        → e ≡ record v { counts = record v.counts { frames = v.counts.frames + 1 } }
+        → Heard g frames n ps e
+    next_heard e is =
+        heard_here g frames n last ps c v arrives there are hears e
+        (is
+        ∙ ap (λ (w : CheckerValue). record w {
+          counts = record w.counts { frames = w.counts.frames + 1 };
+        }) hears.new_is
+        ∙ ap (λ (k : ℕ). let here : CheckerValue =
+        counted hears.headers (record c { listener = hears.listener }) in
+        record here { counts = record here.counts { frames = k } })
+        (omega (arith, arrives.waits.number)))
+
+    -- And where more of them may come.
+    pub next_keeps : (e : CheckerValue) (before k : ℕ)
+        → 0 < c.within
+        → length frames ≡ suc n
+        → e ≡ record v {
+          counts = record v.counts {
+            frames = v.counts.frames + 1;
+            headers_before = before;
+            packets = k;
+            is_open = true;
+          };
+        }
+        → before ≡ c.counts.headers
+        → k ≡ length ps
+        → Keeps g frames ps e
+    next_keeps e before k within long is was size =
+        let d : CheckerValue = record v {
+          counts = record v.counts { frames = v.counts.frames + 1 };
+        } in
+        Keeps-open g frames n ps e (ap (λ (w : CheckerValue). w.counts.is_open) is)
+        (rw (ap (λ (t : Task). t.within) arrives.waits.known.task_is) within) long
+        (record {
+          heard =
+              heard_counts g frames n ps d e _ is refl refl (next_heard d refl);
+          before =
+              ap (λ (w : CheckerValue). w.counts.headers_before) is
+              ∙ was
+              ∙ arrives.waits.known.count;
+          packets =
+              ap (λ (w : CheckerValue). w.counts.packets) is
+              ∙ size
+              ∙ ap length (sym are);
+        })
+
+    -- And later where it need not.
+    pub some_is : (v.within ≡ 0 → ⊥) → 0 < c.within
+    some_is not_each =
+        let same = ap (λ (w : CheckerValue). w.within) hears.new_is in
+        omega (arith, not_each, same)
+
+    -- The end comes at once where it has to.
+    pub each_is : v.within ≡ 0 → g.within ≡ 0
+    each_is e =
+        ap (λ (t : Task). t.within) arrives.waits.known.task_is
+        ∙ sym (ap (λ (w : CheckerValue). w.within) hears.new_is)
+        ∙ e
+
+-- The last end was that of all frames. For `end_open`.
+pub follows_all : {X E : Type 0} (r : Result X E) (g : Task) (sent : Transmission)
+    (last : List (List ℕ)) (c : CheckerValue)
+    → 0 < length sent
+    → OnOk r (Follows g sent (suc (length sent - 1)) last c)
+    → OnOk r (Follows g sent (length sent) last c)
+follows_all r g sent last c some follows =
+    subst (λ (k : ℕ). OnOk r (Follows g sent k last c)) (omega (arith, some)) follows

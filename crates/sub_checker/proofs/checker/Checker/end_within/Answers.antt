@@ -1,0 +1,56 @@
+-- Since when the page is not whole, and what changes is told: by EndingLemmas.
+use Rattle.std.proofs.Common.{refl}
+use Rattle.std.proofs.lemmas.Result.{err_from_is_err_and}
+use Rattle.sub_checker.proofs.EndingLemmas.{within_after, within_marks}
+use Rattle.sub_checker.proofs.PassingLemmas.{silent_at_end}
+use Rattle.sub_checker.proofs.StageLemmas.{Moves-at_end, Moves-marked, Moves-tells, ok_whole}
+use Rattle.sub_checker.proofs.StageLemmas.{passes_two, told_err, told_ok, whole_mark, whole_two}
+use Rattle.sub_checker.proofs.checker.Checker.end_within.Goals as goal
+
+pub returns-in_err-tell_change-clause-moves : goal.returns-in_err-tell_change-clause-moves
+returns-in_err-tell_change-clause-moves g c =
+    Moves-marked g.A.Audience.is_told g.A.Audience.has_stopped _ c.args.stage.now
+    c.at_end.new.self c.tell_change.new.audience c.at_end.ensures
+    (Moves-at_end g.A.Audience.is_told g.A.Audience.has_stopped c.args.stage.now
+    c.at_end.new.self _ _ _ c.at_end.ensures) c.requires.goes_on
+    (Moves-tells g.A.Audience.is_told g.A.Audience.has_stopped c.at_end.new.self
+    c.tell_change.new.audience c.in_err-tell_change.ensures.told.2)
+
+pub returns-clause-moves : goal.returns-clause-moves
+returns-clause-moves g c =
+    Moves-marked g.A.Audience.is_told g.A.Audience.has_stopped _ c.args.stage.now
+    c.at_end.new.self c.tell_change.new.audience c.at_end.ensures
+    (Moves-at_end g.A.Audience.is_told g.A.Audience.has_stopped c.args.stage.now
+    c.at_end.new.self _ _ _ c.at_end.ensures) c.requires.goes_on
+    (Moves-tells g.A.Audience.is_told g.A.Audience.has_stopped c.at_end.new.self
+    c.tell_change.new.audience c.in_ok-tell_change.ensures.told)
+
+pub returns-in_err-tell_change-clause-told : goal.returns-in_err-tell_change-clause-told
+returns-in_err-tell_change-clause-told g c = λ heard knows.
+    let p = err_from_is_err_and c.from_residual.result c.from_residual.ensures.1 in
+    let end = c.end_now-end.ensures in
+    rw p.1
+    (passes_two
+    (within_marks heard _ c.args.self.now _ _ _ c.self.view_is c.requires.within
+    (end.standing heard knows) (end.since heard knows) (end.late heard knows))
+    (whole_mark refl c.at_end.ensures (silent_at_end _ _ _ _))
+    (told_err g.A.Audience.is_told g.A.Audience.has_stopped c.at_end.new.self
+    c.tell_change.new.audience _ refl c.in_err-tell_change.ensures.told))
+
+pub returns-clause-told : goal.returns-clause-told
+returns-clause-told g c = λ heard knows.
+    let end = c.end_now-end.ensures in
+    ok_whole refl
+    (whole_two
+    (within_marks heard _ c.args.self.now _ _ _ c.self.view_is c.requires.within
+    (end.standing heard knows) (end.since heard knows) (end.late heard knows))
+    (whole_mark refl c.at_end.ensures (silent_at_end _ _ _ _))
+    (told_ok g.A.Audience.is_told g.A.Audience.has_stopped c.at_end.new.self
+    c.tell_change.new.audience _ refl c.in_ok-tell_change.ensures.stopped
+    c.in_ok-tell_change.ensures.told))
+
+pub returns-clause-ended : goal.returns-clause-ended
+returns-clause-ended g c = λ heard knows.
+    let end = c.end_now-end.ensures in
+    within_after heard _ c.args.self.now _ _ c.self.view_is c.requires.within
+    (end.standing heard knows) (end.since heard knows)

@@ -1,0 +1,115 @@
+//! What is told after the last frame.
+ghost use Rattle.std.specs.Prelude.{◌≡◌, ℕ, List, false, is_err, length, not};
+ghost use Rattle.sub_io.specs.Telling.{TellsSome, TellsUntilStopped};
+ghost use Rattle.sub_rules.specs.Events.{closing_events, is_short};
+ghost use Rattle.sub_rules.specs.FrameRules.{Task};
+ghost use Rattle.sub_rules.specs.Transmission.{Transmission};
+ghost use Rattle.sub_rules.specs.Trusted.{tells_none};
+ghost use Rattle.sub_checker.specs.Checker.{is_pending_now};
+ghost use Rattle.sub_checker.specs.Following.{Follows};
+ghost use Rattle.sub_checker.specs.Steps.{ending_fault, fault_events, last_fault};
+
+use crate::checker::Checker;
+use crate::standing::StandingRules;
+use sub_io::{Audience, Stopped};
+use sub_rules::{CheckFault, Event};
+
+impl<'a> Checker<'a> {
+    /// What is told after the end of the last frame, where this fault ended reading, if one did:
+    /// what stands broken has ended, and then the last fault.
+    ///
+    /// # Errors
+    ///
+    /// `Stopped` where the audience said stop.
+    #[tactic(auto, using(sub_io::proofs::TellingLemmas::some))]
+    pub fn close<A: Audience<Event>>(
+        &self,
+        fault: Option<CheckFault>,
+        audience: &mut A,
+    ) -> Result<(), Stopped>
+        requires goes_on { A.has_stopped audience.old ≡ false }
+        ensures stopped { A.has_stopped audience.new ≡ is_err result }
+        ensures some { TellsSome A.is_told audience.old audience.new }
+        ensures told { (g : Task) (frames : Transmission) (last : List (List ℕ))
+            → Follows g frames (length frames) last self.now
+            → fault ≡ ending_fault (length frames) g.unread
+            → TellsUntilStopped A.is_told audience.old audience.new
+            (closing_events g frames (length frames)) result }
+    {
+        let last = self.last_fault(fault);
+        if self.counts.frames == 0 {
+            return tell_fault(last, audience);
+        }
+        let none = StandingRules::none();
+        self.standing
+            .tell_change(self.last, &none, self.last, audience)?;
+        tell_fault(last, audience)
+    }
+
+    /// Whether anything is told after the end of the last frame, where this fault ended reading, if
+    /// one did.
+    pub fn tells_last(&self, fault: Option<CheckFault>) -> bool
+        ensures { (g : Task) (frames : Transmission) (last : List (List ℕ))
+            → Follows g frames (length frames) last self.now
+            → fault ≡ ending_fault (length frames) g.unread
+            → result ≡ not (tells_none (closing_events g frames (length frames))) }
+    {
+        let is_told = self.last_fault(fault).is_some();
+        is_told || !self.standing.has_none()
+    }
+
+    // The fault that is told last, where this one ended reading, if one did.
+    fn last_fault(&self, fault: Option<CheckFault>) -> Option<CheckFault>
+        ensures { result ≡ last_fault fault self.now }
+    {
+        if fault.is_some() {
+            return fault;
+        }
+        if self.counts.frames == 0 {
+            return Some(CheckFault::Empty);
+        }
+        if is_short(self.programme.last_out(), self.last) || self.is_pending() {
+            Some(CheckFault::Late { frame: self.last })
+        } else {
+            None
+        }
+    }
+
+    // The page is not whole at the last end, and that is not late: it may be whole in a frame that
+    // does not come.
+    fn is_pending(&self) -> bool
+        ensures { result ≡ is_pending_now self.now }
+    {
+        self.within > 0 && self.since.is_some() && !self.is_overdue(self.since, self.last)
+    }
+}
+
+/// Tells a fault, if there is one.
+///
+/// # Errors
+///
+/// `Stopped` where the audience said stop.
+pub(crate) fn tell_fault<A: Audience<Event>>(
+    fault: Option<CheckFault>,
+    audience: &mut A,
+) -> Result<(), Stopped>
+    requires goes_on { A.has_stopped audience.old ≡ false }
+    ensures stopped { A.has_stopped audience.new ≡ is_err result }
+    ensures told { TellsUntilStopped A.is_told audience.old audience.new
+        (fault_events fault) result }
+{
+    match fault {
+        Some(fault) => audience.tell(Event::Told(fault)),
+        None => Ok(()),
+    }
+}
+
+// The last TCO is after the frame.
+fn is_short(last_out: Option<u32>, frame: u32) -> bool
+    ensures { result ≡ is_short last_out frame }
+{
+    match last_out {
+        Some(last) => frame < last,
+        None => false,
+    }
+}

@@ -1,0 +1,315 @@
+//! The end of a frame: what stands broken there, and what is told of it.
+ghost use Rattle.std.specs.Prelude.{◌≡◌, ◌==◌, ◌&&◌, ℕ, suc, ◌+◌, ◌<◌, List, OnOk, IsTrue, None};
+ghost use Rattle.std.specs.Prelude.{false, is_err, length, nat_le, not, true};
+ghost use Rattle.stl_file.specs.TimeCode.{day};
+ghost use Rattle.sub_checker.specs.Checker.{after_end, end_marks, none_stands, quiet_end, stands};
+ghost use Rattle.sub_checker.specs.Checker.{AreFew, is_overdue_at, late_now, since_now};
+ghost use Rattle.sub_checker.specs.Following.{Follows, Heard, Keeps, quiet_stage};
+ghost use Rattle.sub_checker.specs.Passing.{Moves, PassesOn};
+ghost use Rattle.sub_packets.specs.Listener.{Knows};
+ghost use Rattle.sub_rules.specs.Events.{undue_after, wrong_after};
+ghost use Rattle.sub_rules.specs.FrameRules.{Task, packets_before};
+ghost use Rattle.sub_rules.specs.PacketRules.{header_count};
+ghost use Rattle.sub_rules.specs.PieceEvents.{marks_of_ending, marks_of_waiting};
+ghost use Rattle.sub_rules.specs.Transmission.{Transmission};
+ghost use Rattle.sub_plan.specs.Schedule.{due_in};
+
+use crate::checker::Checker;
+use crate::late_end::{is_overdue, unfinished_from};
+use crate::passing::Stage;
+use crate::standing::StandingRules;
+use sub_io::{Audience, Stopped};
+use sub_packets::tell_if;
+use sub_rules::{CheckFault, Event};
+
+/// What is found at an end, where the page need not be whole at each.
+#[derive(Drop)]
+pub(crate) struct EndWithin {
+    /// What stands broken.
+    pub standing: StandingRules,
+    /// The first of the frames up to this end at whose ends the page is not whole.
+    pub since: Option<u32>,
+    /// The page had to be whole by now.
+    pub is_late: bool,
+}
+
+impl<'a> Checker<'a> {
+    // Whether it is known by a few comparisons that nothing stood broken at the last end, and that
+    // nothing does at the frame that was reached: so it is most often.
+    #[inline(always)]
+    #[tactic(auto, using(crate::proofs::EndingLemmas::quiet_stands))]
+    fn is_quiet(&self) -> bool
+        ensures { (heard : List (List ℕ)) → Knows heard self.now.listener → IsTrue result
+            → (self.now.standing ≡ none_stands) × (stands heard self.now ≡ none_stands)
+            × (since_now heard self.now ≡ None) }
+    {
+        if !self.standing.has_none() {
+            return false;
+        }
+        if !self.listener.is_known_right() {
+            return false;
+        }
+        self.frame + 1 < self.late_at && !self.listener.is_incomplete()
+    }
+
+    // What stands broken at the frame that was reached, where the page has to be whole at the end
+    // of each.
+    fn standing_now(&self) -> StandingRules
+        requires each { self.now.within ≡ 0 }
+        ensures { (heard : List (List ℕ)) → Knows heard self.now.listener
+            → result ≡ stands heard self.now }
+    {
+        let content = self.listener.first_wrong();
+        let gap = self.has_gap();
+        let incomplete = self.listener.is_incomplete();
+        StandingRules {
+            content,
+            gap,
+            incomplete,
+        }
+    }
+
+    // Whether a header of the page is too long ago at the end of the frame that was reached.
+    #[inline(always)]
+    fn has_gap(&self) -> bool
+        ensures { result ≡ nat_le self.now.late_at (self.now.frame + 1) }
+    {
+        self.late_at <= self.frame + 1
+    }
+
+    // What is found at the end of the frame that was reached, where the page need not be whole at
+    // each: a cell may show what was due within these frames, until it is late.
+    fn end_now(&self) -> EndWithin
+        requires within { 0 < self.now.within }
+        ensures standing { (heard : List (List ℕ)) → Knows heard self.now.listener
+            → result.standing ≡ stands heard self.now }
+        ensures since { (heard : List (List ℕ)) → Knows heard self.now.listener
+            → result.since ≡ since_now heard self.now }
+        ensures late { (heard : List (List ℕ)) → Knows heard self.now.listener
+            → result.is_late ≡ late_now heard self.now }
+    {
+        let differing = self.listener.first_wrong();
+        let is_open = self.listener.is_incomplete();
+        let since = unfinished_from(self.since, differing.is_some() || is_open, self.frame);
+        let is_late = self.is_overdue(since, self.frame);
+        let content = if is_late {
+            differing
+        } else {
+            self.first_undue(differing)
+        };
+        let gap = self.has_gap();
+        let standing = StandingRules {
+            content,
+            gap,
+            incomplete: is_late && is_open,
+        };
+        EndWithin {
+            standing,
+            since,
+            is_late,
+        }
+    }
+
+    // The first cell that shows a code that was not due within these frames, by the first one that
+    // shows another than is due now: where there is none, nor is there one of the former.
+    fn first_undue(&self, differing: Option<(u8, u8)>) -> Option<(u8, u8)>
+        ensures { (heard : List (List ℕ)) → Knows heard self.now.listener
+            → differing ≡ wrong_after self.now.listener.watched.page heard
+            self.now.listener.comparison.due
+            → result ≡ undue_after self.now.listener.watched.page heard (due_in self.now.programme)
+            self.now.first self.now.frame self.now.within }
+    {
+        let frame = self.frame;
+        if differing.is_none() {
+            return None;
+        }
+        self.listener
+            .first_undue(self.programme, self.first, frame, self.within)
+    }
+
+    /// Whether the page had to be whole by the end of a frame, where it is not since another one.
+    pub fn is_overdue(&self, since: Option<u32>, frame: u32) -> bool
+        requires day { frame < day }
+        ensures { result
+            ≡ is_overdue_at self.now.programme self.now.within self.now.first since frame }
+    {
+        is_overdue(self.programme, self.within, self.first, since, frame)
+    }
+
+    // The end of the frame that was reached, where nothing stood broken and nothing does.
+    #[inline(always)]
+    fn end_quietly<A: Audience<Event>>(&mut self, stage: &mut Stage<'_, A>)
+        ensures kept { self.new ≡ quiet_end self.old }
+        ensures stage { stage.new ≡ quiet_stage self.old stage.old }
+    {
+        self.last = self.frame;
+        if self.within > 0 {
+            self.since = None;
+            stage.at_end(self.frame, None, false);
+        }
+    }
+
+    // The end of the frame that was reached, where the page has to be whole at the end of each:
+    // what changes of what stands broken is told.
+    #[inline(always)]
+    fn end_at_once<A: Audience<Event>>(&mut self, stage: &mut Stage<'_, A>) -> Result<(), Stopped>
+        requires goes_on { A.has_stopped stage.old.device.now ≡ false }
+        requires each { self.old.within ≡ 0 }
+        ensures stopped { A.has_stopped stage.new.device.now ≡ is_err result }
+        ensures moves { Moves A.is_told A.has_stopped stage.old stage.new }
+        ensures counts { self.new.counts ≡ self.old.counts }
+        ensures latest { self.new.latest ≡ self.old.latest }
+        ensures told { (heard : List (List ℕ)) → Knows heard self.old.listener
+            → PassesOn A.is_told stage.old (end_marks heard self.old) stage.new result }
+        ensures ended { (heard : List (List ℕ)) → Knows heard self.old.listener
+            → OnOk result (self.new ≡ after_end heard self.old) }
+    {
+        let frame = self.frame;
+        let standing = self.standing_now();
+        self.standing
+            .tell_change(self.last, &standing, frame, stage)?;
+        self.standing = standing;
+        self.last = frame;
+        Ok(())
+    }
+
+    // The same, where it need not be whole at each.
+    #[inline(never)]
+    fn end_within<A: Audience<Event>>(&mut self, stage: &mut Stage<'_, A>) -> Result<(), Stopped>
+        requires goes_on { A.has_stopped stage.old.device.now ≡ false }
+        requires within { 0 < self.old.within }
+        ensures stopped { A.has_stopped stage.new.device.now ≡ is_err result }
+        ensures moves { Moves A.is_told A.has_stopped stage.old stage.new }
+        ensures counts { self.new.counts ≡ self.old.counts }
+        ensures latest { self.new.latest ≡ self.old.latest }
+        ensures told { (heard : List (List ℕ)) → Knows heard self.old.listener
+            → PassesOn A.is_told stage.old (end_marks heard self.old) stage.new result }
+        ensures ended { (heard : List (List ℕ)) → Knows heard self.old.listener
+            → OnOk result (self.new ≡ after_end heard self.old) }
+    {
+        let frame = self.frame;
+        let end = self.end_now();
+        stage.at_end(frame, end.since, end.is_late);
+        self.standing
+            .tell_change(self.last, &end.standing, frame, stage)?;
+        self.standing = end.standing;
+        self.since = end.since;
+        self.last = frame;
+        Ok(())
+    }
+
+    /// The end of the frame that was reached: what changes of what stands broken is told.
+    ///
+    /// # Errors
+    ///
+    /// `Stopped` where the device said stop.
+    #[inline(always)]
+    pub fn end_of_frame<A: Audience<Event>>(
+        &mut self,
+        stage: &mut Stage<'_, A>,
+    ) -> Result<(), Stopped>
+        requires goes_on { A.has_stopped stage.old.device.now ≡ false }
+        ensures stopped { A.has_stopped stage.new.device.now ≡ is_err result }
+        ensures moves { Moves A.is_told A.has_stopped stage.old stage.new }
+        ensures counts { self.new.counts ≡ self.old.counts }
+        ensures latest { self.new.latest ≡ self.old.latest }
+        ensures due { self.old.listener.comparison.due ≡ due_in self.old.programme self.old.frame }
+        ensures told { (heard : List (List ℕ)) → Knows heard self.old.listener
+            → PassesOn A.is_told stage.old (end_marks heard self.old) stage.new result }
+        ensures ended { (heard : List (List ℕ)) → Knows heard self.old.listener
+            → OnOk result (self.new ≡ after_end heard self.old) }
+    {
+        if self.is_quiet() {
+            self.end_quietly(stage);
+            return Ok(());
+        }
+        if self.within == 0 {
+            self.end_at_once(stage)
+        } else {
+            self.end_within(stage)
+        }
+    }
+
+    /// The end of the frame of the PES packets that were heard last: that the first one has a
+    /// header of the page, and what stands broken.
+    ///
+    /// # Errors
+    ///
+    /// `Stopped` where the device said stop.
+    #[inline(always)]
+    pub fn end_sent<A: Audience<Event>>(
+        &mut self,
+        headers_before: u64,
+        stage: &mut Stage<'_, A>,
+    ) -> Result<(), Stopped>
+        requires goes_on { A.has_stopped stage.old.device.now ≡ false }
+        ensures stopped { A.has_stopped stage.new.device.now ≡ is_err result }
+        ensures moves { Moves A.is_told A.has_stopped stage.old stage.new }
+        ensures counts { self.new.counts ≡ self.old.counts }
+        ensures told { (g : Task) (frames : Transmission) (n : ℕ) (last : List (List ℕ))
+            → Heard g frames n last self.old → n < length frames
+            → headers_before ≡ header_count g.watched.page (packets_before frames n)
+            → PassesOn A.is_told stage.old (marks_of_ending g frames n) stage.new result
+            × OnOk result (Follows g frames (suc n) last self.new) }
+    {
+        let has_header = headers_before < self.counts.headers;
+        let is_told = lacks_first(self.counts.frames, has_header);
+        let fault = CheckFault::NoFirstHeader { frame: self.frame };
+        tell_if(is_told, Event::Told(fault), stage)?;
+        self.end_of_frame(stage)?;
+        stage.end_frame(self.frame, has_header, self.standing.has_none());
+        Ok(())
+    }
+
+    /// The end of the last frame, where it is still to come.
+    ///
+    /// # Errors
+    ///
+    /// `Stopped` where the device said stop.
+    #[inline(always)]
+    pub fn end_waiting<A: Audience<Event>>(
+        &mut self,
+        stage: &mut Stage<'_, A>,
+    ) -> Result<(), Stopped>
+        requires goes_on { A.has_stopped stage.old.device.now ≡ false }
+        ensures stopped { A.has_stopped stage.new.device.now ≡ is_err result }
+        ensures moves { Moves A.is_told A.has_stopped stage.old stage.new }
+        ensures closed { self.new.counts.is_open ≡ false }
+        ensures few { (pes : ℕ) → AreFew pes self.old.counts → AreFew pes self.new.counts }
+        ensures told { (g : Task) (sent : Transmission) (last : List (List ℕ))
+            → Keeps g sent last self.old
+            → PassesOn A.is_told stage.old (marks_of_waiting g sent) stage.new result
+            × OnOk result (Follows g sent (length sent) last self.new) }
+    {
+        if !self.counts.is_open {
+            return Ok(());
+        }
+        self.end_open(stage)
+    }
+
+    // The end of the last frame, where it is still to come.
+    #[inline(never)]
+    fn end_open<A: Audience<Event>>(&mut self, stage: &mut Stage<'_, A>) -> Result<(), Stopped>
+        requires goes_on { A.has_stopped stage.old.device.now ≡ false }
+        requires opened { self.old.counts.is_open ≡ true }
+        ensures stopped { A.has_stopped stage.new.device.now ≡ is_err result }
+        ensures moves { Moves A.is_told A.has_stopped stage.old stage.new }
+        ensures closed { self.new.counts.is_open ≡ false }
+        ensures few { (pes : ℕ) → AreFew pes self.old.counts → AreFew pes self.new.counts }
+        ensures told { (g : Task) (sent : Transmission) (last : List (List ℕ))
+            → Keeps g sent last self.old
+            → PassesOn A.is_told stage.old (marks_of_waiting g sent) stage.new result
+            × OnOk result (Follows g sent (length sent) last self.new) }
+    {
+        self.counts.is_open = false;
+        let headers_before = self.counts.headers_before;
+        self.end_sent(headers_before, stage)
+    }
+}
+
+// The first frame has no header of the page.
+fn lacks_first(frames: u32, has_header: bool) -> bool
+    ensures { result ≡ (frames == 1 && not has_header) }
+{
+    frames == 1 && !has_header
+}

@@ -1,0 +1,175 @@
+//! A PES packet that is sent: the way to its frame, its packets, and the end of its frame.
+ghost use Rattle.std.specs.Prelude.{◌≡◌, ℕ, suc, ◌+◌, ◌<◌, ◌≤◌, ◌==◌, ◌&&◌, List, OnOk, map};
+ghost use Rattle.std.specs.Prelude.{false, is_err, length, true};
+ghost use Rattle.stl_file.specs.TimeCode.{day};
+ghost use Rattle.ttx_pes.specs.PesPacket.{most_units};
+ghost use Rattle.ttx_pes.specs.Reading.{most_packets};
+ghost use Rattle.sub_packets.specs.Listener.{KnowsLast};
+ghost use Rattle.sub_rules.specs.Events.{packets_told};
+ghost use Rattle.sub_rules.specs.FrameRules.{Task};
+ghost use Rattle.sub_rules.specs.PacketRules.{packets_of_units};
+ghost use Rattle.sub_rules.specs.PieceEvents.{marks_of_more, marks_of_sent};
+ghost use Rattle.sub_rules.specs.Pieces.{sent_after, with_packets};
+ghost use Rattle.sub_rules.specs.Sendings.{IsSentFrame};
+ghost use Rattle.sub_rules.specs.Transmission.{Transmission};
+ghost use Rattle.sub_rules.specs.Trusted.Mark.{Says};
+ghost use Rattle.sub_checker.specs.Checker.{AreFew, Hears, sent_as, with_headers};
+ghost use Rattle.sub_checker.specs.Following.{Follows, Keeps, next_marks};
+ghost use Rattle.sub_checker.specs.Passing.{Moves, PassesOn};
+
+use crate::checker::Checker;
+use crate::passing::Stage;
+use sub_io::{Audience, Stopped};
+use sub_rules::{Event, Sending};
+use ttx_pes::SentUnits;
+
+impl<'a> Checker<'a> {
+    /// A PES packet: its number, what is sent, and its units. The end of its frame comes at once
+    /// where the page has to be whole at the end of each; else where a PES packet of another frame
+    /// does, or none.
+    ///
+    /// # Errors
+    ///
+    /// `Stopped` where the device said stop. What is kept is then of no use.
+    pub fn go_on<A: Audience<Event>>(
+        &mut self,
+        pes: u32,
+        sending: Sending,
+        units: &SentUnits<'_>,
+        stage: &mut Stage<'_, A>,
+    ) -> Result<(), Stopped>
+        requires goes_on { A.has_stopped stage.old.device.now ≡ false }
+        requires few { length units.now ≤ most_units }
+        requires day { sending.frame < day }
+        requires fewer { pes ≤ most_packets }
+        requires room { AreFew pes self.old.counts }
+        ensures stopped { A.has_stopped stage.new.device.now ≡ is_err result }
+        ensures moves { Moves A.is_told A.has_stopped stage.old stage.new }
+        ensures room { OnOk result (AreFew (pes + 1) self.new.counts) }
+        ensures told { (g : Task) (sent : Transmission) (last : List (List ℕ))
+            → Keeps g sent last self.old
+            → (sending.again ≡ true → last ≡ packets_of_units units.now)
+            → PassesOn A.is_told stage.old
+            (marks_of_sent g sent pes (sent_as sending units.now)) stage.new result
+            × OnOk result (Keeps g (sent_after g.within sent (sent_as sending units.now))
+            (packets_of_units units.now) self.new) }
+    {
+        if self.goes_on(sending.frame) {
+            stage.go_to(pes);
+            return self.take_more(pes, sending.again, units, stage);
+        }
+        self.end_waiting(stage)?;
+        stage.go_to(pes);
+        self.take_next(pes, sending, units, stage)
+    }
+
+    // Whether a PES packet of a frame goes on with the last one.
+    #[inline(always)]
+    fn goes_on(&self, frame: u32) -> bool
+        ensures { result ≡ (self.now.counts.is_open && frame == self.now.frame) }
+    {
+        self.counts.is_open && frame == self.frame
+    }
+
+    // A PES packet of another frame than that of the one before it.
+    fn take_next<A: Audience<Event>>(
+        &mut self,
+        pes: u32,
+        sending: Sending,
+        units: &SentUnits<'_>,
+        stage: &mut Stage<'_, A>,
+    ) -> Result<(), Stopped>
+        requires goes_on { A.has_stopped stage.old.device.now ≡ false }
+        requires few { length units.now ≤ most_units }
+        requires day { sending.frame < day }
+        requires fewer { pes ≤ most_packets }
+        requires room { AreFew pes self.old.counts }
+        requires closed { self.old.counts.is_open ≡ false }
+        ensures stopped { A.has_stopped stage.new.device.now ≡ is_err result }
+        ensures moves { Moves A.is_told A.has_stopped stage.old stage.new }
+        ensures room { OnOk result (AreFew (pes + 1) self.new.counts) }
+        ensures told { (g : Task) (frames : Transmission) (n : ℕ) (last : List (List ℕ))
+            → Follows g frames n last self.old
+            → length frames ≡ suc n
+            → IsSentFrame frames n sending.frame (packets_of_units units.now)
+            → (sending.again ≡ true → last ≡ packets_of_units units.now)
+            → PassesOn A.is_told stage.old (next_marks g frames n) stage.new result
+            × OnOk result (Keeps g frames (packets_of_units units.now) self.new) }
+    {
+        self.reach(sending.frame, stage)?;
+        stage.begin_frame(sending.frame);
+        let headers_before = self.counts.headers;
+        self.hear(sending.again, 0, units, stage)?;
+        self.counts.frames += 1;
+        if self.within == 0 {
+            return self.end_sent(headers_before, stage);
+        }
+        self.counts.headers_before = headers_before;
+        self.counts.packets = units.len() as u32;
+        self.counts.is_open = true;
+        Ok(())
+    }
+
+    // More packets of the frame that was reached.
+    #[inline(never)]
+    fn take_more<A: Audience<Event>>(
+        &mut self,
+        pes: u32,
+        again: bool,
+        units: &SentUnits<'_>,
+        stage: &mut Stage<'_, A>,
+    ) -> Result<(), Stopped>
+        requires goes_on { A.has_stopped stage.old.device.now ≡ false }
+        requires few { length units.now ≤ most_units }
+        requires fewer { pes ≤ most_packets }
+        requires room { AreFew pes self.old.counts }
+        requires opened { self.old.counts.is_open ≡ true }
+        ensures stopped { A.has_stopped stage.new.device.now ≡ is_err result }
+        ensures moves { Moves A.is_told A.has_stopped stage.old stage.new }
+        ensures room { OnOk result (AreFew (pes + 1) self.new.counts) }
+        ensures told { (g : Task) (sent : Transmission) (last : List (List ℕ))
+            → Keeps g sent last self.old
+            → (again ≡ true → last ≡ packets_of_units units.now)
+            → PassesOn A.is_told stage.old (marks_of_more g sent (packets_of_units units.now))
+            stage.new result
+            × OnOk result (Keeps g (with_packets (packets_of_units units.now) sent)
+            (packets_of_units units.now) self.new) }
+    {
+        let from = self.counts.packets;
+        self.hear(again, from, units, stage)?;
+        self.counts.packets += units.len() as u32;
+        Ok(())
+    }
+
+    // Packets of the frame that was reached, the first of them this one of it.
+    #[inline(always)]
+    fn hear<A: Audience<Event>>(
+        &mut self,
+        again: bool,
+        from: u32,
+        units: &SentUnits<'_>,
+        stage: &mut Stage<'_, A>,
+    ) -> Result<(), Stopped>
+        requires goes_on { A.has_stopped stage.old.device.now ≡ false }
+        requires few { length units.now ≤ most_units }
+        requires room { self.old.counts.headers < 0xFFFF_FFFF_FF00 }
+        requires from { from + most_units ≤ u32.MAX }
+        ensures stopped { A.has_stopped stage.new.device.now ≡ is_err result }
+        ensures moves { Moves A.is_told A.has_stopped stage.old stage.new }
+        ensures counts { OnOk result ((headers : ℕ) × (headers ≤ 255)
+            × (self.new.counts ≡ with_headers headers self.old.counts)) }
+        ensures told { (heard last : List (List ℕ))
+            → KnowsLast heard last self.old.listener
+            → (again ≡ true → last ≡ packets_of_units units.now)
+            → PassesOn A.is_told stage.old
+            (map Says (packets_told self.old.listener.watched self.old.frame from heard
+            (packets_of_units units.now) (length (packets_of_units units.now)))) stage.new result
+            × OnOk result (Hears heard (packets_of_units units.now) self.old self.new) }
+    {
+        let headers = self
+            .listener
+            .hear_sending(units, again, self.frame, from, stage)?;
+        self.count(headers);
+        Ok(())
+    }
+}
