@@ -11,14 +11,15 @@ use Rattle.std.proofs.KnownBytes.{Appends-trans}
 use Rattle.sub_io.proofs.DeviceLemmas.{AppendsPrefix-first, AppendsPrefix-second}
 use Rattle.sub_io.specs.Device.{AppendsPrefix, RisesIf, failed}
 use Rattle.stl_rows.specs.EveryFault.{faults, load_fault}
+use Rattle.stl_rows.specs.Loading.{loaded}
 use Rattle.stl_rows.specs.Programme.{ProgrammeValue}
 use Rattle.stl_rows.proofs.LoadingLaw.{none_of_loaded}
 use Rattle.stl_rows.specs.declared.fault.LoadFaultKind.TheVariants as load
 use Rattle.stl_rows.specs.declared.national.National.{National}
 use Rattle.sub_plan.specs.Options.{OptionsValue}
-use Rattle.sub_check.specs.CheckedFiles.{IsChecked, answer_by}
+use Rattle.sub_check.specs.CheckedFiles.{answer_by, first_answer}
 use Rattle.sub_rules.specs.Events.{first_told}
-use Rattle.sub_check.proofs.FirstFaultLemmas.{first_of_rule}
+use Rattle.sub_check.proofs.RuleToldLemmas.{first_of_rule}
 use Rattle.sub_check.proofs.FirstToldLemmas.{of_rule}
 use Rattle.sub_rules.specs.declared.event.Event.TheVariants.{Ended, PassedUntil, Told, Trusted}
 use Rattle.sub_rules.specs.Fault.{is_failure, is_pes_read, is_stl_read}
@@ -27,7 +28,6 @@ use Rattle.sub_rules.specs.declared.event.Event.{Event}
 use Rattle.sub_rules.specs.declared.fault.CheckFault.{CheckFault}
 use Rattle.sub_rules.specs.declared.fault.CheckFault.TheVariants as fault
 use Rattle.sub_listing.specs.DeviceCall.{Counts, SinkCall, SourceCall}
-use Rattle.sub_answer.specs.BothFiles.{IsAccepted}
 use Rattle.sub_answer.specs.EveryFault.{AnswersAll, AreListed, CanEnd}
 use Rattle.sub_answer.specs.EveryFault.{IsVerdict, TellsBoth}
 use Rattle.sub_answer.specs.FaultListing.{all_listing, last_listing}
@@ -39,8 +39,8 @@ use Rattle.sub_listing.specs.Told.{line_of, status_of}
 use Rattle.sub_listing.specs.declared.status.Status.{Status}
 use Rattle.sub_listing.specs.declared.status.Status.TheVariants.{Done, Fault, Refused}
 use Rattle.sub_listing.proofs.PrintingLemmas.{printed-status}
-use Rattle.sub_answer.proofs.BothFilesLemmas.{accepted-ok, good-accepted, pes-fails}
-use Rattle.sub_answer.proofs.BothFilesLemmas.{status-told, stl-fails}
+use Rattle.sub_answer.proofs.BothFilesLemmas.{Exactly, exactly-accepted, exactly-accepted_within}
+use Rattle.sub_answer.proofs.BothFilesLemmas.{pes-fails, status-told, stl-fails}
 
 -- A sink in a call, by what it had taken and has taken.
 abbrev sink : Option (List ℕ) → ℕ → Option (List ℕ) → ℕ → SinkCall
@@ -131,43 +131,46 @@ memory-alone old new events answer block ended memory text =
 -- Where nothing failed, the last line says that the files are accepted exactly where they are.
 done-exactly :
     (national : National) (options : OptionsValue) (file bytes : List ℕ) (pes : Option (List ℕ))
-    (events : List Event) (answer : Result (Option Accepted) CheckFault)
+    (events : List Event) (answer : Result (Option Accepted) CheckFault) (Means : Type 0)
     → pes ≡ Some bytes
     → (all_listing events answer).status ≢ Fault
     → IfErr answer (CanEnd events)
     → AreListed national options file pes events answer
-    → IsVerdict national options file bytes events answer
-    → ((all_listing events answer).status ≡ Done) ↔ IsAccepted national options file bytes
-done-exactly national options file bytes pes events (Err f) known runs ended are verdict =
+    → ((a : Accepted) → answer ≡ Ok (Some a)
+    → Exactly national file (first_answer events a) Means)
+    → (Means → (programme : ProgrammeValue) × (loaded national file ≡ Ok programme))
+    → ((all_listing events answer).status ≡ Done) ↔ Means
+done-exactly national options file bytes pes events (Err f) Means known runs ended are exact loads =
     absurd (runs (ap (λ b. status_of (kind_by b)) ended.fails))
-done-exactly national options file bytes pes events (Ok None) known runs ended are verdict = (
-  λ done. cc,
-  λ is.
-      let none : events ≡ [] =
-      are.0 ∙ ap subtitle_events (none_of_loaded national file is.programme is.loads) in
-      let some : 0 < 0 = rw none at are.1 in
-      absurd (omega (arith, some)),
-)
-done-exactly national options file bytes pes events (Ok (Some a)) known runs ended are verdict =
-    rw (read-status events a)
-    (go (first_told events) refl (verdict are.programme are.loads))
+done-exactly national options file bytes pes events (Ok None) Means known runs ended are exact
+    loads = (
+      λ done. cc,
+      λ is.
+          let given = loads is in
+          let none : events ≡ [] =
+          are.0 ∙ ap subtitle_events (none_of_loaded national file given.0 given.1) in
+          let some : 0 < 0 = rw none at are.1 in
+          absurd (omega (arith, some)),
+    )
+done-exactly national options file bytes pes events (Ok (Some a)) Means known runs ended are exact
+    loads =
+    rw (read-status events a) (go (first_told events) refl (exact a refl))
   where
     go : (o : Option CheckFault) → first_told events ≡ o
-        → IsChecked are.programme options bytes (answer_by o a)
-        → (by_first o ≡ Done) ↔ IsAccepted national options file bytes
-    go None is checked = (
-      λ done. good-accepted national options file bytes are.programme a are.loads checked,
+        → Exactly national file (answer_by o a) Means
+        → (by_first o ≡ Done) ↔ Means
+    go None is exactly = (
+      λ done. (exactly.exactly are.programme are.loads refl refl).0 refl,
       λ is. refl,
     )
-    go (Some f) is checked = (
+    go (Some f) is exactly = (
       λ done. cc,
       λ accepted.
           let own =
           of_rule f (first_of_rule are.programme options bytes f
           (ap first_told (sym (are.listed bytes known).0) ∙ is)) in
           let ok =
-          accepted-ok national options file bytes are.programme (Err f) are.loads checked
-          own.no_subtitle own.no_source accepted in
+          (exactly.exactly are.programme are.loads own.no_subtitle own.no_source).1 accepted in
           cc,
     )
 
@@ -192,7 +195,8 @@ answers_cut national options stl pes Untouched old new given t failing = record 
   listed = t.listed;
   checked = λ other. absurd (other refl);
   ends = record {
-    done = λ file heard bytes known other. absurd (other refl);
+    done = λ none file heard bytes known other. absurd (other refl);
+    done_within = λ file heard bytes known other. absurd (other refl);
     fault = λ is stl_same pes_same out_same.
         let risen = t.prints.cut_count failing in absurd (omega (arith, risen, out_same));
   };
@@ -233,9 +237,20 @@ answers_end national options stl pes Untouched old new given end end_count statu
       checked = λ other. t.checked holds;
       ends = status-told national options stl pes (sink old.contents old.count end end_count)
           (all_listing t.events t.answer) status t.answer printed t.sources
+          (λ none runs file heard bytes known.
+          done-exactly national options file bytes pes.told t.events t.answer _ known runs t.ended
+          (t.listed file heard)
+          (λ a is.
+          exactly-accepted national options file bytes (first_answer t.events a)
+          (λ p loads. ((rw is at (t.checked holds file heard bytes known)) p loads).1 none))
+          (λ is. (is.programme, is.loads)))
           (λ runs file heard bytes known.
-          done-exactly national options file bytes pes.told t.events t.answer known runs t.ended
-          (t.listed file heard) (t.checked holds file heard bytes known))
+          done-exactly national options file bytes pes.told t.events t.answer _ known runs t.ended
+          (t.listed file heard)
+          (λ a is.
+          exactly-accepted_within national options file bytes (first_answer t.events a)
+          (λ p loads. ((rw is at (t.checked holds file heard bytes known)) p loads).0))
+          (λ is. (is.programme, is.loads)))
           (answer-fails t.events t.answer t.ended)
           (λ block memory text. (
             block,

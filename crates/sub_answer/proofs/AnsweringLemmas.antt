@@ -22,12 +22,13 @@ use Rattle.sub_checker.specs.declared.telling.Accepted.{Accepted}
 use Rattle.sub_rules.specs.declared.fault.CheckFault.{CheckFault}
 use Rattle.sub_rules.specs.declared.fault.CheckFault.TheVariants as fault
 use Rattle.sub_answer.specs.Answering.{AnswersCheck, verdict}
-use Rattle.sub_answer.specs.BothFiles.{IsAccepted, TellsSources}
+use Rattle.sub_answer.specs.BothFiles.{TellsSources}
 use Rattle.sub_listing.specs.DeviceCall.{SinkCall, SourceCall}
 use Rattle.sub_listing.specs.Listing.{PrintsOrFails}
 use Rattle.sub_listing.specs.declared.status.Status.{Status}
 use Rattle.sub_listing.specs.declared.status.Status.TheVariants.{Done, Fault}
-use Rattle.sub_answer.proofs.BothFilesLemmas.{accepted-ok, good-accepted, status-told}
+use Rattle.sub_answer.proofs.BothFilesLemmas.{Exactly, exactly-accepted, exactly-accepted_within}
+use Rattle.sub_answer.proofs.BothFilesLemmas.{status-told}
 use Rattle.sub_answer.proofs.BothFilesLemmas.{told-fails, told-not_done, told-runs}
 
 -- A file whose PES file was looked at gives a programme. For `done-exactly`.
@@ -75,26 +76,21 @@ looked-at national file programme f is told runs = (refl, runs)
 -- The status is that of what is done exactly where the files are accepted.
 done-exactly :
     (national : National) (options : OptionsValue) (file bytes : List ℕ)
-    (answer : Result Accepted CheckFault)
+    (answer : Result Accepted CheckFault) (Means : Type 0)
     → AreChecked national options file (Some bytes) answer
+    → Exactly national file answer Means
     → (verdict answer).status ≢ Fault
-    → ((verdict answer).status ≡ Done) ↔ IsAccepted national options file bytes
-done-exactly national options file bytes (Ok a) are other =
-    let given = has_programme national file (Ok a) are.refused refl in (
-      λ done.
-          good-accepted national options file bytes given.0 a given.1
-          (are.checked given.0 given.1 bytes refl),
-      λ is. refl,
-    )
-done-exactly national options file bytes (Err f) are other = (
+    → ((verdict answer).status ≡ Done) ↔ Means
+done-exactly national options file bytes (Ok a) Means are exact other =
+    let given = has_programme national file (Ok a) are.refused refl in
+    (λ done. (exact.exactly given.0 given.1 refl refl).0 refl, λ is. refl)
+done-exactly national options file bytes (Err f) Means are exact other = (
   λ done. absurd (told-not_done (is_failure f) done),
   λ is.
+      let given = exact.loads is in
       let looked =
-      looked-at national file is.programme f is.loads are.subtitles
-      (told-runs (is_failure f) other) in
-      let ok =
-      accepted-ok national options file bytes is.programme (Err f) is.loads
-      (are.checked is.programme is.loads bytes refl) looked.0 looked.1 is in
+      looked-at national file given.0 f given.1 are.subtitles (told-runs (is_failure f) other) in
+      let ok = (exact.exactly given.0 given.1 looked.0 looked.1).1 is in
       cc,
 )
 
@@ -121,8 +117,16 @@ as_answered national options stl pes Untouched out status answer printed sources
   sources = sources;
   checked = checked;
   ends = status-told national options stl pes out (verdict answer) status answer printed sources
+      (λ none other file told bytes heard.
+      let are = rw heard at (checked file told) in
+      done-exactly national options file bytes answer _ are
+      (exactly-accepted national options file bytes answer
+      (λ p loads. are.checked p loads none bytes refl)) other)
       (λ other file told bytes heard.
-      done-exactly national options file bytes answer (rw heard at (checked file told)) other)
+      let are = rw heard at (checked file told) in
+      done-exactly national options file bytes answer _ are
+      (exactly-accepted_within national options file bytes answer
+      (λ p loads. are.within p loads bytes refl)) other)
       (answer-fails answer)
       (λ block memory line. (
         block,

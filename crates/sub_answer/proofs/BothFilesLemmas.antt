@@ -1,5 +1,5 @@
 -- What the status of a check tells of both files, by the listing that goes with it. Main lemmas:
--- status-told, good-accepted, accepted-ok.
+-- status-told, exactly-accepted, exactly-accepted_within.
 use Rattle.std.proofs.Common.{◌≡◌, ◌≢◌, ◌↔◌, ◌∙◌, ap, arith, refl, sym, subst, ℕ, List, Bool, true}
 use Rattle.std.proofs.Common.{false, Result, Ok, Err}
 use Rattle.std.specs.Prelude.{⊤, IsOk}
@@ -23,7 +23,7 @@ use Rattle.sub_rules.specs.Fault.{is_subtitle_fault}
 use Rattle.sub_rules.specs.declared.fault.CheckFault.{CheckFault}
 use Rattle.sub_rules.specs.declared.fault.CheckFault.TheVariants as fault
 use Rattle.sub_checker.specs.declared.telling.Accepted.{Accepted}
-use Rattle.sub_check.specs.CheckedFiles.{IsChecked}
+use Rattle.sub_check.specs.CheckedFiles.{IsChecked, IsCheckedWithin}
 use Rattle.sub_listing.specs.DeviceCall.{SinkCall, SourceCall}
 use Rattle.sub_listing.specs.Faults.{kind_by}
 use Rattle.sub_listing.specs.Listing.{Listing, PrintsOrFails}
@@ -32,7 +32,7 @@ use Rattle.sub_listing.specs.Writing.{PrintsMemory}
 use Rattle.sub_listing.specs.declared.status.Status.{Status}
 use Rattle.sub_listing.specs.declared.status.Status.TheVariants.{Done, Fault}
 use Rattle.sub_listing.proofs.PrintingLemmas.{did_not_rise, printed-status, printed-whole}
-use Rattle.sub_answer.specs.BothFiles.{IsAccepted, TellsSources, TellsStatus}
+use Rattle.sub_answer.specs.BothFiles.{IsAccepted, IsAcceptedWithin, TellsSources, TellsStatus}
 
 -- ---- what is told of a fault, and its status
 
@@ -82,15 +82,18 @@ memory-fault (Err f) fails read fine = cc
 
 -- ---- what is accepted
 
--- A programme with a good transmission.
+-- A programme with a good transmission; or with one that is good within the frames of the options.
 pub good-accepted :
     (national : National) (options : OptionsValue) (file bytes : List ℕ)
-    (programme : ProgrammeValue) (a : Accepted)
+    (programme : ProgrammeValue) (answer : Result Accepted CheckFault)
     → loaded national file ≡ Ok programme
-    → IsChecked programme options bytes (Ok a)
+    → IsChecked programme options bytes answer
+    → failed is_subtitle_fault answer ≡ false
+    → failed is_pes_read answer ≡ false
+    → IsOk answer
     → IsAccepted national options file bytes
-good-accepted national options file bytes programme a loads checked =
-    let good = (checked.accepted refl refl).0 refl in
+good-accepted national options file bytes programme answer loads checked looked fine ok =
+    let good = (checked.accepted looked fine).0 ok in
     record {
       programme = programme;
       frames = good.0;
@@ -98,6 +101,25 @@ good-accepted national options file bytes programme a loads checked =
       carries = good.1;
       good = good.2;
       complete = good.3;
+    }
+
+pub good-accepted_within :
+    (national : National) (options : OptionsValue) (file bytes : List ℕ)
+    (programme : ProgrammeValue) (answer : Result Accepted CheckFault)
+    → loaded national file ≡ Ok programme
+    → IsCheckedWithin programme options bytes answer
+    → failed is_subtitle_fault answer ≡ false
+    → failed is_pes_read answer ≡ false
+    → IsOk answer
+    → IsAcceptedWithin national options file bytes
+good-accepted_within national options file bytes programme answer loads checked looked fine ok =
+    let good = (checked.accepted looked fine).0 ok in
+    record {
+      programme = programme;
+      frames = good.0;
+      loads = loads;
+      carries = good.1;
+      good = good.2;
     }
 
 -- No rule refuses it.
@@ -115,6 +137,63 @@ accepted-ok national options file bytes programme answer loads checked looked fi
     ((subst (λ (p : ProgrammeValue). IsChecked p options bytes answer) one checked).accepted
     looked fine).1 (is.frames, is.carries, is.good, is.complete)
 
+pub accepted-ok_within :
+    (national : National) (options : OptionsValue) (file bytes : List ℕ)
+    (programme : ProgrammeValue) (answer : Result Accepted CheckFault)
+    → loaded national file ≡ Ok programme
+    → IsCheckedWithin programme options bytes answer
+    → failed is_subtitle_fault answer ≡ false
+    → failed is_pes_read answer ≡ false
+    → IsAcceptedWithin national options file bytes
+    → IsOk answer
+accepted-ok_within national options file bytes programme answer loads checked looked fine is =
+    let one : programme ≡ is.programme = let both = sym loads ∙ is.loads in cc in
+    ((subst (λ (p : ProgrammeValue). IsCheckedWithin p options bytes answer) one checked).accepted
+    looked fine).1 (is.frames, is.carries, is.good)
+
+-- Where the subtitle file gives a programme, an answer that failed at no device is accepted exactly
+-- where the files are: in these words.
+pub record Exactly
+    (national : National) (file : List ℕ) (answer : Result Accepted CheckFault) (Means : Type 0)
+    : Type 0 where
+  pub exactly :
+      (programme : ProgrammeValue)
+      → loaded national file ≡ Ok programme
+      → failed is_subtitle_fault answer ≡ false
+      → failed is_pes_read answer ≡ false
+      → IsOk answer ↔ Means
+  pub loads : Means → (programme : ProgrammeValue) × (loaded national file ≡ Ok programme)
+
+pub exactly-accepted :
+    (national : National) (options : OptionsValue) (file bytes : List ℕ)
+    (answer : Result Accepted CheckFault)
+    → ((programme : ProgrammeValue)
+    → loaded national file ≡ Ok programme
+    → IsChecked programme options bytes answer)
+    → Exactly national file answer (IsAccepted national options file bytes)
+exactly-accepted national options file bytes answer checked = record {
+  exactly = λ p loads looked fine. (
+    good-accepted national options file bytes p answer loads (checked p loads) looked fine,
+    accepted-ok national options file bytes p answer loads (checked p loads) looked fine,
+  );
+  loads = λ is. (is.programme, is.loads);
+}
+
+pub exactly-accepted_within :
+    (national : National) (options : OptionsValue) (file bytes : List ℕ)
+    (answer : Result Accepted CheckFault)
+    → ((programme : ProgrammeValue)
+    → loaded national file ≡ Ok programme
+    → IsCheckedWithin programme options bytes answer)
+    → Exactly national file answer (IsAcceptedWithin national options file bytes)
+exactly-accepted_within national options file bytes answer checked = record {
+  exactly = λ p loads looked fine. (
+    good-accepted_within national options file bytes p answer loads (checked p loads) looked fine,
+    accepted-ok_within national options file bytes p answer loads (checked p loads) looked fine,
+  );
+  loads = λ is. (is.programme, is.loads);
+}
+
 -- The status that was printed with a listing, by what that tells of the files.
 pub status-told :
     {Counts : Type 0} {AtBlock AtPes : ℕ → Type 0} {Untouched : Type 0} {is_of_subtitles : Bool}
@@ -122,21 +201,30 @@ pub status-told :
     (listing : Listing) (status : Status) (answer : Result Counts CheckFault)
     → PrintsOrFails out listing status
     → TellsSources AtBlock AtPes Untouched is_of_subtitles stl pes answer
-    → (listing.status ≢ Fault
+    → (options.within ≡ 0
+    → listing.status ≢ Fault
     → IfTold stl.told (λ file.
     IfTold pes.told (λ bytes.
     (listing.status ≡ Done) ↔ IsAccepted national options file bytes)))
+    → (listing.status ≢ Fault
+    → IfTold stl.told (λ file.
+    IfTold pes.told (λ bytes.
+    (listing.status ≡ Done) ↔ IsAcceptedWithin national options file bytes)))
     → (listing.status ≡ Fault → failed is_failure answer ≡ true)
     → ((block : ℕ)
     → answer ≡ Err (fault.Subtitles (load_fault block load.Memory))
     → Appends out.old out.new listing.text
     → PrintsMemory national stl.told out.old out.new)
     → TellsStatus national options stl pes out status
-status-told national options stl pes out listing status answer printed sources done fails memory =
+status-told national options stl pes out listing status answer printed sources done done_within
+    fails memory =
     record {
-      done = λ file told bytes heard other.
+      done = λ none file told bytes heard other.
           let is = printed-status out listing status printed other in
-          rw is (done (λ failing. other (is ∙ failing)) file told bytes heard);
+          rw is (done none (λ failing. other (is ∙ failing)) file told bytes heard);
+      done_within = λ file told bytes heard other.
+          let is = printed-status out listing status printed other in
+          rw is (done_within (λ failing. other (is ∙ failing)) file told bytes heard);
       fault = λ is stl_same pes_same out_same.
           let whole = printed-whole out listing status printed out_same in
           let wanted =

@@ -22,8 +22,9 @@ use Rattle.stl_rows.specs.declared.fault.LoadFault.{LoadFault}
 use Rattle.stl_rows.specs.declared.fault.LoadFaultKind.{LoadFaultKind}
 use Rattle.stl_rows.specs.declared.fault.LoadFaultKind.TheVariants as load
 use Rattle.stl_rows.specs.declared.national.National.{National}
+use Rattle.sub_plan.specs.FrameTime.{clock_of}
 use Rattle.sub_plan.specs.Options.{OptionsValue}
-use Rattle.sub_check.specs.CheckedFiles.{IsChecked, TellsEvents, all_events_of}
+use Rattle.sub_check.specs.CheckedFiles.{IsChecked, IsCheckedWithin, TellsEvents, all_events_of}
 use Rattle.sub_check.specs.CheckedFiles.{events_of_first_pieces, first_answer, frames_read}
 use Rattle.sub_checker.specs.Telling.{CountsRead}
 use Rattle.sub_rules.specs.Events.{latest}
@@ -40,7 +41,8 @@ use Rattle.sub_listing.specs.DeviceCall.{SourceCall}
 use Rattle.sub_listing.specs.Faults.{check_told}
 use Rattle.sub_listing.specs.LastLine.{HoldsLastLine, PutsLine}
 use Rattle.sub_listing.specs.Told.{line_of}
-use Rattle.sub_answer.specs.EveryFault.{AreListedBefore, CanEnd, FailsAtBlock, TellsBoth}
+use Rattle.sub_answer.specs.EveryFault.{AreListedBefore, CanEnd, FailsAtBlock, IsAnswer}
+use Rattle.sub_answer.specs.EveryFault.{TellsBoth}
 use Rattle.sub_listing.specs.EventLines.{most_counted, refusals, subtitle_event, subtitle_events}
 use Rattle.sub_listing.specs.Printer.{PrinterValue, PrintsEvent, PrintsEvents}
 use Rattle.sub_listing.proofs.PrinterLemmas.{as_told, prints-taken, prints_all}
@@ -269,6 +271,22 @@ read_at : (f : CheckFault)
 read_at (fault.Pes n pes_fault.Read) is = (n, refl)
 read_at f is = cc
 
+-- What `check_all` answers within frames, and where the page has to be whole at once. For
+-- `tell_every_fault`.
+pub both_answers : (programme : ProgrammeValue) (options : OptionsValue) (pes : Option (List ℕ))
+    (r : Result (Option Accepted) CheckFault)
+    → IfTold pes (λ bytes. IfOk r (λ counts. IfSome counts (λ a. IsCheckedWithin programme options
+    bytes (first_answer (all_events_of programme options bytes) a))))
+    → (options.within ≡ 0
+    → IfTold pes (λ bytes. IfOk r (λ counts. IfSome counts (λ a. IsChecked programme options
+    bytes (first_answer (all_events_of programme options bytes) a)))))
+    → IfTold pes (λ bytes. IfOk r (λ counts. IfSome counts (λ a. IsAnswer programme options
+    bytes (first_answer (all_events_of programme options bytes) a))))
+both_answers programme options pes (Ok (Some a)) within at_once bytes heard =
+    (within bytes heard, λ none. at_once none bytes heard)
+both_answers programme options pes (Ok None) within at_once bytes heard = tt
+both_answers programme options pes (Err f) within at_once bytes heard = tt
+
 module _ {D : Type 0} (IsTold : D → Event → D → Type 0) (value : D → PrinterValue)
     (one : (s t : D) (x : Event) → IsTold s x t → PrintsEvent (value s) x (value t))
     (national : National) (options : OptionsValue) (stl pes : SourceCall) (Untouched : Type 0)
@@ -308,12 +326,12 @@ module _ {D : Type 0} (IsTold : D → Event → D → Type 0) (value : D → Pri
           subst (λ (m : ℕ). Tells IsTold old new
           (events_of_first_pieces programme options bytes m)) at here.3) in
           let are : IfTold pes.told (λ bytes.
-          (n ≤ length (piece_file_of options.origin bytes).pieces)
+          (n ≤ length (piece_file_of (clock_of options) bytes).pieces)
           × (events.0 ≡ events_of_first_pieces programme options bytes n)) =
           λ bytes heard.
           let here = told bytes heard in
           let at : here.0 ≡ n = let e = here.2 in cc in (
-            subst (λ (m : ℕ). m ≤ length (piece_file_of options.origin bytes).pieces) at here.1,
+            subst (λ (m : ℕ). m ≤ length (piece_file_of (clock_of options) bytes).pieces) at here.1,
             events.2 bytes heard,
           ) in
           record {
@@ -343,7 +361,7 @@ module _ {D : Type 0} (IsTold : D → Event → D → Type 0) (value : D → Pri
       → IfTold pes.told (λ bytes. (items ≡ all_events_of programme options bytes)
       × CountsRead options.page (frames_read options bytes) a)
       → ((value new).failed ≡ false
-      → IfTold pes.told (λ bytes. IsChecked programme options bytes (first_answer items a)))
+      → IfTold pes.told (λ bytes. IsAnswer programme options bytes (first_answer items a)))
       → TellsBoth national options stl pes Untouched (value old) (value new) given
   read_pes items a given prints same count are verdict = record {
     events = items;
@@ -362,7 +380,7 @@ module _ {D : Type 0} (IsTold : D → Event → D → Type 0) (value : D → Pri
     checked = λ holds file heard bytes known other is.
         let here = loads file heard in
         let one : programme ≡ other = cc in
-        subst (λ (p : ProgrammeValue). IsChecked p options bytes (first_answer items a)) one
+        subst (λ (p : ProgrammeValue). IsAnswer p options bytes (first_answer items a)) one
         (verdict holds bytes known);
     listed = λ file told. record { programme = programme; loads = loads file told; listed = are };
   }
@@ -372,7 +390,7 @@ module _ {D : Type 0} (IsTold : D → Event → D → Type 0) (value : D → Pri
       → TellsSome IsTold old new
       → IfTold pes.told (λ bytes. TellsEvents programme options bytes IsTold old new
       (Ok (Some given)))
-      → IfTold pes.told (λ bytes. IsChecked programme options bytes
+      → IfTold pes.told (λ bytes. IsAnswer programme options bytes
       (first_answer (all_events_of programme options bytes) given))
       → RisesIf pes.old_count false pes.new_count
       → TellsBoth national options stl pes Untouched (value old) (value new) (Ok (Some given))
@@ -418,7 +436,7 @@ module _ {D : Type 0} (IsTold : D → Event → D → Type 0) (value : D → Pri
       → ((value new).failed ≡ false → (value new).count ≡ (value old).count → stopped ≡ false)
       → TellsSome IsTold old new
       → IfTold pes.told (λ bytes. TellsEvents programme options bytes IsTold old new r)
-      → IfTold pes.told (λ bytes. IfOk r (λ counts. IfSome counts (λ a. IsChecked programme options
+      → IfTold pes.told (λ bytes. IfOk r (λ counts. IfSome counts (λ a. IsAnswer programme options
       bytes (first_answer (all_events_of programme options bytes) a))))
       → IfOk r (λ counts. stopped ≡ is_none counts)
       → IfErr r (λ f. stopped ≡ false)

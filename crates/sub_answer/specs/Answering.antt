@@ -5,6 +5,7 @@ use Rattle.sub_io.specs.Reading.{IfTold}
 use Rattle.ttx_pes.specs.Reader.{FailsAtPacket}
 use Rattle.stl_rows.specs.Loading.{FailsLoading}
 use Rattle.stl_rows.specs.declared.national.National.{National}
+use Rattle.sub_plan.specs.FrameTime.{clock_of}
 use Rattle.sub_plan.specs.Options.{OptionsValue}
 use Rattle.sub_check.specs.CheckedFiles.{AreChecked}
 use Rattle.sub_rules.specs.Fault.{is_subtitle_fault}
@@ -64,7 +65,9 @@ pub record AnswersCheck
   -- Where the files tell their bytes, these decide it. What is accepted is robust, with lost rows
   -- too: every receiver shows each due page within the repeat bound, but for cells whose byte was
   -- hit. By it receivers recover from whatever they held before, and where complete pages are asked
-  -- for, it is on their screens. A subtitle file that gives no programme is refused.
+  -- for, it is on their screens. Where frames are allowed within which the page has to be whole,
+  -- each due page is shown so at the end of one of them. A subtitle file that gives no programme is
+  -- refused.
   pub checked : IfTold stl.told (λ file. AreChecked national options file pes.told answer)
   pub ends : TellsStatus national options stl pes out status
 
@@ -76,7 +79,7 @@ pub record AnswersListen
   pub exact :
       (frames : Transmission) (unread : Option Unread)
       → IfTold pes.told (λ bytes.
-      ReadsAs listening.options.origin 0 bytes frames unread
+      ReadsAs (clock_of listening.options) 0 bytes frames unread
       → pes.new_count ≡ pes.old_count
       → (listing : Listing)
       × Listens leaves listening frames unread pes.told pes.left listing

@@ -8,10 +8,12 @@ use Rattle.stl_rows.specs.Loading.{loaded}
 use Rattle.stl_rows.specs.Programme.{ProgrammeValue}
 use Rattle.stl_rows.specs.declared.fault.LoadFault.{LoadFault}
 use Rattle.stl_rows.specs.declared.national.National.{National}
+use Rattle.sub_plan.specs.FrameTime.{clock_of}
 use Rattle.sub_plan.specs.Options.{OptionsValue}
 use Rattle.sub_rules.specs.Fault.{is_pes_read, is_stl_read}
 use Rattle.sub_rules.specs.Good.{Good}
-use Rattle.sub_rules.specs.PesFrames.{Carries}
+use Rattle.sub_rules.specs.GoodWithin.{GoodWithin}
+use Rattle.sub_rules.specs.PesFrames.{Carries, CarriesBy}
 use Rattle.sub_rules.specs.Transmission.{Transmission}
 use Rattle.sub_rules.specs.declared.fault.CheckFault.{CheckFault}
 use Rattle.sub_rules.specs.declared.fault.CheckFault.TheVariants.{Pes, Subtitles}
@@ -21,8 +23,9 @@ use Rattle.sub_listing.specs.Writing.{PrintsMemory}
 use Rattle.sub_listing.specs.declared.status.Status.{Status}
 use Rattle.sub_listing.specs.declared.status.Status.TheVariants.{Done, Fault}
 
--- The files are accepted: the subtitle file gives a programme, and the PES file carries a
--- transmission that is good for it, of complete pages where these are asked for.
+-- The files are accepted, where the page has to be whole at the end of each frame: the subtitle
+-- file gives a programme, and the PES file carries a transmission that is good for it, of complete
+-- pages where these are asked for.
 pub record IsAccepted
     (national : National) (options : OptionsValue) (file bytes : List ℕ) : Type 0 where
   pub programme : ProgrammeValue
@@ -31,6 +34,16 @@ pub record IsAccepted
   pub carries : Carries options.origin bytes frames
   pub good : Good programme frames options
   pub complete : IsTrue options.asks_complete → Complete frames options
+
+-- They are accepted within as many frames as the options give: the transmission is good within
+-- these.
+pub record IsAcceptedWithin
+    (national : National) (options : OptionsValue) (file bytes : List ℕ) : Type 0 where
+  pub programme : ProgrammeValue
+  pub frames : Transmission
+  pub loads : loaded national file ≡ Ok programme
+  pub carries : CarriesBy (clock_of options) options.within bytes frames
+  pub good : GoodWithin programme frames options
 
 -- What an answer tells of the sources of both files, by what it means that one of them failed at
 -- this block or at this PES packet.
@@ -55,10 +68,16 @@ pub record TellsStatus
     : Type 0 where
   -- Failing devices and want of memory aside, it is `Done` exactly where the files are accepted.
   pub done :
-      IfTold stl.told (λ file.
+      options.within ≡ 0
+      → IfTold stl.told (λ file.
       IfTold pes.told (λ bytes.
       status ≢ Fault
       → (status ≡ Done) ↔ IsAccepted national options file bytes))
+  pub done_within :
+      IfTold stl.told (λ file.
+      IfTold pes.told (λ bytes.
+      status ≢ Fault
+      → (status ≡ Done) ↔ IsAcceptedWithin national options file bytes))
   -- It is `Fault` only where a device failed, or want of memory is printed.
   pub fault :
       status ≡ Fault

@@ -13,9 +13,10 @@ use Rattle.stl_rows.specs.declared.fault.LoadFaultKind.{LoadFaultKind}
 use Rattle.stl_rows.specs.declared.fault.LoadFaultKind.TheVariants.{File, Memory}
 use Rattle.stl_rows.specs.declared.national.National.{National}
 use Rattle.stl_file.specs.declared.fault.StlFault.TheVariants as stl_fault
+use Rattle.sub_plan.specs.FrameTime.{clock_of}
 use Rattle.sub_plan.specs.Options.{OptionsValue}
-use Rattle.sub_check.specs.CheckedFiles.{IsChecked, all_events_of, events_of_first_pieces}
-use Rattle.sub_check.specs.CheckedFiles.{first_answer, frames_read}
+use Rattle.sub_check.specs.CheckedFiles.{IsChecked, IsCheckedWithin, all_events_of}
+use Rattle.sub_check.specs.CheckedFiles.{events_of_first_pieces, first_answer, frames_read}
 use Rattle.sub_checker.specs.Telling.{CountsRead}
 use Rattle.sub_rules.specs.Fault.{is_failure, is_pes_read, is_stl_read, is_subtitle_fault}
 use Rattle.sub_rules.specs.Pieces.{FailsAtPiece, piece_file_of}
@@ -56,7 +57,7 @@ AreListedOfPes programme options bytes events (Ok a) =
     (events ≡ all_events_of programme options bytes)
     × CountsRead options.page (frames_read options bytes) a
 AreListedOfPes programme options bytes events (Err n) =
-    (n ≤ length (piece_file_of options.origin bytes).pieces)
+    (n ≤ length (piece_file_of (clock_of options) bytes).pieces)
     × (events ≡ events_of_first_pieces programme options bytes n)
 
 -- What is listed of both files, where the subtitle file gives a programme.
@@ -89,6 +90,14 @@ pub record FailsAtBlock (told left : Option (List ℕ)) (block : ℕ) : Type 0 w
   pub consumed : Consumes told left bytes
   pub block_is : block ≡ block_of_byte (length bytes)
 
+-- The answer is that of `check` for the bytes of a PES file, within as many frames as the options
+-- give; where these are none, in the words of the seven rules too.
+abbrev pub IsAnswer :
+    ProgrammeValue → OptionsValue → List ℕ → Result Accepted CheckFault → Type 0
+IsAnswer programme options bytes answer =
+    IsCheckedWithin programme options bytes answer
+    × (options.within ≡ 0 → IsChecked programme options bytes answer)
+
 -- Where both files were read, the answer of `check`, which the first event decides, is one of the
 -- bytes: what is accepted is good and robust.
 abbrev pub IsVerdict :
@@ -97,7 +106,7 @@ abbrev pub IsVerdict :
 IsVerdict national options file bytes events (Ok (Some a)) =
     (programme : ProgrammeValue)
     → loaded national file ≡ Ok programme
-    → IsChecked programme options bytes (first_answer events a)
+    → IsAnswer programme options bytes (first_answer events a)
 IsVerdict national options file bytes events answer = ⊤
 
 -- What can end the listing before its end: that a source failed; or want of memory, before any

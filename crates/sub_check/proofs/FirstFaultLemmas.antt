@@ -14,53 +14,46 @@ use Rattle.ttx_pes.specs.PesPacket.{IsPesPacket, IsPesValue, PesValue, canonical
 use Rattle.ttx_pes.specs.PesPacket.{empty_value}
 use Rattle.ttx_pes.specs.Reader.{FailsAtPacket}
 use Rattle.ttx_pes.proofs.PesPacketLemmas.{canonical_is_packet}
+use Rattle.sub_plan.specs.FrameTime.{clock_of}
 use Rattle.sub_plan.specs.Options.{OptionsValue, IsOptions}
-use Rattle.sub_check.specs.CheckedFiles.{IsChecked, all_events_of, answer_by}
-use Rattle.sub_check.specs.CheckedFiles.{events_of_first_pieces}
-use Rattle.sub_check.specs.FirstTold.{KeepsFirstFault, is_of_rule}
+use Rattle.sub_check.specs.CheckedFiles.{all_events_of, events_of_first_pieces}
+use Rattle.sub_check.specs.FirstTold.{KeepsFirstFault}
 use Rattle.sub_checker.specs.PieceTelling.{TellsPieces}
 use Rattle.sub_rules.specs.Events.{first_told}
 use Rattle.sub_rules.specs.FrameRules.{Unread, task_of}
 use Rattle.sub_rules.specs.Pieces.{FailsAtPiece, Piece, ReadsPieces, frames_of, piece_file_of}
 use Rattle.sub_checker.specs.declared.telling.Accepted.{Accepted}
 use Rattle.sub_rules.specs.declared.fault.CheckFault.{CheckFault}
-use Rattle.sub_check.proofs.FirstToldLemmas.{first_named, kept_is, of_rule}
-use Rattle.sub_check.proofs.ReadOnLemmas.{all_are_sent, first_of_front, first_of_pieces}
-use Rattle.sub_check.proofs.ReadOnLemmas.{first_of_taken}
+use Rattle.sub_check.proofs.FirstToldLemmas.{kept_is}
+use Rattle.sub_check.proofs.ReadOnLemmas.{all_are_sent, first_of_taken}
+use Rattle.sub_check.proofs.RuleToldLemmas.{first_of_rule, front_of_rule}
 use Rattle.sub_rules.specs.Fault.{is_pes_read}
 use Rattle.ttx_pes.specs.declared.fault.PesFault.TheVariants as Pes
 use Rattle.sub_rules.specs.declared.fault.CheckFault.TheVariants as fault
-use Rattle.sub_check.proofs.VerdictLemmas.{checked_first, checked_from, refused_first}
+use Rattle.sub_check.proofs.VerdictLemmas.{IsAnswered, accepted_none, answered, refused_first}
 
 -- The bytes are read as pieces, and a device that keeps the first fault was told of them.
 abbrev TellsFirst : ProgrammeValue → OptionsValue → List ℕ → Option CheckFault → Option CheckFault
     → Result (Option Accepted) CheckFault → Type 0
 TellsFirst programme options bytes empty kept r =
     (pieces : List Piece) (unread : Option Unread)
-    → ReadsPieces options.origin 0 bytes pieces unread
-    → TellsPieces (task_of programme options unread) options.origin bytes pieces KeepsFirstFault
+    → ReadsPieces (clock_of options) 0 bytes pieces unread
+    → TellsPieces (task_of programme options unread) (clock_of options) bytes pieces KeepsFirstFault
     empty kept r
 
 module _ (programme : ProgrammeValue) (options : OptionsValue) (bytes : List ℕ) where
-  -- What is told first of the pieces is of a rule. Also for `sub_answer`.
-  pub first_of_rule : (f : CheckFault)
-      → first_told (all_events_of programme options bytes) ≡ Some f
-      → is_of_rule f ≡ true
-  first_of_rule f is =
-      grind (arith, nat_tests, first_named, first_of_pieces)
-
   -- The source failed, and the device had kept nothing: no refusal is told of the pieces before.
   none_before : (empty kept : Option CheckFault) (f : CheckFault) (pes : ℕ)
       → empty ≡ None
       → is_some kept ≡ false
       → TellsFirst programme options bytes empty kept (Err f)
       → f ≡ fault.Pes pes Pes.Read
-      → (pes ≤ length (piece_file_of options.origin bytes).pieces)
+      → (pes ≤ length (piece_file_of (clock_of options) bytes).pieces)
       × (first_told (events_of_first_pieces programme options bytes pes) ≡ None)
   none_before (Some x) kept f pes e quiet told failed = cc
   none_before None (Some x) f pes e quiet told failed = cc
   none_before None None f pes e quiet told failed =
-      let file = piece_file_of options.origin bytes in
+      let file = piece_file_of (clock_of options) bytes in
       let (n, l, is, first) = told file.pieces file.unread refl in
       let same : fault.Pes n Pes.Read ≡ fault.Pes pes Pes.Read = sym is ∙ failed in
       let at : n ≡ pes = cc in
@@ -68,7 +61,7 @@ module _ (programme : ProgrammeValue) (options : OptionsValue) (bytes : List ℕ
       × (first_told (events_of_first_pieces programme options bytes m) ≡ None)) at (
         l,
         kept_is None (events_of_first_pieces programme options bytes n)
-            (λ g h. first_of_rule g (first_of_front programme options bytes n g h)) first.in_turn,
+            (λ g h. front_of_rule programme options bytes n g h) first.in_turn,
       )
 
   module _ (fine : IsOptions options) (p : IsProgramme programme.national programme.records) where
@@ -77,31 +70,32 @@ module _ (programme : ProgrammeValue) (options : OptionsValue) (bytes : List ℕ
         → empty ≡ None
         → is_some kept ≡ false
         → TellsFirst programme options bytes empty kept (Ok (Some a))
-        → IsChecked programme options bytes (Ok a)
+        → IsAnswered programme options bytes (Ok a)
     nothing_kept (Some x) kept a e quiet told = cc
     nothing_kept None (Some x) a e quiet told = cc
     nothing_kept None None a e quiet told =
-        let file = piece_file_of options.origin bytes in
-        subst (λ o. IsChecked programme options bytes (answer_by o a))
-        (kept_is None (all_events_of programme options bytes) first_of_rule
-        (told file.pieces file.unread refl).0.in_turn)
-        (checked_first programme options bytes KeepsFirstFault None None (Ok (Some a)) fine p told)
+        let file = piece_file_of (clock_of options) bytes in
+        let all = told file.pieces file.unread refl in
+        accepted_none programme options fine p bytes a all.1
+        (kept_is None (all_events_of programme options bytes)
+        (first_of_rule programme options bytes) all.0.in_turn)
 
     -- It kept a fault. For `check`.
     pub fault_kept : (empty kept : Option CheckFault) (f : CheckFault)
         → empty ≡ None
         → kept ≡ Some f
         → TellsFirst programme options bytes empty kept (Ok None)
-        → IsChecked programme options bytes (Err f)
+        → IsAnswered programme options bytes (Err f)
     fault_kept (Some x) kept f e is told = cc
     fault_kept None kept f e is told =
-        let file = piece_file_of options.origin bytes in
+        let file = piece_file_of (clock_of options) bytes in
         let all = all_events_of programme options bytes in
         let (n, l, part) = told file.pieces file.unread refl in
-        let first = first_of_taken n all f
-        (kept_is kept (take n all) (λ g h. first_of_rule g (first_of_taken n all g h)) part.in_turn
-        ∙ is) in
-        grind (arith, nat_tests, refused_first, first_of_pieces, of_rule, first_of_rule)
+        refused_first programme options fine p bytes f
+        (first_of_taken n all f
+        (kept_is kept (take n all)
+        (λ g h. first_of_rule programme options bytes g (first_of_taken n all g h)) part.in_turn
+        ∙ is))
 
     -- The source failed. For `check`.
     pub read_failed : (empty kept : Option CheckFault) (f : CheckFault)
@@ -109,10 +103,10 @@ module _ (programme : ProgrammeValue) (options : OptionsValue) (bytes : List ℕ
         → is_some kept ≡ false
         → TellsFirst programme options bytes empty kept (Err f)
         → is_pes_read f ≡ true
-        → IsChecked programme options bytes (Err f)
+        → IsAnswered programme options bytes (Err f)
     read_failed empty kept f e quiet told own =
-        checked_from programme options fine bytes (Err f) p
-        (λ looked frames unread reads. absurd (true≢false (sym own ∙ looked)))
+        answered programme options fine p bytes (Err f)
+        (λ looked. absurd (true≢false (sym own ∙ looked)))
         (λ pes is. none_before empty kept f pes e quiet told (let same = is in cc))
 
 -- ---- the PES packet at which the source failed
@@ -136,7 +130,7 @@ pub fails_at_packet : (programme : ProgrammeValue) (options : OptionsValue)
     → FailsAtPiece pes old new
     → IfTold old (λ bytes. TellsFirst programme options bytes empty kept (Err f))
     → IfTold old (λ bytes.
-    length (frames_of (take pes (piece_file_of options.origin bytes).pieces)) ≡ pes
+    length (frames_of (take pes (piece_file_of (clock_of options) bytes).pieces)) ≡ pes
     → FailsAtPacket pes old new)
     → FailsAtPacket pes old new
 fails_at_packet programme options empty kept f pes None new e quiet is at told sent =

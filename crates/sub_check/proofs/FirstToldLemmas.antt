@@ -1,8 +1,9 @@
--- A device that keeps the first fault of a rule keeps what is told first, `kept_is`; that is of a
--- rule, `first_named`, and decides the answer of `check`, `first_decides`.
+-- A device that keeps the first fault of a rule keeps what is told first, `kept_is`; and where that
+-- is a wrong cell, every receiver shows what it may not show there: `undue_of_first`.
 use Rattle.std.proofs.lemmas.Bool.Decides.{nat_tests}
-use Rattle.std.proofs.Common.{◌≡◌, ℕ, ◌≤◌, List, [], ◌∷◌, length, Option, Some, None, Result, Err}
-use Rattle.std.proofs.Common.{refl, sym, subst, arith, All, MatchResult, true}
+use Rattle.std.proofs.Common.{◌≡◌, ℕ, List, [], ◌∷◌, length, Option, Some, None, Result, Err, refl}
+use Rattle.std.proofs.Common.{sym, subst, arith, All, true}
+use Rattle.std.proofs.lemmas.Option.{same_Some}
 use Rattle.std.specs.List.{AllByRecursion}
 use Rattle.std.proofs.lemmas.Bool.{true≢false}
 use Rattle.std.proofs.lemmas.List.Elements.{All-from_recursion}
@@ -10,28 +11,31 @@ use Rattle.sub_io.specs.Telling.{TellsInTurn}
 use Rattle.ttx_packet.specs.PacketAddress.{IsPacket}
 use Rattle.ttx_pes.specs.declared.fault.PesFault.TheVariants.{Read}
 use Rattle.stl_rows.specs.Programme.{ProgrammeValue}
+use Rattle.sub_plan.specs.FrameTime.{clock_of}
 use Rattle.sub_plan.specs.Options.{OptionsValue}
-use Rattle.sub_check.specs.CheckedFiles.{first_answer}
 use Rattle.sub_check.specs.FirstTold.{IsRuleFault, KeepsFirstFault, is_of_rule}
 use Rattle.sub_checker.specs.declared.telling.Accepted.{Accepted}
-use Rattle.sub_rules.specs.Events.{events, first_told, unread_fault}
+use Rattle.sub_rules.specs.Events.{broken_cell, events, first_told, unread_fault}
 use Rattle.sub_rules.specs.FrameRules.{Task, Unread, task_of}
 use Rattle.sub_rules.specs.FrameRules.Unread.{BadPacket, NoFrame}
-use Rattle.sub_rules.specs.PesReading.{ReadsAs}
+use Rattle.sub_rules.specs.PesReading.{file_at, pes_file_of}
+use Rattle.sub_rules.specs.Pieces.{PesFileValue, joined, piece_file_of}
 use Rattle.sub_rules.specs.Transmission.{EachPacket, SentFrame, Transmission}
-use Rattle.sub_rules.specs.WrongContent.{IsWrongEverywhere}
 use Rattle.sub_rules.specs.declared.event.Event.{Event}
 use Rattle.sub_rules.specs.declared.event.Event.TheVariants.{Ended, PassedUntil, Told, Trusted}
 use Rattle.sub_rules.specs.declared.fault.CheckFault.{CheckFault}
 use Rattle.sub_rules.specs.declared.fault.CheckFault.TheVariants as fault
-use Rattle.sub_laws.proofs.ContentLemmas.{wrong_everywhere}
+use Rattle.sub_rules.proofs.JoinedLemmas.{joined_after-read}
+use Rattle.sub_laws.specs.UndueContent.{IsUndueEverywhere}
+use Rattle.sub_laws.proofs.ContentLemmas.{undue_everywhere}
 use Rattle.sub_laws.proofs.EventLemmas.{FirstOf, all_told, is_plain}
-use Rattle.sub_laws.specs.BrokenPlaces.{WrongFirst}
+use Rattle.sub_laws.proofs.FirstContentLemmas.{content_first}
 use Rattle.sub_laws.proofs.FrameByFrame.{AllOk, IsReadTo}
-use Rattle.sub_laws.proofs.ReadFileLemmas.{IsSoundFile, file_sound}
+use Rattle.sub_laws.proofs.ReadFileLemmas.{file_sound}
+use Rattle.sub_check.specs.CheckedFiles.{all_events_of}
 
 -- Each packet that is read is whole.
-each_whole :
+pub each_whole :
     (frames : Transmission)
     → AllByRecursion (λ (s : SentFrame). AllByRecursion IsPacket s.packets) frames
     → AllByRecursion (λ (s : SentFrame). All IsPacket s.packets) frames
@@ -78,80 +82,75 @@ kept_is new (Ended rule f ∷ xs) named (mid, keeps, rest) =
 kept_is new (PassedUntil f ∷ xs) named (mid, keeps, rest) =
     kept_is new xs named (subst (λ m. TellsInTurn KeepsFirstFault m new xs) keeps.1 rest)
 
--- ---- what is told of a file that is read
+-- ---- a wrong cell
 
-module _ (programme : ProgrammeValue) (options : OptionsValue) (bytes : List ℕ)
-    (frames : Transmission) (unread : Option Unread)
-    (reads : ReadsAs options.origin 0 bytes frames unread)
-  where
-    abbrev g : Task
-    g = task_of programme options unread
+module _ (programme : ProgrammeValue) (options : OptionsValue) (unread : Option Unread)
+    (frames : Transmission) (packets_whole : EachPacket IsPacket frames) where
+  abbrev g : Task
+  g = task_of programme options unread
 
-    sound : IsSoundFile (record { frames = frames; unread = unread })
-    sound = subst IsSoundFile reads (file_sound options.origin 0 bytes)
+  -- Where a wrong cell is told, every receiver shows what it may not show there.
+  abbrev Named : CheckFault → Type 0
+  Named f =
+      (frame row column : ℕ)
+      → f ≡ fault.Content frame row column
+      → IsUndueEverywhere programme options frames frame row column
 
-    pub packets_whole : EachPacket IsPacket frames
-    packets_whole = grind (arith, nat_tests, each_whole frames sound.whole, All-from_recursion)
+  plain : (f : CheckFault) → is_plain f ≡ true → Named f
+  plain f e frame row column is = absurd (grind (arith, nat_tests))
 
-    -- What is told is of a rule; and where it is a wrong cell, every receiver shows another code
-    -- there than is due.
-    abbrev Named : CheckFault → Type 0
-    Named f =
-        (is_of_rule f ≡ true)
-        × ((frame row column : ℕ)
-        → f ≡ fault.Content frame row column
-        → IsWrongEverywhere programme options frames frame row column)
+  of_unread : (u : Unread) → unread ≡ Some u → Named (unread_fault (length frames) (Some u))
+  of_unread (BadPacket f) e frame row column is = cc
+  of_unread NoFrame e frame row column is = cc
 
-    plain : (f : CheckFault) → is_plain f ≡ true → Named f
-    plain f e = (plain_is f e, λ frame row column is. absurd (grind (arith, nat_tests)))
+  of_wrong : (n f : ℕ) (x : ℕ × ℕ) → IsReadTo g frames n f → broken_cell g frames n f ≡ Some x
+      → Named (fault.Content f x.0 x.1)
+  of_wrong n f x read broken frame row column is =
+      let shown = undue_everywhere programme options unread frames n f read x broken in
+      grind (arith, shown)
 
-    of_unread : (u : Unread) → unread ≡ Some u → Named (unread_fault (length frames) (Some u))
-    of_unread (BadPacket f) e =
-        let own = sound.fault f e in
-        (grind (arith, nat_tests, own.no_source, own.no_sink), λ frame row column is. cc)
-    of_unread NoFrame e = plain _ refl
+  undue_of_events : (frame row column : ℕ)
+      → first_told (events g frames) ≡ Some (fault.Content frame row column)
+      → IsUndueEverywhere programme options frames frame row column
+  undue_of_events frame row column e =
+      go (events g frames) (all_told g frames Named plain of_unread of_wrong packets_whole) e frame
+      row column refl
+    where
+      go : (xs : List Event) → FirstOf Named (AllOk g frames) xs
+          → first_told xs ≡ Some (fault.Content frame row column)
+          → Named (fault.Content frame row column)
+      go [] told e = cc
+      go (x ∷ xs) told e =
+          let (first, is, named) = told.at x refl in
+          let same : first ≡ fault.Content frame row column = first_is x first xs is e in
+          subst Named same named
+        where
+          first_is : (x : Event) (f : CheckFault) (xs : List Event) → x ≡ Told f
+              → first_told (x ∷ xs) ≡ Some (fault.Content frame row column)
+              → f ≡ fault.Content frame row column
+          first_is x f xs is e = let told = rw is at e in same_Some _ _ told
 
-    of_wrong : (n f row column : ℕ) → IsReadTo g frames n f → WrongFirst g frames n f row column
-        → Named (fault.Content f row column)
-    of_wrong n f row column read wrong = (
-      refl,
-      λ frame r k is.
-          let shown = wrong_everywhere programme options unread frames n f row column read wrong in
-          grind (arith, shown),
-    )
+module _ (programme : ProgrammeValue) (options : OptionsValue) (bytes : List ℕ) where
+  abbrev file : PesFileValue
+  file = pes_file_of (clock_of options) bytes
 
-    all_named : FirstOf Named (AllOk g frames) (events g frames)
-    all_named = all_told g frames Named plain of_unread of_wrong packets_whole
+  -- Of each packet of a frame of the file, within frames.
+  file_whole : EachPacket IsPacket (joined options.within file.frames)
+  file_whole =
+      All-from_recursion (λ (s : SentFrame). All IsPacket s.packets)
+      (joined options.within file.frames)
+      (each_whole (joined options.within file.frames)
+      (joined_after-read IsPacket options.within [] file.frames tt
+      (file_sound (clock_of options) 0 bytes).whole))
 
-    -- What is told first.
-    pub first_named : (f : CheckFault) → first_told (events g frames) ≡ Some f → Named f
-    first_named f e = go (events g frames) all_named e
-      where
-        go : (xs : List Event) → FirstOf Named (AllOk g frames) xs → first_told xs ≡ Some f
-            → Named f
-        go [] told e = cc
-        go (x ∷ xs) told e =
-            let (first, is, named) = told.at x refl in grind (arith, nat_tests)
-
-    -- Where the page is refused at a cell. For `check`.
-    pub wrong_of_first : (frame row column : ℕ)
-        → first_told (events g frames) ≡ Some (fault.Content frame row column)
-        → IsWrongEverywhere programme options frames frame row column
-    wrong_of_first frame row column e = (first_named _ e).1 frame row column refl
-
-    -- Where no fault is told first, nothing is told.
-    none_told : {Holds : Type 0} (xs : List Event)
-        → FirstOf Named Holds xs
-        → first_told xs ≡ None
-        → xs ≡ []
-    none_told [] told e = refl
-    none_told (x ∷ xs) told e =
-        let (first, is, named) = told.at x refl in let s = rw is at e in cc
-
-    -- ---- the answer of `check` by all events
-
-    -- It accepts where nothing is told; else it is what is told first, a fault of a rule.
-    pub first_decides : (a : Accepted)
-        → MatchResult (first_answer (events g frames) a) (λ b. (b ≡ a) × (events g frames ≡ []))
-        (λ f. (first_told (events g frames) ≡ Some f) × IsRuleFault f)
-    first_decides a = grind (arith, nat_tests, none_told, all_named, of_rule, first_named)
+  -- Where the page is refused at a cell. For `check`.
+  pub undue_of_first : (frame row column : ℕ)
+      → first_told (all_events_of programme options bytes)
+      ≡ Some (fault.Content frame row column)
+      → IsUndueEverywhere programme options (joined options.within file.frames) frame row column
+  unfolding file_at
+  undue_of_first frame row column e =
+      let pieces = piece_file_of (clock_of options) bytes in
+      undue_of_events programme options pieces.unread (joined options.within file.frames) file_whole
+      frame row column
+      (content_first frame row column (task_of programme options pieces.unread) pieces.pieces e)

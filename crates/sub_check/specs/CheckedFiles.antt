@@ -1,23 +1,21 @@
 -- What the checker tells of the bytes of a subtitle file and a PES file.
 use Rattle.std.specs.Prelude.{◌≡◌, ◌≢◌, ◌↔◌, ℕ, ◌≤◌, length, take, List, [], Bool, false, true}
-use Rattle.std.specs.Prelude.{Option, Some, None}
-use Rattle.std.specs.Prelude.{All, Contains, IsOk}
-use Rattle.std.specs.Prelude.{Result, Ok, Err, IfOk, IfErr, IsTrue}
+use Rattle.std.specs.Prelude.{Option, Some, None, All, Contains, IsOk, Result, Ok, Err, IfOk, IfErr}
+use Rattle.std.specs.Prelude.{IsTrue, ◌+◌, ◌++◌, flat_map, ⊤}
 use Rattle.sub_io.specs.Device.{failed}
 use Rattle.sub_io.specs.Reading.{IfTold}
 use Rattle.ttx_pes.specs.declared.fault.PesFault.TheVariants.{Read}
 use Rattle.stl_file.specs.File.{IsFile}
 use Rattle.stl_file.specs.Subtitle.{SubtitleValue}
 use Rattle.stl_rows.specs.DrawnPage.{drawn}
-use Rattle.stl_rows.specs.Loading.{loaded}
+use Rattle.stl_rows.specs.Loading.{loaded, TellsFault}
 use Rattle.stl_rows.specs.Programme.{AreInOrder, ProgrammeValue}
 use Rattle.stl_rows.specs.declared.national.National.{National}
+use Rattle.sub_plan.specs.FrameTime.{clock_of}
 use Rattle.sub_plan.specs.Options.{OptionsValue}
 use Rattle.sub_plan.specs.Schedule.{plan}
 use Rattle.sub_io.specs.Telling.{Tells, TellsPrefix}
-use Rattle.std.specs.Prelude.{◌+◌, flat_map, ⊤}
 use Rattle.ttx_packet.specs.PageId.{PageIdValue}
-use Rattle.stl_rows.specs.Loading.{TellsFault}
 use Rattle.sub_rules.specs.Events.{first_told}
 use Rattle.sub_rules.specs.FrameRules.{task_of}
 use Rattle.sub_rules.specs.PacketRules.{header_count}
@@ -25,14 +23,18 @@ use Rattle.sub_rules.specs.Transmission.{SentFrame, first_frame, last_frame, Tra
 use Rattle.sub_rules.specs.declared.event.Event.{Event}
 use Rattle.sub_rules.specs.declared.event.Event.TheVariants.{Trusted}
 use Rattle.sub_laws.specs.TrustedFrames.{MayStay, rising_part}
+use Rattle.sub_laws.specs.TrustedWithDelay.{MayStayWithDelay}
 use Rattle.sub_rules.specs.Fault.{is_failure, is_pes_read, is_subtitle_fault}
 use Rattle.sub_rules.specs.Good.{Good}
+use Rattle.sub_rules.specs.GoodWithin.{GoodWithin}
+use Rattle.sub_laws.specs.Delay.{HasPromisesWithDelay}
 use Rattle.sub_laws.specs.OnScreen.{Complete}
-use Rattle.sub_rules.specs.PesFrames.{Carries}
+use Rattle.sub_rules.specs.PesFrames.{Carries, CarriesBy}
 use Rattle.sub_rules.specs.PesReading.{pes_file_of}
 use Rattle.sub_laws.specs.Stretch.{HasPromises}
+use Rattle.sub_laws.specs.UndueContent.{IsUndueEverywhere}
 use Rattle.sub_rules.specs.PieceEvents.{all_of_pieces, events_of_pieces}
-use Rattle.sub_rules.specs.Pieces.{frames_of, piece_file_of}
+use Rattle.sub_rules.specs.Pieces.{frames_of, joined, piece_file_of}
 use Rattle.sub_rules.specs.WrongContent.{IsWrongEverywhere}
 use Rattle.sub_checker.specs.Telling.{CountsRead}
 use Rattle.sub_checker.specs.declared.telling.Accepted.{Accepted}
@@ -70,7 +72,8 @@ pub record Mean
   -- PTS and the Teletext packets of that frame.
   pub carries : Carries origin pes transmission
 
--- What acceptance means for the bytes of both files.
+-- What acceptance means for the bytes of both files, where the page has to be whole at the end of
+-- each frame.
 pub record AreAccepted
     (national : National) (options : OptionsValue) (stl pes : List ℕ)
     (answer : Result Accepted CheckFault)
@@ -94,28 +97,122 @@ pub record AreAccepted
       → HasPromises (record { national = national; records = subtitles }) transmission options
       × (IsTrue options.asks_complete → Complete transmission options)
 
+-- ---- both files, within frames
+
+-- The bytes of a subtitle file and of a PES file mean these subtitles and this transmission, by the
+-- clock of the options: as in `Mean`, but that a PTS may be a little early or late, and PES packets
+-- of one frame are sent as one.
+pub record MeanWithin
+    (national : National) (options : OptionsValue) (stl pes : List ℕ)
+    (subtitles : List SubtitleValue) (transmission : Transmission)
+    : Type 0 where
+  pub gsi : List ℕ
+  pub subtitle_file : IsFile stl gsi subtitles
+  pub in_order : AreInOrder subtitles
+  pub drawable : All (λ t. IsOk (drawn national t)) subtitles
+  pub carries : CarriesBy (clock_of options) options.within pes transmission
+
+-- What acceptance means for the bytes of both files, within as many frames as the options give.
+pub record AreAcceptedWithin
+    (national : National) (options : OptionsValue) (stl pes : List ℕ)
+    (answer : Result Accepted CheckFault)
+    : Type 0 where
+  -- They are accepted exactly where they mean some subtitles and a transmission of these that is
+  -- good within these frames, but for sources that failed and memory that was refused.
+  pub accepted :
+      failed is_failure answer ≡ false
+      → IsOk answer
+      ↔ ((subtitles : List SubtitleValue)
+      × (transmission : Transmission)
+      × MeanWithin national options stl pes subtitles transmission
+      × GoodWithin (record { national = national; records = subtitles }) transmission options)
+  -- What is accepted keeps all promises of a transmission that may be late.
+  pub serves :
+      (subtitles : List SubtitleValue) (transmission : Transmission)
+      → MeanWithin national options stl pes subtitles transmission
+      → IsOk answer
+      → HasPromisesWithDelay (record { national = national; records = subtitles }) transmission
+      options
+
 -- ---- a PES file, against a programme
 
 -- All that is told of the bytes of a PES file, checked against a programme: reading goes on after a
 -- piece that is passed over; and which frames may be trusted.
 abbrev pub all_events_of : ProgrammeValue → OptionsValue → List ℕ → List Event
 all_events_of programme options bytes =
-    let file = piece_file_of options.origin bytes in
+    let file = piece_file_of (clock_of options) bytes in
     all_of_pieces (task_of programme options file.unread) file.pieces
 
--- The frames that are sent by its pieces.
+-- The frames that are sent by its pieces, within frames those of PES packets of one frame as one.
 abbrev pub frames_read : OptionsValue → List ℕ → Transmission
-frames_read options bytes = frames_of (piece_file_of options.origin bytes).pieces
+frames_read options bytes =
+    joined options.within (frames_of (piece_file_of (clock_of options) bytes).pieces)
 
 -- What is told of its first n pieces.
 abbrev pub events_of_first_pieces : ProgrammeValue → OptionsValue → List ℕ → ℕ → List Event
 events_of_first_pieces programme options bytes n =
-    let file = piece_file_of options.origin bytes in
-    events_of_pieces (task_of programme options file.unread) (frames_of file.pieces)
-    (take n file.pieces)
+    let file = piece_file_of (clock_of options) bytes in
+    events_of_pieces (task_of programme options file.unread) (take n file.pieces)
 
--- What is told of the bytes of a PES file, checked against a programme. A refusal of the subtitle
--- file, which is then want of memory or its failing source, tells nothing of them.
+-- What is told of the bytes of a PES file, checked against a programme, within as many frames as
+-- the options give. A refusal of the subtitle file, which is then want of memory or its failing
+-- source, tells nothing of them.
+pub record IsCheckedWithin
+    (programme : ProgrammeValue) (options : OptionsValue) (bytes : List ℕ)
+    (answer : Result Accepted CheckFault)
+    : Type 0 where
+  -- Failing devices and want of memory aside, they are accepted exactly where they are a PES file
+  -- that carries a transmission of the programme that is good within these frames.
+  pub accepted :
+      failed is_subtitle_fault answer ≡ false
+      → failed is_pes_read answer ≡ false
+      → IsOk answer
+      ↔ ((transmission : Transmission)
+      × CarriesBy (clock_of options) options.within bytes transmission
+      × GoodWithin programme transmission options)
+  -- What is accepted is such a transmission, and keeps all promises of one that may be late.
+  pub serves :
+      (transmission : Transmission)
+      → CarriesBy (clock_of options) options.within bytes transmission
+      → IsOk answer
+      → GoodWithin programme transmission options
+      × HasPromisesWithDelay programme transmission options
+  -- The counts of what is accepted are those of the transmission.
+  pub counts :
+      (transmission : Transmission)
+      → CarriesBy (clock_of options) options.within bytes transmission
+      → IfOk answer (HasCounts options.page transmission)
+  -- A refusal is what is told first.
+  pub first :
+      failed is_subtitle_fault answer ≡ false
+      → failed is_pes_read answer ≡ false
+      → IfErr answer (λ f. first_told (all_events_of programme options bytes) ≡ Some f)
+  -- That the source failed is told at the PES packet that could not be read: those before it were
+  -- read, and no refusal is told of them.
+  pub read :
+      (pes : ℕ)
+      → answer ≡ Err (fault.Pes pes Read)
+      → (pes ≤ length (piece_file_of (clock_of options) bytes).pieces)
+      × (first_told (events_of_first_pieces programme options bytes pes) ≡ None)
+  -- Where the page is refused at a cell, every receiver that starts at the first packet, with no
+  -- bit wrong, shows another code there than is due; and where that end is not late, none that is
+  -- due there at a frame within these before it.
+  pub content :
+      (frame row column : ℕ)
+      → answer ≡ Err (fault.Content frame row column)
+      → IsUndueEverywhere programme options
+      (joined options.within (pes_file_of (clock_of options) bytes).frames) frame row column
+  -- What `schedule` writes of the programme with the same options is accepted.
+  pub schedule :
+      (serial : Bool)
+      → bytes ≡ plan programme options serial
+      → programme.records ≢ []
+      → failed is_subtitle_fault answer ≡ false
+      → failed is_pes_read answer ≡ false
+      → IsOk answer
+
+-- The same where the page has to be whole at the end of each frame: in the words of the seven
+-- rules.
 pub record IsChecked
     (programme : ProgrammeValue) (options : OptionsValue) (bytes : List ℕ)
     (answer : Result Accepted CheckFault)
@@ -153,14 +250,14 @@ pub record IsChecked
   pub read :
       (pes : ℕ)
       → answer ≡ Err (fault.Pes pes Read)
-      → (pes ≤ length (piece_file_of options.origin bytes).pieces)
+      → (pes ≤ length (piece_file_of (clock_of options) bytes).pieces)
       × (first_told (events_of_first_pieces programme options bytes pes) ≡ None)
   -- Where the page is refused at a cell, every receiver that starts at the first packet, with no
   -- bit wrong, shows another code there than is due.
   pub content :
       (frame row column : ℕ)
       → answer ≡ Err (fault.Content frame row column)
-      → IsWrongEverywhere programme options (pes_file_of options.origin bytes).frames frame row
+      → IsWrongEverywhere programme options (pes_file_of (clock_of options) bytes).frames frame row
       column
   -- What `schedule` writes of the programme with the same options is accepted.
   pub schedule :
@@ -188,7 +285,12 @@ pub record AreChecked
   pub checked :
       (programme : ProgrammeValue)
       → loaded national file ≡ Ok programme
+      → options.within ≡ 0
       → IfTold pes (λ bytes. IsChecked programme options bytes answer)
+  pub within :
+      (programme : ProgrammeValue)
+      → loaded national file ≡ Ok programme
+      → IfTold pes (λ bytes. IsCheckedWithin programme options bytes answer)
 
 -- The answer of `check` by what is told first: these counts where it is nothing.
 abbrev pub answer_by : Option CheckFault → Accepted → Result Accepted CheckFault
@@ -207,6 +309,23 @@ TellsWhatMayStay programme options bytes =
     → Contains (all_events_of programme options bytes) (Trusted from to)
     → MayStay programme (rising_part (frames_read options bytes)) options from to
 
+-- So they may within frames: receivers recover there with a delay, and one of the frames at least is
+-- finished.
+abbrev pub TellsWhatMayStayWithDelay : ProgrammeValue → OptionsValue → List ℕ → Type 0
+TellsWhatMayStayWithDelay programme options bytes =
+    (from to : ℕ)
+    → Contains (all_events_of programme options bytes) (Trusted from to)
+    → MayStayWithDelay programme (rising_part (frames_read options bytes)) options from to
+
+-- What is told of its first pieces, wherever the source failed, begins what is told of all. So what
+-- is promised of trusted frames holds of those that were told before.
+abbrev pub BeginsWhatIsTold : ProgrammeValue → OptionsValue → List ℕ → Type 0
+BeginsWhatIsTold programme options bytes =
+    (n : ℕ)
+    → (rest : List Event)
+    × (all_events_of programme options bytes
+    ≡ events_of_first_pieces programme options bytes n ++ rest)
+
 -- What a device was told of the bytes of a PES file, checked against a programme: where it did not
 -- say stop, all events, and the answer counts what was read; else the events up to there, and
 -- nothing is counted. Where the source failed, the events of the pieces that were read whole.
@@ -219,6 +338,6 @@ TellsEvents programme options bytes IsTold old new (Ok None) =
     TellsPrefix IsTold old new (all_events_of programme options bytes)
 TellsEvents programme options bytes IsTold old new (Err f) =
     (n : ℕ)
-    × (n ≤ length (piece_file_of options.origin bytes).pieces)
+    × (n ≤ length (piece_file_of (clock_of options) bytes).pieces)
     × (f ≡ fault.Pes n Read)
     × Tells IsTold old new (events_of_first_pieces programme options bytes n)

@@ -4,6 +4,7 @@ pub use Rattle.sub_rules.specs.Transmission
 pub use Rattle.sub_rules.specs.PesFrames
 pub use Rattle.sub_rules.specs.PesReading
 pub use Rattle.sub_rules.specs.Good
+pub use Rattle.sub_rules.specs.GoodWithin
 pub use Rattle.sub_rules.specs.PacketRules
 pub use Rattle.sub_rules.specs.PacketTests
 pub use Rattle.sub_rules.specs.FrameRules
@@ -17,10 +18,13 @@ pub use Rattle.sub_laws.specs.Recovery
 pub use Rattle.sub_laws.specs.OnScreen
 pub use Rattle.sub_laws.specs.Stretch
 pub use Rattle.sub_laws.specs.Sufficient
+pub use Rattle.sub_laws.specs.Delay
+pub use Rattle.sub_laws.specs.DelayLaws
 pub use Rattle.sub_laws.specs.CleanStretch
 pub use Rattle.sub_laws.specs.TrustedFrames
 pub use Rattle.sub_laws.specs.Laws
 pub use Rattle.sub_laws.specs.Planned
 pub use Rattle.sub_laws.specs.BrokenPlaces
+pub use Rattle.sub_laws.specs.UndueContent
 pub use Rattle.sub_checker.specs.Telling
 pub use Rattle.sub_packets.specs.SentAgain

@@ -1,13 +1,15 @@
 //! The exact checker: a PES file against a programme.
-ghost use Rattle.std.specs.Prelude.{◌≡◌, ℕ, Err, IfErr, IfOk, IfSome, false, is_none, true};
+ghost use Rattle.std.specs.Prelude.{◌≡◌, ◌<◌, ℕ, Err, IfErr, IfOk, IfSome, false, is_none, true};
 ghost use Rattle.sub_io.specs.Device.{CanFail, CountsIf, failed};
 ghost use Rattle.sub_io.specs.Reading.{IfTold};
 ghost use Rattle.sub_io.specs.Telling.{TellsSome};
 ghost use Rattle.ttx_pes.specs.Reader.{FailsAtPacket};
 ghost use Rattle.sub_rules.specs.Fault.{is_pes_read, is_pes_write, is_subtitle_fault};
 ghost use Rattle.sub_rules.specs.Pieces.{FailsAtPiece};
-ghost use Rattle.sub_check.specs.CheckedFiles.{IsChecked, TellsEvents, TellsWhatMayStay};
-ghost use Rattle.sub_check.specs.CheckedFiles.{all_events_of, first_answer};
+ghost use Rattle.sub_check.specs.CheckedFiles.{BeginsWhatIsTold, IsChecked, IsCheckedWithin};
+ghost use Rattle.sub_check.specs.CheckedFiles.{TellsEvents, TellsWhatMayStay};
+ghost use Rattle.sub_check.specs.CheckedFiles.{TellsWhatMayStayWithDelay, all_events_of};
+ghost use Rattle.sub_check.specs.CheckedFiles.{first_answer};
 
 use crate::first_fault::FirstFault;
 use stl_rows::Programme;
@@ -42,8 +44,12 @@ pub fn check<S: Source>(
     requires { CanFail (S.failure_count source.old) }
     // Where the source tells its bytes, these decide the answer: they are accepted exactly where
     // they are a PES file that carries a good transmission of the programme, which is then robust.
-    ensures checked { IfTold (S.remaining source.old) (λ bytes.
+    ensures checked { options.now.within ≡ 0 → IfTold (S.remaining source.old) (λ bytes.
         IsChecked programme.now options.now bytes result) }
+    // Where the options allow for frames that are late, they are accepted exactly where it is good
+    // within as many of them.
+    ensures within { IfTold (S.remaining source.old) (λ bytes.
+        IsCheckedWithin programme.now options.now bytes result) }
     // That the source failed is told at the PES packet within which it failed: those before it were
     // taken.
     ensures read { (pes : ℕ) → result ≡ Err (CheckFault.Pes pes PesFault.Read)
@@ -95,12 +101,21 @@ pub fn check_all<S: Source, A: LiveAudience<Event>>(
     ensures told { IfTold (S.remaining source.old) (λ bytes.
         TellsEvents programme.now options.now bytes A.is_told audience.old audience.new result) }
     // Where all was told, `check` answers by the first fault of it, or else with these counts.
-    ensures first { IfTold (S.remaining source.old) (λ bytes.
+    ensures first { options.now.within ≡ 0 → IfTold (S.remaining source.old) (λ bytes.
         IfOk result (λ counts. IfSome counts (λ a. IsChecked programme.now options.now bytes
         (first_answer (all_events_of programme.now options.now bytes) a)))) }
+    ensures first_within { IfTold (S.remaining source.old) (λ bytes.
+        IfOk result (λ counts. IfSome counts (λ a. IsCheckedWithin programme.now options.now bytes
+        (first_answer (all_events_of programme.now options.now bytes) a)))) }
     // What it is told as trusted may stay on air as it is.
-    ensures trusted { IfTold (S.remaining source.old) (λ bytes.
+    ensures trusted { options.now.within ≡ 0 → IfTold (S.remaining source.old) (λ bytes.
         TellsWhatMayStay programme.now options.now bytes) }
+    // So it may, with a delay, within frames.
+    ensures trusted_within { 0 < options.now.within → IfTold (S.remaining source.old) (λ bytes.
+        TellsWhatMayStayWithDelay programme.now options.now bytes) }
+    // What was told where the source failed begins what is told of all.
+    ensures begins { IfTold (S.remaining source.old) (λ bytes.
+        BeginsWhatIsTold programme.now options.now bytes) }
     // Nothing is counted exactly where the device said stop.
     ensures stopped { IfOk result (λ counts. A.has_stopped audience.new ≡ is_none counts) }
     // Whatever the source tells, the device was told some events, and did not say stop where the

@@ -6,7 +6,7 @@ ghost use Rattle.ttx_pes.specs.Reader.{FailsAtPacket};
 ghost use Rattle.stl_rows.specs.Fault.{is_read};
 ghost use Rattle.stl_rows.specs.Loading.{FailsLoading};
 ghost use Rattle.stl_rows.specs.declared.fault.LoadFault.{LoadFault};
-ghost use Rattle.sub_check.specs.CheckedFiles.{AreAccepted, AreChecked};
+ghost use Rattle.sub_check.specs.CheckedFiles.{AreAccepted, AreAcceptedWithin, AreChecked};
 ghost use Rattle.sub_rules.specs.Fault.{is_pes_read, is_pes_write, is_stl_read, is_subtitle_fault};
 
 use crate::checking::check;
@@ -38,9 +38,14 @@ pub fn check_files<S: Source, P: Source>(
     // Where both sources tell their bytes, none fails and no memory is refused, they are accepted
     // exactly where they are a subtitle file and a PES file with a good transmission of its
     // subtitles, and what is accepted is robust.
-    ensures accepted { IfTold (S.remaining stl.old) (λ file.
+    ensures accepted { options.now.within ≡ 0 → IfTold (S.remaining stl.old) (λ file.
         IfTold (P.remaining pes.old) (λ bytes.
         AreAccepted national options.now file bytes result)) }
+    // Where the options allow for frames that are late, they are accepted exactly where that
+    // transmission is good within as many of them, and what is accepted is as robust as that is.
+    ensures accepted_within { IfTold (S.remaining stl.old) (λ file.
+        IfTold (P.remaining pes.old) (λ bytes.
+        AreAcceptedWithin national options.now file bytes result)) }
     // What is refused, and at which place.
     ensures checked { IfTold (S.remaining stl.old) (λ file.
         AreChecked national options.now file (P.remaining pes.old) result) }

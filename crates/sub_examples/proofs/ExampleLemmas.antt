@@ -42,10 +42,11 @@ are_packets frames = each_packet is_packet frames
 -- A transmission of packets of which nothing is told is good.
 pub good_by_events :
     (programme : ProgrammeValue) (frames : Transmission) (o : OptionsValue)
+    → o.within ≡ 0
     → 0 < o.every
     → are_packets frames ≡ true
     → events (task_of programme o None) frames ≡ []
     → Good programme frames o
-good_by_events programme frames o some whole quiet =
+good_by_events programme frames o at_once some whole quiet =
     let packets = (packets_decided is_packet IsPacket packet_decided frames).0 whole in
-    ((law_of_nothing_told programme o None frames some packets).0 quiet).0
+    ((law_of_nothing_told programme o None frames at_once some packets).0 quiet).0

@@ -15,8 +15,9 @@ use Rattle.ttx_page.specs.Page.{Rows, blank, blank_row}
 use Rattle.sub_rules.specs.PacketTests.{are_code_words, is_word_below}
 use Rattle.sub_rules.specs.PacketTests.{breaks, broken_rules, packet_rules}
 use Rattle.sub_rules.specs.Events.{events, events_of_first, frame_events, order_events, gap_events}
-use Rattle.sub_rules.specs.Events.{gap_length, packet_events, rules_told, first_header_events}
-use Rattle.sub_rules.specs.Events.{standing_at, standing_before, end_events, wrong_after}
+use Rattle.sub_rules.specs.Events.{gap_length, packets_told, rules_told, first_header_events}
+use Rattle.sub_rules.specs.Events.{is_late, is_pending, standing_at, standing_before, end_events}
+use Rattle.sub_rules.specs.Events.{since_frames, since_in_gap, unfinished_since, wrong_after}
 use Rattle.sub_rules.specs.Events.{first_cell, is_gap, is_incomplete, latest, closing_events}
 use Rattle.ttx_packet.specs.RowPacket.{first_even_byte}
 use Rattle.ttx_page.specs.PacketKind.{kind}
@@ -133,12 +134,13 @@ no_end = one_frame (header_888 ∷ [])
 -- Nothing is told of it.
 no_end_is_good : Good no_subtitles no_end (each 1)
 unfolding events events_of_first frame_events order_events gap_events gap_length
-    packet_events rules_told broken_rules packet_rules breaks first_header_events standing_at
-    standing_before end_events wrong_after first_cell is_gap is_incomplete latest closing_events
+    packets_told rules_told broken_rules packet_rules breaks first_header_events standing_at
+    standing_before end_events is_late wrong_after first_cell is_gap is_incomplete latest
+    closing_events is_pending unfinished_since since_in_gap since_frames
     are_code_words is_word_below first_even_byte kind address
     header coded_header decoded is_near is_odd count_ones ones_in
     due blank blank_row
-no_end_is_good = good_by_events _ _ _ (omega arith) refl refl
+no_end_is_good = good_by_events _ _ _ refl (omega arith) refl refl
 
 -- It holds a header of the page, which none ends.
 holds : holds_header (kind page_888) (header_888 ∷ []) ≡ true

@@ -12,7 +12,8 @@ use Rattle.ttx_page.specs.Page.{blank, blank_row}
 use Rattle.sub_rules.specs.PacketTests.{are_code_words, breaks, is_word_below, packet_rules}
 use Rattle.ttx_packet.specs.RowPacket.{first_even_byte}
 use Rattle.ttx_page.specs.Differing.{columns_differing}
-use Rattle.sub_rules.specs.Events.{first_cell, is_gap, is_incomplete, standing_at, wrong_after}
+use Rattle.sub_rules.specs.Events.{first_cell, is_gap, is_incomplete, is_late, standing_at}
+use Rattle.sub_rules.specs.Events.{wrong_after}
 use Rattle.ttx_page.specs.PacketKind.{kind}
 use Rattle.ttx_page.specs.Receiver.ReceiverClass.{Storing}
 use Rattle.ttx_page.proofs.NoiseLaws.{all_kept, may_all}
@@ -35,12 +36,12 @@ refused : Good later_subtitle damaged_first (each 1) → ⊥
 unfolding kind address header coded_header decoded is_near
 refused good =
     let none : SentFrame = record { frame = 0; packets = [] } in
-    let control = good.control 0 none (omega arith) 0 [] (omega arith) in
+    let control = good.rules.control 0 none (omega arith) 0 [] (omega arith) in
     grind (arith, nat_tests, control _ refl)
 
 clean : IsUntold (task_of later_subtitle (each 1) None) damaged_first 900001 900002
 unfolding are_code_words is_word_below first_even_byte breaks columns_differing is_gap
-    packet_rules standing_at wrong_after first_cell is_incomplete
+    packet_rules standing_at is_late wrong_after first_cell is_incomplete
     kind address header coded_header decoded is_near is_odd count_ones ones_in due blank
     blank_row drawn page_of_lines row_of line_fault_kinds prepared is_boxed is_double
     cell_of cell_of_pair
@@ -56,7 +57,7 @@ example_of_clean_stretch = record {
   held = λ got old new near hears.
       let sent : List (List ℕ) = header_888 ∷ row_22 ∷ closing ∷ [] in
       let enough =
-      law_of_untold_stretch later_subtitle damaged_first (each 1) None 900001 900002 clean in
+      law_of_untold_stretch later_subtitle damaged_first (each 1) None 900001 900002 refl clean in
       let trusted = law_of_stretch later_subtitle damaged_first (each 1) 900001 900002 enough.0 in
       let served =
       trusted.recovers Storing 900001 0 900001 (all_kept sent) got old new

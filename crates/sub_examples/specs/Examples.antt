@@ -80,7 +80,8 @@ two_frames first second =
 
 -- Page 888, a repeat bound, and PTS 0 at frame 0.
 abbrev pub each : ℕ → OptionsValue
-each every = record { page = page_888; every = every; origin = 0; asks_complete = false }
+each every =
+    record { page = page_888; every = every; origin = 0; asks_complete = false; within = 0 }
 
 -- Frame 900000 with this header and the closing header.
 abbrev pub one_header : List ℕ → Transmission

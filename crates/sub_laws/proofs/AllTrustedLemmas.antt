@@ -35,10 +35,9 @@ use Rattle.sub_laws.proofs.PrefixLemmas.{before, frame_at-take, packet_at, packe
 use Rattle.sub_laws.proofs.TrustedFrameLemmas.{count_most, part_last, part_length, part_rises}
 use Rattle.sub_laws.proofs.TrustedFrameLemmas.{risen, risen_low, rises_more, standing-take}
 use Rattle.sub_rules.proofs.RunLemmas.{all_are, all_in_runs, closing_told, frame_before, is_quiet}
-use Rattle.sub_rules.proofs.RunLemmas.{last_of_run}
+use Rattle.sub_rules.proofs.RunLemmas.{last_of_run, own_events}
 use Rattle.sub_rules.proofs.RunLemmas.{run_after_each, run_at, told_in_runs, told_of_each}
 use Rattle.sub_rules.proofs.RunLemmas.{told_of_frame, told_of_passed, trust_end}
-use Rattle.sub_rules.specs.PieceEvents.{own_events}
 use Rattle.sub_rules.proofs.TrustedLemmas.{run_over, with_run}
 use Rattle.sub_rules.specs.Trusted.{at_pes}
 
@@ -66,7 +65,8 @@ told_among from b each last closing at_last (inr run) =
           (Contains-append_left _ closing _ (Contains-append_right each _ _ end.2))),
     )
 
-module _ (g : Task) (pieces : List Piece) (a b : ℕ) (can : CanStay g pieces a b) where
+module _ (g : Task) (pieces : List Piece) (a b : ℕ) (at_once : g.within ≡ 0)
+    (can : CanStay g pieces a b) where
   abbrev frames : Transmission
   frames = frames_of pieces
 
@@ -93,7 +93,7 @@ module _ (g : Task) (pieces : List Piece) (a b : ℕ) (can : CanStay g pieces a 
   ends_quiet : (n f : ℕ) → IsEnd part n f → 0 < m → n ≤ m → a ≤ f → f ≤ b
       → stands_none (standing_at g frames n f) ≡ true
   ends_quiet n f end some l low high =
-      grind (arith, nat_tests, standing-take g frames m n f some l)
+      grind (arith, nat_tests, standing-take g frames m n f some (risen_low frames) l)
 
   own_end : (k : ℕ) → k < m → a ≤ frame_at frames k → frame_at frames k ≤ b
       → stands_none (standing_at g frames (suc k) (frame_at frames k)) ≡ true
@@ -392,15 +392,15 @@ module _ (g : Task) (pieces : List Piece) (a b : ℕ) (can : CanStay g pieces a 
               × Contains (all_of_pieces g pieces) (Trusted from to)
           of_found (from, from_low, going) =
               let whole =
-              subst (IsTold from) (sym (all_are g pieces))
+              subst (IsTold from) (sym (all_are g pieces at_once))
               (among_all from from_low going
-              (λ none. told (all_are g pieces ∙ none))) in
+              (λ none. told (all_are g pieces at_once ∙ none))) in
               (from, whole.0, from_low, whole.1, whole.2)
 
 -- ---- the law
 
 pub law_of_all_trusted : LawOfAllTrusted
-law_of_all_trusted g pieces a b i can there low high header told =
+law_of_all_trusted g pieces a b i at_once can there low high header told =
     let frames : Transmission = frames_of pieces in
     let inside : i < risen frames = let all = part_length (frames_of pieces) in omega arith in
     let at = frame_at-take frames (risen frames) i inside in
@@ -411,4 +411,4 @@ law_of_all_trusted g pieces a b i can there low high header told =
     × (from ≤ f)
     × (b ≤ to)
     × Contains (all_of_pieces g pieces) (Trusted from to)) (sym at)
-    (all_told g pieces a b can i inside (omega arith) (omega arith) holds told)
+    (all_told g pieces a b at_once can i inside (omega arith) (omega arith) holds told)

@@ -1,9 +1,11 @@
--- Where content is refused, every receiver shows another code than is due: `wrong_everywhere`.
+-- Where content is refused, every receiver shows what it may not show: `undue_everywhere`.
 use Rattle.std.proofs.lemmas.Bool.Decides.{nat_tests}
-use Rattle.std.proofs.Common.{List, [], subst, ◌≡◌, ℕ, ◌-◌, ◌<◌, ◌≤◌, true, Option, length, take}
-use Rattle.std.proofs.Common.{IsFalse, ◌∙◌, arith}
+use Rattle.std.proofs.Common.{List, [], subst, ◌≡◌, ℕ, ◌-◌, ◌<◌, ◌≤◌, ◌⊎◌, inl, inr, Bool, true}
+use Rattle.std.proofs.Common.{false, Option, Some, None, length, take, drop, refl, sym, ap, IsFalse}
+use Rattle.std.proofs.Common.{◌∙◌, arith, le_refl}
+use Rattle.std.proofs.lemmas.Bool.{true≢false}
 use Rattle.std.proofs.lemmas.List.Elements.{All-from_get_or}
-use Rattle.std.proofs.lemmas.List.{length-take-le, take-take, take_all}
+use Rattle.std.proofs.lemmas.List.{length-take-le, take-append-drop, take-take, take_all}
 use Rattle.ttx_packet.specs.PageHeader.{HasExactWords}
 use Rattle.ttx_page.specs.Noise.{ErasesPage, IsSound}
 use Rattle.ttx_page.specs.Page.{IsCell, cell}
@@ -14,17 +16,23 @@ use Rattle.ttx_page.specs.Span.{holds_header, span}
 use Rattle.ttx_page.proofs.NoiseLaws.{AreNear-themselves, law_of_noise, law_of_quiet}
 use Rattle.stl_rows.specs.Programme.{ProgrammeValue}
 use Rattle.sub_plan.specs.Options.{OptionsValue}
-use Rattle.sub_rules.specs.FrameRules.{Task, Unread, frame_at, packets_before, packets_of_frame}
-use Rattle.sub_rules.specs.FrameRules.{task_of}
+use Rattle.sub_rules.specs.Events.{broken_cell, is_late}
+use Rattle.sub_rules.specs.FrameRules.{ShowsDue, Task, Unread, frame_at, packets_before}
+use Rattle.sub_rules.specs.FrameRules.{packets_of_frame, task_of}
+use Rattle.sub_rules.specs.GoodWithin.{IsDueWithin}
 use Rattle.sub_rules.specs.PacketRules.{KeepsAllRules}
-use Rattle.sub_rules.specs.Transmission.{Transmission, on_air_until}
-use Rattle.sub_rules.specs.WrongContent.{IsWrongEverywhere}
+use Rattle.sub_rules.specs.Transmission.{Transmission, first_frame, on_air_until}
+use Rattle.sub_rules.specs.WrongContent.{AreReadUpTo}
 use Rattle.sub_rules.specs.declared.packet_rule.Watched.{Watched}
-use Rattle.sub_laws.specs.BrokenPlaces.{WrongFirst}
+use Rattle.sub_rules.proofs.PrefixEventLemmas.{is_late-prefix}
+use Rattle.sub_laws.specs.UndueContent.{IsUndueEverywhere}
+use Rattle.sub_laws.proofs.DueCodeLemmas.{MayShow, undue_found}
 use Rattle.sub_laws.proofs.FrameByFrame.{IsReadTo}
 use Rattle.sub_laws.proofs.PlaceLemmas.{clean_spans}
-use Rattle.sub_laws.proofs.PrefixLemmas.{EachAfter, RiseTo, before, each_after, frame_at-take}
-use Rattle.sub_laws.proofs.PrefixLemmas.{on_air_is, packet_at, take_last, take_rises, take_rising}
+use Rattle.sub_laws.proofs.PrefixLemmas.{EachAfter, RiseTo, before, each_after, first-same}
+use Rattle.sub_laws.proofs.PrefixLemmas.{frame_at-take, on_air_is, packet_at, take_last, take_rises}
+use Rattle.sub_laws.proofs.PrefixLemmas.{take_rising}
+use Rattle.sub_laws.proofs.StandingLemmas.{first_wrong}
 use Rattle.sub_rules.specs.Good.{IsCleanSpan}
 use Rattle.ttx_page.proofs.LateStart.{codes_of_same}
 use Rattle.ttx_page.proofs.SpanLists.{holds-append_left}
@@ -101,19 +109,107 @@ module _ (programme : ProgrammeValue) (options : OptionsValue) (unread : Option 
   abbrev g : Task
   g = task_of programme options unread
 
-  -- Where the first n frames are read and keep the rules, and do not show what is due.
-  pub wrong_everywhere :
-      (n f row column : ℕ)
-      → IsReadTo g frames n f
-      → WrongFirst g frames n f row column
-      → IsWrongEverywhere programme options frames f row column
-  wrong_everywhere n f row column r w =
-      grind (
-        arith,
-        nat_tests,
-        take_last frames n r.fits r.some,
-        take_rising frames n r.fits r.rises,
-        all_show g.watched frames n r.fits,
-        first_header-packets_before g.watched frames n r.some r.fits r.header,
-        on_air_read frames n f r.some r.fits r.rises r.up_to,
-      )
+  -- What cell x shows after the first n frames, at the end of frame f.
+  abbrev code_at : ℕ → ℕ × ℕ → ℕ
+  code_at n x = shown options.page (packets_before frames n) x.0 x.1
+
+  -- It is another code than is due; and where the end is not late, none that it may show.
+  record IsBroken (n f : ℕ) (x : ℕ × ℕ) : Type 0 where
+    pub is_cell : IsCell x.0 x.1
+    pub wrong : ShowsDue g frames n f x.0 x.1 → ⊥
+    pub undue :
+        is_late g frames n f ≡ false
+        → MayShow options.page (packets_before frames n) g.due (frame_at frames 0) f options.within
+        x.0 x.1
+        → ⊥
+
+  -- So is the cell that stands broken.
+  broken_is : (n f : ℕ) (x : ℕ × ℕ) → broken_cell g frames n f ≡ Some x → IsBroken n f x
+  broken_is n f x e = go (is_late g frames n f) refl
+    where
+      go : (b : Bool) → is_late g frames n f ≡ b → IsBroken n f x
+      go true late =
+          let w = first_wrong g frames n f x (rw late at e) in
+          record {
+            is_cell = w.is_cell;
+            wrong = w.broken;
+            undue = λ not_late. absurd (true≢false (sym late ∙ not_late));
+          }
+      go false late =
+          let found =
+          undue_found options.page (packets_before frames n) g.due (frame_at frames 0) f
+          options.within x (rw late at e) in
+          record {
+            is_cell = found.0;
+            wrong = λ same. found.1 (inr (f, inr refl, le_refl f, omega arith, same));
+            undue = λ not_late. found.1;
+          }
+
+  module _ (n f : ℕ) (r : IsReadTo g frames n f) (x : ℕ × ℕ)
+      (broken : broken_cell g frames n f ≡ Some x) where
+    abbrev read : Transmission
+    read = take n frames
+
+    abbrev cell_is : IsBroken n f x
+    cell_is = broken_is n f x broken
+
+    are_read : AreReadUpTo frames f read
+    are_read =
+        let last = take_last frames n r.fits r.some in
+        record {
+          n = n;
+          some = r.some;
+          within = r.fits;
+          first_n = refl;
+          rising = take_rising frames n r.fits r.rises;
+          up_to = subst (λ (k : ℕ). k ≤ f) (sym last) r.up_to;
+          next = λ more.
+              subst (λ (k : ℕ). (k ≡ f) ⊎ (f < frame_at frames n)) (sym last) (r.next more);
+        }
+
+    -- What a receiver shows there.
+    shows : (old new : State) → IsFalse old.heard → IsFalse old.is_open
+        → Hears options.page old (on_air_until read f) new
+        → cell new.page x.0 x.1 ≡ code_at n x
+    shows old new unheard shut hears =
+        all_show g.watched frames n r.fits (λ i k some l. r.packets i some k l)
+        (first_header-packets_before g.watched frames n r.some r.fits r.header) old new unheard shut
+        (subst (λ (ps : List (List ℕ)). Hears options.page old ps new)
+        (on_air_read frames n f r.some r.fits r.rises r.up_to) hears)
+        x.0 x.1 cell_is.is_cell
+
+    -- Whether the end is late goes by these frames.
+    late_same : is_late (task_of programme options None) read (length read) f
+        ≡ is_late g frames n f
+    late_same =
+        let size : length read ≡ n = length-take-le n frames r.fits in
+        ap (λ (k : ℕ). is_late (task_of programme options None) read k f) size
+        ∙ sym
+        (is_late-prefix g None read (drop n frames) n f (omega (arith, size, r.some))
+        (omega (arith, size)))
+        ∙ ap (λ (fs : Transmission). is_late g fs n f) (take-append-drop n frames)
+
+    may_of : IsDueWithin programme read options f x.0 x.1 (code_at n x)
+        → MayShow options.page (packets_before frames n) g.due (frame_at frames 0) f options.within
+        x.0 x.1
+    may_of (inl blank) = inl blank
+    may_of (inr (e, low, high, near, same)) =
+        let first : first_frame read ≡ frame_at frames 0 =
+        first-same read ∙ frame_at-take frames n 0 r.some in
+        inr (e, inl (subst (λ (k : ℕ). k ≤ e) first low), high, near, same)
+
+    -- Where the first n frames are read and keep the rules, and a cell stands broken.
+    pub undue_everywhere : IsUndueEverywhere programme options frames f x.0 x.1
+    undue_everywhere = record {
+      wrong = record {
+        read = read;
+        are_read = are_read;
+        wrong = λ old new unheard shut hears same.
+            cell_is.wrong (sym (shows old new unheard shut hears) ∙ same);
+      };
+      undue = λ not_late old new unheard shut hears due.
+          cell_is.undue (sym late_same ∙ not_late)
+          (may_of
+          (subst (IsDueWithin programme read options f x.0 x.1)
+          (shows old new unheard shut hears) due));
+    }

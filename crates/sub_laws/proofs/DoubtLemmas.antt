@@ -27,11 +27,11 @@ use Rattle.sub_rules.proofs.TrustedLemmas.{run_over, with_run}
 
 -- The frame that is quiet no more by the first of these that says so.
 abbrev pub first_doubt : ℕ → List Event → Option ℕ
-first_doubt last es = first_found (doubted last) es
+first_doubt last es = first_found (doubted last None) es
 
 -- Whether any says so.
 pub any_doubt : (last : ℕ) (es : List Event)
-    → list_any (λ e. is_some (doubted last e)) es ≡ is_some (first_doubt last es)
+    → list_any (λ e. is_some (doubted last None e)) es ≡ is_some (first_doubt last es)
 any_doubt last [] = refl
 any_doubt last (e ∷ es) = let rest = any_doubt last es in grind (arith, nat_tests)
 
@@ -40,7 +40,8 @@ pub over-is : (last : ℕ) (run : Option ℕ) (es : List Event)
     → run_over last run es ≡ kept run (first_doubt last es)
 unfolding run_over
 over-is last run [] = refl
-over-is last run (e ∷ es) = let rest = over-is last (kept run (doubted last e)) es in grind arith
+over-is last run (e ∷ es) =
+    let rest = over-is last (kept run (doubted last None e)) es in grind arith
 
 -- So one that is left was there.
 pub over-some : (last : ℕ) (run : Option ℕ) (es : List Event) (from : ℕ)
@@ -96,7 +97,7 @@ module _ (P : ℕ → ℕ → Type 0) where
   -- What is trusted before a frame.
   pub each-put : (run : Option ℕ) (x : ℕ)
       → ((from : ℕ) → run ≡ Some from → from < x → P from (x - 1))
-      → EachTrusted (trusted run x)
+      → EachTrusted (trusted run run x)
   each-put None x h = All-nil (OnTrusted P)
   each-put (Some from) x h = grind (arith, nat_tests, All-cons, ltb-true, All-nil)
 
@@ -112,13 +113,13 @@ module _ (P : ℕ → ℕ → Type 0) where
   unfolding with_run
   trusted_in_run last run [] p h = p
   trusted_in_run last run (e ∷ es) p h =
-      All-append (OnTrusted P) (trusted_before run (doubted last e)) _
-      (before (doubted last e) refl)
+      All-append (OnTrusted P) (trusted_before run run (doubted last None e)) _
+      (before (doubted last None e) refl)
       (All-cons (OnTrusted P) e _ (All-head (OnTrusted P) e es p)
-      (trusted_in_run last (kept run (doubted last e)) es (All-tail (OnTrusted P) e es p)
+      (trusted_in_run last (kept run (doubted last None e)) es (All-tail (OnTrusted P) e es p)
       (λ x from is left. let all = h x from in grind arith)))
     where
-      before : (d : Option ℕ) → doubted last e ≡ d → EachTrusted (trusted_before run d)
+      before : (d : Option ℕ) → doubted last None e ≡ d → EachTrusted (trusted_before run run d)
       before None is = All-nil (OnTrusted P)
       before (Some x) is = grind (arith, nat_tests, each-put)
 
@@ -149,12 +150,13 @@ pub told_in_run : (last from x : ℕ) (es : List Event) → first_doubt last es 
     → Contains (with_run last (Some from) es) (Trusted from (x - 1))
 unfolding with_run
 told_in_run last from x [] e l = cc
-told_in_run last from x (y ∷ es) e l = go (told_in_run last from x es) (doubted last y) e
+told_in_run last from x (y ∷ es) e l = go (told_in_run last from x es) (doubted last None y) e
   where
     go : (first_doubt last es ≡ Some x → from < x
         → Contains (with_run last (Some from) es) (Trusted from (x - 1)))
         → (d : Option ℕ) → option_or d (first_doubt last es) ≡ Some x
-        → Contains (trusted_before (Some from) d ++ y ∷ with_run last (kept (Some from) d) es)
+        → Contains
+        (trusted_before (Some from) (Some from) d ++ y ∷ with_run last (kept (Some from) d) es)
         (Trusted from (x - 1))
     go rest None e = Contains-append_right (y ∷ []) _ _ (rest e l)
     go rest (Some z) e = grind (arith, nat_tests, Contains-append_left, lt-ltb)

@@ -2,19 +2,22 @@
 -- `all_told`. Part by part, `law_of_broken_places`; and of the whole, `law_of_nothing_told`.
 use Rattle.std.proofs.Common.{◌≡◌, ℕ, zero, suc, ◌+◌, ◌-◌, ◌<◌, ◌≤◌, ◌⊎◌, inl, inr, Bool, true}
 use Rattle.std.proofs.Common.{false, not, List, [], ◌∷◌, length, Option, Some, None, refl, ◌↔◌, sym}
-use Rattle.std.proofs.Common.{ap, subst, arith, append_assoc, if◌then◌else◌}
+use Rattle.std.proofs.Common.{ap, subst, arith, append_assoc, if◌then◌else◌, ◌∙◌, ◌||◌, ◌&&◌}
+use Rattle.std.proofs.Common.{IsFalse}
 use Rattle.std.specs.Bool.{Decides}
 use Rattle.std.proofs.lemmas.Bool.{cases_lt}
 use Rattle.std.proofs.lemmas.Bool.Decides.{nat_tests, Decides-ltb}
 use Rattle.std.proofs.lemmas.List.{append-nil}
 use Rattle.std.proofs.lemmas.Option.{none-some, same_Some}
 use Rattle.ttx_packet.specs.PacketAddress.{IsPacket}
-use Rattle.sub_rules.specs.Events.{closing_events, end_before, end_events, events}
+use Rattle.sub_rules.specs.Events.{broken_cell, closing_events, end_before, end_events, events}
 use Rattle.sub_rules.specs.Events.{events_at_end, events_of_first, first_header_events}
+use Rattle.sub_rules.specs.Events.{first_told}
 use Rattle.sub_rules.specs.Events.{frame_events, gap_events, gap_length, is_gap, is_incomplete}
-use Rattle.sub_rules.specs.Events.{latest, late_events, nothing_stands, order_events, packet_events}
-use Rattle.sub_rules.specs.Events.{packet_fault, rest_events, rules_told, standing_at}
-use Rattle.sub_rules.specs.Events.{standing_before, unread_fault, wrong_cell}
+use Rattle.sub_rules.specs.Events.{is_late, is_pending, is_short, latest, late_events}
+use Rattle.sub_rules.specs.Events.{nothing_stands, order_events, packet_events, packet_fault}
+use Rattle.sub_rules.specs.Events.{packets_told, rest_events, rules_told, standing_at}
+use Rattle.sub_rules.specs.Events.{standing_before, unread_fault}
 use Rattle.sub_rules.specs.FrameRules.{HasHeader, Task, Unread, end_frame, frame_at, packets_before}
 use Rattle.sub_rules.specs.FrameRules.{packets_of_frame, task_of}
 use Rattle.sub_rules.specs.PacketRules.{AreClean, KeepsAllRules}
@@ -25,17 +28,18 @@ use Rattle.sub_rules.specs.declared.fault.CheckFault.{CheckFault}
 use Rattle.sub_rules.specs.declared.fault.CheckFault.TheVariants as fault
 use Rattle.sub_rules.specs.declared.packet_rule.PacketRule.{PacketRule}
 use Rattle.sub_rules.proofs.EndLemmas.{gap_length-is, standing_before_is}
-use Rattle.sub_laws.specs.BrokenPlaces.{LawOfBrokenPlaces, LawOfNothingTold, WrongFirst}
+use Rattle.sub_laws.specs.BrokenPlaces.{LawOfBrokenPlaces, LawOfNothingTold}
 use Rattle.sub_laws.proofs.BrokenRuleLemmas.{clean_decided, refuted, rule_decided}
 use Rattle.sub_laws.proofs.FirstFoundLemmas.{Finds, Finds-append, Finds-like, Finds-none}
 use Rattle.sub_laws.proofs.FirstFoundLemmas.{first_found, found_so_far, packet_found}
 use Rattle.sub_laws.proofs.FrameByFrame.{AllOk, AreOk, FrameOk, IsQuiet, IsReadTo, OrderOk}
 use Rattle.sub_laws.proofs.FrameByFrame.{PacketsOk}
 use Rattle.sub_laws.proofs.PlaceLemmas.{Complete-from_holds, Good-from_holds, holds-from_good}
+use Rattle.sub_laws.proofs.PlaceLemmas.{none_pending}
 use Rattle.sub_laws.proofs.PrefixLemmas.{EachAfter-push, IsInGap, at_start, before, before_more}
 use Rattle.sub_laws.proofs.PrefixLemmas.{each_at, each_from, packet_at}
 use Rattle.sub_laws.proofs.RisingEndLemmas.{latest_at}
-use Rattle.sub_laws.proofs.StandingLemmas.{first_wrong, quiet_decided, stands_broken}
+use Rattle.sub_laws.proofs.StandingLemmas.{stands_broken}
 
 -- ---- what is told first
 
@@ -92,8 +96,8 @@ is_plain f = true
 module _ (g : Task) (frames : Transmission) (Named : CheckFault → Type 0)
     (plain : (f : CheckFault) → is_plain f ≡ true → Named f)
     (unread : (u : Unread) → g.unread ≡ Some u → Named (unread_fault (length frames) (Some u)))
-    (wrong : (n f row column : ℕ) → IsReadTo g frames n f → WrongFirst g frames n f row column
-    → Named (fault.Content f row column)) where
+    (wrong : (n f : ℕ) (x : ℕ × ℕ) → IsReadTo g frames n f → broken_cell g frames n f ≡ Some x
+    → Named (fault.Content f x.0 x.1)) where
   -- What is told.
   abbrev Tells : Type 0 → List Event → Type 0
   Tells Holds xs = FirstOf Named Holds xs
@@ -134,11 +138,8 @@ module _ (g : Task) (frames : Transmission) (Named : CheckFault → Type 0)
       (end_events nothing_stands prior (standing_at g frames n f) f)
   unfolding standing_at
   quiet_told n f prior read =
-      let quiet = quiet_decided g frames n f read.fits in
-      Finds-like quiet.1 quiet.0
-      (standing_told prior f (wrong_cell g frames n f) (is_gap g frames n f)
-      (is_incomplete g frames n)
-      (λ x e. wrong n f x.0 x.1 read (first_wrong g frames n f x e)))
+      standing_told prior f (broken_cell g frames n f) (is_gap g frames n f)
+      (is_late g frames n f && is_incomplete g frames n) (λ x e. wrong n f x read e)
 
   -- ---- the frames of the day before a frame
 
@@ -167,7 +168,8 @@ module _ (g : Task) (frames : Transmission) (Named : CheckFault → Type 0)
     -- Nothing stood broken at the end before one of them.
     nothing_before : (f d : ℕ) → end_before frames n f ≡ d → IsQuiet g frames n d
         → standing_before g frames n f ≡ nothing_stands
-    nothing_before f d at quiet = grind (arith, nat_tests, standing_before_is, quiet_decided)
+    nothing_before f d at quiet =
+        standing_before_is g frames n f some ∙ ap (standing_at g frames n) at ∙ quiet
 
     -- One frame of the day more.
     gap_next : (m : ℕ) → suc m ≤ gap_length frames n → QuietFor m
@@ -295,14 +297,15 @@ module _ (g : Task) (frames : Transmission) (Named : CheckFault → Type 0)
         fails b silent = grind (arith, nat_tests, none-some)
 
     -- All of them.
-    packets_told : (k : ℕ) → k ≤ length ps
+    all_packets_told : (k : ℕ) → k ≤ length ps
         → Tells (PacketsOk g frames n k)
         (packet_events g.watched (frame_at frames n) (packets_before frames n) ps k)
-    unfolding packet_events
-    packets_told k l =
+    unfolding packets_told
+    all_packets_told k l =
         found_so_far (packet_events g.watched (frame_at frames n) (packets_before frames n) ps)
         (λ j. rules_told g.watched (frame_at frames n) j (before frames n j) (packet_at frames n j))
-        (λ j. KeepsAllRules g.watched (before frames n j) (packet_at frames n j)) k refl (λ j. refl)
+        (λ j. KeepsAllRules g.watched (before frames n j) (packet_at frames n j)) k refl
+        (λ j. let from : 0 + j ≡ j = omega arith in rw from refl)
         (λ j below. packet_told j (omega arith))
 
   -- ---- its header, its end, and all of it
@@ -348,7 +351,10 @@ module _ (g : Task) (frames : Transmission) (Named : CheckFault → Type 0)
       up_to i b = elim (cases_lt i n) [
         | inl earlier ↦ let ok = past i earlier in (ok.order.rises, ok.packets)
         | inr here ↦
-            grind (arith, nat_tests)
+            let same : n ≡ i = omega arith in
+            subst (λ k. (0 < k → frame_at frames (k - 1) < frame_at frames k)
+            × PacketsOk g frames k (length (packets_of_frame frames k))) same
+            (order.rises, packets)
       ]
 
       first_has : (0 < n) ⊎ (n ≤ 0) → HasHeader g frames 0
@@ -365,7 +371,7 @@ module _ (g : Task) (frames : Transmission) (Named : CheckFault → Type 0)
         (Finds-append (order_told n)
         (λ order. Finds-append (gap_of n past there order)
         (λ gap. Finds-append
-        (packets_told whole n past there (length (packets_of_frame frames n)) (omega arith))
+        (all_packets_told whole n past there (length (packets_of_frame frames n)) (omega arith))
         (λ packets. Finds-append (header_told n)
         (λ header. end_told n past there order gap packets header) (λ ok. ok.header))
         (λ ok. ok.packets))
@@ -382,9 +388,18 @@ module _ (g : Task) (frames : Transmission) (Named : CheckFault → Type 0)
 
   -- ---- the whole
 
-  late_told : Tells ((last : ℕ) → g.last_out ≡ Some last → last ≤ end_frame frames)
-      (late_events g.last_out (end_frame frames))
-  late_told = grind (arith, nat_tests, Finds-none, none-some, told_unless, same_Some)
+  -- That no subtitle is due after the last frame, and that the page is whole at its end.
+  abbrev IsOver : Type 0
+  IsOver =
+      ((last : ℕ) → g.last_out ≡ Some last → last ≤ end_frame frames)
+      × IsFalse (is_pending g frames)
+
+  over_decided :
+      Decides (not (is_short g.last_out (end_frame frames) || is_pending g frames)) IsOver
+  over_decided = grind (arith, nat_tests, none-some, same_Some)
+
+  late_told : Tells IsOver (late_events g frames)
+  late_told = told_if _ _ (plain _ refl) over_decided
 
   -- What follows the last frame.
   rest_told : AreOk g frames (length frames) → 0 < length frames → (o : Option Unread)
@@ -397,7 +412,17 @@ module _ (g : Task) (frames : Transmission) (Named : CheckFault → Type 0)
   unfolding closing_events end_events
   closing_told zero e past = grind (arith, nat_tests, rule_told)
   closing_told (suc m) e past =
-      grind (arith, nat_tests, rest_told, quiet_decided)
+      let last : standing_at g frames (suc m) (end_frame frames) ≡ nothing_stands =
+      subst (λ k. standing_at g frames k (end_frame frames) ≡ nothing_stands) (sym e)
+      (last_quiet past e) in
+      grind (arith, nat_tests, rest_told)
+    where
+      last_quiet : AreOk g frames (length frames) → suc m ≡ length frames
+          → IsQuiet g frames (length frames) (end_frame frames)
+      last_quiet past e =
+          let n : length frames - 1 + 1 ≡ length frames = omega arith in
+          subst (λ k. IsQuiet g frames k (end_frame frames)) n
+          (past (length frames - 1) (omega arith)).end
 
   -- All that is told.
   pub all_told : EachPacket IsPacket frames → Tells (AllOk g frames) (events g frames)
@@ -414,33 +439,59 @@ Any f = Unit {0}
 
 pub law_of_broken_places : LawOfBrokenPlaces
 unfolding order_events first_header_events
-law_of_broken_places g frames = record {
+law_of_broken_places g frames at_once = record {
   start = grind (arith, nat_tests, same_Some);
   order = λ i. grind (arith, nat_tests);
   rules = λ r before p comparable. refuted _ (rule_decided g.watched before p r comparable);
   header = grind (arith, nat_tests);
-  ends = λ n f l. stands_broken g frames n f l;
-  late = grind (arith, nat_tests, same_Some);
+  ends = λ n f l. stands_broken g frames n f at_once l;
+  late = let none = none_pending g frames at_once in grind (arith, nat_tests, same_Some);
   first = λ event rest whole is.
       let told =
-      all_told g frames Any (λ f e. tt) (λ u e. tt) (λ n f row column read wrong. tt) whole in
+      all_told g frames Any (λ f e. tt) (λ u e. tt) (λ n f x read wrong. tt) whole in
       let (f, named, any) = told.at event (rw is refl) in
       (f, named);
 }
 
-pub law_of_nothing_told : LawOfNothingTold
-law_of_nothing_told programme options unread frames some whole =
-    let g = task_of programme options unread in
-    let told =
+-- Nothing is told exactly where all that is asked holds.
+pub nothing_told : (g : Task) (frames : Transmission) → EachPacket IsPacket frames
+    → (events g frames ≡ []) ↔ AllOk g frames
+nothing_told g frames whole =
     told_none (events g frames)
-    (all_told g frames Any (λ f e. tt) (λ u e. tt) (λ n f r c a b. tt) whole) in
-    grind (
-      arith,
-      nat_tests,
-      Good-from_holds programme options unread frames some,
-      Complete-from_holds programme options unread frames some,
-      holds-from_good programme options frames,
-    )
+    (all_told g frames Any (λ f e. tt) (λ u e. tt) (λ n f x a b. tt) whole)
+
+-- Where no refusal is told nothing is. For `check`.
+pub none_refused : (g : Task) (frames : Transmission) → EachPacket IsPacket frames
+    → first_told (events g frames) ≡ None
+    → events g frames ≡ []
+none_refused g frames whole none =
+    go (events g frames)
+    (all_told g frames Any (λ f e. tt) (λ u e. tt) (λ n f x a b. tt) whole) none
   where
-    sizes : EachPacket (λ packet. length packet ≡ 42) frames
-    sizes = grind (arith, nat_tests, each_from, each_at)
+    go : (xs : List Event) → FirstOf Any (AllOk g frames) xs → first_told xs ≡ None → xs ≡ []
+    go [] told e = refl
+    go (x ∷ xs) told e =
+        let (f, is, any) = told.at x refl in
+        let some : first_told (Told f ∷ xs) ≡ None = rw is at e in
+        absurd (none-some f (sym some))
+
+-- Whole packets have 42 bytes.
+pub sizes_of : (frames : Transmission) → EachPacket IsPacket frames
+    → EachPacket (λ packet. length packet ≡ 42) frames
+sizes_of frames whole = grind (arith, nat_tests, each_from, each_at)
+
+pub law_of_nothing_told : LawOfNothingTold
+law_of_nothing_told programme options unread frames at_once some whole =
+    let told = nothing_told (task_of programme options unread) frames whole in (
+      λ none.
+          let h = told.0 none in (
+            Good-from_holds programme options unread frames some h at_once
+                (sizes_of frames whole),
+            Complete-from_holds programme options unread frames some h at_once,
+            h.unread,
+          ),
+      λ good.
+          told.1
+          (subst (λ o. AllOk (task_of programme options o) frames) (sym good.2)
+          (holds-from_good programme options frames at_once good.0 good.1)),
+    )

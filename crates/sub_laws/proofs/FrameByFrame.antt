@@ -1,6 +1,7 @@
 -- What is asked of a transmission, frame by frame of the list.
-use Rattle.std.proofs.Common.{◌≡◌, ℕ, ◌+◌, ◌-◌, ◌<◌, ◌≤◌, ◌⊎◌, length, Some, None}
+use Rattle.std.proofs.Common.{◌≡◌, ℕ, ◌+◌, ◌-◌, ◌<◌, ◌≤◌, ◌⊎◌, length, Some, None, IsFalse}
 use Rattle.ttx_page.specs.Page.{IsCell}
+use Rattle.sub_rules.specs.Events.{is_pending, nothing_stands, standing_at}
 use Rattle.sub_rules.specs.FrameRules.{HasHeader, IsCovered, IsEnded, ShowsDue, Task, end_frame}
 use Rattle.sub_rules.specs.FrameRules.{frame_at, packets_of_frame}
 use Rattle.sub_rules.specs.PacketRules.{KeepsAllRules}
@@ -8,7 +9,11 @@ use Rattle.sub_rules.specs.Transmission.{Transmission}
 use Rattle.sub_laws.proofs.PrefixLemmas.{IsInGap, before, packet_at}
 
 -- Nothing stands broken after n frames of the list, at the end of frame f.
-pub record IsQuiet (g : Task) (frames : Transmission) (n f : ℕ) : Type 0 where
+abbrev pub IsQuiet : Task → Transmission → ℕ → ℕ → Type 0
+IsQuiet g frames n f = standing_at g frames n f ≡ nothing_stands
+
+-- The page is whole there, and not too long ago was sent.
+pub record IsWhole (g : Task) (frames : Transmission) (n f : ℕ) : Type 0 where
   pub shows : (row column : ℕ) → IsCell row column → ShowsDue g frames n f row column
   pub covered : IsCovered g frames n f
   pub ended : IsEnded g frames n
@@ -42,6 +47,7 @@ pub record AllOk (g : Task) (frames : Transmission) : Type 0 where
   pub unread : g.unread ≡ None
   pub some : 0 < length frames
   pub late : (last : ℕ) → g.last_out ≡ Some last → last ≤ end_frame frames
+  pub whole : IsFalse (is_pending g frames)
 
 -- The first n frames are read up to the end of frame f of the day: they rise up to it, their
 -- packets keep all rules, and the first has a header of the page.

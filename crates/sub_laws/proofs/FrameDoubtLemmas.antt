@@ -7,8 +7,8 @@ use Rattle.std.specs.Option.{option_or}
 use Rattle.std.specs.Prelude.{⊤}
 use Rattle.sub_rules.specs.Events.{Standing, end_before, end_events, events_at_end}
 use Rattle.sub_rules.specs.Events.{first_header_events, frame_events, gap_events, gap_length}
-use Rattle.sub_rules.specs.Events.{latest, order_events, packet_events, packet_fault, rules_told}
-use Rattle.sub_rules.specs.Events.{standing_at, standing_before}
+use Rattle.sub_rules.specs.Events.{latest, order_events, packet_events, packet_fault}
+use Rattle.sub_rules.specs.Events.{packets_told, rules_told, standing_at, standing_before}
 use Rattle.sub_rules.specs.FrameRules.{Task, frame_at, packets_before, packets_of_frame}
 use Rattle.sub_rules.specs.PacketTests.{breaks}
 use Rattle.sub_rules.specs.Transmission.{Transmission}
@@ -22,13 +22,12 @@ use Rattle.sub_laws.specs.CleanStretch.{is_needed}
 use Rattle.sub_laws.proofs.DoubtLemmas.{first_doubt}
 use Rattle.sub_laws.proofs.FirstFoundLemmas.{Finds, Finds-append, Finds-like, found-append}
 use Rattle.sub_laws.proofs.FirstFoundLemmas.{found_so_far, packet_found}
-use Rattle.sub_rules.proofs.RunLemmas.{frame_before}
-use Rattle.sub_rules.specs.PieceEvents.{own_events}
+use Rattle.sub_rules.proofs.RunLemmas.{frame_before, own_events}
 
 -- By these events no other frame than f is quiet no more. Where none is, the one holds; and where
 -- the other is given, none is.
 abbrev pub Doubts : ℕ → ℕ → Type 0 → Type 0 → List Event → Type 0
-Doubts last f Given Holds es = Finds (doubted last) (λ x. x ≡ f) Given Holds es
+Doubts last f Given Holds es = Finds (doubted last None) (λ x. x ≡ f) Given Holds es
 
 -- What is told at an end makes its own frame quiet no more; where it does not, nothing stands that
 -- did not stand before. Where nothing stands it does not.
@@ -42,7 +41,7 @@ end_doubt last before f old new = grind (arith, nat_tests)
 
 -- The frame of a packet is quiet no more exactly by the rules on which a receiver depends.
 doubted_rule : (last frame k : ℕ) (r : PacketRule)
-    → doubted last (Told (packet_fault r frame k)) ≡ cond (is_needed r) (Some frame) None
+    → doubted last None (Told (packet_fault r frame k)) ≡ cond (is_needed r) (Some frame) None
 unfolding doubted
 doubted_rule last frame k r = grind (arith, nat_tests)
 
@@ -63,18 +62,18 @@ module _ (last : ℕ) (w : Watched) (frame : ℕ) (before packets : List (List �
       let is = doubted_rule last frame k r in let keep = keeps r in grind (arith, nat_tests))
       (λ none r needed.
       let is = doubted_rule last frame k r in let silent = none r in grind (arith, nat_tests))
-      (packet_found (doubted last) (λ x. x ≡ frame) frame k
+      (packet_found (doubted last None) (λ x. x ≡ frame) frame k
       (λ r x e. let is = doubted_rule last frame k r in grind (arith, nat_tests)) w _ _)
 
   -- What is told of the first n makes this frame quiet no more, exactly where they do.
   packets_doubt : (n : ℕ)
       → Doubts last frame ((k : ℕ) → k < n → Keeps k) ((k : ℕ) → k < n → Keeps k)
       (packet_events w frame before packets n)
-  unfolding packet_events
+  unfolding packets_told
   packets_doubt n =
       found_so_far (packet_events w frame before packets)
       (λ k. rules_told w frame k (before ++ take k packets) (get_or packets k [])) Keeps n refl
-      (λ k. refl) (λ k l past. packet_doubt k)
+      (λ k. let from : 0 + k ≡ k = omega arith in rw from refl) (λ k l past. packet_doubt k)
 
 -- ---- the order
 
@@ -115,7 +114,8 @@ module _ (g : Task) (frames : Transmission) (n : ℕ) (some : 0 < n)
         × (stands_none (standing_at g frames n x) ≡ true → ⊥)
 
     pub gap_doubt : (last m : ℕ)
-        → Finds (doubted last) (FirstBroken m) (AreQuiet m) (AreQuiet m) (gap_events g frames n m)
+        → Finds (doubted last None) (FirstBroken m) (AreQuiet m) (AreQuiet m)
+        (gap_events g frames n m)
     unfolding gap_events
     gap_doubt last m =
         found_so_far (gap_events g frames n)

@@ -7,7 +7,7 @@ use Rattle.sub_rules.specs.Transmission.{Transmission, last_frame}
 use Rattle.std.specs.Prelude.{⊤}
 use Rattle.sub_rules.specs.Pieces.{Piece, frames_of}
 use Rattle.sub_rules.specs.Pieces.Piece.{Passed, Sent}
-use Rattle.sub_rules.proofs.PieceEventLemmas.{frames_of-append}
+use Rattle.sub_rules.proofs.JoinedLemmas.{frames_of-append}
 use Rattle.sub_laws.specs.TrustedFrames.{IsPassedOutside}
 use Rattle.sub_laws.proofs.PrefixLemmas.{last-same}
 use Rattle.sub_laws.proofs.TrustedFrameLemmas.{part_length, risen}

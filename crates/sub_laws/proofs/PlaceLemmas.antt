@@ -1,9 +1,11 @@
--- A transmission is good, of complete pages where these are asked for, exactly where all that is
--- asked of it holds: `Good-from_holds`, `Complete-from_holds`, `holds-from_good`.
+-- A transmission keeps the rules of all but what is shown, and nothing stands broken at its ends,
+-- exactly where all that is asked of it holds: `Rules-from_holds`, `holds-from_rules`. Within 0
+-- frames it is good then, of complete pages where these are asked for: `Good-from_holds`,
+-- `Complete-from_holds`, `holds-from_good`.
 use Rattle.std.proofs.lemmas.Bool.Decides.{nat_tests}
 use Rattle.std.proofs.Common.{◌≡◌, ℕ, ◌+◌, ◌-◌, ◌<◌, ◌≤◌, inl, inr, true, false, List, [], ◌∷◌}
 use Rattle.std.proofs.Common.{◌++◌, Option, Some, None, length, take, get_or, refl, sym, ap, ◌∙◌}
-use Rattle.std.proofs.Common.{subst, arith, IsTrue}
+use Rattle.std.proofs.Common.{subst, arith, IsTrue, IsFalse, ◌&&◌, not, Bool}
 use Rattle.std.proofs.Math.Seq.{take-append-add}
 use Rattle.std.specs.Option.{option_or}
 use Rattle.std.specs.List.{AllByRecursion}
@@ -26,20 +28,25 @@ use Rattle.sub_rules.specs.PacketRules.{first_header, KeepsRule, KeepsAllRules}
 use Rattle.sub_rules.proofs.PacketLists.{first_header-push, Each-push, Each-map}
 use Rattle.sub_rules.specs.Transmission.{EachPacket, SentFrame, Transmission, first_frame}
 use Rattle.sub_rules.specs.Transmission.{last_frame, on_air_until}
-use Rattle.sub_rules.specs.Good.{Good, HoldsHeader, IsCleanSpan, IsControlled, IsEnhancement}
-use Rattle.sub_rules.specs.Good.{IsInOneMode, Repeats}
+use Rattle.sub_rules.specs.Events.{broken_cell, is_incomplete, is_late, is_pending}
+use Rattle.sub_rules.specs.Good.{Good, KeepsRules, HoldsHeader, IsCleanSpan, IsControlled}
+use Rattle.sub_rules.specs.Good.{IsEnhancement, IsInOneMode, Repeats}
 use Rattle.sub_laws.specs.OnScreen.{Complete}
-use Rattle.sub_rules.specs.FrameRules.{HasHeader, IsCovered, Unread, end_frame, frame_at}
-use Rattle.sub_rules.specs.FrameRules.{packets_before, packets_of_frame, task_of, watched_of}
+use Rattle.sub_rules.specs.FrameRules.{HasHeader, IsCovered, IsEnded, Task, Unread, end_frame}
+use Rattle.sub_rules.specs.FrameRules.{frame_at, packets_before, packets_of_frame, task_of}
+use Rattle.sub_rules.specs.FrameRules.{watched_of}
 use Rattle.sub_laws.specs.CleanStretch.{IsEnd}
-use Rattle.sub_laws.proofs.FrameByFrame.{AllOk, FrameOk, IsQuiet}
+use Rattle.sub_laws.proofs.FrameByFrame.{AllOk, FrameOk, IsQuiet, IsWhole}
 use Rattle.sub_laws.proofs.GoodLemmas.{any_sent, each_packet, number_at, rises_each, sent_any}
 use Rattle.sub_laws.proofs.GoodLemmas.{whole}
 use Rattle.ttx_page.proofs.SpanPush.{span-push}
 use Rattle.sub_laws.proofs.PrefixLemmas.{before, packet_at, at_start, at_packet, each_at, each_from}
 use Rattle.sub_laws.proofs.PrefixLemmas.{EachAfter, RiseTo, before_more, each_after, rises_to}
-use Rattle.sub_laws.proofs.PrefixLemmas.{first-same, rises_strictly, last-same, on_air_at}
-use Rattle.sub_laws.proofs.PrefixLemmas.{on_air_is, end_at}
+use Rattle.sub_laws.proofs.PrefixLemmas.{first-same, rises_strictly, last-same, on_air_at, IsInGap}
+use Rattle.sub_laws.proofs.PrefixLemmas.{end_at, end_before_rest, end_high, end_is_on_air, end_low}
+use Rattle.sub_laws.proofs.PrefixLemmas.{on_air_is}
+use Rattle.sub_laws.proofs.StandingLemmas.{always_late, broken_is, ended_is, incomplete_decided}
+use Rattle.sub_laws.proofs.StandingLemmas.{gap_decided, no_wrong, quiet_parts, whole_is}
 use Rattle.sub_rules.proofs.FrameLists.{joined_more}
 use Rattle.sub_laws.proofs.CleanSpanLemmas.{MayFollow, clean_cuts, last_clean}
 use Rattle.sub_rules.specs.declared.packet_rule.PacketRule.TheVariants as rule
@@ -159,18 +166,22 @@ module _ (programme : ProgrammeValue) (options : OptionsValue) (unread : Option 
           (λ i k l h. clean_at i k (omega arith) h)) n)
 
   -- At no end anything stands broken.
-  quiet_at : (n f : ℕ) → IsEnd t n f → IsQuiet (task_of programme options unread) t n f
+  pub quiet_at : (n f : ℕ) → IsEnd t n f → IsQuiet (task_of programme options unread) t n f
   quiet_at n f (above, le, inl own) = grind (arith, nat_tests)
   quiet_at n f (above, le, inr (l, later, earlier)) =
       (h.each n l).gap f (above, l, earlier (n - 1) (omega arith), later)
 
-  -- At the end of each frame the due page is shown.
-  shows_at : (f row column : ℕ) → first_frame t ≤ f → f ≤ last_frame t → IsCell row column
-      → shown options.page (on_air_until t f) row column ≡ cell (due_in programme f) row column
-  shows_at f row column low high is =
-      let (n, end, on, from) =
-      end_at t rising f some (omega (arith, first-same t)) (omega (arith, last-same t)) in
-      ap (λ xs. shown options.page xs row column) on ∙ (quiet_at n f end).shows row column is
+  -- A header of the page is not too long ago.
+  covered_of : (n f : ℕ) → IsEnd t n f → IsCovered (task_of programme options unread) t n f
+  covered_of n f end =
+      let parts = (quiet_parts (task_of programme options unread) t n f).0 (quiet_at n f end) in
+      (gap_decided (task_of programme options unread) t n f end.1).0 (ap not parts.1)
+
+  -- Each frame has an end, at which what is on air up to it counts.
+  pub end_of : (f : ℕ) → first_frame t ≤ f → f ≤ last_frame t
+      → (n : ℕ) × IsEnd t n f × (on_air_until t f ≡ packets_before t n) × (frame_at t (n - 1) ≤ f)
+  end_of f low high =
+      end_at t rising f some (omega (arith, first-same t)) (omega (arith, last-same t))
 
   -- The first frame has a header of the page.
   opens : HoldsHeader options.page t (first_frame t)
@@ -183,7 +194,7 @@ module _ (programme : ProgrammeValue) (options : OptionsValue) (unread : Option 
   never_late f low high =
       let first = first-same t in
       let (n, end, on, from) = end_at t rising f some (omega arith) (omega (arith, last-same t)) in
-      elim (quiet_at n f end).covered [
+      elim (covered_of n f end) [
         | inl early ↦ (first_frame t, low, omega arith, opens)
         | inr (j, m, below, head) ↦
             let r = rises_to t (length t) rising j (n - 1) (omega arith)
@@ -205,9 +216,10 @@ module _ (programme : ProgrammeValue) (options : OptionsValue) (unread : Option 
       (λ i k l m ih. agree_step (before t i k) (packet_at t i k) (clean_at i k l m rule.Mode) ih)
       (length t) (omega arith))
 
-  -- Where all that is asked holds, the transmission is good.
-  pub Good-from_holds : EachPacket (λ packet. length packet ≡ 42) t → Good programme t options
-  Good-from_holds sizes = record {
+  -- Where all that is asked holds, the transmission keeps these rules.
+  pub Rules-from_holds :
+      EachPacket (λ packet. length packet ≡ 42) t → KeepsRules programme t options
+  Rules-from_holds sizes = record {
     not_empty = some;
     rising = rising_of;
     whole = sizes;
@@ -222,132 +234,215 @@ module _ (programme : ProgrammeValue) (options : OptionsValue) (unread : Option 
     spans = spans_of;
     opens = opens;
     repeats = repeats;
-    content = shows_at;
   }
 
-  -- Its pages are complete, where that is asked for.
-  pub Complete-from_holds : IsTrue options.asks_complete → Complete t options
-  Complete-from_holds asks f low high holds =
-      let (n, end, on, from) =
-      end_at t rising f some (omega (arith, first-same t)) (omega (arith, last-same t)) in
-      grind (arith, nat_tests, quiet_at)
+  -- ---- within 0 frames
+
+  module _ (at_once : options.within ≡ 0) where
+    -- At the end of each frame the page is whole.
+    whole_at : (n f : ℕ) → IsEnd t n f → IsWhole (task_of programme options unread) t n f
+    whole_at n f end =
+        whole_is (task_of programme options unread) t n f at_once end.1 (quiet_at n f end)
+
+    -- The due page is shown.
+    shows_at : (f row column : ℕ) → first_frame t ≤ f → f ≤ last_frame t → IsCell row column
+        → shown options.page (on_air_until t f) row column ≡ cell (due_in programme f) row column
+    shows_at f row column low high is =
+        let (n, end, on, from) = end_of f low high in
+        ap (λ xs. shown options.page xs row column) on ∙ (whole_at n f end).shows row column is
+
+    -- The transmission is good.
+    pub Good-from_holds : EachPacket (λ packet. length packet ≡ 42) t → Good programme t options
+    Good-from_holds sizes = record { rules = Rules-from_holds sizes; content = shows_at }
+
+    -- Its pages are complete, where that is asked for.
+    pub Complete-from_holds : IsTrue options.asks_complete → Complete t options
+    Complete-from_holds asks f low high holds =
+        let (n, end, on, from) = end_of f low high in
+        let ended = (whole_at n f end).ended asks in
+        grind (arith, nat_tests)
 
 -- ---- the law, the other way
 
+-- What is not true is false.
+pub not_not : (b : Bool) → not b ≡ true → b ≡ false
+not_not b e = grind (arith, nat_tests)
+
 module _ (programme : ProgrammeValue) (options : OptionsValue) (t : Transmission)
-    (good : Good programme t options) (complete : IsTrue options.asks_complete → Complete t options)
-  where
-    -- Each frame is after the one before.
-    abbrev rises : RiseTo t (length t)
-    rises = rises_each t good.rising
+    (rules : KeepsRules programme t options) where
+  -- Each frame is after the one before.
+  abbrev rises : RiseTo t (length t)
+  rises = rises_each t rules.rising
 
-    -- Each packet has the C11 of the first header.
-    mode_at : (i k : ℕ) → i < length t → k < length (packets_of_frame t i)
-        → KeepsRule rule.Mode (watched_of programme options) (before t i k) (packet_at t i k)
-    mode_at i k l m a f ea ef =
-        let P : List ℕ → Type 0 = IsInOneMode (packet_at t i k) in
-        let row = each_at (λ one. EachPacket (IsInOneMode one) t) t i k good.serial l m in
-        let front =
-        at_packet t (length t) (omega arith) (AllByRecursion P) tt
-        (λ j n a b ih. Each-push P (before t j n) (packet_at t j n) ih (each_at P t j n row a b)) i
-        k l (omega arith) in
-        let q = first_pick P (before t i k) f ef front in
-        q.2 a f ea q.1
+  -- Each packet has the C11 of the first header.
+  mode_at : (i k : ℕ) → i < length t → k < length (packets_of_frame t i)
+      → KeepsRule rule.Mode (watched_of programme options) (before t i k) (packet_at t i k)
+  mode_at i k l m a f ea ef =
+      let P : List ℕ → Type 0 = IsInOneMode (packet_at t i k) in
+      let row = each_at (λ one. EachPacket (IsInOneMode one) t) t i k rules.serial l m in
+      let front =
+      at_packet t (length t) (omega arith) (AllByRecursion P) tt
+      (λ j n a b ih. Each-push P (before t j n) (packet_at t j n) ih (each_at P t j n row a b)) i
+      k l (omega arith) in
+      let q = first_pick P (before t i k) f ef front in
+      q.2 a f ea q.1
 
-    -- No frame is after the last.
-    last_at_least : (i : ℕ) → i < length t → frame_at t i ≤ end_frame t
-    last_at_least i l = rises_to t (length t) rises i (length t - 1) (omega arith) (omega arith)
+  -- No frame is after the last.
+  last_at_least : (i : ℕ) → i < length t → frame_at t i ≤ end_frame t
+  last_at_least i l = rises_to t (length t) rises i (length t - 1) (omega arith) (omega arith)
 
-    -- While the page is open the packet may follow the span.
-    may_follow : (i k : ℕ) → i < length t → k < length (packets_of_frame t i)
-        → is_this_page (kind options.page (packet_at t i k)) ≡ false
-        → ends_page (kind options.page (packet_at t i k)) ≡ false
-        → is_open_after (kind options.page) (before t i k) ≡ true
-        → MayFollow options.page (span (kind options.page) (before t i k)) (packet_at t i k)
-    may_follow i k l m this ends opened =
-        let n : ℕ = length (packets_before t i) + (k + 1) in
-        let up_to : take n (on_air_until t (frame_at t i)) ≡ before t i (k + 1) =
-        ap (take n) (on_air_at t rises i l ∙ joined_more t i l)
-        ∙ take-append-add (packets_before t i) (packets_of_frame t i) (k + 1) in
-        last_clean options.page (span (kind options.page) (before t i k)) (packet_at t i k)
-        (subst (IsCleanSpan options.page)
-        (ap (span (kind options.page)) (up_to ∙ before_more t i k m)
-        ∙ span_open (watched_of programme options) (before t i k) (packet_at t i k) this ends
-        opened)
-        (good.spans (frame_at t i) n (omega (arith, last-same t, last_at_least i l))))
+  -- While the page is open the packet may follow the span.
+  may_follow : (i k : ℕ) → i < length t → k < length (packets_of_frame t i)
+      → is_this_page (kind options.page (packet_at t i k)) ≡ false
+      → ends_page (kind options.page (packet_at t i k)) ≡ false
+      → is_open_after (kind options.page) (before t i k) ≡ true
+      → MayFollow options.page (span (kind options.page) (before t i k)) (packet_at t i k)
+  may_follow i k l m this ends opened =
+      let n : ℕ = length (packets_before t i) + (k + 1) in
+      let up_to : take n (on_air_until t (frame_at t i)) ≡ before t i (k + 1) =
+      ap (take n) (on_air_at t rises i l ∙ joined_more t i l)
+      ∙ take-append-add (packets_before t i) (packets_of_frame t i) (k + 1) in
+      last_clean options.page (span (kind options.page) (before t i k)) (packet_at t i k)
+      (subst (IsCleanSpan options.page)
+      (ap (span (kind options.page)) (up_to ∙ before_more t i k m)
+      ∙ span_open (watched_of programme options) (before t i k) (packet_at t i k) this ends
+      opened)
+      (rules.spans (frame_at t i) n (omega (arith, last-same t, last_at_least i l))))
 
-    -- Each packet keeps each rule.
-    free_at : (i k : ℕ) → i < length t → k < length (packets_of_frame t i)
-        → KeepsAllRules (watched_of programme options) (before t i k) (packet_at t i k)
-    free_at i k l m rule.Address = (each_at HasExactWords t i k good.exact l m).0
-    free_at i k l m rule.HeaderCode = (each_at HasExactWords t i k good.exact l m).1
-    free_at i k l m rule.Mode = mode_at i k l m
-    free_at i k l m rule.Control =
-        each_at (IsControlled programme.national options.page) t i k good.control l m
-    free_at i k l m rule.Parity = λ opened row e.
-        (may_follow i k l m (ap is_this_page e) (ap ends_page e) opened).odd row e
-    free_at i k l m rule.RowChanged =
-        grind (arith, nat_tests, may_follow i k l m, recursion_from_All)
-    free_at i k l m rule.Enhancement = λ opened is.
-        let e = enhancement_is_other (watched_of programme options) (packet_at t i k) is in
-        (may_follow i k l m (ap is_this_page e) (ap ends_page e) opened).plain is
+  -- Each packet keeps each rule.
+  free_at : (i k : ℕ) → i < length t → k < length (packets_of_frame t i)
+      → KeepsAllRules (watched_of programme options) (before t i k) (packet_at t i k)
+  free_at i k l m rule.Address = (each_at HasExactWords t i k rules.exact l m).0
+  free_at i k l m rule.HeaderCode = (each_at HasExactWords t i k rules.exact l m).1
+  free_at i k l m rule.Mode = mode_at i k l m
+  free_at i k l m rule.Control =
+      each_at (IsControlled programme.national options.page) t i k rules.control l m
+  free_at i k l m rule.Parity = λ opened row e.
+      (may_follow i k l m (ap is_this_page e) (ap ends_page e) opened).odd row e
+  free_at i k l m rule.RowChanged =
+      grind (arith, nat_tests, may_follow i k l m, recursion_from_All)
+  free_at i k l m rule.Enhancement = λ opened is.
+      let e = enhancement_is_other (watched_of programme options) (packet_at t i k) is in
+      (may_follow i k l m (ap is_this_page e) (ap ends_page e) opened).plain is
 
-    -- The first frame of the list has a header of the page.
-    starts : HasHeader (task_of programme options None) t 0
-    starts =
-        let r = sent_any (watched_of programme options) t (first_frame t) good.opens in
-        grind (arith, nat_tests, first-same t, cases_eq r.0 0, rises_strictly t rises 0 r.0)
+  -- The first frame of the list has a header of the page.
+  starts : HasHeader (task_of programme options None) t 0
+  starts =
+      let r = sent_any (watched_of programme options) t (first_frame t) rules.opens in
+      grind (arith, nat_tests, first-same t, cases_eq r.0 0, rises_strictly t rises 0 r.0)
 
-    -- A header is not too long ago.
-    covered_at : (n f : ℕ) → f ≤ end_frame t
-        → ((j : ℕ) → n ≤ j → j < length t → f < frame_at t j)
-        → IsCovered (task_of programme options None) t n f
-    covered_at n f high later = elim (cases_lt (f + 1) (frame_at t 0 + options.every)) [
-      | inl early ↦ inl early
-      | inr late ↦
-          let first = first-same t in
-          let last = last-same t in
-          let r = good.repeats (f + 1 - options.every) (omega arith) (omega arith) in
-          grind (arith, nat_tests, sent_any (watched_of programme options) t r.0 r.3, cases_lt)
-    ]
+  -- A header is not too long ago.
+  covered_at : (n f : ℕ) → f ≤ end_frame t
+      → ((j : ℕ) → n ≤ j → j < length t → f < frame_at t j)
+      → IsCovered (task_of programme options None) t n f
+  covered_at n f high later = elim (cases_lt (f + 1) (frame_at t 0 + options.every)) [
+    | inl early ↦ inl early
+    | inr late ↦
+        let first = first-same t in
+        let last = last-same t in
+        let r = rules.repeats (f + 1 - options.every) (omega arith) (omega arith) in
+        grind (arith, nat_tests, sent_any (watched_of programme options) t r.0 r.3, cases_lt)
+  ]
 
+  -- ---- all that is asked
+
+  module _ (still : (n f : ℕ) → IsEnd t n f
+      → (broken_cell (task_of programme options None) t n f ≡ None)
+      × IsFalse (is_late (task_of programme options None) t n f
+      && is_incomplete (task_of programme options None) t n))
+      (over : IsFalse (is_pending (task_of programme options None) t)) where
     -- What is asked at an end.
-    quiet_of : (n f : ℕ) → 0 < n → n ≤ length t → frame_at t (n - 1) ≤ f
-        → (n < length t → f < frame_at t n) → f ≤ end_frame t
-        → IsQuiet (task_of programme options None) t n f
-    quiet_of n f some le low high last =
-        let first = rises_to t (length t) rises 0 (n - 1) (omega arith) (omega arith) in
-        let from : first_frame t ≤ f = omega (arith, first-same t) in
-        let to : f ≤ last_frame t = omega (arith, last-same t) in
-        let on = on_air_is t rises n f le (λ s. low) high in
-        record {
-          shows = grind (arith, nat_tests);
-          covered = covered_at n f last
-              (grind (arith, nat_tests, rises_to t (length t) rises n));
-          ended = λ asks. let shut = complete asks f from to in grind arith;
-        }
+    quiet_of : (n f : ℕ) → IsEnd t n f → IsQuiet (task_of programme options None) t n f
+    quiet_of n f end =
+        let covered =
+        (gap_decided (task_of programme options None) t n f end.1).1
+        (covered_at n f (end_low t rises n f end) (end_before_rest t rises n f end)) in
+        (quiet_parts (task_of programme options None) t n f).1
+        ((still n f end).0, not_not _ covered, (still n f end).1)
 
-    -- Where the transmission is good, all that is asked of each frame holds.
+    -- All that is asked of each frame holds.
     frame_of : (i : ℕ) → i < length t → FrameOk (task_of programme options None) t i
     frame_of i l = record {
       order = record {
-        start = let starts = good.starts in grind (arith, first-same t);
+        start = let starts = rules.starts in grind (arith, first-same t);
         rises = λ some. rises i some l;
       };
-      gap = λ f gap.
-          grind (arith, nat_tests, last_at_least i l, quiet_of i f gap.0);
+      gap = λ f gap. quiet_of i f (gap_end i f gap);
       packets = λ k m. free_at i k l m;
       header = λ z. starts;
       end =
           let back : frame_at t (i + 1 - 1) ≡ frame_at t i = ap (frame_at t) (omega arith) in
-          quiet_of (i + 1) (frame_at t i) (omega arith) (omega arith) (omega arith)
-          (λ m. rises_strictly t rises i (i + 1) (omega arith) m) (last_at_least i l);
+          quiet_of (i + 1) (frame_at t i) (omega arith, omega arith, inl (sym back));
     }
+      where
+        gap_end : (i f : ℕ) → IsInGap t i f → IsEnd t i f
+        gap_end i f (some, there, after, before) = (
+          some,
+          omega arith,
+          inr (
+            there,
+            before,
+            λ j below.
+                let up = rises_to t (length t) rises j (i - 1) (omega arith) (omega arith) in
+                omega arith,
+          ),
+        )
 
-    pub holds-from_good : AllOk (task_of programme options None) t
-    holds-from_good = record {
+    pub holds-from_rules : AllOk (task_of programme options None) t
+    holds-from_rules = record {
       each = frame_of;
       unread = refl;
-      some = good.not_empty;
-      late = let lasts = good.lasts in grind (arith, last-same t);
+      some = rules.not_empty;
+      late = let lasts = rules.lasts in grind (arith, last-same t);
+      whole = over;
     }
+
+-- Within 0 frames no end is waited for.
+pub none_pending : (g : Task) (frames : Transmission) → g.within ≡ 0 → is_pending g frames ≡ false
+unfolding is_pending
+none_pending g frames at_once =
+    let late = always_late g frames (length frames) (end_frame frames) at_once in
+    grind (arith, nat_tests)
+
+-- ---- within 0 frames, the other way
+
+module _ (programme : ProgrammeValue) (options : OptionsValue) (t : Transmission)
+    (at_once : options.within ≡ 0) (good : Good programme t options)
+    (complete : IsTrue options.asks_complete → Complete t options) where
+  abbrev g : Task
+  g = task_of programme options None
+
+  in_order : RiseTo t (length t)
+  in_order = rises_each t good.rules.rising
+
+  from : (n f : ℕ) → IsEnd t n f → first_frame t ≤ f
+  from n f end = omega (arith, first-same t, end_high t in_order n f end)
+
+  to : (n f : ℕ) → IsEnd t n f → f ≤ last_frame t
+  to n f end = omega (arith, last-same t, end_low t in_order n f end)
+
+  -- No cell is wrong.
+  right : (n f : ℕ) → IsEnd t n f → broken_cell g t n f ≡ None
+  right n f end =
+      broken_is g t n f at_once
+      ∙ no_wrong g t n f
+      (λ row column is.
+      ap (λ ps. shown options.page ps row column)
+      (sym (end_is_on_air t in_order n f end))
+      ∙ good.content f row column (from n f end) (to n f end) is)
+
+  -- The page is not open where complete pages are asked for.
+  ended : (n f : ℕ) → IsEnd t n f → IsFalse (is_late g t n f && is_incomplete g t n)
+  ended n f end =
+      let on = end_is_on_air t in_order n f end in
+      let shut : IsEnded g t n =
+      λ asks. let whole = complete asks f (from n f end) (to n f end) in grind arith in
+      let is = ended_is g t n f at_once in
+      let decided = (incomplete_decided g t n f).1 shut in
+      grind (arith, nat_tests)
+
+  -- Where the transmission is good, all that is asked of it holds.
+  pub holds-from_good : AllOk g t
+  holds-from_good =
+      holds-from_rules programme options t good.rules (λ n f end. (right n f end, ended n f end))
+      (none_pending g t at_once)

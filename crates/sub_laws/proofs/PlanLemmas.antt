@@ -49,9 +49,10 @@ use Rattle.ttx_pes.specs.Reading.{most_packets}
 use Rattle.ttx_pes.proofs.LineOrderLemmas.{numbered_is_value}
 use Rattle.ttx_pes.proofs.ReadingLemmas.{written_is_read}
 use Rattle.stl_file.specs.TimeCode.{day}
-use Rattle.sub_plan.specs.FrameTime.{pts_of}
+use Rattle.sub_plan.specs.FrameTime.{clock_of, pts_of}
+use Rattle.sub_plan.proofs.ClockLemmas.{law_of_clock}
 use Rattle.sub_plan.proofs.SendingSize.{law_of_pes_values, law_of_size, short_filter}
-use Rattle.sub_rules.specs.PesFrames.{IsSentAs}
+use Rattle.sub_rules.specs.PesFrames.{IsReadAs}
 use Rattle.sub_rules.specs.PesReading.{ReadsAs}
 use Rattle.sub_rules.proofs.PesReadingLemmas.{reads_ended, reads_more}
 use Rattle.ttx_pes.proofs.ReaderLemmas.{nothing}
@@ -241,29 +242,32 @@ module _
   good =
       let serially : EachPacket IsSerially T = each_sent IsSerially (λ packet is. is.mode) in
       record {
-        not_empty = subst (λ frames. 0 < length frames) (sym starts) (omega arith);
-        rising = rising;
-        whole = each_sent (λ packet. length packet ≡ 42) (λ packet is. is.whole.size);
-        starts = subst (λ x. IfSome x (λ t. first_frame T ≤ t)) tci (omega (arith, first_is));
-        lasts = subst (λ x. IfSome x (λ t. t ≤ last_frame T)) tco (omega (arith, last_is));
-        exact = each_sent HasExactWords (λ packet is. is.exact);
-        serial = λ k d l i e b k' d' l' i' e' b' h h' is is'. serially k d l i e b h is
-            ∙ sym (serially k' d' l' i' e' b' h' is');
-        control = each_sent (IsControlled programme.national w)
-            (λ packet is h e. subst (IsSubtitleHeader programme.national) (sym (is.page_header h e))
-            (subtitle_header w programme.national serial));
-        spans = λ f n l. spans f n;
-        opens = subst (λ g. IsTrue (holds_header (kind w) (packets_of T g))) (sym first_is)
-            (holds_at first first_sends (omega arith) order);
-        repeats = λ start low high.
-            let found = sending_in_gap due o.every first last start ok.least
-            (omega (arith, first_is, low)) (omega (arith, last_is, high)) in (
-              found.0,
-              found.1,
-              found.2,
-              holds_at found.0 found.3
-                  (omega (arith, found.1, first_is, low)) (omega (arith, found.2, last_is, high)),
-            );
+        rules = record {
+          not_empty = subst (λ frames. 0 < length frames) (sym starts) (omega arith);
+          rising = rising;
+          whole = each_sent (λ packet. length packet ≡ 42) (λ packet is. is.whole.size);
+          starts = subst (λ x. IfSome x (λ t. first_frame T ≤ t)) tci (omega (arith, first_is));
+          lasts = subst (λ x. IfSome x (λ t. t ≤ last_frame T)) tco (omega (arith, last_is));
+          exact = each_sent HasExactWords (λ packet is. is.exact);
+          serial = λ k d l i e b k' d' l' i' e' b' h h' is is'. serially k d l i e b h is
+              ∙ sym (serially k' d' l' i' e' b' h' is');
+          control = each_sent (IsControlled programme.national w)
+              (λ packet is h e.
+              subst (IsSubtitleHeader programme.national) (sym (is.page_header h e))
+              (subtitle_header w programme.national serial));
+          spans = λ f n l. spans f n;
+          opens = subst (λ g. IsTrue (holds_header (kind w) (packets_of T g))) (sym first_is)
+              (holds_at first first_sends (omega arith) order);
+          repeats = λ start low high.
+              let found = sending_in_gap due o.every first last start ok.least
+              (omega (arith, first_is, low)) (omega (arith, last_is, high)) in (
+                found.0,
+                found.1,
+                found.2,
+                holds_at found.0 found.3
+                    (omega (arith, found.1, first_is, low)) (omega (arith, found.2, last_is, high)),
+              );
+        };
         content = content;
       }
 
@@ -307,19 +311,18 @@ module _
     (o : OptionsValue) (ok : IsOptions o) (national : National) (serial : Bool) (due : ℕ → Rows)
     (shape : (f : ℕ) → IsPage (due f))
   where
-    -- What is sent at a frame is sent as the frame.
-    is_sent : (f : ℕ)
+    -- What is sent at a frame is read as the frame.
+    is_read : (f : ℕ)
         → f < day
-        → IsSentAs o.origin (pes_value o.origin (sending o.page national serial (due f)) f)
+        → IsReadAs (clock_of o) (pes_value o.origin (sending o.page national serial (due f)) f)
         (planned_at due o national serial f)
-    is_sent f in_day =
+    is_read f in_day =
         let packets : List (List ℕ) = sending o.page national serial (due f) in
         let each : All IsPacket packets =
         let sent = all_sent o.page national serial (due f) ok.page (shape f) in
         grind (arith, nat_tests, All-weaker) in
         record {
-          in_day = in_day;
-          pts = refl;
+          frame = law_of_clock o.within o.origin f ok.origin in_day;
           packets =
               sym (numbered_is_value (pts_of o.origin f) packets
               (mod-lt (o.origin + 3600 * f) (lit< tt))
@@ -332,20 +335,20 @@ module _
         (given : ℕ) (frames : List ℕ)
         → given + length frames ≤ most_packets
         → AllByRecursion (λ f. f < day) frames
-        → ReadsAs o.origin given (sendings_at due o national serial frames)
+        → ReadsAs (clock_of o) given (sendings_at due o national serial frames)
         (map (planned_at due o national serial) frames) None
     sendings_read given [] few in_day =
-        reads_ended o.origin given [] None (omega arith) (nothing given [] refl)
+        reads_ended (clock_of o) given [] None (omega arith) (nothing given [] refl)
     sendings_read given (f ∷ fs) few in_day =
         let v : PesValue = pes_value o.origin (sending o.page national serial (due f)) f in
         let back =
         written_is_read given v (sendings_at due o national serial fs) (λ e. omega arith)
         (law_of_pes_values o national serial (due f) f ok (shape f)) in
-        reads_more o.origin given (sendings_at due o national serial (f ∷ fs)) v
+        reads_more (clock_of o) given (sendings_at due o national serial (f ∷ fs)) v
         (planned_at due o national serial f) (map (planned_at due o national serial) fs) None
-        (omega arith) back.0 (is_sent f in_day.0)
+        (omega arith) back.0 (is_read f in_day.0)
         (subst
-        (λ bytes. ReadsAs o.origin (given + 1) bytes (map (planned_at due o national serial) fs)
+        (λ bytes. ReadsAs (clock_of o) (given + 1) bytes (map (planned_at due o national serial) fs)
         None) (sym back.1) (sendings_read (given + 1) fs (omega arith) in_day.1))
 
 -- A schedule has no more frames than a day, by cases of the first TCI and the last TCO.

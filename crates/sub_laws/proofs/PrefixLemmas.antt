@@ -203,6 +203,46 @@ module _ (t : Transmission) (rising : RiseTo t (length t)) where
             grind (arith, nat_tests, rises_to t (length t) rising, on_air_is i f)
       ]
 
+  -- ---- an end
+
+  -- The frames that count are not after it, and the others are.
+  end_from : (n f : ℕ) → IsEnd t n f → frame_at t (n - 1) ≤ f
+  end_from n f (some, le, inl own) = omega arith
+  end_from n f (some, le, inr (there, later, earlier)) =
+      let before = earlier (n - 1) (omega arith) in omega arith
+
+  pub end_before_rest : (n f : ℕ) → IsEnd t n f
+      → (j : ℕ)
+      → n ≤ j
+      → j < length t
+      → f < frame_at t j
+  end_before_rest n f (some, le, inl own) j l m =
+      let after = rises_strictly t rising (n - 1) j (omega arith) m in omega arith
+  end_before_rest n f (some, le, inr (there, later, earlier)) j l m =
+      let after = rises_to t (length t) rising n j l m in omega arith
+
+  -- So at it what is on air up to its frame counts.
+  pub end_is_on_air : (n f : ℕ) → IsEnd t n f → on_air_until t f ≡ packets_before t n
+  end_is_on_air n f end =
+      on_air_is n f end.1 (λ some. end_from n f end)
+      (λ more. end_before_rest n f end n (omega arith) more)
+
+  -- It is not before the first frame, nor after the last one.
+  pub end_high : (n f : ℕ) → IsEnd t n f → frame_at t 0 ≤ f
+  end_high n f end =
+      let from = end_from n f end in
+      let first =
+      rises_to t (length t) rising 0 (n - 1) (omega arith) (omega (arith, end.0, end.1)) in
+      omega arith
+
+  pub end_low : (n f : ℕ) → IsEnd t n f → f ≤ end_frame t
+  end_low n f (some, le, inl own) =
+      let last = rises_to t (length t) rising (n - 1) (length t - 1) (omega arith) (omega arith) in
+      omega arith
+  end_low n f (some, le, inr (there, later, earlier)) =
+      let last = rises_to t (length t) rising n (length t - 1) (omega arith) (omega arith) in
+      omega arith
+
 -- ---- the first frames of a list
 
 -- Each is that of the list.

@@ -4,7 +4,7 @@ use Rattle.std.proofs.lemmas.Bool.Decides.{nat_tests}
 use Rattle.std.proofs.Common.{◌≡◌, ℕ, zero, suc, ◌+◌, ◌-◌, ◌*◌, ◌/◌, ◌<◌, ◌≤◌, Bool, true, false}
 use Rattle.std.proofs.Common.{List, [], ◌∷◌, length, map, take, drop, slice_index, Option, None}
 use Rattle.std.proofs.Common.{Some, Result, Ok, Err, MatchResult, IfSome, cond, nat_lt}
-use Rattle.std.proofs.Common.{if◌then◌else◌, ◌∙◌, sym, subst, arith, length-take, length-drop}
+use Rattle.std.proofs.Common.{if◌then◌else◌, ◌∙◌, refl, sym, subst, arith, length-take, length-drop}
 use Rattle.std.proofs.lemmas.List.{length-map}
 use Rattle.std.specs.List.{AllByRecursion}
 use Rattle.std.specs.Prelude.{⊤}
@@ -12,18 +12,22 @@ use Rattle.sub_io.specs.Reading.{◌>>=◌}
 use Rattle.ttx_packet.specs.BitOrder.{mirror}
 use Rattle.ttx_packet.specs.PacketAddress.{IsPacket}
 use Rattle.ttx_pes.specs.DataUnit.{UnitValue}
-use Rattle.ttx_pes.specs.Fault.{is_read, is_write}
+use Rattle.ttx_pes.specs.Fault.{is_of_piece, is_read, is_write}
 use Rattle.ttx_pes.specs.PesPacket.{PesValue}
-use Rattle.ttx_pes.specs.Pieces.{behind_piece, pieces_from}
+use Rattle.ttx_pes.specs.Pieces.{PiecesValue, behind_piece, no_piece, piece_then, pieces_from}
+use Rattle.ttx_pes.specs.Pieces.{with_piece}
 use Rattle.ttx_pes.specs.Reading.{answer_at, most_packets, packet_at, pts_at, size_at}
 use Rattle.ttx_pes.specs.Reading.{teletext_at, unit_at, unit_of, units_at, value_at, with_unit}
 use Rattle.ttx_pes.specs.declared.fault.PesFault.{PesFault}
 use Rattle.ttx_pes.specs.declared.fault.PesFault.TheVariants as fault
-use Rattle.sub_rules.specs.FrameRules.Unread.{BadPacket}
+use Rattle.sub_plan.specs.FrameTime.{Clock}
+use Rattle.sub_rules.specs.FrameRules.Unread.{BadPacket, NoFrame}
 use Rattle.sub_rules.specs.PacketRules.{packets_of_units}
 use Rattle.sub_rules.specs.PesReading.{file_at}
-use Rattle.sub_rules.specs.Pieces.{PesFileValue, file_of_pieces, pieces_at, read_until_passed}
+use Rattle.sub_rules.specs.Pieces.{PesFileValue, Piece, PieceFileValue, file_of_pieces, frames_of}
+use Rattle.sub_rules.specs.Pieces.{piece_of, piece_with, pieces_at, read_until_passed}
 use Rattle.sub_rules.specs.Pieces.{until_passed_over}
+use Rattle.sub_rules.specs.Pieces.Piece.{Passed, Sent}
 use Rattle.sub_rules.specs.Transmission.{SentFrame}
 use Rattle.sub_rules.proofs.PacketLists.{Each-push}
 use Rattle.sub_rules.proofs.PieceFileLemmas.{file_by, until_then}
@@ -175,21 +179,90 @@ packets_whole : (units : List UnitValue) → AreWholeUnits units
 packets_whole [] h = tt
 packets_whole (u ∷ units) h = (h.0, packets_whole units h.1)
 
-by_sound : (origin : ℕ) (r : Result (Option PesValue) PesFault) (rest : PesFileValue)
-    → Sound IsWholeAnswer r → IsSoundFile rest → IsSoundFile (file_by origin r rest)
-by_sound origin r rest h sound = grind (arith, packets_whole)
+by_sound : (clock : Clock) (r : Result (Option PesValue) PesFault) (rest : PesFileValue)
+    → Sound IsWholeAnswer r → IsSoundFile rest → IsSoundFile (file_by clock r rest)
+by_sound clock r rest h sound = grind (arith, packets_whole)
 
 -- What comes of bytes.
-pieces_sound : (origin room given : ℕ) (b : List ℕ)
-    → IsSoundFile (until_passed_over (file_of_pieces origin (pieces_from room given b)))
+pieces_sound : (clock : Clock) (room given : ℕ) (b : List ℕ)
+    → IsSoundFile (until_passed_over (file_of_pieces clock (pieces_from room given b)))
 unfolding pieces_from read_until_passed
-pieces_sound origin zero given [] = record { whole = tt; fault = λ g e. cc }
-pieces_sound origin zero given (x ∷ b) = grind (arith, nat_tests, by_sound, refused)
-pieces_sound origin (suc room) given b =
-    subst IsSoundFile (sym (until_then origin (answer_at given b) _))
-    (by_sound origin (answer_at given b) _ (answer_sound given b)
-    (pieces_sound origin room (given + 1) (behind_piece b)))
+pieces_sound clock zero given [] = record { whole = tt; fault = λ g e. cc }
+pieces_sound clock zero given (x ∷ b) = grind (arith, nat_tests, by_sound, refused)
+pieces_sound clock (suc room) given b =
+    subst IsSoundFile (sym (until_then clock (answer_at given b) _))
+    (by_sound clock (answer_at given b) _ (answer_sound given b)
+    (pieces_sound clock room (given + 1) (behind_piece b)))
 
-pub file_sound : (origin given : ℕ) (b : List ℕ) → IsSoundFile (file_at origin given b)
+pub file_sound : (clock : Clock) (given : ℕ) (b : List ℕ) → IsSoundFile (file_at clock given b)
 unfolding file_at pieces_at
-file_sound origin given b = pieces_sound origin (most_packets - given) given b
+file_sound clock given b = pieces_sound clock (most_packets - given) given b
+
+-- ---- pieces
+
+-- A piece that is sent has whole packets; one that is passed over is so by no fault of a device.
+abbrev pub IsSoundPiece : Piece → Type 0
+IsSoundPiece (Sent s) = AllByRecursion IsPacket s.packets
+IsSoundPiece (Passed (BadPacket f)) = IsOfBytes f
+IsSoundPiece (Passed NoFrame) = ⊤
+
+pub record ArePiecesSound (file : PieceFileValue) : Type 0 where
+  pub each : AllByRecursion IsSoundPiece file.pieces
+  pub fault : (f : PesFault) → file.unread ≡ Some (BadPacket f) → IsOfBytes f
+
+piece_sound : (o : Option ℕ) (packets : List (List ℕ)) → AllByRecursion IsPacket packets
+    → IsSoundPiece (piece_with o packets)
+piece_sound None packets whole = tt
+piece_sound (Some frame) packets whole = whole
+
+by_piece : (clock : Clock) (r : Result (Option PesValue) PesFault) (more : PiecesValue)
+    → Sound IsWholeAnswer r
+    → ArePiecesSound (file_of_pieces clock more)
+    → ArePiecesSound (file_of_pieces clock (piece_then r more))
+unfolding piece_of
+by_piece clock (Ok None) more h sound = record { each = tt; fault = λ f e. cc }
+by_piece clock (Ok (Some v)) more h sound = record {
+  each = (
+    piece_sound (clock v.pts) (packets_of_units v.units) (packets_whole v.units h.is),
+    sound.each,
+  );
+  fault = sound.fault;
+}
+by_piece clock (Err f) more h sound = go (is_of_piece f)
+  where
+    go : (b : Bool)
+        → ArePiecesSound (file_of_pieces clock
+        (if b then with_piece (Err f) more else no_piece (Some f)))
+    go true = record { each = (h.is, sound.each); fault = sound.fault }
+    go false = record {
+      each = tt;
+      fault = λ x e. let same : f ≡ x = cc in subst IsOfBytes same h.is;
+    }
+
+from_sound : (clock : Clock) (room given : ℕ) (b : List ℕ)
+    → ArePiecesSound (file_of_pieces clock (pieces_from room given b))
+unfolding pieces_from
+from_sound clock zero given [] = record { each = tt; fault = λ f e. cc }
+from_sound clock zero given (x ∷ b) = record {
+  each = tt;
+  fault = λ f e.
+      let same : fault.TooMany ≡ f = cc in
+      subst IsOfBytes same (record { no_source = refl; no_sink = refl });
+}
+from_sound clock (suc room) given b =
+    by_piece clock (answer_at given b) _ (answer_sound given b)
+    (from_sound clock room (given + 1) (behind_piece b))
+
+-- What is read of bytes, where reading goes on. For `check`.
+pub file_pieces_sound : (clock : Clock) (given : ℕ) (b : List ℕ)
+    → ArePiecesSound (pieces_at clock given b)
+unfolding pieces_at
+file_pieces_sound clock given b = from_sound clock (most_packets - given) given b
+
+-- The frames that are sent have whole packets.
+pub sent_whole : (pieces : List Piece) → AllByRecursion IsSoundPiece pieces
+    → AllByRecursion (λ (s : SentFrame). AllByRecursion IsPacket s.packets) (frames_of pieces)
+unfolding frames_of
+sent_whole [] sound = tt
+sent_whole (Sent s ∷ pieces) sound = (sound.0, sent_whole pieces sound.1)
+sent_whole (Passed u ∷ pieces) sound = sent_whole pieces sound.1

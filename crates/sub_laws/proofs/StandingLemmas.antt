@@ -1,9 +1,9 @@
 -- What stands broken at an end: its first wrong cell, `first_wrong`, `none_wrong`; whether the
 -- repeat bound has passed, `gap_decided`; whether the page is open, `incomplete_decided`; and
 -- whether anything stands broken, `quiet_decided`.
-use Rattle.std.proofs.Common.{◌≡◌, ◌↔◌, ℕ, zero, suc, ◌+◌, ◌-◌, ◌<◌, ◌≤◌, Bool, true}
-use Rattle.std.proofs.Common.{false, [], length, take, Option, Some, None, refl, sym}
-use Rattle.std.proofs.Common.{subst, arith, not, ◌||◌, ◌==◌, get_or, is_some, option_map}
+use Rattle.std.proofs.Common.{◌≡◌, ◌↔◌, ℕ, zero, suc, ◌+◌, ◌-◌, ◌<◌, ◌≤◌, Bool, true, false, []}
+use Rattle.std.proofs.Common.{length, take, Option, Some, None, refl, sym, subst, arith, not, ◌||◌}
+use Rattle.std.proofs.Common.{◌&&◌, ◌==◌, ◌∙◌, ap, get_or, is_some, option_map}
 use Rattle.std.specs.Prelude.{option_and_then}
 use Rattle.std.specs.List.{list_any}
 use Rattle.std.proofs.lemmas.Bool.{cases_lt, true≢false}
@@ -17,14 +17,14 @@ use Rattle.ttx_packet.specs.OneBit.{first_below}
 use Rattle.ttx_packet.proofs.OneBitLemmas.{first_below_is}
 use Rattle.ttx_page.specs.Page.{IsCell, cell}
 use Rattle.ttx_page.specs.Shown.{shown}
-use Rattle.sub_rules.specs.Events.{covers, first_cell, is_gap, is_incomplete, nothing_stands}
-use Rattle.sub_rules.specs.Events.{standing_at, wrong_after, wrong_cell}
+use Rattle.sub_rules.specs.Events.{broken_cell, covers, first_cell, is_gap, is_incomplete, is_late}
+use Rattle.sub_rules.specs.Events.{nothing_stands, standing_at, wrong_after, wrong_cell}
 use Rattle.sub_rules.specs.FrameRules.{HasHeader, IsCovered, IsEnded, ShowsDue, Task, frame_at}
 use Rattle.sub_rules.specs.FrameRules.{packets_before}
 use Rattle.sub_rules.specs.Transmission.{SentFrame, Transmission}
 use Rattle.sub_rules.proofs.TestLemmas.{below_before, below_none, holds}
 use Rattle.sub_laws.specs.BrokenPlaces.{StandsBroken, WrongFirst}
-use Rattle.sub_laws.proofs.FrameByFrame.{IsQuiet}
+use Rattle.sub_laws.proofs.FrameByFrame.{IsQuiet, IsWhole}
 
 -- ---- the first cell
 
@@ -114,7 +114,23 @@ module _ (test : ℕ → ℕ → Bool) where
           some_in None t n = grind arith
           some_in (Some k) t n = grind arith
 
+  -- Where no cell passes it finds none.
+  pub no_cell : ((r c : ℕ) → IsCell r c → test r c ≡ false) → first_cell test ≡ None
+  no_cell none = go (first_cell test) refl
+    where
+      go : (o : Option (ℕ × ℕ)) → first_cell test ≡ o → o ≡ None
+      go None e = refl
+      go (Some x) e =
+          let found = cell_found x e in
+          absurd (true≢false (sym found.passes ∙ none x.0 x.1 found.is_cell))
+
 -- ---- what stands broken at an end
+
+-- Of the three none stands.
+none_stands : (o : Option (ℕ × ℕ)) (late unended : Bool)
+    → (record { content = o; gap = late; incomplete = unended } ≡ nothing_stands)
+    ↔ ((o ≡ None) × (late ≡ false) × (unended ≡ false))
+none_stands o late unended = grind (arith, nat_tests)
 
 module _ (g : Task) (frames : Transmission) (n f : ℕ) where
   -- A cell shows another code than is due.
@@ -180,18 +196,49 @@ module _ (g : Task) (frames : Transmission) (n f : ℕ) where
   unfolding is_incomplete
   incomplete_decided = grind (arith, nat_tests)
 
-  -- Nothing stands broken exactly where the end is quiet.
-  pub quiet_decided : n ≤ length frames
-      → (standing_at g frames n f ≡ nothing_stands) ↔ IsQuiet g frames n f
+  -- Nothing stands broken exactly where none of the three does.
+  pub quiet_parts : IsQuiet g frames n f
+      ↔ ((broken_cell g frames n f ≡ None)
+      × (is_gap g frames n f ≡ false)
+      × ((is_late g frames n f && is_incomplete g frames n) ≡ false))
   unfolding standing_at
-  quiet_decided l = grind (arith, nat_tests, none_wrong, gap_decided, incomplete_decided, no_wrong)
+  quiet_parts = none_stands _ _ _
 
-  -- Each of the three. For `law_of_broken_places`.
-  pub stands_broken : n ≤ length frames → StandsBroken g frames n f
-  unfolding standing_at
-  stands_broken l = record {
-    content = (none_wrong, no_wrong);
-    cell = first_wrong;
-    gap = grind (arith, nat_tests, gap_decided l);
-    incomplete = grind (arith, nat_tests, incomplete_decided);
-  }
+  -- ---- within 0 frames
+
+  module _ (at_once : g.within ≡ 0) where
+    -- Each unfinished end is late.
+    pub always_late : is_late g frames n f ≡ true
+    unfolding is_late
+    always_late = grind (arith, nat_tests)
+
+    -- So each cell has to show what is due.
+    pub broken_is : broken_cell g frames n f ≡ wrong_cell g frames n f
+    broken_is = rw always_late refl
+
+    -- And the page has to be ended.
+    pub ended_is : (is_late g frames n f && is_incomplete g frames n) ≡ is_incomplete g frames n
+    ended_is = rw always_late refl
+
+    -- Nothing stands broken exactly where the page is whole.
+    pub whole_is : n ≤ length frames → IsQuiet g frames n f → IsWhole g frames n f
+    whole_is l quiet =
+        let parts = quiet_parts.0 quiet in
+        record {
+          shows = none_wrong (sym broken_is ∙ parts.0);
+          covered = (gap_decided l).0 (ap not parts.1);
+          ended = incomplete_decided.0 (ap not (sym ended_is ∙ parts.2));
+        }
+
+    -- Each of the three. For `law_of_broken_places`.
+    pub stands_broken : n ≤ length frames → StandsBroken g frames n f
+    unfolding standing_at
+    stands_broken l =
+        let broken = broken_is in
+        let ended = ended_is in
+        record {
+          content = (λ e. none_wrong (sym broken ∙ e), λ shows. broken ∙ no_wrong shows);
+          cell = λ x e. first_wrong x (sym broken ∙ e);
+          gap = grind (arith, nat_tests, gap_decided l);
+          incomplete = grind (arith, nat_tests, incomplete_decided);
+        }

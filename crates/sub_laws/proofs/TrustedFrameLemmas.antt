@@ -2,19 +2,20 @@
 use Rattle.std.proofs.lemmas.Bool.Decides.{nat_tests}
 use Rattle.std.specs.Bool.{Decides}
 use Rattle.std.proofs.Common.{◌≡◌, ℕ, zero, suc, ◌+◌, ◌-◌, ◌<◌, ◌≤◌, inl, inr, true, false, length}
-use Rattle.std.proofs.Common.{take, None, ap, ◌∙◌, arith, IsFalse}
+use Rattle.std.proofs.Common.{take, drop, None, ap, sym, ◌∙◌, arith, IsFalse}
 use Rattle.std.proofs.lemmas.Bool.{cases_lt, cases_eq}
-use Rattle.std.proofs.lemmas.List.{length-take-le, take-take}
+use Rattle.std.proofs.lemmas.List.{length-take-le, take-append-drop, take-take}
 use Rattle.std.proofs.lemmas.List.Elements.{All-contains}
 use Rattle.ttx_page.specs.PacketKind.{kind}
 use Rattle.ttx_page.specs.Span.{holds_header}
-use Rattle.sub_rules.specs.Events.{Standing, is_gap, is_incomplete, standing_at}
+use Rattle.sub_rules.specs.Events.{Standing, standing_at}
 use Rattle.sub_rules.specs.FrameRules.{Task, frame_at, packets_of_frame, task_of}
 use Rattle.sub_rules.specs.PacketTests.{breaks}
 use Rattle.sub_rules.specs.Pieces.{frames_of}
 use Rattle.sub_rules.specs.Transmission.{Transmission, last_frame, packets_of}
 use Rattle.sub_rules.specs.Trusted.{stands_none}
 use Rattle.sub_rules.specs.declared.packet_rule.PacketRule.{PacketRule}
+use Rattle.sub_rules.proofs.PrefixEventLemmas.{standing_at-prefix}
 use Rattle.sub_laws.specs.CleanStretch.{AtEnds, IsEnd, IsStretch, IsUntold, is_needed}
 use Rattle.sub_laws.specs.TrustedFrames.{LawOfTrusted, rises_at, rising_count, rising_part}
 use Rattle.sub_laws.proofs.CleanStretchLemmas.{law_of_untold_stretch}
@@ -94,10 +95,14 @@ pub part_last : (frames : Transmission) → 0 < risen frames
 part_last frames some = take_last frames (risen frames) (risen_low frames) some
 
 -- What stands broken at an end depends on the frames that count alone.
-pub standing-take : (g : Task) (frames : Transmission) (m n f : ℕ) → 0 < m → n ≤ m
+pub standing-take : (g : Task) (frames : Transmission) (m n f : ℕ) → 0 < m → m ≤ length frames
+    → n ≤ m
     → standing_at g (take m frames) n f ≡ standing_at g frames n f
-unfolding standing_at is_gap is_incomplete
-standing-take g frames m n f some l = grind (arith, nat_tests, frame_at-take, take-take)
+standing-take g frames m n f some fits l =
+    let size = length-take-le m frames fits in
+    sym
+    (standing_at-prefix g g.unread (take m frames) (drop m frames) n f (omega arith) (omega arith))
+    ∙ ap (λ fs. standing_at g fs n f) (take-append-drop m frames)
 
 -- Where nothing stands none of the three does.
 pub none_of_three : (s : Standing) → stands_none s ≡ true
@@ -137,7 +142,8 @@ module _ (g : Task) (frames : Transmission) (from to : ℕ) (stays : StaysTo g f
       → stands_none (standing_at g part n f) ≡ true
   stands_quiet n f at low high =
       let few = end_few n f at high in
-      ap stands_none (standing-take g frames m n f some (let l = n_low in omega arith))
+      ap stands_none
+      (standing-take g frames m n f some (risen_low frames) (let l = n_low in omega arith))
       ∙ stays.ends n f (end_whole n f at) few low (omega arith)
 
   -- It ends in this part.
@@ -199,13 +205,13 @@ module _ (g : Task) (frames : Transmission) (from to : ℕ) (stays : StaysTo g f
 -- ---- the law
 
 pub law_of_trusted : LawOfTrusted
-law_of_trusted programme options unread pieces from to told =
+law_of_trusted programme options unread pieces from to at_once told =
     let g = task_of programme options unread in
     let frames = frames_of pieces in
     let stays : StaysTo g frames from to =
-    grind (arith, nat_tests, All-contains, all_stay) in
+    let each = all_stay g pieces at_once in grind (arith, nat_tests, All-contains) in
     let clean =
-    law_of_untold_stretch programme (rising_part frames) options unread from to
+    law_of_untold_stretch programme (rising_part frames) options unread from to at_once
     (untold g frames from to stays) in
     record {
       header = header_there g frames from to stays;

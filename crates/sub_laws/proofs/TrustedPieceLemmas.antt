@@ -175,9 +175,11 @@ runs_stay g pieces =
     (each-ended P (passed_after_all no_run told))
 
 pub all_stay : (g : Task) (pieces : List Piece)
+    → g.within ≡ 0
     → EachTrusted (StaysTo g (frames_of pieces)) (all_of_pieces g pieces)
-all_stay g pieces =
-    subst (EachTrusted (StaysTo g (frames_of pieces))) (sym (all_are g pieces)) (runs_stay g pieces)
+all_stay g pieces at_once =
+    subst (EachTrusted (StaysTo g (frames_of pieces))) (sym (all_are g pieces at_once))
+    (runs_stay g pieces)
 
 -- Where anything is told, something is told of a piece, or after the last one.
 pub any_told : (g : Task) (sent : Transmission) (kept : Option ℕ) (each closing : List Event)

@@ -22,8 +22,7 @@ use Rattle.sub_laws.proofs.FrameDoubtLemmas.{own_doubt}
 use Rattle.sub_laws.proofs.OrderToldLemmas.{rises_of}
 use Rattle.sub_laws.proofs.PrefixLemmas.{RiseTo, before, packet_at, rises_to}
 use Rattle.sub_laws.proofs.RisingEndLemmas.{latest_at}
-use Rattle.sub_rules.proofs.RunLemmas.{frame_before, is_quiet, run_at}
-use Rattle.sub_rules.specs.PieceEvents.{own_events}
+use Rattle.sub_rules.proofs.RunLemmas.{frame_before, is_quiet, own_events, run_at}
 
 module _ (g : Task) (frames : Transmission) where
   -- No end of a frame from one up to another, that one left out, up to which n frames of the list

@@ -4,13 +4,16 @@ use Rattle.std.specs.Prelude.{◌≡◌, ◌↔◌, ℕ, suc, ◌<◌, ◌≤◌
 use Rattle.std.specs.Prelude.{Some, None, IsTrue, IsFalse}
 use Rattle.ttx_packet.specs.PacketAddress.{IsPacket}
 use Rattle.ttx_page.specs.Page.{IsCell}
-use Rattle.stl_rows.specs.Programme.{ProgrammeValue}
+use Rattle.stl_rows.specs.Programme.{IsProgramme, ProgrammeValue}
 use Rattle.sub_plan.specs.Options.{OptionsValue}
 use Rattle.sub_rules.specs.Events.{events, first_header_events, late_events, order_events}
 use Rattle.sub_rules.specs.Events.{standing_at}
 use Rattle.sub_rules.specs.FrameRules.{HasHeader, IsCovered, IsEnded, ShowsDue, Task, Unread}
 use Rattle.sub_rules.specs.FrameRules.{end_frame, frame_at, task_of}
 use Rattle.sub_rules.specs.Good.{Good}
+use Rattle.sub_rules.specs.GoodWithin.{GoodWithin}
+use Rattle.sub_rules.specs.PieceEvents.{all_of_pieces, sent_by_pieces}
+use Rattle.sub_rules.specs.Pieces.{Piece, frames_of}
 use Rattle.sub_rules.specs.PacketRules.{AreClean, KeepsRule}
 use Rattle.sub_rules.specs.PacketTests.{breaks}
 use Rattle.sub_rules.specs.Transmission.{EachPacket, Transmission}
@@ -71,7 +74,7 @@ pub record TellsBroken (g : Task) (frames : Transmission) : Type 0 where
   pub ends : (n f : ℕ) → n ≤ length frames → StandsBroken g frames n f
   -- The last subtitle is over.
   pub late :
-      (late_events g.last_out (end_frame frames) ≡ [])
+      (late_events g frames ≡ [])
       ↔ ((last : ℕ) → g.last_out ≡ Some last → last ≤ end_frame frames)
   -- Of whole packets what is told first is a refusal.
   pub first :
@@ -82,7 +85,7 @@ pub record TellsBroken (g : Task) (frames : Transmission) : Type 0 where
 
 -- So what is told first is the first place that is broken.
 abbrev pub LawOfBrokenPlaces : Type 0
-LawOfBrokenPlaces = (g : Task) (frames : Transmission) → TellsBroken g frames
+LawOfBrokenPlaces = (g : Task) (frames : Transmission) → g.within ≡ 0 → TellsBroken g frames
 
 -- Nothing is told of a transmission exactly where it is good, of complete pages where these are
 -- asked for, and the PES file was read to its end.
@@ -90,9 +93,31 @@ abbrev pub LawOfNothingTold : Type 0
 LawOfNothingTold =
     (programme : ProgrammeValue) (options : OptionsValue) (unread : Option Unread)
     (frames : Transmission)
+    → options.within ≡ 0
     → 0 < options.every
     → EachPacket IsPacket frames
     → (events (task_of programme options unread) frames ≡ [])
     ↔ (Good programme frames options
     × (IsTrue options.asks_complete → Complete frames options)
     × (unread ≡ None))
+
+-- Within however many frames, nothing is told of a transmission exactly where it is good within
+-- these, and the PES file was read to its end.
+abbrev pub LawOfNothingToldWithin : Type 0
+LawOfNothingToldWithin =
+    (programme : ProgrammeValue) (options : OptionsValue) (unread : Option Unread)
+    (frames : Transmission)
+    → IsProgramme programme.national programme.records
+    → 0 < options.every
+    → EachPacket IsPacket frames
+    → (events (task_of programme options unread) frames ≡ [])
+    ↔ (GoodWithin programme frames options × (unread ≡ None))
+
+-- Nothing is told of the pieces of a PES file exactly where each of them is sent, none being passed
+-- over, and nothing is told of the frames that they send.
+-- So a file that is read on is accepted exactly where one is that is read to its end.
+abbrev pub LawOfNothingToldOfPieces : Type 0
+LawOfNothingToldOfPieces =
+    (g : Task) (pieces : List Piece)
+    → (all_of_pieces g pieces ≡ [])
+    ↔ ((length (frames_of pieces) ≡ length pieces) × (events g (sent_by_pieces g pieces) ≡ []))

@@ -81,6 +81,7 @@ abbrev pub LawOfUntoldStretch : Type 0
 LawOfUntoldStretch =
     (programme : ProgrammeValue) (transmission : Transmission) (options : OptionsValue)
     → (unread : Option Unread) (a b : ℕ)
+    → options.within ≡ 0
     → IsUntold (task_of programme options unread) transmission a b
     → IsSufficient programme transmission options a b
     × (IsTrue options.asks_complete

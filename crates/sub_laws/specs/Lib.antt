@@ -1,5 +1,8 @@
+pub mod AllTrustedWithDelay
 pub mod BrokenPlaces
 pub mod CleanStretch
+pub mod Delay
+pub mod DelayLaws
 pub mod Laws
 pub mod LostRows
 pub mod OnScreen
@@ -9,3 +12,5 @@ pub mod Robust
 pub mod Stretch
 pub mod Sufficient
 pub mod TrustedFrames
+pub mod TrustedWithDelay
+pub mod UndueContent

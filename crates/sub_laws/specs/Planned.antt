@@ -3,6 +3,7 @@ use Rattle.std.specs.Prelude.{◌≡◌, ℕ, Bool, [], map, None}
 use Rattle.ttx_page.specs.Page.{Rows}
 use Rattle.stl_rows.specs.declared.national.National.{National}
 use Rattle.stl_rows.specs.Programme.{IsProgramme, ProgrammeValue}
+use Rattle.sub_plan.specs.FrameTime.{clock_of}
 use Rattle.sub_plan.specs.Options.{IsOptions, OptionsValue}
 use Rattle.sub_plan.specs.Schedule.{due_in, plan, plan_frames}
 use Rattle.sub_plan.specs.Sending.{sending}
@@ -36,5 +37,5 @@ LawOfPlanRead =
     (programme : ProgrammeValue) (options : OptionsValue) (serial : Bool)
     → IsProgramme programme.national programme.records
     → IsOptions options
-    → pes_file_of options.origin (plan programme options serial)
+    → pes_file_of (clock_of options) (plan programme options serial)
     ≡ record { frames = planned programme options serial; unread = None }

@@ -12,27 +12,32 @@ use Rattle.sub_rules.specs.Transmission.{on_air_until}
 use Rattle.sub_rules.specs.Good.{Good, HoldsHeader}
 use Rattle.sub_laws.specs.Stretch.{MayBeTrusted}
 
--- What the headline needs of the frames from a to b. Nothing is asked of packets in frames before
--- them, which may be as wrong as they like, but that frames rise.
+-- What the headline needs of the frames from a to b, but for what is shown. Nothing is asked of
+-- packets in frames before them, which may be as wrong as they like, but that frames rise.
+pub record IsSoundStretch (transmission : Transmission) (options : OptionsValue) (a b : ℕ) : Type 0
+  where
+    pub first : first_frame transmission ≤ a
+    -- The frames rise.
+    pub rising : IsRising transmission
+    -- What is on air from frame a to the end of each frame is sound: address bytes, and the coded
+    -- bytes of each packet X/0, are code words with no bit wrong; each header of the page has C4,
+    -- erase page, set; in the span rows have odd parity and stay as they are.
+    pub sound : (f : ℕ) → a ≤ f → f ≤ b → IsSound options.page (on_air transmission a 0 f)
+    -- A header of the page comes again within the repeat bound.
+    pub repeats :
+        (start : ℕ)
+        → a ≤ start
+        → start + options.every ≤ b + 1
+        → (f : ℕ)
+        × (start ≤ f)
+        × (f < start + options.every)
+        × HoldsHeader options.page transmission f
+
+-- What the headline needs of them.
 pub record IsSufficient
     (programme : ProgrammeValue) (transmission : Transmission) (options : OptionsValue) (a b : ℕ)
     : Type 0 where
-  pub first : first_frame transmission ≤ a
-  -- The frames rise.
-  pub rising : IsRising transmission
-  -- What is on air from frame a to the end of each frame is sound: address bytes, and the coded
-  -- bytes of each packet X/0, are code words with no bit wrong; each header of the page has C4,
-  -- erase page, set; in the span rows have odd parity and stay as they are.
-  pub sound : (f : ℕ) → a ≤ f → f ≤ b → IsSound options.page (on_air transmission a 0 f)
-  -- A header of the page comes again within the repeat bound.
-  pub repeats :
-      (start : ℕ)
-      → a ≤ start
-      → start + options.every ≤ b + 1
-      → (f : ℕ)
-      × (start ≤ f)
-      × (f < start + options.every)
-      × HoldsHeader options.page transmission f
+  pub stretch : IsSoundStretch transmission options a b
   -- At each frame's end the page that is due is shown.
   pub content :
       (f row column : ℕ)

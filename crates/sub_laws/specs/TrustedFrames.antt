@@ -55,6 +55,7 @@ abbrev pub LawOfTrusted : Type 0
 LawOfTrusted =
     (programme : ProgrammeValue) (options : OptionsValue) (unread : Option Unread)
     → (pieces : List Piece) (from to : ℕ)
+    → options.within ≡ 0
     → Contains (all_of_pieces (task_of programme options unread) pieces) (Trusted from to)
     → MayStay programme (rising_part (frames_of pieces)) options from to
 
@@ -93,6 +94,7 @@ pub record CanStay (g : Task) (pieces : List Piece) (a b : ℕ) : Type 0 where
 abbrev pub LawOfAllTrusted : Type 0
 LawOfAllTrusted =
     (g : Task) (pieces : List Piece) (a b i : ℕ)
+    → g.within ≡ 0
     → CanStay g pieces a b
     → i < length (rising_part (frames_of pieces))
     → a ≤ frame_at (rising_part (frames_of pieces)) i

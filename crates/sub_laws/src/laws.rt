@@ -1,16 +1,23 @@
 //! A good transmission is robust, and its rules packet by packet.
 //!
 //! The functions do nothing: the contract of each is a law over the definitions of `specs/`.
+ghost use Rattle.sub_laws.specs.AllTrustedWithDelay.{LawOfAllTrustedWithDelay};
 ghost use Rattle.sub_laws.specs.BrokenPlaces.{LawOfBrokenPlaces, LawOfNothingTold};
+ghost use Rattle.sub_laws.specs.BrokenPlaces.{LawOfNothingToldOfPieces, LawOfNothingToldWithin};
 ghost use Rattle.sub_laws.specs.CleanStretch.{LawOfUntoldStretch};
+ghost use Rattle.sub_laws.specs.DelayLaws.{LawOfFinishedStretch, LawOfGoodWithin, LawOfLongerDelay};
+ghost use Rattle.sub_laws.specs.DelayLaws.{LawOfNoDelay, LawOfPlanWithin, LawOfStretchWithDelay};
+ghost use Rattle.sub_laws.specs.DelayLaws.{LawOfSufficientPartsWithDelay, LawOfTrustWithoutDelay};
+ghost use Rattle.sub_laws.specs.DelayLaws.{LawOfWholeStretchWithDelay};
 ghost use Rattle.sub_laws.specs.Laws.{LawOfAllKept, LawOfGood, LawOfWindow};
 ghost use Rattle.sub_laws.specs.OnScreen.{LawOfCompletePlan};
-ghost use Rattle.sub_rules.specs.PesReading.{LawOfPesFiles};
+ghost use Rattle.sub_rules.specs.PesReading.{LawOfExactFrames, LawOfPesFiles};
 ghost use Rattle.sub_rules.specs.PieceEvents.{LawOfFirstTold};
 ghost use Rattle.sub_laws.specs.Planned.{LawOfPlan, LawOfPlanRead};
 ghost use Rattle.sub_laws.specs.Stretch.{LawOfWholeRecovery, LawOfWholeStretch};
 ghost use Rattle.sub_laws.specs.Sufficient.{LawOfStretch, LawOfSufficientParts};
 ghost use Rattle.sub_laws.specs.TrustedFrames.{LawOfAllTrusted, LawOfTrusted};
+ghost use Rattle.sub_laws.specs.TrustedWithDelay.{LawOfTrustedWithDelay};
 
 /// A start at any packet of a good transmission meets a header of the page within the repeat bound.
 #[tactic(auto, using(crate::proofs::RobustLemmas::law_of_window))]
@@ -44,6 +51,60 @@ pub fn law_of_stretch()
     ensures { LawOfStretch }
 {}
 
+/// What suffices of a stretch of frames that may be late, by as many frames as the options allow:
+/// every receiver that starts in it recovers, and holds spaces, and codes that are due or were so
+/// few frames ago; and at the end of each frame that is finished, what is due.
+pub fn law_of_stretch_with_delay()
+    ensures { LawOfStretchWithDelay }
+{}
+
+/// A transmission that is good within these frames has what suffices of it.
+#[tactic(auto, using(crate::proofs::GoodWithinLemmas::suffices_with_delay))]
+pub fn law_of_sufficient_parts_with_delay()
+    ensures { LawOfSufficientPartsWithDelay }
+{}
+
+/// So it is robust as a good one is, but for what cells hold: once a header of the page was sent, a
+/// space or a code that was due there in that frame or in so few before it; and at the end of one
+/// frame at least of each `within` and one more, and of one of each subtitle, what is due.
+#[tactic(auto, using(crate::proofs::GoodWithinLemmas::law_of_good_within))]
+pub fn law_of_good_within()
+    ensures { LawOfGoodWithin }
+{}
+
+/// What may be trusted of all frames of a transmission that may be late is what is promised of it.
+pub fn law_of_whole_stretch_with_delay()
+    ensures { LawOfWholeStretchWithDelay }
+{}
+
+/// Within no frame a transmission is good exactly where it is good, and of complete pages where
+/// these are asked for.
+pub fn law_of_no_delay()
+    ensures { LawOfNoDelay }
+{}
+
+/// Where each frame of a stretch shows what is due, the delay that is allowed makes no difference.
+pub fn law_of_finished_stretch()
+    ensures { LawOfFinishedStretch }
+{}
+
+/// What may be trusted of a stretch within no frame may be trusted.
+#[tactic(auto, using(crate::proofs::DelayLemmas::law_of_trust_without_delay))]
+pub fn law_of_trust_without_delay()
+    ensures { LawOfTrustWithoutDelay }
+{}
+
+/// What is good within some frames is good within more.
+pub fn law_of_longer_delay()
+    ensures { LawOfLongerDelay }
+{}
+
+/// The schedule of a programme that has a subtitle is good within any number of frames, in both
+/// modes.
+pub fn law_of_plan_within()
+    ensures { LawOfPlanWithin }
+{}
+
 /// A stretch of which nothing is told that a receiver depends on has what suffices, whatever else is
 /// told, there or elsewhere; and where the page stands open at no end of it, its pages are complete.
 pub fn law_of_untold_stretch()
@@ -57,12 +118,24 @@ pub fn law_of_trusted()
     ensures { LawOfTrusted }
 {}
 
+/// So may those that are told as trusted of one that may be late, by at least one frame: receivers
+/// recover there with a delay, and one of the frames at least is finished.
+pub fn law_of_trusted_with_delay()
+    ensures { LawOfTrustedWithDelay }
+{}
+
 /// No frame that may stay is left out: where anything is told of a PES file, each stretch of which
 /// nothing is told that a receiver depends on, and in which no piece may have been sent that is
 /// passed over, is told as trusted, from its first header of the page on.
 #[tactic(auto, using(crate::proofs::AllTrustedLemmas::law_of_all_trusted))]
 pub fn law_of_all_trusted()
     ensures { LawOfAllTrusted }
+{}
+
+/// Nor is one left out of a PES file that may be late, by at least one frame, whose last frame is
+/// finished: it is told as trusted, from its first header of the page on.
+pub fn law_of_all_trusted_with_delay()
+    ensures { LawOfAllTrustedWithDelay }
 {}
 
 /// Where receivers recover in all frames of a transmission it is robust, with lost rows too.
@@ -100,9 +173,15 @@ pub fn law_of_plan_read()
 {}
 
 /// What is read packet by packet as frames that rise is a PES file of the grammar that is sent as
-/// these frames, and the other way round.
+/// these frames, and the other way round. So it is within frames too, where PES packets of one frame
+/// are sent as one.
 pub fn law_of_pes_files()
     ensures { LawOfPesFiles }
+{}
+
+/// Within 0 frames these are the transmissions that the bytes carry by the PTS of each frame.
+pub fn law_of_exact_frames()
+    ensures { LawOfExactFrames }
 {}
 
 /// Each broken place of a transmission is told, in the order of the list, and no other: so what is
@@ -123,4 +202,18 @@ pub fn law_of_first_told()
 #[tactic(auto, using(crate::proofs::EventLemmas::law_of_nothing_told))]
 pub fn law_of_nothing_told()
     ensures { LawOfNothingTold }
+{}
+
+/// Within however many frames, nothing is told of a transmission exactly where it is good within
+/// these, and the PES file was read to its end.
+#[tactic(auto, using(crate::proofs::ToldWithinLemmas::law_of_nothing_told_within))]
+pub fn law_of_nothing_told_within()
+    ensures { LawOfNothingToldWithin }
+{}
+
+/// Nothing is told of the pieces of a PES file exactly where none of them is passed over, and
+/// nothing is told of the frames that they send.
+#[tactic(auto, using(crate::proofs::UntoldLemmas::pieces_untold))]
+pub fn law_of_nothing_told_of_pieces()
+    ensures { LawOfNothingToldOfPieces }
 {}

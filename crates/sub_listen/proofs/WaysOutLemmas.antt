@@ -1,7 +1,8 @@
 -- What each way out of the loop of `listen` shows of the whole file.
 use Rattle.std.proofs.lemmas.Bool.Decides.{nat_tests}
-use Rattle.std.proofs.Common.{◌≡◌, ◌∙◌, ap, refl, subst, arith, ℕ, ◌+◌, ◌<◌, ◌≤◌, inl, inr}
-use Rattle.std.proofs.Common.{true, List, ◌++◌, length, drop}
+use Rattle.std.proofs.Common.{◌≡◌, ◌∙◌, ap, refl, sym, subst, arith, add-one, ℕ, zero, suc, ◌+◌}
+use Rattle.std.proofs.Common.{◌<◌, ◌≤◌, ◌==◌, ◌&&◌, not, cond, inl, inr, true, List, ◌++◌, length}
+use Rattle.std.proofs.Common.{drop}
 use Rattle.std.proofs.Common.{MatchResult, Option, Result, Some, None, Ok, Err}
 use Rattle.std.proofs.lemmas.List.{length-append, length-map}
 use Rattle.std.proofs.lemmas.Bool.{cases_lt}
@@ -16,7 +17,8 @@ use Rattle.ttx_pes.specs.Reading.{most_packets, rest_after}
 use Rattle.sub_rules.specs.Sendings.{TellsFrame}
 use Rattle.sub_rules.specs.Fault.{is_pes_read}
 use Rattle.sub_rules.specs.Events.{unread_fault}
-use Rattle.sub_rules.specs.FrameRules.{Unread, packets_before}
+use Rattle.sub_plan.specs.FrameTime.{clock_of}
+use Rattle.sub_rules.specs.FrameRules.{Unread, frame_at, packets_before, packets_of_frame}
 use Rattle.sub_rules.specs.PacketRules.{packets_of_units}
 use Rattle.sub_rules.specs.PesReading.{ReadsAs}
 use Rattle.sub_rules.specs.Transmission.{Transmission}
@@ -25,7 +27,8 @@ use Rattle.sub_rules.proofs.PesReadingLemmas.{ReadsNext, reads_end, reads_next}
 use Rattle.sub_rules.proofs.PieceFileLemmas.{reads-below}
 use Rattle.sub_rules.proofs.FrameLists.{joined_more}
 use Rattle.sub_listen.specs.Run.{AreHeard, EndsAfter, FailsListening, HearsFile, IsHeard}
-use Rattle.sub_listen.specs.Run.{RefusesAfter, least_frame}
+use Rattle.sub_listen.specs.Run.{RefusesAfter, first_in_frame, least_after, least_frame}
+use Rattle.sub_listen.specs.Run.{sent_in_frame}
 use Rattle.sub_listen.specs.Reception.{RunsThrough, as_heard, first_lost_header, reception_of}
 use Rattle.sub_listen.proofs.ReceptionLemmas.{as_heard-append}
 use Rattle.sub_request.specs.declared.listening.Listening.{Listening}
@@ -37,20 +40,42 @@ use Rattle.sub_listen.specs.declared.listening.ListenFault.TheVariants as fault
 -- The run up to n frames, and what is left of the file.
 pub record Reaches
     (leaves : ℕ → ℕ) (l : Listening) (frames : Transmission) (unread : Option Unread)
-    (w : PageIdValue) (old : Display) (remaining : Option (List ℕ)) (n number least : ℕ)
+    (w : PageIdValue) (old : Display) (remaining : Option (List ℕ)) (n number sent least : ℕ)
     (now : Display)
     : Type 0 where
   pub few : n ≤ most_packets
   pub within : n ≤ length frames
   pub rest : List ℕ
   pub rest_is : remaining ≡ Some rest
-  pub left : ReadsAs l.options.origin n rest (drop n frames) unread
+  pub left : ReadsAs (clock_of l.options) n rest (drop n frames) unread
   pub heard : AreHeard l frames n
   pub run :
       RunsThrough l.options.asks_complete leaves w old
       (as_heard l 0 (packets_before frames n)) now
   pub number_is : number ≡ length (packets_before frames n)
-  pub least_is : least ≡ least_frame frames n
+  pub sent_is : sent ≡ sent_in_frame l.options.within frames n
+  pub least_is : least ≡ least_frame l.options.within frames n
+
+-- The number of a PES packet's first packet in its frame, by what is kept of the one before it.
+first_number_is :
+    (within : ℕ) (frames : Transmission) (n sent least frame : ℕ)
+    → sent ≡ sent_in_frame within frames n
+    → least ≡ least_frame within frames n
+    → frame_at frames n ≡ frame
+    → cond (not (within == 0) && (frame == least)) sent 0 ≡ first_in_frame within frames n
+first_number_is within frames zero sent least frame sent_is least_is frame_is =
+    grind (arith, nat_tests)
+first_number_is within frames (suc n) sent least frame sent_is least_is frame_is =
+    grind (arith, nat_tests)
+
+-- How many packets of the frame are sent, one PES packet on.
+sent_next :
+    (within : ℕ) (frames : Transmission) (n before : ℕ) (packets : List (List ℕ))
+    → before ≡ first_in_frame within frames n
+    → packets_of_frame frames n ≡ packets
+    → before + length packets ≡ sent_in_frame within frames (n + 1)
+sent_next within frames n before packets before_is packets_are =
+    rw add-one (grind (arith, nat_tests))
 
 -- The source failed after the packets that were heard.
 pub fails_listening : (l : Listening) (n : ℕ) (f : CheckFault) (old mid new : Option (List ℕ))
@@ -59,7 +84,7 @@ pub fails_listening : (l : Listening) (n : ℕ) (f : CheckFault) (old mid new : 
     → (is_pes_read f ≡ true → FailsWithin mid new)
     → ((frames : Transmission) (unread : Option Unread)
     → IfTold old (λ bytes.
-    ReadsAs l.options.origin 0 bytes frames unread → AreHeard l frames n))
+    ReadsAs (clock_of l.options) 0 bytes frames unread → AreHeard l frames n))
     → is_pes_read f ≡ true
     → FailsListening l old new (fault.File f)
 fails_listening l n f old mid new taken place within heard is =
@@ -70,8 +95,8 @@ module _
     (told : Option (List ℕ)) (w : PageIdValue) (old : Display)
   where
     module _
-        (n number least : ℕ) (remaining : Option (List ℕ)) (now : Display)
-        (reached : Reaches leaves l frames unread w old remaining n number least now)
+        (n number sent least : ℕ) (remaining : Option (List ℕ)) (now : Display)
+        (reached : Reaches leaves l frames unread w old remaining n number sent least now)
         (left : Option (List ℕ))
       where
         -- What is heard ends here.
@@ -88,12 +113,12 @@ module _
         -- The file ends.
         pub ends_at_end :
             (v : PesValue)
-            → TellsFrame l.options.origin n reached.rest v (Ok None)
+            → TellsFrame (clock_of l.options) n reached.rest v (Ok None)
             → HearsFile leaves l frames unread told left w old now (Ok tt)
         ends_at_end v is =
             let at =
-            reads_end l.options.origin n reached.rest frames unread None reached.few reached.left
-            is in
+            reads_end (clock_of l.options) n reached.rest frames unread None reached.few
+            reached.left is in
             let within = reached.within in
             ends_so (Ok tt) (inl (omega (arith, at.0), at.1))
             (λ more. absurd (omega (arith, more, at.0)))
@@ -101,11 +126,11 @@ module _
         -- It is not read on.
         pub ends_unread :
             (v : PesValue) (f : CheckFault)
-            → TellsFrame l.options.origin n reached.rest v (Err f)
+            → TellsFrame (clock_of l.options) n reached.rest v (Err f)
             → HearsFile leaves l frames unread told left w old now (Err (fault.File f))
         ends_unread v f (u, is, ends) =
             let at =
-            reads_end l.options.origin n reached.rest frames unread (Some u) reached.few
+            reads_end (clock_of l.options) n reached.rest frames unread (Some u) reached.few
             reached.left ends in
             let within = reached.within in
             let all : n ≡ length frames = omega (arith, at.0) in
@@ -120,12 +145,12 @@ module _
 
         module _
             (v : PesValue) (frame : ℕ)
-            (is : TellsFrame l.options.origin n reached.rest v (Ok (Some frame)))
+            (is : TellsFrame (clock_of l.options) n reached.rest v (Ok (Some frame)))
             (taken : TakesPackets (n + 1) told left)
           where
-            next : ReadsNext l.options.origin n reached.rest frames unread v frame
+            next : ReadsNext (clock_of l.options) n reached.rest frames unread v frame
             next =
-                reads_next l.options.origin n reached.rest frames unread v frame reached.few
+                reads_next (clock_of l.options) n reached.rest frames unread v frame reached.few
                 reached.left is.0 is.1
 
             -- Its frame is not after the one before.
@@ -149,23 +174,37 @@ module _
                 let least_is = reached.least_is in
                 ends_so (Ok tt) (inr (next.sent.there, omega arith, omega arith)) (λ there. taken)
 
+            -- The number, in its frame, of its first packet.
+            first_is :
+                (before : ℕ)
+                → before ≡ cond (not (l.options.within == 0) && (frame == least)) sent 0
+                → before ≡ first_in_frame l.options.within frames n
+            first_is before is =
+                is
+                ∙ first_number_is l.options.within frames n sent least frame reached.sent_is
+                reached.least_is next.sent.frame_is
+
             -- A page header of it is lost.
             pub ends_lost :
-                (packet : ℕ)
+                (before place : ℕ)
+                → before ≡ cond (not (l.options.within == 0) && (frame == least)) sent 0
                 → least ≤ frame
                 → frame ≤ l.at
-                → first_lost_header (reception_of l) number (packets_of_units v.units) ≡ Some packet
+                → first_lost_header (reception_of l) number (packets_of_units v.units) ≡ Some place
                 → HearsFile leaves l frames unread told left w old now
-                (Err (fault.LostHeader frame packet))
-            ends_lost packet rises in_time lost =
+                (Err (fault.LostHeader frame (before + place)))
+            ends_lost before place first rises in_time lost =
                 let least_is = reached.least_is in
-                ends_so (Err (fault.LostHeader frame packet))
+                let number_is = reached.number_is in
+                let before_is = first_is before first in
+                ends_so (Err (fault.LostHeader frame (before + place)))
                 (grind (arith, next.sent.there, next.sent.frame_is, next.sent.packets_are))
                 (λ there. taken)
 
             -- It is heard.
             pub reaches_next :
-                (after : Display)
+                (before : ℕ) (after : Display)
+                → before ≡ cond (not (l.options.within == 0) && (frame == least)) sent 0
                 → least ≤ frame
                 → frame ≤ l.at
                 → first_lost_header (reception_of l) number (packets_of_units v.units) ≡ None
@@ -173,8 +212,9 @@ module _
                 → RunsThrough l.options.asks_complete leaves w now
                 (as_heard l number (packets_of_units v.units)) after
                 → Reaches leaves l frames unread w old left (n + 1) (number + length v.units)
-                (frame + 1) after
-            reaches_next after rises in_time whole left_is run =
+                (before + length v.units) (least_after l.options.within frame) after
+            reaches_next before after first rises in_time whole left_is run =
+                let before_is = first_is before first in
                 let frame_is = next.sent.frame_is in
                 let least_is = reached.least_is in
                 let there = next.sent.there in
@@ -212,5 +252,9 @@ module _
                         place,
                       ) (RunsBy-append _ _ _ _ _ _ reached.run run);
                   number_is = omega (arith, size, units, number_is);
+                  sent_is =
+                      ap (λ k. before + k) (sym units)
+                      ∙ sent_next l.options.within frames n before (packets_of_units v.units)
+                      before_is next.sent.packets_are;
                   least_is = grind arith;
                 }

@@ -1,12 +1,16 @@
 -- How a PES file is heard: the frames up to TIME, what ends them, and the run of a receiver.
-use Rattle.std.specs.Prelude.{◌≡◌, ℕ, zero, suc, ◌+◌, ◌<◌, ◌≤◌, ◌⊎◌, Bool, false}
-use Rattle.std.specs.Prelude.{length, Option, Some, None, Result}
+--
+-- The list has a frame for each PES packet. Within frames several PES packets may be of one frame,
+-- and all are heard.
+use Rattle.std.specs.Prelude.{◌≡◌, ℕ, zero, suc, ◌+◌, ◌<◌, ◌≤◌, ◌⊎◌, ◌&&◌, ◌==◌, Bool, false, not}
+use Rattle.std.specs.Prelude.{if◌then◌else◌, length, Option, Some, None, Result, option_map}
 use Rattle.std.specs.Prelude.{List, MatchResult}
 use Rattle.sub_io.specs.Reading.{IfTold}
 use Rattle.ttx_packet.specs.PageId.{PageIdValue}
 use Rattle.ttx_page.specs.Screen.{Display}
 use Rattle.ttx_pes.specs.Reader.{FailsAtPacket, TakesPackets}
 use Rattle.ttx_pes.specs.declared.fault.PesFault.TheVariants.{Read}
+use Rattle.sub_plan.specs.FrameTime.{clock_of}
 use Rattle.sub_rules.specs.Fault.{is_pes_read, is_subtitle_fault}
 use Rattle.sub_rules.specs.Events.{unread_fault}
 use Rattle.sub_rules.specs.FrameRules.{Unread, frame_at, packets_before, packets_of_frame}
@@ -32,20 +36,50 @@ is_stl_fault (fault.LostHeader frame packet) = false
 
 -- ---- what is heard
 
--- The least frame that frame i of the list may have: the one after the frame before it.
-abbrev pub least_frame : Transmission → ℕ → ℕ
-least_frame frames zero = 0
-least_frame frames (suc i) = frame_at frames i + 1
+-- The least frame that a PES packet may have after one of this frame: within 0 frames the next one,
+-- else the same.
+abbrev pub least_after : ℕ → ℕ → ℕ
+least_after within frame = if within == 0 then frame + 1 else frame
+
+-- The least frame that frame i of the list may have.
+abbrev pub least_frame : ℕ → Transmission → ℕ → ℕ
+least_frame within frames zero = 0
+least_frame within frames (suc i) = least_after within (frame_at frames i)
+
+-- Within frames PES packet i of the list is of the frame of the one before it.
+abbrev pub goes_on : ℕ → Transmission → ℕ → Bool
+goes_on within frames zero = false
+goes_on within frames (suc i) =
+    not (within == 0) && (frame_at frames (suc i) == frame_at frames i)
+
+-- How many packets of the frame of the last one are in the first n PES packets of the list.
+abbrev pub sent_in_frame : ℕ → Transmission → ℕ → ℕ
+sent_in_frame within frames zero = 0
+sent_in_frame within frames (suc i) =
+    (if goes_on within frames i then sent_in_frame within frames i else 0)
+    + length (packets_of_frame frames i)
+
+-- The number, in its frame, of the first packet of PES packet i of the list.
+abbrev pub first_in_frame : ℕ → Transmission → ℕ → ℕ
+first_in_frame within frames i =
+    if goes_on within frames i then sent_in_frame within frames i else 0
 
 -- The number of the first packet of frame i of the list, counted over the whole file.
 abbrev pub first_number : Transmission → ℕ → ℕ
 first_number frames i = length (packets_before frames i)
 
--- Frame i of the list is heard: it is after the one before, not after TIME, and no page header of
--- it is lost.
+-- The first packet of PES packet i of the list that is lost and may not be, by its number in its
+-- frame.
+abbrev pub lost_header : Listening → Transmission → ℕ → Option ℕ
+lost_header l frames i =
+    option_map (λ place. first_in_frame l.options.within frames i + place)
+    (first_lost_header (reception_of l) (first_number frames i) (packets_of_frame frames i))
+
+-- Frame i of the list is heard: it is after the one before, or within frames not before it, not
+-- after TIME, and no page header of it is lost.
 pub record IsHeard (l : Listening) (frames : Transmission) (i : ℕ) : Type 0 where
   pub there : i < length frames
-  pub rises : least_frame frames i ≤ frame_at frames i
+  pub rises : least_frame l.options.within frames i ≤ frame_at frames i
   pub in_time : frame_at frames i ≤ l.at
   pub whole :
       first_lost_header (reception_of l) (first_number frames i) (packets_of_frame frames i) ≡ None
@@ -58,21 +92,22 @@ AreHeard l frames n = (i : ℕ) → i < n → IsHeard l frames i
 abbrev pub EndsAfter : Listening → Transmission → Option Unread → ℕ → Type 0
 EndsAfter l frames unread n =
     ((n ≡ length frames) × (unread ≡ None))
-    ⊎ ((n < length frames) × (least_frame frames n ≤ frame_at frames n)
+    ⊎ ((n < length frames) × (least_frame l.options.within frames n ≤ frame_at frames n)
     × (l.at < frame_at frames n))
 
 -- After n frames the file is refused by this fault, as it stands: it is not read on, its next frame
--- is not after the one before, or a page header of the next frame is lost.
+-- is not after the one before, or within frames before it, or a page header of the next frame is
+-- lost.
 abbrev pub RefusesAfter : Listening → Transmission → Option Unread → ℕ → ListenFault → Type 0
 RefusesAfter l frames unread n (fault.File (check.Order index)) =
-    (index ≡ n) × (n < length frames) × (frame_at frames n < least_frame frames n)
+    (index ≡ n) × (n < length frames)
+    × (frame_at frames n < least_frame l.options.within frames n)
 RefusesAfter l frames unread n (fault.LostHeader frame packet) =
     (n < length frames)
     × (frame_at frames n ≡ frame)
-    × (least_frame frames n ≤ frame)
+    × (least_frame l.options.within frames n ≤ frame)
     × (frame ≤ l.at)
-    × (first_lost_header (reception_of l) (first_number frames n) (packets_of_frame frames n)
-    ≡ Some packet)
+    × (lost_header l frames n ≡ Some packet)
 RefusesAfter l frames unread n f =
     (u : Unread) × (n ≡ length frames) × (unread ≡ Some u)
     × (f ≡ fault.File (unread_fault n (Some u)))
@@ -86,7 +121,7 @@ pub record FailsListening (l : Listening) (told left : Option (List ℕ)) (f : L
     pub heard :
         (frames : Transmission) (unread : Option Unread)
         → IfTold told (λ bytes.
-        ReadsAs l.options.origin 0 bytes frames unread → AreHeard l frames index)
+        ReadsAs (clock_of l.options) 0 bytes frames unread → AreHeard l frames index)
 
 -- ---- the run of a receiver
 

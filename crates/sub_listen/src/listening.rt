@@ -1,11 +1,14 @@
 //! How a PES file is heard, by one receiver.
 
-ghost use Rattle.std.specs.Prelude.{◌≡◌, IfErr, Option, false, true};
+ghost use Rattle.std.specs.Prelude.{◌≡◌, ◌+◌, ◌<◌, ◌≤◌, ◌&&◌, ◌==◌, IfErr, Option, false, true};
+ghost use Rattle.std.specs.Prelude.{if◌then◌else◌, not};
 ghost use Rattle.sub_io.specs.Device.{CanFail, CountsIf, failed};
 ghost use Rattle.sub_io.specs.Reading.{IfTold};
 ghost use Rattle.ttx_page.specs.Screen.{display};
+ghost use Rattle.sub_plan.specs.FrameTime.{clock_of};
 ghost use Rattle.sub_rules.specs.FrameRules.{Unread};
 ghost use Rattle.sub_listen.specs.Run.{FailsListening, HearsFile, is_failed_read, is_stl_fault};
+ghost use Rattle.sub_listen.specs.Run.{least_after};
 ghost use Rattle.sub_rules.specs.PesReading.{ReadsAs};
 ghost use Rattle.sub_rules.specs.Transmission.{Transmission};
 ghost use Rattle.sub_listen.specs.declared.listening.ListenFault.TheVariants.{File};
@@ -26,7 +29,8 @@ pub enum ListenFault {
     LostHeader {
         /// The frame of the day.
         frame: u32,
-        /// The packet, counted from 0 among the Teletext units of its PES packet.
+        /// The packet, counted from 0 among the Teletext units of its PES packet, or, where frames
+        /// are allowed within which the page has to be whole, of the PES packets of its frame.
         packet: u32,
     },
 }
@@ -58,7 +62,8 @@ impl From<CheckFault> for ListenFault {
 ///
 /// It hears the packets as they are read, but for those that are passed over or lost, each with its
 /// flips, and for the rows that it drops. At the first PES packet after that frame nothing more is
-/// read; its own faults are still told.
+/// read; its own faults are still told. Where frames are allowed within which the page has to be
+/// whole, several PES packets may be of one frame, one after another, and each is heard.
 ///
 /// # Errors
 ///
@@ -75,7 +80,7 @@ pub fn listen<R: Receiver, S: Source>(
     requires tuned { R.tuned_to receiver.old ≡ listening.now.options.page }
     ensures exact { (frames : Transmission) (unread : Option Unread)
         → IfTold (S.remaining pes.old) (λ bytes.
-        ReadsAs listening.now.options.origin 0 bytes frames unread
+        ReadsAs (clock_of listening.now.options) 0 bytes frames unread
         → failed is_failed_read result ≡ false
         → HearsFile R.leaves listening.now frames unread (S.remaining pes.old)
         (S.remaining pes.new) (R.tuned_to receiver.old)
@@ -89,6 +94,7 @@ pub fn listen<R: Receiver, S: Source>(
     let mut reader = ComparingReader::new();
     let mut least = 0;
     let mut number = 0u64;
+    let mut sent = 0;
     let mut index = 0;
     'packets: loop {
         let next = next_sending(&mut reader, pes, &listening.options, index)?;
@@ -103,13 +109,40 @@ pub fn listen<R: Receiver, S: Source>(
         if frame > listening.at {
             return Ok(());
         }
+        let within = listening.options.within();
+        let before = first_in_frame(within, frame, least, sent);
         let units = reader.units();
-        if let Some(packet) = first_lost_header(listening, number, &units) {
+        if let Some(place) = first_lost_header(listening, number, &units) {
+            let packet = before + place;
             return Err(ListenFault::LostHeader { frame, packet });
         }
         hear_units(receiver, screen, listening, number, &units);
-        number += units.len() as u64;
-        least = frame + 1;
+        let count = units.len();
+        number += count as u64;
+        sent = before + count as u32;
+        least = least_after(within, frame);
         index += 1;
     }
+}
+
+// The number, in its frame, of the first packet of a PES packet: `sent` are those of the frame of
+// the one before it, after which the least frame is `least`.
+fn first_in_frame(within: u64, frame: u32, least: u32, sent: u32) -> u32
+    ensures value { result ≡ (if not (within == 0) && (frame == least) then sent else 0) }
+    ensures most { result ≤ sent }
+{
+    if within != 0 && frame == least {
+        sent
+    } else {
+        0
+    }
+}
+
+// The least frame that a PES packet may have after one of this frame.
+fn least_after(within: u64, frame: u32) -> u32
+    requires { frame < u32.MAX }
+    ensures value { result ≡ least_after within frame }
+    ensures most { result ≤ frame + 1 }
+{
+    if within == 0 { frame + 1 } else { frame }
 }

@@ -1,7 +1,7 @@
 //! What a receiver gets of the packets of a file, and hears: packets passed over, lost packets,
 //! flips, dropped rows.
 ghost use Rattle.std.specs.Prelude.{◌≡◌, ℕ, ◌+◌, ◌-◌, ◌^◌, ◌<◌, ◌≤◌, ◌&&◌, ◌∷◌, List};
-ghost use Rattle.std.specs.Prelude.{length, not};
+ghost use Rattle.std.specs.Prelude.{IfSome, length, not};
 ghost use Rattle.std.specs.List.{filter};
 ghost use Rattle.ttx_packet.specs.PacketAddress.{address};
 ghost use Rattle.ttx_page.specs.Screen.{Display, display};
@@ -21,8 +21,9 @@ use ttx_pes::SentUnits;
 pub fn first_lost_header(listening: &Listening, number: u64, units: &SentUnits<'_>) -> Option<u32>
     requires few { length units.now ≤ most_units }
     requires number { number + most_units < u64.MAX }
-    ensures { result ≡ first_lost_header (reception_of listening.now) number
+    ensures value { result ≡ first_lost_header (reception_of listening.now) number
         (packets_of_units units.now) }
+    ensures place { IfSome result (λ place. place < most_units) }
 {
     if listening.lost.as_slice().is_empty() {
         return None;

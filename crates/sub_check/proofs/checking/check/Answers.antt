@@ -1,6 +1,7 @@
 -- What the device kept decides the answer: by FirstFaultLemmas.
 use Rattle.std.proofs.Common.{◌≡◌, Err, Option, Result, ap, refl}
 use Rattle.ttx_pes.specs.declared.fault.PesFault.TheVariants.{Read}
+use Rattle.sub_plan.specs.FrameTime.{clock_of}
 use Rattle.sub_check.proofs.FirstFaultLemmas.{fails_at_packet, fault_kept, nothing_kept}
 use Rattle.sub_check.proofs.FirstFaultLemmas.{read_failed}
 use Rattle.sub_checker.specs.declared.telling.Accepted.{Accepted}
@@ -10,31 +11,70 @@ use Rattle.sub_rules.specs.declared.fault.CheckFault.TheVariants as fault
 use Rattle.sub_check.proofs.checking.check.Goals as goal
 
 pub returns-in-Ok-Some-clause-checked : goal.returns-in-Ok-Some-clause-checked
-returns-in-Ok-Some-clause-checked g c = λ bytes told.
+returns-in-Ok-Some-clause-checked g c = λ none bytes told.
+    let answer =
     nothing_kept c.args.programme.now c.args.options.now bytes c.in-Ok-Some.ensures.options
     c.in-Ok-Some.ensures.programme
     c.new-first.result c.tell_pieces.new.audience c.in-Ok-Some.counts c.new-first.ensures
     (rw c.in-Ok-Some.field-0-is at c.in-Ok-Some.ensures.stopped)
     (λ pieces unread reads.
-    rw c.in-Ok-Some.field-0-is at (c.in-Ok-Some.ensures.exact pieces unread bytes told reads))
+    rw c.in-Ok-Some.field-0-is at (c.in-Ok-Some.ensures.exact pieces unread bytes told reads)) in
+    answer.at_once none
+
+pub returns-in-Ok-Some-clause-within : goal.returns-in-Ok-Some-clause-within
+returns-in-Ok-Some-clause-within g c = λ bytes told.
+    let answer =
+    nothing_kept c.args.programme.now c.args.options.now bytes c.in-Ok-Some.ensures.options
+    c.in-Ok-Some.ensures.programme
+    c.new-first.result c.tell_pieces.new.audience c.in-Ok-Some.counts c.new-first.ensures
+    (rw c.in-Ok-Some.field-0-is at c.in-Ok-Some.ensures.stopped)
+    (λ pieces unread reads.
+    rw c.in-Ok-Some.field-0-is at (c.in-Ok-Some.ensures.exact pieces unread bytes told reads)) in
+    answer.within
 
 pub returns-in-Ok-None-clause-checked : goal.returns-in-Ok-None-clause-checked
-returns-in-Ok-None-clause-checked g c = λ bytes told.
+returns-in-Ok-None-clause-checked g c = λ none bytes told.
+    let answer =
     fault_kept c.args.programme.now c.args.options.now bytes c.in-Ok-None.ensures.options
     c.in-Ok-None.ensures.programme
     c.new-first.result c.tell_pieces.new.audience c.into_fault.result c.new-first.ensures
     c.into_fault.ensures.kept
     (λ pieces unread reads.
-    rw c.in-Ok-None.field-0-is at (c.in-Ok-None.ensures.exact pieces unread bytes told reads))
+    rw c.in-Ok-None.field-0-is at (c.in-Ok-None.ensures.exact pieces unread bytes told reads)) in
+    answer.at_once none
+
+pub returns-in-Ok-None-clause-within : goal.returns-in-Ok-None-clause-within
+returns-in-Ok-None-clause-within g c = λ bytes told.
+    let answer =
+    fault_kept c.args.programme.now c.args.options.now bytes c.in-Ok-None.ensures.options
+    c.in-Ok-None.ensures.programme
+    c.new-first.result c.tell_pieces.new.audience c.into_fault.result c.new-first.ensures
+    c.into_fault.ensures.kept
+    (λ pieces unread reads.
+    rw c.in-Ok-None.field-0-is at (c.in-Ok-None.ensures.exact pieces unread bytes told reads)) in
+    answer.within
 
 pub returns-in-Err-clause-checked : goal.returns-in-Err-clause-checked
-returns-in-Err-clause-checked g c = λ bytes told.
+returns-in-Err-clause-checked g c = λ none bytes told.
+    let answer =
     read_failed c.args.programme.now c.args.options.now bytes c.in-Err.ensures.options
     c.in-Err.ensures.programme
     c.new-first.result c.tell_pieces.new.audience c.in-Err.fault c.new-first.ensures
     c.in-Err.ensures.goes_on
     (λ pieces unread reads. c.in-Err.ensures.exact pieces unread bytes told reads)
-    c.in-Err.ensures.only
+    c.in-Err.ensures.only in
+    answer.at_once none
+
+pub returns-in-Err-clause-within : goal.returns-in-Err-clause-within
+returns-in-Err-clause-within g c = λ bytes told.
+    let answer =
+    read_failed c.args.programme.now c.args.options.now bytes c.in-Err.ensures.options
+    c.in-Err.ensures.programme
+    c.new-first.result c.tell_pieces.new.audience c.in-Err.fault c.new-first.ensures
+    c.in-Err.ensures.goes_on
+    (λ pieces unread reads. c.in-Err.ensures.exact pieces unread bytes told reads)
+    c.in-Err.ensures.only in
+    answer.within
 
 pub returns-in-Err-clause-read : goal.returns-in-Err-clause-read
 returns-in-Err-clause-read g c = λ pes is.
@@ -45,5 +85,5 @@ returns-in-Err-clause-read g c = λ pes is.
     c.in-Err.ensures.goes_on same (c.in-Err.ensures.read pes failed)
     (λ bytes told pieces unread reads. c.in-Err.ensures.exact pieces unread bytes told reads)
     (λ bytes told sent.
-    let file = piece_file_of c.args.options.now.origin bytes in
+    let file = piece_file_of (clock_of c.args.options.now) bytes in
     c.in-Err.ensures.sent pes file.pieces file.unread failed bytes told refl sent)

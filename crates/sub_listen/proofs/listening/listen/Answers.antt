@@ -10,6 +10,7 @@ use Rattle.ttx_pes.proofs.TakenPackets.{takes-more}
 use Rattle.sub_rules.specs.PacketRules.{packets_of_units}
 use Rattle.sub_rules.specs.declared.fault.CheckFault.{CheckFault}
 use Rattle.sub_rules.specs.declared.sending.Sending.{Sending}
+use Rattle.sub_listen.specs.Run.{least_after}
 use Rattle.sub_listen.specs.Reception.{RunsThrough, as_heard, first_lost_header, reception_of}
 use Rattle.sub_listen.proofs.WaysOutLemmas.{Reaches, ends_at_end, ends_late, ends_lost, ends_order}
 use Rattle.sub_listen.proofs.WaysOutLemmas.{ends_unread, fails_listening, reaches_next}
@@ -21,7 +22,7 @@ returns-in_err-next-clause-exact g c = λ frames unread bytes told reads fine.
     let known = rw (p.1, p.2) at fine in
     let i = c.packets.invariant.told frames unread bytes told reads in
     rw (p.1, p.2)
-    (ends_unread _ c.args.listening.now frames unread _ _ _ c.packets.index _ _ _ _ i _
+    (ends_unread _ c.args.listening.now frames unread _ _ _ c.packets.index _ _ _ _ _ i _
     c.next_sending.new.reader.frame _ (c.in_err-next.ensures.exact i.rest i.rest_is known))
 
 pub returns-in_err-next-clause-failed : goal.returns-in_err-next-clause-failed
@@ -36,14 +37,14 @@ returns-in_err-next-clause-failed g c =
 pub returns-in_default-clause-exact : goal.returns-in_default-clause-exact
 returns-in_default-clause-exact g c = λ frames unread bytes told reads fine.
     let i = c.packets.invariant.told frames unread bytes told reads in
-    ends_at_end _ c.args.listening.now frames unread _ _ _ c.packets.index _ _ _ _ i _
+    ends_at_end _ c.args.listening.now frames unread _ _ _ c.packets.index _ _ _ _ _ i _
     c.next_sending.new.reader.frame
     (rw c.in_default.is at (c.in_ok-next.ensures.exact i.rest i.rest_is refl))
 
 pub returns-then-frame-least-clause-exact : goal.returns-then-frame-least-clause-exact
 returns-then-frame-least-clause-exact g c = λ frames unread bytes told reads fine.
     let i = c.packets.invariant.told frames unread bytes told reads in
-    ends_order _ c.args.listening.now frames unread _ _ _ c.packets.index _ _ _ _ i _
+    ends_order _ c.args.listening.now frames unread _ _ _ c.packets.index _ _ _ _ _ i _
     c.next_sending.new.reader.frame c.in-Some.sending.frame
     (rw c.in-Some.is at (c.in_ok-next.ensures.exact i.rest i.rest_is refl))
     (takes-more c.packets.index _ _ _ _ c.packets.invariant.taken
@@ -55,7 +56,7 @@ returns-then-frame-listening-clause-exact g c = λ frames unread bytes told read
     let i = c.packets.invariant.told frames unread bytes told reads in
     let rises = c.if-frame-least.false in
     let late = c.if-frame-listening.true in
-    ends_late _ c.args.listening.now frames unread _ _ _ c.packets.index _ _ _ _ i _
+    ends_late _ c.args.listening.now frames unread _ _ _ c.packets.index _ _ _ _ _ i _
     c.next_sending.new.reader.frame c.in-Some.sending.frame
     (rw c.in-Some.is at (c.in_ok-next.ensures.exact i.rest i.rest_is refl))
     (takes-more c.packets.index _ _ _ _ c.packets.invariant.taken
@@ -68,18 +69,19 @@ returns-in-Some-first_lost_header-clause-exact g c = λ frames unread bytes told
     let i = c.packets.invariant.told frames unread bytes told reads in
     let rises = c.if-frame-least.false in
     let in_time = c.if-frame-listening.false in
-    let packet = c.in-Some-first_lost_header.packet in
+    let place = c.in-Some-first_lost_header.place in
     let l = c.args.listening.now in
-    ends_lost _ l frames unread _ _ _ c.packets.index _ _ _ _ i _
+    ends_lost _ l frames unread _ _ _ c.packets.index _ _ _ _ _ i _
     c.next_sending.new.reader.frame c.in-Some.sending.frame
     (rw c.in-Some.is at (c.in_ok-next.ensures.exact i.rest i.rest_is refl))
     (takes-more c.packets.index _ _ _ _ c.packets.invariant.taken
-    (c.in_ok-next.ensures.taken c.in-Some.sending (cc))) packet
+    (c.in_ok-next.ensures.taken c.in-Some.sending (cc))) c.first_in_frame-before.result place
+    (rw (← c.within-within.ensures.value) c.first_in_frame-before.ensures.value)
     (omega (arith, rises)) (omega (arith, in_time))
     (ap (λ (us : List UnitValue). first_lost_header (reception_of l) c.packets.number
     (packets_of_units us))
     (sym c.units-units.ensures.value)
-    ∙ sym c.first_lost_header.ensures
+    ∙ sym c.first_lost_header.ensures.value
     ∙ c.in-Some-first_lost_header.is)
 
 pub packets-preserved : goal.packets-preserved
@@ -87,7 +89,9 @@ packets-preserved g c =
     let counted = c.in_ok-next.ensures.count in
     let before = c.packets.invariant.failures in
     let few = c.packets.invariant.few in
+    let few_sent = c.packets.invariant.few_sent in
     let value = c.units-units.ensures.value in
+    let long = c.len-count.ensures.value in
     let units =
     subst (λ (us : List UnitValue). length us ≤ most_units) (sym c.units-units.ensures.value)
     c.units-units.ensures.frame.few in
@@ -102,7 +106,7 @@ packets-preserved g c =
     (c.in_ok-next.ensures.taken c.in-Some.sending given) in
     let whole = ap (λ (us : List UnitValue). first_lost_header (reception_of l)
     c.packets.number (packets_of_units us)) (sym value)
-    ∙ sym c.first_lost_header.ensures
+    ∙ sym c.first_lost_header.ensures.value
     ∙ c.in_default-first_lost_header.is in
     let run =
     subst (λ (us : List UnitValue). RunsThrough l.options.asks_complete g.R.Receiver.leaves
@@ -118,23 +122,28 @@ packets-preserved g c =
       taken = taken;
       failures = omega (arith, counted, before);
       tuned = c.hear_units.ensures.tuned ∙ c.packets.invariant.tuned;
-      few = omega (arith, few, units, c.len.ensures.value);
-      day = omega (arith, day);
+      few = omega (arith, few, units, long);
+      few_sent =
+          omega (arith, few_sent, c.first_in_frame-before.ensures.most, units, long);
+      day = omega (arith, day, c.least_after-least.ensures.most);
       told = λ frames unread bytes told reads.
           let i = c.packets.invariant.told frames unread bytes told reads in
-          rw c.len.ensures.value
+          rw (long, c.least_after-least.ensures.value, c.within-within.ensures.value)
           (subst (λ (us : List UnitValue). Reaches g.R.Receiver.leaves l frames unread
           (g.R.Receiver.tuned_to c.args.receiver.now)
           (display (g.R.Receiver.state c.args.receiver.now) c.args.screen.now)
           (g.S.Source.remaining c.next_sending.new.source) (c.packets.index + 1)
-          (c.packets.number + length us) (c.in-Some.sending.frame + 1)
+          (c.packets.number + length us) (c.first_in_frame-before.result + length us)
+          (least_after l.options.within c.in-Some.sending.frame)
           (display (g.R.Receiver.state c.hear_units.new.receiver)
           c.hear_units.new.screen))
           (sym value)
           (reaches_next _ l frames unread (g.S.Source.remaining c.args.pes.now) _ _
-          c.packets.index _ _ _ _ i _
+          c.packets.index _ _ _ _ _ i _
           c.next_sending.new.reader.frame c.in-Some.sending.frame
-          (rw c.in-Some.is at (c.in_ok-next.ensures.exact i.rest i.rest_is refl)) taken _
+          (rw c.in-Some.is at (c.in_ok-next.ensures.exact i.rest i.rest_is refl)) taken
+          c.first_in_frame-before.result _
+          (rw (← c.within-within.ensures.value) c.first_in_frame-before.ensures.value)
           (omega (arith, rises)) (omega (arith, in_time)) whole
           (c.in_ok-next.ensures.left i.rest i.rest_is)
           (subst (λ (w : PageIdValue). RunsThrough l.options.asks_complete g.R.Receiver.leaves w

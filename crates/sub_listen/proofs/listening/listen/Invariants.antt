@@ -6,6 +6,7 @@ use Rattle.ttx_pes.specs.Reader.{TakesPackets}
 use Rattle.ttx_pes.specs.Reading.{most_packets}
 use Rattle.ttx_pes.specs.declared.progress.Progress.TheVariants.{Reading}
 use Rattle.stl_file.specs.TimeCode.{day}
+use Rattle.sub_plan.specs.FrameTime.{clock_of}
 use Rattle.sub_rules.specs.FrameRules.{Unread}
 use Rattle.sub_rules.specs.PesReading.{ReadsAs}
 use Rattle.sub_rules.specs.Transmission.{Transmission}
@@ -20,14 +21,15 @@ invariant-packets g l = record {
   failures : g.S.Source.failure_count l.pes ≡ g.S.Source.failure_count l.fn.pes;
   tuned : g.R.Receiver.tuned_to l.receiver ≡ g.R.Receiver.tuned_to l.fn.receiver;
   few : l.number ≤ most_units * l.index;
+  few_sent : l.sent ≤ most_units * l.index;
   day : l.least ≤ day;
   told :
       (frames : Transmission) (unread : Option Unread) (bytes : List ℕ)
       → g.S.Source.remaining l.fn.pes ≡ Some bytes
-      → ReadsAs l.listening.options.origin 0 bytes frames unread
+      → ReadsAs (clock_of l.listening.options) 0 bytes frames unread
       → Reaches g.R.Receiver.leaves l.listening frames unread (g.R.Receiver.tuned_to l.fn.receiver)
       (display (g.R.Receiver.state l.fn.receiver) l.fn.screen) (g.S.Source.remaining l.pes)
-      l.index l.number l.least (display (g.R.Receiver.state l.receiver) l.screen);
+      l.index l.number l.sent l.least (display (g.R.Receiver.state l.receiver) l.screen);
 }
 
 abbrev pub decreases-packets : goal.decreases-packets

@@ -12,8 +12,8 @@ use Rattle.sub_listen.proofs.reception.first_lost_header.Goals as goal
 pub returns-then-is_empty : goal.returns-then-is_empty
 returns-then-is_empty c = grind (arith, nat_tests, first_lost_header-none, nil_from_length)
 
-pub returns-then-is_lost_header : goal.returns-then-is_lost_header
-returns-then-is_lost_header c =
+pub returns-then-is_lost_header-clause-value : goal.returns-then-is_lost_header-clause-value
+returns-then-is_lost_header-clause-value c =
     let units = c.args.units.now in
     let k : ℕ = c.loop-k.k in
     let l : k < length units = search rules in

@@ -7,7 +7,8 @@ use Rattle.sub_answer.specs.EveryFault.{TellsBoth}
 use Rattle.sub_listing.specs.EventLines.{subtitle_event}
 use Rattle.sub_listing.specs.Printer.{PrinterValue, PrintsEvent, printer_value}
 use Rattle.sub_listing.specs.declared.printer.Printer.{Printer}
-use Rattle.sub_answer.proofs.EveryFaultLemmas.{after_error, after_faults, after_pes, error_fails}
+use Rattle.sub_answer.proofs.EveryFaultLemmas.{after_error, after_faults, after_pes, both_answers}
+use Rattle.sub_answer.proofs.EveryFaultLemmas.{error_fails}
 use Rattle.sub_listing.proofs.PrinterLemmas.{cannot_fail, has_stopped, same_all, still_goes}
 use Rattle.sub_answer.proofs.answering.check_all.tell_every_fault.Goals as goal
 
@@ -93,7 +94,7 @@ returns-in-Ok-Some-clause-told g c =
     (λ holds same. still_goes _ _ _
     (subst (λ (p : Printer g.row.K.Denot). g.K.Sink.failure_count p.out.now
     < 0xFFFF_FFFF_FFFF_FFFF) (sym kept) c.requires.out) holds same)
-    e.some e.told e.first e.stopped e.goes_on e.only e.count e.read)
+    e.some e.told (both_answers _ _ _ c.check_all.result e.first_within e.first) e.stopped e.goes_on e.only e.count e.read)
 
 pub returns-in-Ok-Some-clause-asked : goal.returns-in-Ok-Some-clause-asked
 returns-in-Ok-Some-clause-asked g c = λ none.

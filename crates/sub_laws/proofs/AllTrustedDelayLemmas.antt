@@ -1,0 +1,343 @@
+-- Within some frames each stretch that can stay is told as trusted from a header of the page in it
+-- on: `law_of_all_trusted_with_delay`.
+use Rattle.std.proofs.lemmas.Bool.Decides.{nat_tests}
+use Rattle.std.proofs.Common.{◌≡◌, ◌≢◌, Some, ◌-◌, ℕ, zero, suc, ◌+◌, ◌<◌, ◌≤◌, ◌⊎◌, inl}
+use Rattle.std.proofs.Common.{inr, Bool, true, false}
+use Rattle.std.proofs.Common.{◌==◌, ◌||◌, not, List, [], ◌∷◌, ◌++◌, Contains, length, map, is_some}
+use Rattle.std.proofs.Common.{refl, sym, ap, ◌∙◌, subst, arith, append-nil, cond, if◌then◌else◌}
+use Rattle.std.proofs.lemmas.Bool.{or_parts, true≢false}
+use Rattle.std.proofs.lemmas.List.Elements.{Contains-append_left}
+use Rattle.ttx_page.specs.PacketKind.{kind}
+use Rattle.ttx_page.specs.Span.{holds_header}
+use Rattle.sub_rules.specs.Events.{events_at_end, first_header_events, gap_length, is_late, latest}
+use Rattle.sub_rules.specs.Events.{order_events, packet_events, packets_told, standing_at}
+use Rattle.sub_rules.specs.Events.{unfinished_since, unread_fault}
+use Rattle.sub_rules.specs.FrameRules.{Task, Unread, end_frame, frame_at, packets_before}
+use Rattle.sub_rules.specs.FrameRules.{packets_of_frame}
+use Rattle.sub_rules.specs.PieceEvents.{all_announced, all_of_pieces, closing_of_pieces, ended_run}
+use Rattle.sub_rules.specs.PieceEvents.{marks_at_end, marks_of_arrival, marks_of_closing}
+use Rattle.sub_rules.specs.PieceEvents.{marks_of_each, marks_of_ending, marks_of_gap, marks_of_more}
+use Rattle.sub_rules.specs.PieceEvents.{marks_of_next, marks_of_packets, marks_of_sent}
+use Rattle.sub_rules.specs.PieceEvents.{marks_of_waiting, no_run, passed_after_all, sent_by_pieces}
+use Rattle.sub_rules.specs.PieceEvents.{told_of_pieces}
+use Rattle.sub_rules.specs.Pieces.{Piece, frames_of, goes_on_with, joined_after, sent_after}
+use Rattle.sub_rules.specs.Pieces.Piece.{Passed, Sent}
+use Rattle.sub_rules.specs.Transmission.{SentFrame, Transmission}
+use Rattle.sub_rules.specs.Trusted.{Mark, after_mark, closing_frame, no_trust, stands_none}
+use Rattle.sub_rules.specs.Trusted.{tells_none, told_by, told_with, trust_after, trusted}
+use Rattle.sub_rules.specs.Trusted.Mark.{AtEnd, AtPes, Begins, Closes, Ends, Says}
+use Rattle.sub_rules.specs.declared.event.Event.{Event}
+use Rattle.sub_rules.specs.declared.event.Event.TheVariants.{Told, Trusted}
+use Rattle.sub_rules.specs.declared.trust.Trust.{Trust}
+use Rattle.sub_rules.proofs.TrustedLemmas.{told_by-append, trust_after-append}
+use Rattle.sub_laws.specs.AllTrustedWithDelay.{CanStayWithDelay, LawOfAllTrustedWithDelay}
+use Rattle.sub_laws.proofs.DoubtLemmas.{contains-announced}
+use Rattle.sub_laws.proofs.FollowedLemmas.{Fits, fits}
+use Rattle.sub_laws.proofs.LeadMarkLemmas.{IsTold, Leads, Leads-append, told_left, told_right}
+use Rattle.sub_laws.proofs.PrefixLemmas.{frame_at-take, last-same, packets-take}
+use Rattle.sub_laws.proofs.StretchEndingLemmas.{closing_told}
+use Rattle.sub_laws.proofs.StretchMarkLemmas.{top}
+use Rattle.sub_laws.proofs.StretchPieceLemmas.{Goes-on, Outside, PastAt, pieces_lead, starts}
+use Rattle.sub_laws.proofs.StretchPieceLemmas.{waits_lead}
+use Rattle.sub_laws.proofs.TrustedFrameLemmas.{part_length, risen}
+
+-- ---- marks with which nothing is told
+
+-- Where it is not kept that anything was told nothing was.
+abbrev IsSilent : List Mark → Type 0
+IsSilent ms =
+    (t : Trust) → (trust_after t ms).told ≡ false → (t.told ≡ false) × (told_by t ms ≡ [])
+
+silent_none : IsSilent []
+unfolding trust_after told_by
+silent_none t e = (e, refl)
+
+silent_more : (m : Mark) (ms : List Mark)
+    → ((t : Trust) → ((after_mark m t).told ≡ t.told) × (told_with m t ≡ []))
+    → IsSilent ms
+    → IsSilent (m ∷ ms)
+unfolding trust_after told_by
+silent_more m ms one rest t e =
+    let (before, none) = rest (after_mark m t) e in
+    let (same, nothing) = one t in
+    (sym same ∙ before, rw nothing none)
+
+silent_says : (es : List Event) → IsSilent (map Says es)
+unfolding trust_after told_by after_mark
+silent_says [] t e = (e, refl)
+silent_says (x ∷ es) t e =
+    let (before, none) = silent_says es (after_mark (Says x) t) e in
+    absurd (true≢false before)
+
+silent_two : (xs ys : List Mark) → IsSilent xs → IsSilent ys → IsSilent (xs ++ ys)
+silent_two xs ys one two t e =
+    let (before, none) = two (trust_after t xs) (rw (trust_after-append t xs ys) at e) in
+    let (first, nothing) = one t before in
+    (first, told_by-append t xs ys ∙ rw (nothing, none) refl)
+
+silent_at : (pes : ℕ) (ms : List Mark) → IsSilent ms → IsSilent (AtPes pes ∷ ms)
+unfolding after_mark told_with
+silent_at pes ms rest = silent_more (AtPes pes) ms (λ t. (refl, refl)) rest
+
+module _ (g : Task) (some : (g.within == 0) ≡ false) where
+  later : (marks : List Mark) → (if g.within == 0 then [] else marks) ≡ marks
+  later marks = rw some refl
+
+  no_more : (marks : List Mark) → (if g.within == 0 then marks else []) ≡ []
+  no_more marks = rw some refl
+
+  silent_end : (frames : Transmission) (i n f : ℕ) → IsSilent (marks_at_end g frames i n f)
+  unfolding after_mark told_with
+  silent_end frames i n f =
+      let at : Mark = AtEnd f (unfinished_since g frames n f) (is_late g frames n f) in
+      silent_two (if g.within == 0 then [] else at ∷ []) (map Says (events_at_end g frames i n f))
+      (subst IsSilent (sym (later (at ∷ []))) (silent_more at [] (λ t. (refl, refl)) silent_none))
+      (silent_says (events_at_end g frames i n f))
+
+  silent_gap : (frames : Transmission) (i n : ℕ) → IsSilent (marks_of_gap g frames i n)
+  unfolding marks_of_gap
+  silent_gap frames i zero = silent_none
+  silent_gap frames i (suc n) =
+      silent_two (marks_of_gap g frames i n)
+      (marks_at_end g frames i i (latest frames i + suc n)) (silent_gap frames i n)
+      (silent_end frames i i (latest frames i + suc n))
+
+  silent_arrival : (frames : Transmission) (i : ℕ) → IsSilent (marks_of_arrival g frames i)
+  unfolding after_mark told_with
+  silent_arrival frames i =
+      let gap : List Mark = marks_of_gap g frames i (gap_length frames i) in
+      silent_two (map Says (order_events g frames i) ++ gap) (Begins (frame_at frames i) ∷ [])
+      (silent_two (map Says (order_events g frames i)) gap (silent_says (order_events g frames i))
+      (silent_gap frames i (gap_length frames i)))
+      (silent_more (Begins (frame_at frames i)) [] (λ t. (refl, refl)) silent_none)
+
+  silent_ending : (frames : Transmission) (i : ℕ) → IsSilent (marks_of_ending g frames i)
+  unfolding after_mark told_with
+  silent_ending frames i =
+      let last : Mark =
+      Ends (frame_at frames i) (holds_header (kind g.watched.page) (packets_of_frame frames i))
+      (stands_none (standing_at g frames (suc i) (frame_at frames i))) in
+      let at : List Mark = marks_at_end g frames i (suc i) (frame_at frames i) in
+      silent_two (map Says (first_header_events g frames i) ++ at) (last ∷ [])
+      (silent_two (map Says (first_header_events g frames i)) at
+      (silent_says (first_header_events g frames i))
+      (silent_end frames i (suc i) (frame_at frames i)))
+      (silent_more last [] (λ t. (refl, refl)) silent_none)
+
+  silent_waiting : (sent : Transmission) → IsSilent (marks_of_waiting g sent)
+  unfolding marks_of_waiting
+  silent_waiting [] = silent_none
+  silent_waiting (s ∷ sent) =
+      subst IsSilent (sym (later (marks_of_ending g (s ∷ sent) (length sent))))
+      (silent_ending (s ∷ sent) (length sent))
+
+  silent_next : (sent : Transmission) (s : SentFrame) → IsSilent (marks_of_next g sent s)
+  silent_next sent s =
+      let all : Transmission = sent ++ s ∷ [] in
+      let n : ℕ = length sent in
+      silent_two (marks_of_arrival g all n ++ marks_of_packets g all n)
+      (if g.within == 0 then marks_of_ending g all n else [])
+      (silent_two (marks_of_arrival g all n) (marks_of_packets g all n) (silent_arrival all n)
+      (silent_says
+      (packet_events g.watched (frame_at all n) (packets_before all n) (packets_of_frame all n)
+      (length (packets_of_frame all n)))))
+      (subst IsSilent (sym (no_more (marks_of_ending g all n))) silent_none)
+
+  silent_sent : (sent : Transmission) (pes : ℕ) (s : SentFrame)
+      → IsSilent (marks_of_sent g sent pes s)
+  unfolding marks_of_sent
+  silent_sent sent pes s = go (goes_on_with g.within sent s)
+    where
+      go : (same : Bool)
+          → IsSilent (cond same (AtPes pes ∷ marks_of_more g sent s.packets)
+          (marks_of_waiting g sent ++ AtPes pes ∷ marks_of_next g sent s))
+      go true =
+          silent_at pes (marks_of_more g sent s.packets)
+          (silent_says
+          (packets_told g.watched (end_frame sent)
+          (length (packets_of_frame sent (length sent - 1)))
+          (packets_before sent (length sent)) s.packets (length s.packets)))
+      go false =
+          silent_two (marks_of_waiting g sent) (AtPes pes ∷ marks_of_next g sent s)
+          (silent_waiting sent) (silent_at pes (marks_of_next g sent s) (silent_next sent s))
+
+  silent_each : (sent : Transmission) (pes : ℕ) (pieces : List Piece)
+      → IsSilent (marks_of_each g sent pes pieces)
+  unfolding marks_of_each
+  silent_each sent pes [] = silent_none
+  silent_each sent pes (Sent s ∷ pieces) =
+      silent_two (marks_of_sent g sent pes s)
+      (marks_of_each g (sent_after g.within sent s) (suc pes) pieces) (silent_sent sent pes s)
+      (silent_each (sent_after g.within sent s) (suc pes) pieces)
+  silent_each sent pes (Passed u ∷ pieces) =
+      let es : List Event = Told (unread_fault pes (Some u)) ∷ [] in
+      let rest : List Mark = marks_of_each g sent (suc pes) pieces in
+      silent_at pes (map Says es ++ rest)
+      (silent_two (map Says es) rest (silent_says es) (silent_each sent (suc pes) pieces))
+
+-- ---- anything is told
+
+nothing_of : (told : List Event) → told ≡ []
+    → all_announced no_run told ++ ended_run (passed_after_all no_run told) ≡ []
+unfolding all_announced passed_after_all
+nothing_of told none =
+    subst
+    (λ (l : List Event). all_announced no_run l ++ ended_run (passed_after_all no_run l) ≡ [])
+    (sym none) refl
+
+none_tells : (es : List Event) → tells_none es ≡ true → es ≡ []
+none_tells [] e = refl
+none_tells (x ∷ es) e = absurd (true≢false (sym e))
+
+nothing_then : (c : Bool) (xs es : List Event) (t : Trust) → c ≡ false → es ≡ []
+    → (if c then xs else []) ++ told_by t (map Says es) ≡ []
+unfolding told_by
+nothing_then c xs es t off none =
+    rw off (subst (λ (l : List Event). told_by t (map Says l) ≡ []) (sym none) refl)
+
+-- Of the closing nothing is told where nothing was told and nothing follows.
+closing_silent : (g : Task) (frames : Transmission) (pes n : ℕ) (t : Trust)
+    → (t.told || not (tells_none (closing_of_pieces g frames pes n))) ≡ false
+    → told_by t (marks_of_closing g frames pes n) ≡ []
+unfolding told_by told_with after_mark
+closing_silent g frames pes n t e =
+    let es : List Event = closing_of_pieces g frames pes n in
+    let more : Bool = not (tells_none es) in
+    nothing_then (t.told || more) (trusted t.run t.whole (closing_frame t (is_some g.unread))) es
+    (after_mark (Closes (is_some g.unread) more) (after_mark (AtPes pes) t)) e
+    (none_tells es (of_none t.told (tells_none es) e))
+  where
+    of_none : (a b : Bool) → (a || not b) ≡ false → b ≡ true
+    of_none a b e = grind (arith, nat_tests)
+
+module _ (g : Task) (pieces : List Piece) (a b i : ℕ) (some : (g.within == 0) ≡ false)
+    (can : CanStayWithDelay g pieces a b) (fit : Fits g (sent_by_pieces g pieces) a b i) where
+  abbrev frames : Transmission
+  frames = sent_by_pieces g pieces
+
+  -- No piece is passed over that may have been sent in the stretch: said piece by piece.
+  outside_of : (sent : Transmission) (ahead : List Piece)
+      → ((earlier later : List Piece) (u : Unread)
+      → ahead ≡ earlier ++ Passed u ∷ later
+      → 0 < length (joined_after g.within sent (frames_of earlier))
+      → length (joined_after g.within sent (frames_of earlier)) ≤ risen frames
+      → (end_frame (joined_after g.within sent (frames_of earlier)) < a)
+      ⊎ (b < end_frame (joined_after g.within sent (frames_of earlier))))
+      → Outside g frames some a b i fit sent ahead
+  unfolding frames_of joined_after
+  outside_of sent [] h = tt
+  outside_of sent (Sent s ∷ ahead) h =
+      outside_of (sent_after g.within sent s) ahead
+      (λ earlier later u e.
+      h (Sent s ∷ earlier) later u (ap (λ (l : List Piece). Sent s ∷ l) e))
+  outside_of sent (Passed u ∷ ahead) h = (
+    h [] ahead u refl,
+    outside_of sent ahead
+        (λ earlier later v e.
+        h (Passed u ∷ earlier) later v (ap (λ (l : List Piece). Passed u ∷ l) e)),
+  )
+
+  outside : Outside g frames some a b i fit [] pieces
+  outside =
+      outside_of [] pieces
+      (λ earlier later u e more few.
+      let all = part_length frames in
+      let last = last-same (sent_by_pieces g earlier) in
+      subst (λ (f : ℕ). (f < a) ⊎ (b < f)) last
+      (can.passed earlier later u e more (omega arith)))
+
+  abbrev Among : List Event → Type 0
+  Among es = IsTold (top g frames some a b i fit) b es
+
+  abbrev marks : List Mark
+  marks = marks_of_each g [] 0 pieces ++ marks_of_waiting g frames
+
+  abbrev close : List Mark
+  close = marks_of_closing g frames (length pieces) (length frames)
+
+  -- What comes of the pieces.
+  goes : Leads (top g frames some a b i fit) b (PastAt g frames some a b i fit (length frames))
+      no_trust marks
+  goes =
+      Leads-append (top g frames some a b i fit) b (Goes-on g frames some a b i fit frames)
+      (PastAt g frames some a b i fit (length frames)) no_trust (marks_of_each g [] 0 pieces)
+      (marks_of_waiting g frames)
+      (pieces_lead g frames some a b i fit [] 0 no_trust pieces refl outside
+      (starts g frames some a b i fit))
+      (λ u so. waits_lead g frames some a b i fit frames [] u (sym (append-nil frames)) so)
+
+  silent : IsSilent marks
+  silent =
+      silent_two (marks_of_each g [] 0 pieces) (marks_of_waiting g frames)
+      (silent_each g some [] 0 pieces) (silent_waiting g some frames)
+
+  -- Something is told, or was.
+  any_told : (t : Trust) → trust_after no_trust marks ≡ t → told_by no_trust (marks ++ close) ≢ []
+      → (t.told || not (tells_none (closing_of_pieces g frames (length pieces) (length frames))))
+      ≡ true
+  any_told t after something = go (t.told || not (tells_none es)) refl
+    where
+      es : List Event
+      es = closing_of_pieces g frames (length pieces) (length frames)
+
+      go : (c : Bool) → (t.told || not (tells_none es)) ≡ c → (t.told || not (tells_none es)) ≡ true
+      go true e = e
+      go false e =
+          let none : told_by t close ≡ [] =
+          closing_silent g frames (length pieces) (length frames) t e in
+          let before : t.told ≡ false = (or_parts t.told (not (tells_none es)) e).0 in
+          let first : told_by no_trust marks ≡ [] =
+          (silent no_trust (ap (λ (u : Trust). u.told) after ∙ before)).1 in
+          let rest : told_by (trust_after no_trust marks) close ≡ [] =
+          ap (λ (u : Trust). told_by u close) after ∙ none in
+          absurd (something (told_by-append no_trust marks close ∙ rw (first, rest) refl))
+
+  all_marks : told_by no_trust (marks ++ close) ≢ [] → Among (told_by no_trust (marks ++ close))
+  all_marks something =
+      subst Among (sym (told_by-append no_trust marks close)) (of_goes goes)
+    where
+      of_goes : Leads (top g frames some a b i fit) b
+          (PastAt g frames some a b i fit (length frames)) no_trust marks
+          → Among (told_by no_trust marks ++ told_by (trust_after no_trust marks) close)
+      of_goes (inl told) =
+          told_left (top g frames some a b i fit) b (told_by no_trust marks)
+          (told_by (trust_after no_trust marks) close) told
+      of_goes (inr past) =
+          told_right (top g frames some a b i fit) b (told_by no_trust marks)
+          (told_by (trust_after no_trust marks) close)
+          (closing_told g frames some a b i fit (length pieces) (trust_after no_trust marks) past
+          (any_told (trust_after no_trust marks) refl something))
+
+  pub all_told : all_of_pieces g pieces ≢ [] → Among (all_of_pieces g pieces)
+  unfolding all_of_pieces told_of_pieces
+  all_told something =
+      let told : List Event = told_by no_trust (marks ++ close) in
+      let (from, to, low, high, c) =
+      all_marks (λ none. something (nothing_of told none)) in (
+        from,
+        to,
+        low,
+        high,
+        Contains-append_left (all_announced no_run told) _ _
+            (contains-announced no_run told from to c),
+      )
+
+-- ---- the law
+
+pub law_of_all_trusted_with_delay : LawOfAllTrustedWithDelay
+law_of_all_trusted_with_delay g pieces a b i within can there low high header something =
+    let frames : Transmission = sent_by_pieces g pieces in
+    let some : (g.within == 0) ≡ false = grind (arith, nat_tests) in
+    let inside : i < risen frames =
+    let all = part_length (sent_by_pieces g pieces) in omega arith in
+    let at = frame_at-take frames (risen frames) i inside in
+    let ps = packets-take frames (risen frames) i inside in
+    let holds = ap (holds_header (kind g.watched.page)) (sym ps) ∙ header in
+    let fit : Fits g frames a b i =
+    fits g pieces a b can i inside (omega arith) (omega arith) holds in
+    subst (λ (f : ℕ). (from : ℕ)
+    × (to : ℕ)
+    × (from ≤ f)
+    × (b ≤ to)
+    × Contains (all_of_pieces g pieces) (Trusted from to)) (sym at)
+    (all_told g pieces a b i some can fit something)

@@ -1,0 +1,448 @@
+-- What is kept of quiet frames, where the page may be whole some frames late: of the frames that
+-- have ended, `Keeps`, before the next one, `Arrives`, while it is sent, `Opens`, and at its end,
+-- `Closed`. What is told as trusted then is those of a run, `stays_before`; and how a run goes on
+-- with a frame, `run_more`, or begins, `run_new`.
+use Rattle.std.proofs.lemmas.Bool.Decides.{nat_tests}
+use Rattle.std.proofs.Common.{◌≡◌, ℕ, suc, ◌+◌, ◌-◌, ◌<◌, ◌≤◌, ◌⊎◌, inl, inr, Bool, true, false}
+use Rattle.std.proofs.Common.{◌&&◌, nat_lt, List, length, Option, Some, None, is_some, refl, sym}
+use Rattle.std.proofs.Common.{ap, ◌∙◌, subst, arith, if◌then◌else◌, le_refl}
+use Rattle.std.proofs.lemmas.Bool.{cases_lt}
+use Rattle.std.proofs.lemmas.Option.{none-some, same_Some}
+use Rattle.ttx_page.specs.PacketKind.{kind}
+use Rattle.ttx_page.specs.Span.{holds_header}
+use Rattle.sub_rules.specs.Events.{gap_length, latest, standing_at, standing_before}
+use Rattle.sub_rules.specs.Events.{unfinished_since}
+use Rattle.sub_rules.specs.FrameRules.{Task, end_frame, frame_at, packets_before, packets_of_frame}
+use Rattle.sub_rules.specs.PacketTests.{breaks}
+use Rattle.sub_rules.specs.Transmission.{Transmission}
+use Rattle.sub_rules.specs.Trusted.{after_mark, begun, first_whole, late_since, stands_none}
+use Rattle.sub_rules.specs.Trusted.{whole_in}
+use Rattle.sub_rules.specs.Trusted.Mark.{AtPes}
+use Rattle.sub_rules.specs.declared.event.Event.{Event}
+use Rattle.sub_rules.specs.declared.packet_rule.PacketRule.{PacketRule}
+use Rattle.sub_rules.specs.declared.trust.Trust.{Trust}
+use Rattle.sub_rules.proofs.EndLemmas.{gap_length-is, standing_before_is}
+use Rattle.sub_laws.specs.CleanStretch.{IsEnd, is_needed}
+use Rattle.sub_laws.proofs.LateDoubtLemmas.{KeepsAll}
+use Rattle.sub_laws.proofs.PrefixLemmas.{RiseTo, before, packet_at, rises_to}
+use Rattle.sub_laws.proofs.RisingEndLemmas.{latest_at}
+use Rattle.sub_laws.proofs.SayMarkLemmas.{IsSaid, doubt_of, kept_some, orders_doubted}
+use Rattle.sub_laws.proofs.TrustedPieceLemmas.{Stays, StaysTo}
+use Rattle.sub_laws.proofs.TrustedRunLemmas.{EndsQuiet, Run}
+
+-- ---- tests
+
+-- Where the one excludes the run, and there is one, the other holds.
+pub run_rises : (b : Bool) (run : Option ℕ) (from : ℕ) → (b ≡ false → run ≡ None) → run ≡ Some from
+    → b ≡ true
+run_rises true run from h is = refl
+run_rises false run from h is = absurd (none-some from (sym (h refl) ∙ is))
+
+-- The first frame of the run at whose end the page was whole: an earlier one, or this one.
+pub whole_of : (run whole since : Option ℕ) (f from w : ℕ) → run ≡ Some from
+    → (if is_some run then first_whole whole since f else whole) ≡ Some w
+    → (whole ≡ Some w) ⊎ ((since ≡ None) × (f ≡ w))
+whole_of None whole since f from w is e = absurd (none-some from is)
+whole_of (Some x) (Some y) since f from w is e = inl e
+whole_of (Some x) None None f from w is e = inr (refl, same_Some f w e)
+whole_of (Some x) None (Some r) f from w is e = absurd (none-some w e)
+
+-- The run that is left at the end of a frame: it was there, or it begins here.
+pub run_of : (clean none : Bool) (run : Option ℕ) (has : Bool) (f from : ℕ)
+    → (if clean && none then begun run has f else None) ≡ Some from
+    → (clean ≡ true) × (none ≡ true)
+    × ((run ≡ Some from) ⊎ ((run ≡ None) × (has ≡ true) × (f ≡ from)))
+run_of false none run has f from e = absurd (none-some from e)
+run_of true false run has f from e = absurd (none-some from e)
+run_of true true (Some x) has f from e = (refl, refl, inl e)
+run_of true true None true f from e = (refl, refl, inr (refl, refl, same_Some f from e))
+run_of true true None false f from e = absurd (none-some from e)
+
+-- And where the page was whole in it.
+pub whole_ended : (run whole since : Option ℕ) (f w : ℕ) → whole_in run whole since f ≡ Some w
+    → ((since ≡ None) × (f ≡ w)) ⊎ ((whole ≡ Some w) × (is_some run ≡ true))
+whole_ended None whole None f w e = inl (refl, same_Some f w e)
+whole_ended None whole (Some r) f w e = absurd (none-some w e)
+whole_ended (Some x) (Some y) since f w e = inr (e, refl)
+whole_ended (Some x) None None f w e = inl (refl, same_Some f w e)
+whole_ended (Some x) None (Some r) f w e = absurd (none-some w e)
+
+module _ (g : Task) (frames : Transmission) where
+  -- ---- what is kept
+
+  -- The page was whole at the end of frame w, which is not before the first one of the run.
+  pub record IsWhole (from w : ℕ) : Type 0 where
+    pub low : from ≤ w
+    pub n : ℕ
+    pub end : IsEnd frames n w
+    pub rises : RiseTo frames n
+    pub finished : unfinished_since g frames n w ≡ None
+
+  -- The frames from one to another may stay, and at the end of one of them the page was whole.
+  pub record MayStand (from to : ℕ) : Type 0 where
+    pub stays : StaysTo g frames from to
+    pub w : ℕ
+    pub high : w ≤ to
+    pub whole : IsWhole from w
+
+  -- The run that is kept is one of the first n frames, and none of the ends from it on that come
+  -- before frame x finds anything broken.
+  pub record Keeps (n x : ℕ) (t : Trust) : Type 0 where
+    pub run : (from : ℕ) → t.run ≡ Some from → Run g frames n from
+    pub ends : (from : ℕ) → t.run ≡ Some from → EndsQuiet g frames n from x
+    pub whole : (from w : ℕ) → t.run ≡ Some from → t.whole ≡ Some w → IsWhole from w
+    pub falls : t.rises ≡ false → t.run ≡ None
+
+  -- These frames may be trusted up to the one before frame y.
+  pub record MayEnd (n x y : ℕ) : Type 0 where
+    pub within : n ≤ length frames
+    pub low : y ≤ x
+    pub next :
+        n < length frames
+        → ((frame_at frames (n - 1) < frame_at frames n) × (y ≤ frame_at frames n))
+        ⊎ (y ≤ frame_at frames (n - 1))
+    pub last : n ≡ length frames → y ≤ end_frame frames + 1
+
+  pub stays_before : (n x y : ℕ) (t : Trust) → Keeps n x t → MayEnd n x y
+      → (from w : ℕ)
+      → t.run ≡ Some from
+      → t.whole ≡ Some w
+      → w < y
+      → MayStand from (y - 1)
+  stays_before n x y t keeps may from w run whole l =
+      let at = keeps.whole from w run whole in
+      let low = at.low in
+      let same : y ≡ y - 1 + 1 = omega arith in
+      record {
+        stays = subst (Stays g frames from) same (record {
+          n = n;
+          within = may.within;
+          run = keeps.run from run;
+          before = omega arith;
+          ends = λ m f end few after high.
+              keeps.ends from run m f end few after (omega (arith, may.low));
+          next = may.next;
+          last = may.last;
+        });
+        w = w;
+        high = omega arith;
+        whole = at;
+      }
+
+  -- It is kept after events too.
+  pub keeps_said : (n x : ℕ) (t u : Trust) (es : List Event) → Keeps n x t → IsSaid t u es
+      → Keeps n x u
+  keeps_said n x t u es keeps said = record {
+    run = λ from is. keeps.run from (was from is);
+    ends = λ from is. keeps.ends from (was from is);
+    whole = λ from w is whole. keeps.whole from w (was from is) (sym said.whole_is ∙ whole);
+    falls = falls;
+  }
+    where
+      was : (from : ℕ) → u.run ≡ Some from → t.run ≡ Some from
+      was from is = (kept_some t.run (doubt_of t es) from (sym said.run_is ∙ is)).0
+
+      falls : u.rises ≡ false → u.run ≡ None
+      falls e =
+          let run_is = said.run_is in
+          let rises_is = said.rises_is in
+          let before = keeps.falls in
+          let orders = orders_doubted t.last (late_since t) es in
+          grind (arith, nat_tests)
+
+  -- No frame is doubted where the run is kept.
+  pub calm : (t u : Trust) (es : List Event) → IsSaid t u es → (from : ℕ) → u.run ≡ Some from
+      → doubt_of t es ≡ None
+  calm t u es said from is = (kept_some t.run (doubt_of t es) from (sym said.run_is ∙ is)).1
+
+  -- ---- frames that rise
+
+  pub run_low : (n from : ℕ) → Run g frames n from → from ≤ frame_at frames (n - 1)
+  run_low n from run =
+      let below = run.below in
+      let at = run.at in
+      let up = rises_to frames n run.rises run.j (n - 1) (omega arith) (omega arith) in
+      omega arith
+
+  -- An end up to which no more than n frames count is before frame n.
+  pub end_under : (n : ℕ) → RiseTo frames (suc n) → (m f : ℕ) → IsEnd frames m f → m ≤ n
+      → f < frame_at frames n
+  end_under n rises m f (some, within, inl is) l =
+      let up = rises_to frames (suc n) rises (m - 1) (n - 1) (omega arith) (omega arith) in
+      let last = rises n (omega arith) (omega arith) in
+      omega arith
+  end_under n rises m f (some, within, inr (there, high, low)) l =
+      let up = rises_to frames (suc n) rises m n (omega arith) (omega arith) in omega arith
+
+  -- And one up to which fewer count is not after frame n - 1.
+  pub end_few : (n : ℕ) → RiseTo frames n → (m f : ℕ) → IsEnd frames m f → m < n
+      → f ≤ frame_at frames (n - 1)
+  end_few n rises m f (some, within, inl is) l =
+      let up = rises_to frames n rises (m - 1) (n - 1) (omega arith) (omega arith) in omega arith
+  end_few n rises m f (some, within, inr (there, high, low)) l =
+      let up = rises_to frames n rises m (n - 1) (omega arith) (omega arith) in omega arith
+
+  -- ---- before a frame
+
+  -- The first k ends of frames of the day before frame n have been.
+  pub record Arrives (n k : ℕ) (t : Trust) : Type 0 where
+    pub keeps : Keeps n (latest frames n + suc k) t
+    pub rises : t.rises ≡ true → RiseTo frames (suc n)
+
+  -- What is so where a run is kept.
+  pub record Up (n : ℕ) : Type 0 where
+    pub some : 0 < n
+    pub last : latest frames n ≡ frame_at frames (n - 1)
+    pub rises : RiseTo frames (suc n)
+    pub up : frame_at frames (n - 1) < frame_at frames n
+    pub long : latest frames n + suc (gap_length frames n) ≡ frame_at frames n
+
+  pub up_of : (n x from : ℕ) (t : Trust) → Keeps n x t → (t.rises ≡ true → RiseTo frames (suc n))
+      → t.run ≡ Some from
+      → Up n
+  up_of n x from t keeps so is =
+      let run = keeps.run from is in
+      let some : 0 < n = let below = run.below in omega arith in
+      let rises = so (run_rises t.rises t.run from keeps.falls is) in
+      let last = latest_at frames n run.rises some in
+      let up = rises n some (omega arith) in
+      let long = gap_length-is frames n some in
+      record { some = some; last = last; rises = rises; up = up; long = omega arith }
+
+  pub gap_end : (n k : ℕ) → n < length frames → k < gap_length frames n → Up n
+      → IsEnd frames n (latest frames n + suc k)
+  gap_end n k there l h =
+      let last = h.last in
+      let long = h.long in
+      let some = h.some in (
+        some,
+        omega arith,
+        inr (
+          there,
+          omega arith,
+          λ i m.
+              let up = rises_to frames (suc n) h.rises i (n - 1) (omega arith) (omega arith) in
+              omega arith,
+        ),
+      )
+
+  -- Nothing stands at the end before.
+  pub stood : (n k from x : ℕ) (t : Trust) → n < length frames → k < gap_length frames n
+      → Keeps n (latest frames n + suc k) t
+      → t.run ≡ Some from
+      → Up n
+      → stands_none (standing_before g frames n (latest frames n + suc k)) ≡ true
+  stood n k from x t there l keeps is h =
+      let f : ℕ = latest frames n + suc k in
+      let low = run_low n from (keeps.run from is) in
+      let last = h.last in
+      let some = h.some in
+      rw (standing_before_is g frames n f some) (go (nat_lt (latest frames n + 1) f) refl)
+    where
+      go : (b : Bool) → nat_lt (latest frames n + 1) (latest frames n + suc k) ≡ b
+          → stands_none (standing_at g frames n
+          (if b then latest frames n + suc k - 1 else frame_at frames (n - 1)))
+          ≡ true
+      go false e =
+          let low = run_low n from (keeps.run from is) in
+          let last = h.last in
+          keeps.ends from is n (frame_at frames (n - 1)) (h.some, omega arith, inl refl) (le_refl n)
+          low (omega arith)
+      go true e =
+          let low = run_low n from (keeps.run from is) in
+          let last = h.last in
+          let later : 0 < k = grind (arith, nat_tests) in
+          let at : latest frames n + suc (k - 1) ≡ latest frames n + suc k - 1 = omega arith in
+          keeps.ends from is n (latest frames n + suc k - 1)
+          (subst (IsEnd frames n) at (gap_end n (k - 1) there (omega arith) h)) (le_refl n)
+          (omega arith) (omega arith)
+
+  -- ---- frames that have ended, and one that is sent
+
+  -- The first n frames have ended, and no end after that of the last of them has been.
+  pub record Closed (n : ℕ) (t : Trust) : Type 0 where
+    pub keeps : Keeps n (frame_at frames (n - 1) + 1) t
+    pub last : 0 < n → t.last ≡ frame_at frames (n - 1)
+    pub rises : t.rises ≡ true → RiseTo frames n
+    pub since :
+        (r from : ℕ) → t.run ≡ Some from → t.since ≡ Some r → r ≤ frame_at frames (n - 1)
+
+  -- After these frame n is sent, and these packets in it so far.
+  pub record Opens (n : ℕ) (packets : List (List ℕ)) (t : Trust) : Type 0 where
+    pub keeps : Keeps n (frame_at frames n) t
+    pub last : t.last ≡ frame_at frames n
+    pub rises : t.rises ≡ true → RiseTo frames (suc n)
+    pub clean :
+        t.is_clean ≡ true
+        → (t.rises ≡ true) × KeepsAll g.watched (packets_before frames n) packets
+
+  -- Of which PES packet is told changes nothing.
+  pub closed_at : (n pes : ℕ) (t : Trust) → Closed n t → Closed n (after_mark (AtPes pes) t)
+  unfolding after_mark
+  closed_at n pes t closed =
+      let keeps = closed.keeps in
+      record {
+        keeps = record {
+          run = keeps.run;
+          ends = keeps.ends;
+          whole = keeps.whole;
+          falls = keeps.falls;
+        };
+        last = closed.last;
+        rises = closed.rises;
+        since = closed.since;
+      }
+
+  -- Nor do events before the first frame.
+  pub closed_said : (n : ℕ) (t u : Trust) (es : List Event) → Closed n t → IsSaid t u es
+      → Closed n u
+  closed_said n t u es closed said = record {
+    keeps = keeps_said n (frame_at frames (n - 1) + 1) t u es closed.keeps said;
+    last = λ below. said.last_is ∙ closed.last below;
+    rises = λ e.
+        let was : t.rises ≡ true = let rises_is = said.rises_is in grind (arith, nat_tests) in
+        closed.rises was;
+    since = λ r from is e.
+        closed.since r from
+        (kept_some t.run (doubt_of t es) from (sym said.run_is ∙ is)).0 (sym said.since_is ∙ e);
+  }
+
+  pub opens_at : (n pes : ℕ) (packets : List (List ℕ)) (t : Trust) → Opens n packets t
+      → Opens n packets (after_mark (AtPes pes) t)
+  unfolding after_mark
+  opens_at n pes packets t opens =
+      let keeps = opens.keeps in
+      record {
+        keeps = record {
+          run = keeps.run;
+          ends = keeps.ends;
+          whole = keeps.whole;
+          falls = keeps.falls;
+        };
+        last = opens.last;
+        rises = opens.rises;
+        clean = opens.clean;
+      }
+
+  -- ---- while a frame is sent
+
+  -- Frames before frame n may be trusted up to the one before it.
+  pub may_before : (n : ℕ) (packets : List (List ℕ)) (t : Trust) → n < length frames
+      → Opens n packets t
+      → (from : ℕ) → t.run ≡ Some from
+      → (y : ℕ) → y ≤ frame_at frames n
+      → MayEnd n (frame_at frames n) y
+  may_before n packets t there opens from is y high =
+      let h = up_of n (frame_at frames n) from t opens.keeps opens.rises is in
+      record {
+        within = omega arith;
+        low = high;
+        next = λ more. inl (h.up, high);
+        last = λ all. absurd (omega arith);
+      }
+
+  -- What is kept after events that doubt none but this frame.
+  pub opens_said : (n : ℕ) (packets more : List (List ℕ)) (t u : Trust) (es : List Event)
+      → Opens n packets t
+      → IsSaid t u es
+      → (doubt_of t es ≡ None
+      → KeepsAll g.watched (packets_before frames n) packets
+      → KeepsAll g.watched (packets_before frames n) more)
+      → Opens n more u
+  opens_said n packets more t u es opens said still = record {
+    keeps = keeps_said n (frame_at frames n) t u es opens.keeps said;
+    last = said.last_is ∙ opens.last;
+    rises = λ e.
+        let was : t.rises ≡ true = let rises_is = said.rises_is in grind (arith, nat_tests) in
+        opens.rises was;
+    clean = λ e.
+        let clean_is = said.clean_is in
+        let was : t.is_clean ≡ true = grind (arith, nat_tests) in
+        let none : doubt_of t es ≡ None = grind (arith, nat_tests) in
+        let before = opens.clean was in
+        let orders = orders_doubted t.last (late_since t) es none in
+        let rises_is = said.rises_is in
+        let rose = before.0 in
+        let now : u.rises ≡ true = grind (arith, nat_tests) in
+        (now, still none before.1);
+  }
+
+  -- ---- a frame of a run
+
+  -- The only end up to which frame n counts too is its own, of those up to its frame.
+  own_end : (n e : ℕ) → IsEnd frames (suc n) e → e < frame_at frames (suc n - 1) + 1
+      → frame_at frames n ≡ e
+  own_end n e (first, within, inl is) high =
+      let back : suc n - 1 ≡ n = omega arith in sym (is ∙ ap (frame_at frames) back)
+  own_end n e (first, within, inr (there, below, low)) high =
+      let after = low n (omega arith) in
+      let back : frame_at frames (suc n - 1) ≡ frame_at frames n =
+      ap (frame_at frames) (omega arith) in
+      absurd (omega arith)
+
+  -- What makes frame n one of a run: frames rise up to it, its packets keep the rules, and nothing
+  -- stands at its end.
+  pub record Quiet (n : ℕ) : Type 0 where
+    pub rises : RiseTo frames (suc n)
+    pub kept : KeepsAll g.watched (packets_before frames n) (packets_of_frame frames n)
+    pub none : stands_none (standing_at g frames (suc n) (frame_at frames n)) ≡ true
+
+  quiet_packets : (n i : ℕ) → Quiet n → n ≡ i → (r : PacketRule) (k : ℕ) → is_needed r ≡ true
+      → k < length (packets_of_frame frames i)
+      → breaks r g.watched (before frames i k) (packet_at frames i k) ≡ false
+  quiet_packets n i quiet same r k needed l =
+      subst
+      (λ (i : ℕ). k < length (packets_of_frame frames i)
+      → breaks r g.watched (before frames i k) (packet_at frames i k) ≡ false) same
+      (λ m. quiet.kept k m r needed) l
+
+  quiet_own : (n m e : ℕ) → Quiet n → suc n ≡ m → IsEnd frames m e
+      → e < frame_at frames (suc n - 1) + 1
+      → stands_none (standing_at g frames m e) ≡ true
+  quiet_own n m e quiet same end high =
+      let own : IsEnd frames (suc n) e =
+      subst (λ (z : ℕ). IsEnd frames z e) (sym same) end in
+      subst (λ (z : ℕ). stands_none (standing_at g frames z e) ≡ true) same
+      (subst (λ (z : ℕ). stands_none (standing_at g frames (suc n) z) ≡ true)
+      (own_end n e own high) quiet.none)
+
+  -- A run goes on with it.
+  pub run_more : (n from : ℕ) → Quiet n → Run g frames n from
+      → EndsQuiet g frames n from (frame_at frames n)
+      → Run g frames (suc n) from
+  run_more n from quiet run ends = record {
+    j = run.j;
+    below = let below = run.below in omega arith;
+    at = run.at;
+    header = run.header;
+    rises = quiet.rises;
+    packets = λ r i k needed low high l. elim (cases_lt i n) [
+      | inl earlier ↦ run.packets r i k needed low earlier l
+      | inr here ↦ quiet_packets n i quiet (omega arith) r k needed l
+    ];
+    ends = λ m e end few low high. elim (cases_lt n m) [
+      | inl all ↦ quiet_own n m e quiet (omega arith) end high
+      | inr fewer ↦
+          ends m e end (omega arith) low
+          (end_under n quiet.rises m e end (omega arith))
+    ];
+  }
+
+  -- Or one begins with it.
+  pub run_new : (n : ℕ) → Quiet n
+      → holds_header (kind g.watched.page) (packets_of_frame frames n) ≡ true
+      → Run g frames (suc n) (frame_at frames n)
+  run_new n quiet header = record {
+    j = n;
+    below = omega arith;
+    at = refl;
+    header = header;
+    rises = quiet.rises;
+    packets = λ r i k needed low high l. quiet_packets n i quiet (omega arith) r k needed l;
+    ends = λ m e end few low high. elim (cases_lt n m) [
+      | inl all ↦ quiet_own n m e quiet (omega arith) end high
+      | inr fewer ↦
+          let early = end_under n quiet.rises m e end (omega arith) in
+          absurd (omega arith)
+    ];
+  }

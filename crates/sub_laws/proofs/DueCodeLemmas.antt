@@ -1,0 +1,174 @@
+-- A code that was due at a cell within some frames: `was_due_at`, `due_was`; the first cell that
+-- shows none of these, `none_undue`, `undue_none`, `undue_found`; and the subtitle whose TCO a
+-- frame is, `ending_is`, `ending_at`.
+use Rattle.std.proofs.lemmas.Bool.Decides.{nat_tests}
+use Rattle.std.proofs.Common.{◌≡◌, ◌≢◌, ℕ, zero, suc, ◌+◌, ◌-◌, ◌<◌, ◌≤◌, ◌⊎◌, inl, inr, Bool, true}
+use Rattle.std.proofs.Common.{false, not, ◌&&◌, ◌||◌, ◌==◌, nat_le, List, Contains, get_or, Option}
+use Rattle.std.proofs.Common.{Some, None, option_map, refl, sym, ap, ◌∙◌, arith, find, le_refl}
+use Rattle.std.proofs.lemmas.Bool.{cases_lt, true≢false}
+use Rattle.std.proofs.lemmas.List.Elements.{All-contains}
+use Rattle.std.proofs.lemmas.List.Recursion.{found_at}
+use Rattle.std.proofs.lemmas.Option.{none-some, same_Some}
+use Rattle.ttx_packet.specs.PageId.{PageIdValue}
+use Rattle.ttx_page.specs.Page.{IsCell, Rows, cell, space}
+use Rattle.ttx_page.specs.Shown.{shown}
+use Rattle.ttx_page.proofs.SpanLists.{find_is}
+use Rattle.stl_file.specs.Subtitle.{IsSubtitle, SubtitleValue}
+use Rattle.stl_rows.specs.DuePage.{ends_at, tci_of_ending}
+use Rattle.stl_rows.specs.Programme.{IsProgramme}
+use Rattle.stl_rows.specs.declared.national.National.{National}
+use Rattle.sub_rules.specs.Events.{undue_after, was_due}
+use Rattle.sub_laws.proofs.StandingLemmas.{cell_found, cell_none, no_cell}
+
+-- ---- a code
+
+module _ (due : ℕ → Rows) (first f row column code : ℕ) where
+  -- It was due at frame f, or at one of the n before it that are not before the first one.
+  abbrev pub WasDue : ℕ → Type 0
+  WasDue n =
+      (e : ℕ)
+      × ((first ≤ e) ⊎ (e ≡ f))
+      × (e ≤ f)
+      × (f ≤ e + n)
+      × (code ≡ cell (due e) row column)
+
+  -- At frame f less n.
+  at_oldest : (n : ℕ)
+      → (nat_le (first + n) f && (cell (due (f - n)) row column == code)) ≡ true
+      → (first + n ≤ f) × (code ≡ cell (due (f - n)) row column)
+  at_oldest n e = grind (arith, nat_tests)
+
+  pub was_due_at : (n : ℕ) → was_due due first f n row column code ≡ true → WasDue n
+  unfolding was_due
+  was_due_at zero e =
+      let same : code ≡ cell (due f) row column = grind (arith, nat_tests) in
+      (f, inr refl, le_refl f, omega arith, same)
+  was_due_at (suc n) e = go (was_due_at n) (was_due due first f n row column code) refl e
+    where
+      go : (was_due due first f n row column code ≡ true → WasDue n)
+          → (b : Bool) → was_due due first f n row column code ≡ b
+          → (b || (nat_le (first + suc n) f && (cell (due (f - suc n)) row column == code))) ≡ true
+          → WasDue (suc n)
+      go so_far true is e =
+          let (x, from, high, low, same) = so_far is in (x, from, high, omega arith, same)
+      go so_far false is e =
+          let old = at_oldest (suc n) e in
+          (f - suc n, inl (omega (arith, old.0)), omega arith, omega arith, old.1)
+
+  pub due_was : (n : ℕ) → WasDue n → was_due due first f n row column code ≡ true
+  unfolding was_due
+  due_was zero (e, from, high, low, same) =
+      let at : e ≡ f = omega arith in
+      let here : code ≡ cell (due f) row column = same ∙ ap (λ x. cell (due x) row column) at in
+      grind (arith, nat_tests)
+  due_was (suc n) (e, from, high, low, same) = elim (cases_lt (e + n) f) [
+    | inr near ↦
+        let so_far = due_was n (e, from, high, near, same) in grind (arith, nat_tests)
+    | inl far ↦
+        let at : e ≡ f - suc n = omega arith in
+        let here : code ≡ cell (due (f - suc n)) row column =
+        same ∙ ap (λ x. cell (due x) row column) at in
+        let some : first + suc n ≤ f = old from far in
+        grind (arith, nat_tests)
+  ]
+    where
+      old : (first ≤ e) ⊎ (e ≡ f) → e + n < f → first + suc n ≤ f
+      old (inl after) far = omega arith
+      old (inr own) far = absurd (omega arith)
+
+-- ---- the first cell that shows none
+
+module _ (page : PageIdValue) (packets : List (List ℕ)) (due : ℕ → Rows) (first f n : ℕ) where
+  -- What a cell shows.
+  abbrev code_at : ℕ → ℕ → ℕ
+  code_at row column = shown page packets row column
+
+  -- A cell shows a space or a code that was due.
+  abbrev pub MayShow : ℕ → ℕ → Type 0
+  MayShow row column =
+      (code_at row column ≡ space) ⊎ WasDue due first f row column (code_at row column) n
+
+  -- It shows neither.
+  abbrev is_undue : ℕ → ℕ → Bool
+  is_undue row column =
+      not (code_at row column == space)
+      && not (was_due due first f n row column (code_at row column))
+
+  may_show : (row column : ℕ) → is_undue row column ≡ false → MayShow row column
+  may_show row column e =
+      go (was_due due first f n row column (code_at row column)) refl e
+    where
+      go : (b : Bool)
+          → was_due due first f n row column (code_at row column) ≡ b
+          → (not (code_at row column == space) && not b) ≡ false
+          → MayShow row column
+      go true is e = inr (was_due_at due first f row column (code_at row column) n is)
+      go false is e = inl (grind (arith, nat_tests))
+
+  not_undue : (row column : ℕ) → MayShow row column → is_undue row column ≡ false
+  not_undue row column (inl blank) = grind (arith, nat_tests)
+  not_undue row column (inr was) =
+      let is = due_was due first f row column (code_at row column) n was in
+      grind (arith, nat_tests)
+
+  pub undue_none : undue_after page packets due first f n ≡ None
+      → (row column : ℕ) → IsCell row column → MayShow row column
+  unfolding undue_after
+  undue_none e row column named = may_show row column (cell_none is_undue e row column named)
+
+  pub none_undue : ((row column : ℕ) → IsCell row column → MayShow row column)
+      → undue_after page packets due first f n ≡ None
+  unfolding undue_after
+  none_undue may =
+      no_cell is_undue (λ row column named. not_undue row column (may row column named))
+
+  pub undue_found : (x : ℕ × ℕ) → undue_after page packets due first f n ≡ Some x
+      → IsCell x.0 x.1 × (MayShow x.0 x.1 → ⊥)
+  unfolding undue_after
+  undue_found x e =
+      let found = cell_found is_undue x e in (
+        found.is_cell,
+        λ may. true≢false (sym found.passes ∙ not_undue x.0 x.1 may),
+      )
+
+-- ---- the subtitle that ends at a frame
+
+module _ (national : National) (records : List SubtitleValue) (is : IsProgramme national records)
+  where
+    other_end : (f : ℕ) (t : SubtitleValue) → t.tco ≢ f → ends_at f t ≡ false
+    other_end f t h = grind (arith, nat_tests)
+
+    -- That of a subtitle is found by its TCO.
+    pub ending_is : (t : SubtitleValue) → Contains records t
+        → tci_of_ending records t.tco ≡ Some t.tci
+    unfolding tci_of_ending
+    ending_is t member =
+        let times : t.tci < t.tco = (All-contains IsSubtitle records t is.each member).times in
+        let own : ends_at t.tco t ≡ true = grind (arith, nat_tests) in
+        ap (option_map (λ (s : SubtitleValue). s.tci))
+        (found_at (find (ends_at t.tco)) (ends_at t.tco) Some None refl (λ x xs. refl) records
+        member.0 t member.1
+        (λ k below. other_end t.tco (get_or records k t)
+        (let order : (get_or records k t).tco ≤ t.tci =
+        rw member.2 at (is.in_order k member.0 t below member.1) in
+        λ same. absurd (omega arith)))
+        (rw member.2 own)
+        ∙ ap Some member.2)
+
+    -- What is found is that of a subtitle.
+    pub ending_at : (f tci : ℕ) → tci_of_ending records f ≡ Some tci
+        → (t : SubtitleValue) × Contains records t × (t.tco ≡ f) × (t.tci ≡ tci)
+    unfolding tci_of_ending
+    ending_at f tci e = go (find (ends_at f) records) refl e
+      where
+        go : (o : Option SubtitleValue) → find (ends_at f) records ≡ o
+            → option_map (λ (s : SubtitleValue). s.tci) o ≡ Some tci
+            → (t : SubtitleValue) × Contains records t × (t.tco ≡ f) × (t.tci ≡ tci)
+        go None found e = absurd (none-some tci e)
+        go (Some t) found e =
+            let at = find_is (ends_at f) records t found in
+            let own : t.tco ≡ f = of_test t at.0 in
+            (t, at.1, own, same_Some _ _ e)
+          where
+            of_test : (t : SubtitleValue) → ends_at f t ≡ true → t.tco ≡ f
+            of_test t e = grind (arith, nat_tests)

@@ -1,0 +1,275 @@
+-- Where a wrong cell is told first of the pieces of a PES file, it is told first of the frames that
+-- are sent by those before the first one that is passed over. Main lemma: `content_first`.
+use Rattle.std.proofs.lemmas.Bool.Decides.{nat_tests}
+use Rattle.std.proofs.Common.{◌≡◌, ℕ, suc, ◌⊎◌, inl, inr, List, [], ◌∷◌, ◌++◌, length, Option, Some}
+use Rattle.std.proofs.Common.{None, refl, sym, ap, ◌∙◌, arith, append_assoc, Bool, ◌||◌}
+use Rattle.std.proofs.Common.{if◌then◌else◌}
+use Rattle.std.proofs.lemmas.Option.{none-some, same_Some}
+use Rattle.sub_rules.specs.Events.{events, first_told}
+use Rattle.sub_rules.specs.Fault.{fault_at_pes}
+use Rattle.sub_rules.specs.FrameRules.{Task, Unread}
+use Rattle.sub_rules.specs.FrameRules.Unread.{BadPacket, NoFrame}
+use Rattle.sub_rules.specs.PieceEvents.{all_announced, all_of_pieces, ended_run, marks_of_closing}
+use Rattle.sub_rules.specs.PieceEvents.{marks_of_each, marks_of_pieces, marks_of_sent}
+use Rattle.sub_rules.specs.PieceEvents.{marks_of_waiting, no_run, passed_after_all, sent_by_pieces}
+use Rattle.sub_rules.specs.PieceEvents.{told_of_pieces}
+use Rattle.sub_rules.specs.Pieces.{Piece, frames_of, joined, read_until_passed, sent_after}
+use Rattle.sub_rules.specs.Pieces.Piece.{Passed, Sent}
+use Rattle.sub_rules.specs.Transmission.{SentFrame, Transmission}
+use Rattle.sub_rules.specs.Trusted.{Mark, after_mark, at_pes, closing_frame, doubted, late_since}
+use Rattle.sub_rules.specs.Trusted.{no_trust, told_by, told_with, trusted, trusted_before}
+use Rattle.sub_rules.specs.Trusted.Mark.{AtEnd, AtPes, Begins, Closes, Ends, Says}
+use Rattle.sub_rules.specs.declared.event.Event.{Event}
+use Rattle.sub_rules.specs.declared.event.Event.TheVariants.{Ended, PassedUntil, Told, Trusted}
+use Rattle.sub_rules.specs.declared.fault.CheckFault.{CheckFault}
+use Rattle.sub_rules.specs.declared.fault.CheckFault.TheVariants as fault
+use Rattle.sub_rules.specs.declared.passed_run.PassedRun.{PassedRun}
+use Rattle.sub_rules.specs.declared.trust.Trust.{Trust}
+use Rattle.sub_rules.proofs.PieceEventLemmas.{announced_first, first_of_two, or_else}
+use Rattle.sub_laws.proofs.SaidLemmas.{pieces_said, said, said-append}
+
+-- ---- pieces
+
+-- Those before the first one that is passed over.
+front : List Piece → List Piece
+front [] = []
+front (Sent s ∷ pieces) = Sent s ∷ front pieces
+front (Passed u ∷ pieces) = []
+
+-- Each of them is sent.
+front_sent : (pieces : List Piece) → length (frames_of (front pieces)) ≡ length (front pieces)
+unfolding front frames_of
+front_sent [] = refl
+front_sent (Sent s ∷ pieces) = ap suc (front_sent pieces)
+front_sent (Passed u ∷ pieces) = refl
+
+-- They send what is read up to there.
+front_frames : (pieces : List Piece) (unread : Option Unread)
+    → frames_of (front pieces) ≡ (read_until_passed pieces unread).frames
+unfolding front frames_of read_until_passed
+front_frames [] unread = refl
+front_frames (Sent s ∷ pieces) unread =
+    ap (λ (fs : Transmission). s ∷ fs) (front_frames pieces unread)
+front_frames (Passed u ∷ pieces) unread = refl
+
+module _ (frame row column : ℕ) where
+  -- It is told first.
+  abbrev IsFirst : List Event → Type 0
+  IsFirst es = first_told es ≡ Some (fault.Content frame row column)
+
+  -- ---- of two lists
+
+  -- Of the first, or of the other where nothing is told of that.
+  parts_first : (xs ys : List Event) → IsFirst (xs ++ ys)
+      → IsFirst xs ⊎ ((first_told xs ≡ None) × IsFirst ys)
+  parts_first xs ys e = go (first_told xs) refl (sym (first_of_two xs ys) ∙ e)
+    where
+      go : (o : Option CheckFault) → first_told xs ≡ o
+          → or_else o (first_told ys) ≡ Some (fault.Content frame row column)
+          → IsFirst xs ⊎ ((first_told xs ≡ None) × IsFirst ys)
+      go None is e = inr (is, e)
+      go (Some f) is e = inl (is ∙ e)
+
+  front_first : (xs ys : List Event) → IsFirst xs → IsFirst (xs ++ ys)
+  front_first xs ys e = first_of_two xs ys ∙ rw e refl
+
+  rest_first : (xs ys : List Event) → first_told xs ≡ None → IsFirst ys → IsFirst (xs ++ ys)
+  rest_first xs ys none e = first_of_two xs ys ∙ rw (none, e) refl
+
+  -- The other, where nothing is told of the first.
+  behind_first : (xs ys : List Event) → first_told xs ≡ None → IsFirst (xs ++ ys) → IsFirst ys
+  behind_first xs ys none e = rw (first_of_two xs ys, none) at e
+
+  -- ---- marks
+
+  -- What is told of PES packet `pes` is a wrong cell exactly where what is said is.
+  cell_told : (pes : ℕ) (f : CheckFault)
+      → fault_at_pes pes f ≡ fault.Content frame row column
+      → f ≡ fault.Content frame row column
+  cell_told pes f e = grind (arith, nat_tests)
+
+  trusted_none : (run whole d : Option ℕ) → first_told (trusted_before run whole d) ≡ None
+  trusted_none run whole d = grind (arith, nat_tests)
+
+  closed_none : (b : Bool) (run whole : Option ℕ) (f : ℕ)
+      → first_told (if b then trusted run whole f else []) ≡ None
+  closed_none b run whole f = grind (arith, nat_tests)
+
+  -- What is trusted where an event is told.
+  abbrev trusted_with : Trust → Event → List Event
+  trusted_with t e = trusted_before t.run t.whole (doubted t.last (late_since t) e)
+
+  silent : (t : Trust) (e : Event) → first_told (trusted_with t e) ≡ None
+  silent t e = trusted_none t.run t.whole (doubted t.last (late_since t) e)
+
+  -- One event, with what is trusted before it.
+  one_said : (trusts rest : List Event) (e : Event) → first_told trusts ≡ None
+      → IsFirst (trusts ++ e ∷ [] ++ rest)
+      → IsFirst (e ∷ rest)
+  one_said trusts rest e none first =
+      behind_first trusts (e ∷ rest) none
+      (ap first_told (sym (append_assoc trusts (e ∷ []) rest)) ∙ first)
+
+  -- Told with marks it is among what they say.
+  said_first : (t : Trust) (ms : List Mark) → IsFirst (told_by t ms) → IsFirst (said ms)
+  unfolding told_by told_with at_pes
+  said_first t [] e = e
+  said_first t (Says (Told f) ∷ ms) e =
+      let first =
+      one_said (trusted_with t (Told f)) (told_by (after_mark (Says (Told f)) t) ms)
+      (Told (fault_at_pes t.pes f)) (silent t (Told f)) e in
+      ap (λ (x : CheckFault). Some x) (cell_told t.pes f (same_Some _ _ first))
+  said_first t (Says (Ended rule f) ∷ ms) e =
+      said_first (after_mark (Says (Ended rule f)) t) ms
+      (one_said (trusted_with t (Ended rule f)) (told_by (after_mark (Says (Ended rule f)) t) ms)
+      (Ended rule f) (silent t (Ended rule f)) e)
+  said_first t (Says (Trusted from to) ∷ ms) e =
+      said_first (after_mark (Says (Trusted from to)) t) ms
+      (one_said (trusted_with t (Trusted from to))
+      (told_by (after_mark (Says (Trusted from to)) t) ms) (Trusted from to)
+      (silent t (Trusted from to)) e)
+  said_first t (Says (PassedUntil f) ∷ ms) e =
+      said_first (after_mark (Says (PassedUntil f)) t) ms
+      (one_said (trusted_with t (PassedUntil f)) (told_by (after_mark (Says (PassedUntil f)) t) ms)
+      (PassedUntil f) (silent t (PassedUntil f)) e)
+  said_first t (Closes are_left more ∷ ms) e =
+      said_first (after_mark (Closes are_left more) t) ms
+      (behind_first (told_with (Closes are_left more) t)
+      (told_by (after_mark (Closes are_left more) t) ms)
+      (closed_none (t.told || more) t.run t.whole (closing_frame t are_left)) e)
+  said_first t (AtPes pes ∷ ms) e = said_first (after_mark (AtPes pes) t) ms e
+  said_first t (Begins f ∷ ms) e = said_first (after_mark (Begins f) t) ms e
+  said_first t (AtEnd f since late ∷ ms) e = said_first (after_mark (AtEnd f since late) t) ms e
+  said_first t (Ends f has_header none ∷ ms) e =
+      said_first (after_mark (Ends f has_header none) t) ms e
+
+  -- Up to which piece a run goes is no refusal.
+  announced_said : (es : List Event)
+      → IsFirst (all_announced no_run es ++ ended_run (passed_after_all no_run es))
+      → IsFirst es
+  announced_said es e =
+      sym (announced_first es)
+      ∙ go (parts_first (all_announced no_run es) (ended_run (passed_after_all no_run es)) e)
+    where
+      ended_none : (run : PassedRun) → first_told (ended_run run) ≡ None
+      ended_none run = grind (arith, nat_tests)
+
+      go : IsFirst (all_announced no_run es)
+          ⊎ ((first_told (all_announced no_run es) ≡ None)
+          × IsFirst (ended_run (passed_after_all no_run es)))
+          → IsFirst (all_announced no_run es)
+      go (inl first) = first
+      go (inr (none, first)) =
+          absurd (none-some _ (sym (ended_none (passed_after_all no_run es)) ∙ first))
+
+  -- ---- all pieces
+
+  module _ (g : Task) where
+    -- One that is sent: it is told of it, or later.
+    module _ (sent : Transmission) (pes : ℕ) (s : SentFrame) (pieces : List Piece)
+        (rest : List Event) where
+      abbrev next : Transmission
+      next = sent_after g.within sent s
+
+      abbrev own : List Event
+      own = said (marks_of_sent g sent pes s)
+
+      abbrev later : List Mark
+      later = marks_of_each g next (suc pes) pieces
+
+      abbrev fewer : List Mark
+      fewer = marks_of_each g next (suc pes) (front pieces)
+
+      abbrev IsLater : Type 0
+      IsLater = (front pieces ≡ pieces) ⊎ IsFirst (said fewer)
+
+      abbrev IsTold : Type 0
+      IsTold =
+          (Sent s ∷ front pieces ≡ Sent s ∷ pieces)
+          ⊎ IsFirst (said (marks_of_sent g sent pes s ++ fewer))
+
+      by_later : first_told own ≡ None → IsLater → IsTold
+      by_later none (inl same) = inl (ap (λ (ps : List Piece). Sent s ∷ ps) same)
+      by_later none (inr first) =
+          inr
+          (ap first_told (said-append (marks_of_sent g sent pes s) fewer)
+          ∙ rest_first own (said fewer) none first)
+
+      by_parts : (IsFirst (said later ++ rest) → IsLater)
+          → IsFirst own ⊎ ((first_told own ≡ None) × IsFirst (said later ++ rest))
+          → IsTold
+      by_parts ih (inl first) =
+          inr
+          (ap first_told (said-append (marks_of_sent g sent pes s) fewer)
+          ∙ front_first own (said fewer) first)
+      by_parts ih (inr (none, first)) = by_later none (ih first)
+
+      one_more : (IsFirst (said later ++ rest) → IsLater)
+          → IsFirst (said (marks_of_sent g sent pes s ++ later) ++ rest)
+          → IsTold
+      one_more ih e =
+          by_parts ih
+          (parts_first own (said later ++ rest)
+          (ap first_told
+          (sym
+          (ap (λ (es : List Event). es ++ rest) (said-append (marks_of_sent g sent pes s) later)
+          ∙ append_assoc own (said later) rest))
+          ∙ e))
+
+    -- A piece that is passed over tells no wrong cell: all are sent, or it is told before.
+    front_told : (sent : Transmission) (pes : ℕ) (pieces : List Piece) (rest : List Event)
+        → IsFirst (said (marks_of_each g sent pes pieces) ++ rest)
+        → (front pieces ≡ pieces) ⊎ IsFirst (said (marks_of_each g sent pes (front pieces)))
+    unfolding front marks_of_each
+    front_told sent pes [] rest e = inl refl
+    front_told sent pes (Passed (BadPacket f) ∷ pieces) rest e = cc
+    front_told sent pes (Passed NoFrame ∷ pieces) rest e = cc
+    front_told sent pes (Sent s ∷ pieces) rest e =
+        one_more sent pes s pieces rest
+        (front_told (sent_after g.within sent s) (suc pes) pieces rest) e
+
+    -- What is said of all pieces.
+    abbrev after_each : List Piece → List Event
+    after_each pieces =
+        let frames = sent_by_pieces g pieces in
+        said (marks_of_waiting g frames)
+        ++ said (marks_of_closing g frames (length pieces) (length frames))
+
+    said_all : (pieces : List Piece)
+        → said (marks_of_pieces g pieces)
+        ≡ said (marks_of_each g [] 0 pieces) ++ after_each pieces
+    said_all pieces =
+        let frames = sent_by_pieces g pieces in
+        let each = marks_of_each g [] 0 pieces in
+        let waiting = marks_of_waiting g frames in
+        let closing = marks_of_closing g frames (length pieces) (length frames) in
+        said-append (each ++ waiting) closing
+        ∙ ap (λ (es : List Event). es ++ said closing) (said-append each waiting)
+        ∙ append_assoc (said each) (said waiting) (said closing)
+
+    -- Where a wrong cell is told first, it is of the frames that are read up to the first piece
+    -- that is passed over. For `check`.
+    pub content_first : (pieces : List Piece) → IsFirst (all_of_pieces g pieces)
+        → IsFirst (events g (joined g.within (read_until_passed pieces g.unread).frames))
+    unfolding all_of_pieces told_of_pieces
+    content_first pieces e =
+        ap first_told
+        (ap (λ (fs : Transmission). events g (joined g.within fs))
+        (sym (front_frames pieces g.unread))
+        ∙ sym (pieces_said g (front pieces) (front_sent pieces)))
+        ∙ of_front
+        (front_told [] 0 pieces (after_each pieces) (ap first_told (sym (said_all pieces)) ∙ told))
+      where
+        told : IsFirst (said (marks_of_pieces g pieces))
+        told =
+            said_first no_trust (marks_of_pieces g pieces)
+            (announced_said (told_of_pieces g pieces) e)
+
+        of_front : (front pieces ≡ pieces) ⊎ IsFirst (said (marks_of_each g [] 0 (front pieces)))
+            → IsFirst (said (marks_of_pieces g (front pieces)))
+        of_front (inl same) =
+            ap (λ (ps : List Piece). first_told (said (marks_of_pieces g ps))) same ∙ told
+        of_front (inr first) =
+            ap first_told (said_all (front pieces))
+            ∙ front_first (said (marks_of_each g [] 0 (front pieces))) (after_each (front pieces))
+            first

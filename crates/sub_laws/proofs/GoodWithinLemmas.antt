@@ -1,0 +1,252 @@
+-- A transmission that is good within some frames has what suffices, `suffices_with_delay`, and so
+-- all that is promised of it, `law_of_good_within`. Within none that is what is good,
+-- `law_of_no_delay`; within more it stays so, `law_of_longer_delay`; and a schedule is good within
+-- any number, `law_of_plan_within`.
+use Rattle.std.proofs.lemmas.Bool.Decides.{nat_tests}
+use Rattle.std.proofs.Common.{◌≡◌, ℕ, ◌+◌, ◌-◌, ◌<◌, ◌≤◌, inl, inr}
+use Rattle.std.proofs.Common.{length, get_or, option_map, IsTrue, ap, subst, arith}
+use Rattle.std.proofs.Common.{le_refl}
+use Rattle.std.proofs.lemmas.Bool.{cases_lt}
+use Rattle.std.proofs.lemmas.Option.{slice_get-get_or}
+use Rattle.std.specs.Prelude.{IfSome}
+use Rattle.ttx_page.specs.PacketKind.{kind}
+use Rattle.ttx_page.specs.Span.{is_unended}
+use Rattle.stl_file.specs.Subtitle.{SubtitleValue}
+use Rattle.stl_rows.specs.Programme.{IsProgramme, ProgrammeValue}
+use Rattle.sub_plan.specs.Options.{OptionsValue}
+use Rattle.sub_rules.specs.Good.{Good, KeepsRules}
+use Rattle.sub_rules.specs.GoodWithin.{GoodWithin, IsFinished, SomeFinished}
+use Rattle.sub_rules.specs.Transmission.{IsRising, Transmission, first_frame, last_frame}
+use Rattle.sub_rules.specs.Transmission.{on_air_until}
+use Rattle.sub_laws.specs.DelayLaws.{LawOfGoodWithin, LawOfLongerDelay, LawOfNoDelay}
+use Rattle.sub_laws.specs.DelayLaws.{LawOfPlanWithin, LawOfSufficientPartsWithDelay}
+use Rattle.sub_laws.specs.OnScreen.{Complete}
+use Rattle.sub_laws.proofs.DelayLemmas.{ended_of_complete, finished_at_once}
+use Rattle.sub_laws.proofs.DelayLemmas.{law_of_stretch_with_delay}
+use Rattle.sub_laws.proofs.GoodLemmas.{rises_each}
+use Rattle.sub_laws.proofs.PlanLemmas.{law_of_complete_plan, law_of_plan}
+use Rattle.sub_laws.proofs.PrefixLemmas.{first-same, last-same, rises_to}
+use Rattle.sub_laws.proofs.RobustLemmas.{sound_stretch}
+use Rattle.sub_laws.proofs.SoundStretchLemmas.{last_of_two}
+use Rattle.sub_laws.proofs.StretchLemmas.{law_of_whole_stretch_with_delay}
+
+-- ---- the frames of subtitles
+
+module _ (programme : ProgrammeValue) (transmission : Transmission) (options : OptionsValue)
+    (is : IsProgramme programme.national programme.records)
+    (keeps : KeepsRules programme transmission options) (k : ℕ) (d : SubtitleValue)
+    (within : k < length programme.records) where
+  -- A subtitle of the programme.
+  abbrev t : SubtitleValue
+  t = get_or programme.records k d
+
+  -- It has a frame.
+  pub has_frame : t.tci < t.tco
+  has_frame = (is.each k d within).times
+
+  -- It does not begin before the transmission.
+  pub begins_in : first_frame transmission ≤ t.tci
+  begins_in =
+      let first : first_frame transmission ≤ (get_or programme.records 0 d).tci =
+      subst (λ x. IfSome x (λ tci. first_frame transmission ≤ tci))
+      (ap (option_map (λ (s : SubtitleValue). s.tci))
+      (slice_get-get_or programme.records 0 d (omega arith))) keeps.starts in
+      elim (cases_lt 0 k) [
+        | inl later ↦
+            let order = is.in_order 0 k d later within in
+            let times = (is.each 0 d (omega arith)).times in
+            omega (arith, first, order, times)
+        | inr same ↦ grind (arith, nat_tests)
+      ]
+
+  -- Nor does it end after it.
+  pub ends_in : t.tco ≤ last_frame transmission
+  ends_in =
+      let n : ℕ = length programme.records - 1 in
+      let last : (get_or programme.records n d).tco ≤ last_frame transmission =
+      subst (λ x. IfSome x (λ tco. tco ≤ last_frame transmission))
+      (ap (option_map (λ (s : SubtitleValue). s.tco))
+      (slice_get-get_or programme.records n d (omega arith))) keeps.lasts in
+      elim (cases_lt k n) [
+        | inl earlier ↦
+            let order = is.in_order k n d earlier (omega arith) in
+            let times = (is.each n d (omega arith)).times in
+            omega (arith, last, order, times)
+        | inr same ↦ grind (arith, nat_tests)
+      ]
+
+-- The first frame is not after the last.
+first_to_last :
+    (transmission : Transmission)
+    → 0 < length transmission
+    → IsRising transmission
+    → first_frame transmission ≤ last_frame transmission
+first_to_last transmission some rising =
+    omega (
+      arith,
+      first-same transmission,
+      last-same transmission,
+      rises_to transmission (length transmission) (rises_each transmission rising) 0
+          (length transmission - 1) (omega arith) (omega (arith, some)),
+    )
+
+-- ---- what is promised
+
+-- What is good within some frames has what suffices, in all its frames.
+pub suffices_with_delay : LawOfSufficientPartsWithDelay
+suffices_with_delay programme transmission options is good = record {
+  stretch = sound_stretch programme transmission options good.rules;
+  codes = good.shows.codes;
+  finishes = record {
+    again = good.shows.again;
+    subtitles = λ k d within low high. good.shows.subtitles k d within;
+    begun = λ from k d within before.
+        let begins = begins_in programme transmission options is good.rules k d within in
+        absurd (omega arith);
+  };
+}
+
+-- What is promised of it.
+pub law_of_good_within : LawOfGoodWithin
+law_of_good_within programme transmission options is good =
+    law_of_whole_stretch_with_delay programme transmission options
+    (law_of_stretch_with_delay programme transmission options (first_frame transmission)
+    (last_frame transmission) (suffices_with_delay programme transmission options is good))
+
+-- ---- within no frame
+
+module _ (programme : ProgrammeValue) (transmission : Transmission) (options : OptionsValue) where
+  module _ (is : IsProgramme programme.national programme.records)
+      (good : Good programme transmission options)
+      (complete : IsTrue options.asks_complete → Complete transmission options) where
+    -- Each frame of a good transmission is finished, with complete pages where they are asked for.
+    finished :
+        (f : ℕ)
+        → first_frame transmission ≤ f
+        → f ≤ last_frame transmission
+        → IsFinished programme transmission options f
+    finished f low high = record {
+      shows = λ row column named. good.content f row column low high named;
+      ended = λ asks.
+          ended_of_complete transmission options (first_frame transmission)
+          (last_frame transmission) f (complete asks) low high;
+    }
+
+    -- So it is good within any number of frames.
+    pub good_within : GoodWithin programme transmission options
+    good_within = record {
+      rules = good.rules;
+      shows = record {
+        codes = λ f row column low high named.
+            inr (f, low, le_refl f, omega arith, good.content f row column low high named);
+        again = λ f low high. (f, le_refl f, omega arith, finished f low (omega (arith, high)));
+        subtitles = λ k d within.
+            let t : SubtitleValue = get_or programme.records k d in
+            let some = has_frame programme transmission options is good.rules k d within in
+            let begins = begins_in programme transmission options is good.rules k d within in
+            let ends = ends_in programme transmission options is good.rules k d within in (
+              t.tci,
+              le_refl t.tci,
+              omega (arith, some),
+              finished t.tci begins (omega (arith, some, ends)),
+            );
+        ends =
+            finished (last_frame transmission)
+            (first_to_last transmission good.rules.not_empty good.rules.rising)
+            (le_refl (last_frame transmission));
+      };
+    }
+
+  -- Within no frame what is good is good, and of complete pages where these are asked for.
+  good_at_once :
+      options.within ≡ 0
+      → GoodWithin programme transmission options
+      → Good programme transmission options
+      × (IsTrue options.asks_complete → Complete transmission options)
+  good_at_once none good = (
+    record {
+      rules = good.rules;
+      content = λ f row column low high named. (at f low high).shows row column named;
+    },
+    λ asks f low high holds.
+        last_of_two _ (is_unended (kind options.page) (on_air_until transmission f))
+        ((at f low high).ended asks) holds,
+  )
+    where
+      at :
+          (f : ℕ)
+          → first_frame transmission ≤ f
+          → f ≤ last_frame transmission
+          → IsFinished programme transmission options f
+      at f low high =
+          finished_at_once programme transmission options (first_frame transmission)
+          (last_frame transmission) none good.shows.again f low high
+
+pub law_of_no_delay : LawOfNoDelay
+law_of_no_delay programme transmission options is none = (
+  good_at_once programme transmission options none,
+  λ good. good_within programme transmission options is good.0 good.1,
+)
+
+-- ---- within more frames
+
+module _ (programme : ProgrammeValue) (transmission : Transmission) (options : OptionsValue)
+    (more : ℕ) (longer : options.within ≤ more) where
+  -- The same options, with more frames.
+  abbrev allowing : OptionsValue
+  allowing = record options { within = more }
+
+  -- What is finished stays so.
+  finished_longer :
+      (f : ℕ)
+      → IsFinished programme transmission options f
+      → IsFinished programme transmission allowing f
+  finished_longer f is = record { shows = is.shows; ended = is.ended }
+
+  some_longer :
+      (a b c : ℕ)
+      → b ≤ c
+      → SomeFinished programme transmission options a b
+      → SomeFinished programme transmission allowing a c
+  some_longer a b c order (f, from, to, is) = (f, from, omega arith, finished_longer f is)
+
+  good_longer :
+      GoodWithin programme transmission options → GoodWithin programme transmission allowing
+  good_longer good = record {
+    rules = record {
+      not_empty = good.rules.not_empty;
+      rising = good.rules.rising;
+      whole = good.rules.whole;
+      starts = good.rules.starts;
+      lasts = good.rules.lasts;
+      exact = good.rules.exact;
+      serial = good.rules.serial;
+      control = good.rules.control;
+      spans = good.rules.spans;
+      opens = good.rules.opens;
+      repeats = good.rules.repeats;
+    };
+    shows = record {
+      codes = λ f row column low high named.
+          elim (good.shows.codes f row column low high named) [
+            | inl spaced ↦ inl spaced
+            | inr (e, first, before, near, due) ↦ inr (e, first, before, omega arith, due)
+          ];
+      again = λ start low high.
+          some_longer start (start + options.within) (start + more) (omega arith)
+          (good.shows.again start low (omega arith));
+      subtitles = λ k d within.
+          some_longer _ _ _ (le_refl _) (good.shows.subtitles k d within);
+      ends = finished_longer (last_frame transmission) good.shows.ends;
+    };
+  }
+
+pub law_of_longer_delay : LawOfLongerDelay
+law_of_longer_delay = good_longer
+
+-- ---- schedules
+
+pub law_of_plan_within : LawOfPlanWithin
+law_of_plan_within programme options serial is some ok =
+    good_within programme _ options is (law_of_plan programme options serial is some ok)
+    (λ asks. law_of_complete_plan programme options serial is some ok)

@@ -1,0 +1,272 @@
+-- A test of marks that none of these passes that come of pieces: `before_passes`. What is told with
+-- such marks: `told_passes`, `announced_passes`.
+use Rattle.std.proofs.lemmas.Bool.Decides.{nat_tests}
+use Rattle.std.proofs.Common.{◌≡◌, ℕ, zero, suc, ◌+◌, ◌==◌, Bool, true, false, List, [], ◌∷◌, ◌++◌}
+use Rattle.std.proofs.Common.{length, map, Option, Some, refl, ◌∙◌, arith, if◌then◌else◌}
+use Rattle.std.proofs.Common.{slice_index_or, subst, take, ◌||◌}
+use Rattle.std.proofs.lemmas.Bool.{or_parts}
+use Rattle.std.proofs.lemmas.Option.{same_Some}
+use Rattle.std.proofs.lemmas.List.Folds.{list_any-append}
+use Rattle.std.specs.List.{list_any}
+use Rattle.std.specs.Prelude.{⊤}
+use Rattle.sub_rules.specs.Events.{Standing, end_before, end_events, events_at_end}
+use Rattle.sub_rules.specs.Events.{first_header_events, first_told, gap_length, is_late, latest}
+use Rattle.sub_rules.specs.Events.{order_events, packet_fault, packets_told}
+use Rattle.sub_rules.specs.Fault.{fault_at_pes}
+use Rattle.sub_rules.specs.Events.{rules_told, standing_at, standing_before, unfinished_since}
+use Rattle.sub_rules.specs.Events.{unread_fault}
+use Rattle.sub_rules.specs.FrameRules.{Task, end_frame, frame_at, packets_before, packets_of_frame}
+use Rattle.sub_rules.specs.PacketTests.{broken_rules}
+use Rattle.sub_rules.specs.PieceEvents.{marks_at_end, marks_of_arrival, marks_of_each}
+use Rattle.sub_rules.specs.PieceEvents.{marks_of_ending, marks_of_gap, marks_of_more}
+use Rattle.sub_rules.specs.PieceEvents.{marks_of_next, marks_of_packets, marks_of_sent}
+use Rattle.sub_rules.specs.PieceEvents.{marks_of_waiting, sent_by_pieces}
+use Rattle.sub_rules.specs.Pieces.{Piece, goes_on_with, sent_after}
+use Rattle.sub_rules.specs.Pieces.Piece.{Passed, Sent}
+use Rattle.sub_rules.specs.Transmission.{SentFrame, Transmission}
+use Rattle.sub_rules.specs.Trusted.{Mark, after_mark, at_pes, closing_frame, doubted, late_since}
+use Rattle.sub_rules.specs.Trusted.{told_by, told_with, trusted, trusted_before}
+use Rattle.sub_rules.specs.Trusted.Mark.{AtEnd, AtPes, Begins, Closes, Ends, Says}
+use Rattle.sub_rules.specs.declared.event.Event.{Event}
+use Rattle.sub_rules.specs.declared.event.Event.TheVariants.{Ended, PassedUntil, Told, Trusted}
+use Rattle.sub_rules.specs.declared.fault.CheckFault.{CheckFault}
+use Rattle.sub_rules.specs.declared.trust.Trust.{Trust}
+use Rattle.sub_rules.specs.declared.packet_rule.PacketRule.{PacketRule}
+use Rattle.sub_rules.specs.declared.packet_rule.Watched.{Watched}
+
+module _ (test : Mark → Bool) where
+  -- An event passes where it is said.
+  abbrev on : Event → Bool
+  on e = test (Says e)
+
+  -- No mark of these passes.
+  pub record Passes (ms : List Mark) : Type 0 where
+    pub none : list_any test ms ≡ false
+
+  none_passes : Passes []
+  none_passes = record { none = refl }
+
+  pub both_pass : {xs ys : List Mark} → Passes xs → Passes ys → Passes (xs ++ ys)
+  both_pass {xs = xs} {ys = ys} h1 h2 =
+      let both = list_any-append test xs ys in
+      let one = h1.none in
+      let two = h2.none in
+      record { none = grind (arith, nat_tests) }
+
+  one_passes : (m : Mark) → test m ≡ false → Passes (m ∷ [])
+  one_passes m e = record { none = rw e refl }
+
+  pub says_pass : (es : List Event) → list_any on es ≡ false → Passes (map Says es)
+  says_pass es none = record { none = same es ∙ none }
+    where
+      same : (es : List Event) → list_any test (map Says es) ≡ list_any on es
+      same [] = refl
+      same (e ∷ es) = rw (same es) refl
+
+  -- None of the pieces that are passed over does, the first piece being PES packet `pes`.
+  abbrev pub PassedPass : ℕ → List Piece → Type 0
+  PassedPass pes [] = ⊤
+  PassedPass pes (Sent s ∷ pieces) = PassedPass (suc pes) pieces
+  PassedPass pes (Passed u ∷ pieces) =
+      (on (Told (unread_fault pes (Some u))) ≡ false) × PassedPass (suc pes) pieces
+
+  -- Nor does anything that is told of a frame, or that is no event.
+  pub record FramesPass (g : Task) : Type 0 where
+    pub at_pes : (n : ℕ) → test (AtPes n) ≡ false
+    pub begins : (f : ℕ) → test (Begins f) ≡ false
+    pub at_end : (f : ℕ) (since : Option ℕ) (late : Bool) → test (AtEnd f since late) ≡ false
+    pub ends : (f : ℕ) (has_header none : Bool) → test (Ends f has_header none) ≡ false
+    pub of_end :
+        (old : Standing) (before : ℕ) (new : Standing) (f : ℕ)
+        → list_any on (end_events old before new f) ≡ false
+    pub of_rule : (r : PacketRule) (frame k : ℕ) → on (Told (packet_fault r frame k)) ≡ false
+    pub of_order : (frames : Transmission) (i : ℕ) → list_any on (order_events g frames i) ≡ false
+    pub of_header :
+        (frames : Transmission) (i : ℕ)
+        → list_any on (first_header_events g frames i) ≡ false
+
+  module _ (g : Task) (fine : FramesPass g) where
+    at_end_passes : (frames : Transmission) (i n f : ℕ) → Passes (marks_at_end g frames i n f)
+    at_end_passes frames i n f =
+        both_pass (go (g.within == 0))
+        (says_pass (events_at_end g frames i n f)
+        (fine.of_end (standing_before g frames i f) (end_before frames i f)
+        (standing_at g frames n f) f))
+      where
+        go : (b : Bool)
+            → Passes (if b
+            then []
+            else AtEnd f (unfinished_since g frames n f) (is_late g frames n f) ∷ [])
+        go true = none_passes
+        go false = one_passes _ (fine.at_end f _ _)
+
+    gap_passes : (frames : Transmission) (i n : ℕ) → Passes (marks_of_gap g frames i n)
+    unfolding marks_of_gap
+    gap_passes frames i zero = none_passes
+    gap_passes frames i (suc n) =
+        both_pass (gap_passes frames i n) (at_end_passes frames i i (latest frames i + suc n))
+
+    arrival_passes : (frames : Transmission) (i : ℕ) → Passes (marks_of_arrival g frames i)
+    arrival_passes frames i =
+        both_pass
+        (both_pass (says_pass (order_events g frames i) (fine.of_order frames i))
+        (gap_passes frames i (gap_length frames i)))
+        (one_passes (Begins (frame_at frames i)) (fine.begins (frame_at frames i)))
+
+    told_pass : (w : Watched) (frame from : ℕ) (before packets : List (List ℕ)) (n : ℕ)
+        → list_any on (packets_told w frame from before packets n) ≡ false
+    unfolding packets_told rules_told
+    told_pass w frame from before packets zero = refl
+    told_pass w frame from before packets (suc n) =
+        let one = rules frame (from + n)
+        (broken_rules w (before ++ take n packets) (slice_index_or packets n [])) in
+        let rest = told_pass w frame from before packets n in
+        list_any-append on (packets_told w frame from before packets n) _ ∙ rw (rest, one) refl
+      where
+        rules : (frame k : ℕ) (rs : List PacketRule)
+            → list_any on (map (λ (r : PacketRule). Told (packet_fault r frame k)) rs) ≡ false
+        rules frame k [] = refl
+        rules frame k (r ∷ rs) = rw (fine.of_rule r frame k) (rules frame k rs)
+
+    ending_passes : (frames : Transmission) (i : ℕ) → Passes (marks_of_ending g frames i)
+    ending_passes frames i =
+        both_pass
+        (both_pass (says_pass (first_header_events g frames i) (fine.of_header frames i))
+        (at_end_passes frames i (suc i) (frame_at frames i)))
+        (one_passes _ (fine.ends (frame_at frames i) _ _))
+
+    waiting_passes : (sent : Transmission) → Passes (marks_of_waiting g sent)
+    unfolding marks_of_waiting
+    waiting_passes [] = none_passes
+    waiting_passes (s ∷ sent) = go (g.within == 0)
+      where
+        go : (b : Bool) → Passes (if b then [] else marks_of_ending g (s ∷ sent) (length sent))
+        go true = none_passes
+        go false = ending_passes (s ∷ sent) (length sent)
+
+    packets_pass : (frames : Transmission) (i : ℕ) → Passes (marks_of_packets g frames i)
+    packets_pass frames i =
+        says_pass _
+        (told_pass g.watched (frame_at frames i) 0 (packets_before frames i)
+        (packets_of_frame frames i) (length (packets_of_frame frames i)))
+
+    more_passes : (sent : Transmission) (packets : List (List ℕ))
+        → Passes (marks_of_more g sent packets)
+    more_passes sent packets =
+        says_pass _ (told_pass g.watched (end_frame sent) _ _ packets (length packets))
+
+    next_passes : (sent : Transmission) (s : SentFrame) → Passes (marks_of_next g sent s)
+    next_passes sent s =
+        both_pass
+        (both_pass (arrival_passes (sent ++ s ∷ []) (length sent))
+        (packets_pass (sent ++ s ∷ []) (length sent))) (go (g.within == 0))
+      where
+        go : (b : Bool)
+            → Passes (if b then marks_of_ending g (sent ++ s ∷ []) (length sent) else [])
+        go true = ending_passes (sent ++ s ∷ []) (length sent)
+        go false = none_passes
+
+    sent_passes : (sent : Transmission) (pes : ℕ) (s : SentFrame)
+        → Passes (marks_of_sent g sent pes s)
+    unfolding marks_of_sent
+    sent_passes sent pes s = go (goes_on_with g.within sent s)
+      where
+        first : (ms : List Mark) → Passes ms → Passes (AtPes pes ∷ ms)
+        first ms h = both_pass (one_passes (AtPes pes) (fine.at_pes pes)) h
+
+        go : (b : Bool)
+            → Passes (if b
+            then AtPes pes ∷ marks_of_more g sent s.packets
+            else marks_of_waiting g sent ++ AtPes pes ∷ marks_of_next g sent s)
+        go true = first _ (more_passes sent s.packets)
+        go false = both_pass (waiting_passes sent) (first _ (next_passes sent s))
+
+    pub each_passes : (sent : Transmission) (pes : ℕ) (pieces : List Piece) → PassedPass pes pieces
+        → Passes (marks_of_each g sent pes pieces)
+    unfolding marks_of_each
+    each_passes sent pes [] passed = none_passes
+    each_passes sent pes (Sent s ∷ pieces) passed =
+        both_pass (sent_passes sent pes s)
+        (each_passes (sent_after g.within sent s) (suc pes) pieces passed)
+    each_passes sent pes (Passed u ∷ pieces) passed =
+        both_pass (one_passes (AtPes pes) (fine.at_pes pes))
+        (both_pass (one_passes (Says (Told (unread_fault pes (Some u)))) passed.0)
+        (each_passes sent (suc pes) pieces passed.1))
+
+    -- What comes of pieces before the file ends.
+    pub before_passes : (pieces : List Piece) → ((pes : ℕ) → PassedPass pes pieces)
+        → Passes (marks_of_each g [] 0 pieces ++ marks_of_waiting g (sent_by_pieces g pieces))
+    before_passes pieces passed =
+        both_pass (each_passes [] 0 pieces (passed 0)) (waiting_passes (sent_by_pieces g pieces))
+
+-- ---- what is told with marks that do not pass
+
+-- A test of refusals, that of a PES packet whatever its number.
+module _ (bad : CheckFault → Bool)
+    (anywhere : (pes : ℕ) (f : CheckFault) → bad f ≡ false → bad (fault_at_pes pes f) ≡ false) where
+  -- A refusal is told that passes it.
+  abbrev pub tells_bad : Event → Bool
+  tells_bad (Told f) = bad f
+  tells_bad e = false
+
+  abbrev pub says_bad : Mark → Bool
+  says_bad (Says e) = tells_bad e
+  says_bad m = false
+
+  both_none : (xs ys : List Event) → list_any tells_bad xs ≡ false → list_any tells_bad ys ≡ false
+      → list_any tells_bad (xs ++ ys) ≡ false
+  both_none xs ys h1 h2 = let both = list_any-append tells_bad xs ys in grind (arith, nat_tests)
+
+  trusted_fine : (run whole : Option ℕ) (f : ℕ) → list_any tells_bad (trusted run whole f) ≡ false
+  trusted_fine run whole f = grind (arith, nat_tests)
+
+  before_fine : (run whole d : Option ℕ) → list_any tells_bad (trusted_before run whole d) ≡ false
+  before_fine run whole d = grind (arith, nat_tests)
+
+  event_fine : (pes : ℕ) (e : Event) → tells_bad e ≡ false → tells_bad (at_pes pes e) ≡ false
+  unfolding at_pes
+  event_fine pes (Told f) fine = anywhere pes f fine
+  event_fine pes (Ended rule f) fine = refl
+  event_fine pes (Trusted from to) fine = refl
+  event_fine pes (PassedUntil f) fine = refl
+
+  -- With one mark.
+  with_fine : (m : Mark) (t : Trust) → says_bad m ≡ false
+      → list_any tells_bad (told_with m t) ≡ false
+  unfolding told_with
+  with_fine (Says e) t fine =
+      let own = event_fine t.pes e fine in
+      both_none (trusted_before t.run t.whole (doubted t.last (late_since t) e)) _
+      (before_fine t.run t.whole (doubted t.last (late_since t) e)) (rw own refl)
+  with_fine (Closes are_left more) t fine = go (t.told || more)
+    where
+      go : (b : Bool)
+          → list_any tells_bad (if b then trusted t.run t.whole (closing_frame t are_left) else [])
+          ≡ false
+      go true = trusted_fine t.run t.whole (closing_frame t are_left)
+      go false = refl
+  with_fine (AtPes pes) t fine = refl
+  with_fine (Begins f) t fine = refl
+  with_fine (AtEnd f since late) t fine = refl
+  with_fine (Ends f has_header none) t fine = refl
+
+  pub told_fine : (t : Trust) (ms : List Mark) → list_any says_bad ms ≡ false
+      → list_any tells_bad (told_by t ms) ≡ false
+  unfolding told_by
+  told_fine t [] fine = refl
+  told_fine t (m ∷ ms) fine =
+      let parts = or_parts (says_bad m) (list_any says_bad ms) fine in
+      both_none (told_with m t) _ (with_fine m t parts.0)
+      (told_fine (after_mark m t) ms parts.1)
+
+  -- What is told first.
+  pub first_fine : (es : List Event) (f : CheckFault) → list_any tells_bad es ≡ false
+      → first_told es ≡ Some f
+      → bad f ≡ false
+  first_fine [] f fine e = cc
+  first_fine (Told x ∷ es) f fine e =
+      let parts = or_parts (bad x) (list_any tells_bad es) fine in
+      subst (λ (y : CheckFault). bad y ≡ false) (same_Some _ _ e) parts.0
+  first_fine (Ended rule x ∷ es) f fine e = first_fine es f fine e
+  first_fine (Trusted from to ∷ es) f fine e = first_fine es f fine e
+  first_fine (PassedUntil x ∷ es) f fine e = first_fine es f fine e

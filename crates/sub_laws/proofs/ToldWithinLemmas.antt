@@ -1,0 +1,418 @@
+-- Nothing is told of a transmission exactly where it is good within the frames that are allowed:
+-- `law_of_nothing_told_within`.
+use Rattle.std.proofs.lemmas.Bool.Decides.{nat_tests}
+use Rattle.std.proofs.Common.{◌≡◌, ℕ, ◌+◌, ◌-◌, ◌<◌, ◌≤◌, ◌⊎◌, inl, inr, Bool, true, false, ◌&&◌}
+use Rattle.std.proofs.Common.{◌||◌, ◌==◌, nat_le, nat_lt, Option, Some, None, is_some, length}
+use Rattle.std.proofs.Common.{get_or, refl, sym, ap, ◌∙◌, subst, arith, le_refl, IsFalse, Contains}
+use Rattle.std.proofs.lemmas.Bool.{cases_eq, cases_lt, or_parts, true≢false}
+use Rattle.std.proofs.lemmas.List.Elements.{Contains-get_or}
+use Rattle.ttx_packet.specs.PacketAddress.{IsPacket}
+use Rattle.ttx_page.specs.Shown.{shown}
+use Rattle.stl_file.specs.Subtitle.{SubtitleValue}
+use Rattle.stl_rows.specs.Programme.{IsProgramme, ProgrammeValue}
+use Rattle.sub_plan.specs.Options.{OptionsValue}
+use Rattle.sub_rules.specs.Events.{broken_cell, is_incomplete, is_late, is_missed, is_overdue}
+use Rattle.sub_rules.specs.Events.{is_pending, is_unfinished, undue_after, unfinished_since}
+use Rattle.sub_rules.specs.Events.{wrong_cell}
+use Rattle.sub_rules.specs.FrameRules.{Task, Unread, end_frame, frame_at, packets_before, task_of}
+use Rattle.sub_rules.specs.Good.{KeepsRules}
+use Rattle.sub_rules.specs.GoodWithin.{FinishesAgain, GoodWithin, IsDueWithin, IsFinished}
+use Rattle.sub_rules.specs.GoodWithin.{ShowsDueCodes, SomeFinished}
+use Rattle.sub_rules.specs.Transmission.{EachPacket, Transmission, first_frame, last_frame}
+use Rattle.sub_rules.specs.Transmission.{on_air_until}
+use Rattle.sub_laws.specs.BrokenPlaces.{LawOfNothingToldWithin}
+use Rattle.sub_laws.specs.CleanStretch.{IsEnd}
+use Rattle.sub_laws.proofs.DueCodeLemmas.{MayShow, ending_at, ending_is, none_undue, undue_none}
+use Rattle.sub_laws.proofs.EventLemmas.{nothing_told, sizes_of}
+use Rattle.sub_laws.proofs.FrameByFrame.{AllOk}
+use Rattle.sub_laws.proofs.GoodLemmas.{rises_each}
+use Rattle.sub_laws.proofs.GoodWithinLemmas.{begins_in, ends_in, has_frame}
+use Rattle.sub_laws.proofs.PlaceLemmas.{Rules-from_holds, holds-from_rules, quiet_at, rising}
+use Rattle.sub_laws.proofs.PrefixLemmas.{RiseTo, end_high, end_is_on_air, end_low, first-same}
+use Rattle.sub_laws.proofs.PrefixLemmas.{last-same}
+use Rattle.sub_laws.proofs.StandingLemmas.{quiet_parts}
+use Rattle.sub_laws.proofs.UnfinishedLemmas.{finished_from, since_after, since_some, unfinished_at}
+use Rattle.sub_laws.proofs.FinishedLemmas.{at_finished, finished_at, finished_of, frame_end}
+use Rattle.sub_laws.proofs.FinishedLemmas.{late_is, no_since, none_is, of_finished, since_is}
+use Rattle.sub_laws.proofs.FinishedLemmas.{since_no}
+
+-- ---- the law, one way
+
+module _ (programme : ProgrammeValue) (options : OptionsValue) (unread : Option Unread)
+    (t : Transmission) (every : 0 < options.every)
+    (is : IsProgramme programme.national programme.records)
+    (h : AllOk (task_of programme options unread) t) where
+  abbrev task : Task
+  task = task_of programme options unread
+
+  abbrev start : ℕ
+  start = frame_at t 0
+
+  abbrev up : RiseTo t (length t)
+  up = rising programme options unread t every h
+
+  parts : (n f : ℕ) → IsEnd t n f
+      → (broken_cell task t n f ≡ None)
+      × ((is_late task t n f && is_incomplete task t n) ≡ false)
+  parts n f end =
+      let three =
+      (quiet_parts task t n f).0 (quiet_at programme options unread t every h n f end) in
+      (three.0, three.2)
+
+  -- A late end is finished.
+  calm : (n f : ℕ) → IsEnd t n f → is_late task t n f ≡ true → is_unfinished task t n f ≡ false
+  calm n f end late =
+      let both = parts n f end in
+      let wrong : wrong_cell task t n f ≡ None = rw late at both.0 in
+      let shut : is_incomplete task t n ≡ false = rw late at both.1 in
+      rw (wrong, shut) refl
+
+  -- So none is overdue.
+  not_overdue : (n f : ℕ) → IsEnd t n f
+      → is_overdue task start (unfinished_since task t n f) f ≡ false
+  unfolding is_late
+  not_overdue n f end = go (is_overdue task start (unfinished_since task t n f) f) refl
+    where
+      or_true : (b : Bool) → (b || true) ≡ true
+      or_true b = grind (arith, nat_tests)
+
+      late_of : is_overdue task start (unfinished_since task t n f) f ≡ true
+          → is_late task t n f ≡ true
+      late_of e = rw e (or_true (options.within == 0))
+
+      go : (b : Bool) → is_overdue task start (unfinished_since task t n f) f ≡ b → b ≡ false
+      go false e = refl
+      go true e =
+          let none =
+          no_since programme options unread t up n f end (calm n f end (late_of e)) in
+          absurd (true≢false (sym (rw none at e)))
+
+  -- Since a frame the ends up to this one are unfinished: not too long, and no subtitle is missed.
+  early : (n f r : ℕ) → IsEnd t n f → unfinished_since task t n f ≡ Some r
+      → (f < r + options.within) × (is_missed (task.ending (f + 1)) start r ≡ false)
+  early n f r end e =
+      let both =
+      or_parts (nat_le (r + options.within) f) (is_missed (task.ending (f + 1)) start r)
+      (rw e at (not_overdue n f end)) in
+      (before both.0, both.1)
+    where
+      before : nat_le (r + options.within) f ≡ false → f < r + options.within
+      before e = grind (arith, nat_tests)
+
+  -- One of the frames from a to f is finished, where the ends up to f are not unfinished since a.
+  some_finished : (a f : ℕ) → start ≤ a → a ≤ f → f ≤ end_frame t
+      → ((n r : ℕ) → IsEnd t n f → unfinished_since task t n f ≡ Some r → r ≤ a → ⊥)
+      → SomeFinished programme t options a f
+  some_finished a f low below high late =
+      let (n, end) = frame_end programme options unread t up f h.some (omega arith) high in
+      let k : ℕ = f - start in
+      let at : start + k ≡ f = omega arith in
+      let since = since_is programme options unread t up n f end in
+      let (e, from, to, finished) =
+      finished_from (unfinished_at task t up) start a k low (omega arith)
+      (λ r is l. late n r end (since ∙ is) l) in (
+        e,
+        from,
+        omega arith,
+        finished_at programme options unread t up e h.some (omega arith) (omega arith) finished,
+      )
+
+  again : FinishesAgain programme t options (first_frame t) (last_frame t)
+  again a low high =
+      let first = first-same t in
+      let last = last-same t in
+      some_finished a (a + options.within) (omega arith) (omega arith) (omega arith)
+      (λ n r end is l. let before = (early n (a + options.within) r end is).0 in omega arith)
+
+  module _ (keeps : KeepsRules programme t options) where
+    subtitle : (k : ℕ) (d : SubtitleValue) → k < length programme.records
+        → (s : SubtitleValue)
+        → s ≡ get_or programme.records k d
+        → SomeFinished programme t options s.tci (s.tco - 1)
+    subtitle k d l s same =
+        let first = first-same t in
+        let last = last-same t in
+        let some : s.tci < s.tco =
+        subst (λ (x : SubtitleValue). x.tci < x.tco) (sym same)
+        (has_frame programme t options is keeps k d l) in
+        let begins : first_frame t ≤ s.tci =
+        subst (λ (x : SubtitleValue). first_frame t ≤ x.tci) (sym same)
+        (begins_in programme t options is keeps k d l) in
+        let ends : s.tco ≤ last_frame t =
+        subst (λ (x : SubtitleValue). x.tco ≤ last_frame t) (sym same)
+        (ends_in programme t options is keeps k d l) in
+        let member : Contains programme.records s =
+        subst (Contains programme.records) (sym same) (Contains-get_or programme.records k d l) in
+        let next : s.tco ≡ s.tco - 1 + 1 = omega arith in
+        let found : task.ending (s.tco - 1 + 1) ≡ Some s.tci =
+        ap task.ending (sym next)
+        ∙ ending_is programme.national programme.records is s member in
+        some_finished s.tci (s.tco - 1) (omega arith) (omega arith) (omega arith)
+        (λ n r end since l.
+        let not_missed = (early n (s.tco - 1) r end since).1 in
+        not_late r s.tci l (rw found at not_missed))
+      where
+        not_late : (r tci : ℕ) → r ≤ tci
+            → (nat_le r tci || ((r == start) && nat_lt tci start)) ≡ false
+            → ⊥
+        not_late r tci l e = grind (arith, nat_tests)
+
+  -- At a frame's end each cell shows what it may hold.
+  codes : ShowsDueCodes programme t options (first_frame t) (last_frame t)
+  codes f row column low high named =
+      let first = first-same t in
+      let last = last-same t in
+      let (n, end) =
+      frame_end programme options unread t up f h.some (omega arith) (omega arith) in
+      by_within n end (cases_eq options.within 0)
+    where
+      of_may : (n : ℕ) → IsEnd t n f
+          → MayShow options.page (packets_before t n) task.due start f options.within row column
+          → IsDueWithin programme t options f row column
+          (shown options.page (on_air_until t f) row column)
+      of_may n end may =
+          let on = end_is_on_air t up n f end in
+          subst
+          (λ ps. IsDueWithin programme t options f row column (shown options.page ps row column))
+          (sym on) (due_of may)
+        where
+          due_of : MayShow options.page (packets_before t n) task.due start f options.within row
+              column
+              → IsDueWithin programme t options f row column
+              (shown options.page (packets_before t n) row column)
+          due_of (inl blank) = inl blank
+          due_of (inr (e, inl from, to, near, same)) =
+              inr (e, omega (arith, first-same t), to, near, same)
+          due_of (inr (e, inr own, to, near, same)) = inr (e, omega (arith, low), to, near, same)
+
+      by_within : (n : ℕ) → IsEnd t n f → (options.within ≡ 0) ⊎ (options.within ≡ 0 → ⊥)
+          → IsDueWithin programme t options f row column
+          (shown options.page (on_air_until t f) row column)
+      by_within n end (inl none) =
+          let late = late_is programme options unread t up n f (not_overdue n f end) in
+          let is_zero : (options.within == 0) ≡ true = grind (arith, nat_tests) in
+          let whole =
+          finished_of programme options unread t up n f end (calm n f end (late ∙ is_zero)) in
+          inr (f, low, le_refl f, omega arith, whole.shows row column named)
+      by_within n end (inr some) =
+          let late = late_is programme options unread t up n f (not_overdue n f end) in
+          let is_zero : (options.within == 0) ≡ false = grind (arith, nat_tests) in
+          let not_late : is_late task t n f ≡ false = late ∙ is_zero in
+          let none :
+          undue_after options.page (packets_before t n) task.due start f options.within ≡ None =
+          rw not_late at (parts n f end).0 in
+          of_may n end
+          (undue_none options.page (packets_before t n) task.due start f options.within none row
+          column named)
+
+  -- The last frame is finished.
+  ends : IsFinished programme t options (last_frame t)
+  unfolding is_pending
+  ends =
+      let end : IsEnd t (length t) (end_frame t) = (h.some, le_refl (length t), inl refl) in
+      subst (IsFinished programme t options) (sym (last-same t))
+      (finished_of programme options unread t up (length t) (end_frame t) end (last end))
+    where
+      last : IsEnd t (length t) (end_frame t)
+          → is_unfinished task t (length t) (end_frame t) ≡ false
+      last end = go (is_late task t (length t) (end_frame t)) refl
+        where
+          pending_parts : is_late task t (length t) (end_frame t) ≡ false
+              → is_some (unfinished_since task t (length t) (end_frame t)) ≡ false
+          pending_parts is = let whole = h.whole in grind (arith, nat_tests)
+
+          go : (b : Bool) → is_late task t (length t) (end_frame t) ≡ b
+              → is_unfinished task t (length t) (end_frame t) ≡ false
+          go true is = calm (length t) (end_frame t) end is
+          go false is =
+              since_no programme options unread t up (length t) (end_frame t) end
+              (none_is _ (pending_parts is))
+
+  -- The transmission is good within these frames.
+  pub Within-from_holds : EachPacket IsPacket t → GoodWithin programme t options
+  Within-from_holds whole =
+      let keeps = Rules-from_holds programme options unread t every h (sizes_of t whole) in
+      record {
+        rules = keeps;
+        shows = record {
+          codes = codes;
+          again = again;
+          subtitles = λ k d l. subtitle keeps k d l (get_or programme.records k d) refl;
+          ends = ends;
+        };
+      }
+
+-- ---- the law, the other way
+
+module _ (programme : ProgrammeValue) (options : OptionsValue) (t : Transmission)
+    (is : IsProgramme programme.national programme.records)
+    (good : GoodWithin programme t options) where
+  abbrev asked : Task
+  asked = task_of programme options None
+
+  abbrev from : ℕ
+  from = frame_at t 0
+
+  abbrev order : RiseTo t (length t)
+  order = rises_each t good.rules.rising
+
+  -- Since a frame the ends up to an end are unfinished: a frame that is finished is before it.
+  since_later : (n f r e : ℕ) → IsEnd t n f → unfinished_since asked t n f ≡ Some r
+      → from ≤ e
+      → e ≤ f
+      → IsFinished programme t options e
+      → e < r
+  since_later n f r e end since low high finished =
+      let bottom = end_high t order n f end in
+      let top = end_low t order n f end in
+      since_after (unfinished_at asked t order) from (f - from) r e
+      (sym (since_is programme options None t order n f end) ∙ since)
+      (at_finished programme options None t order e good.rules.not_empty low (omega arith) finished)
+      (omega arith)
+
+  -- They are not before the first frame.
+  since_from : (n f r : ℕ) → IsEnd t n f → unfinished_since asked t n f ≡ Some r → from ≤ r
+  since_from n f r end since =
+      (since_some (unfinished_at asked t order) from (f - from) r
+      (sym (since_is programme options None t order n f end) ∙ since)).low
+
+  -- So it is not too long.
+  soon : (n f r : ℕ) → IsEnd t n f → unfinished_since asked t n f ≡ Some r
+      → f < r + options.within
+  soon n f r end since = elim (cases_lt f (r + options.within)) [
+    | inl before ↦ before
+    | inr after ↦
+        let first = first-same t in
+        let last = last-same t in
+        let top = end_low t order n f end in
+        let begins = since_from n f r end since in
+        let (e, low, high, finished) =
+        good.shows.again (f - options.within) (omega arith) (omega arith) in
+        let later = since_later n f r e end since (omega arith) (omega arith) finished in
+        absurd (omega arith)
+  ]
+
+  -- And no subtitle is missed.
+  none_missed : (n f r : ℕ) → IsEnd t n f → unfinished_since asked t n f ≡ Some r
+      → is_missed (asked.ending (f + 1)) from r ≡ false
+  none_missed n f r end since = go (asked.ending (f + 1)) refl
+    where
+      not_late : (tci : ℕ) → tci < r → from ≤ tci
+          → (nat_le r tci || ((r == from) && nat_lt tci from)) ≡ false
+      not_late tci l m = grind (arith, nat_tests)
+
+      go : (o : Option ℕ) → asked.ending (f + 1) ≡ o → is_missed o from r ≡ false
+      go None found = refl
+      go (Some tci) found =
+          let (s, member, out, at) =
+          ending_at programme.national programme.records is (f + 1) tci found in
+          let same : get_or programme.records member.0 s ≡ s = member.2 in
+          let (e, low, high, finished) =
+          rw same at (good.shows.subtitles member.0 s member.1) in
+          let begins : first_frame t ≤ s.tci =
+          rw same at (begins_in programme t options is good.rules member.0 s member.1) in
+          let first = first-same t in
+          let later = since_later n f r e end since (omega arith) (omega arith) finished in
+          not_late tci (omega arith) (omega arith)
+
+  -- So no end is overdue.
+  in_time : (n f : ℕ) → IsEnd t n f
+      → is_overdue asked from (unfinished_since asked t n f) f ≡ false
+  in_time n f end = go (unfinished_since asked t n f) refl
+    where
+      overdue : (r : ℕ) → f < r + options.within → (b : Bool) → b ≡ false
+          → (nat_le (r + options.within) f || b) ≡ false
+      overdue r l b none = grind (arith, nat_tests)
+
+      go : (o : Option ℕ) → unfinished_since asked t n f ≡ o → is_overdue asked from o f ≡ false
+      go None since = refl
+      go (Some r) since =
+          overdue r (soon n f r end since) (is_missed (asked.ending (f + 1)) from r)
+          (none_missed n f r end since)
+
+  -- A frame is finished at once, where no frames are allowed.
+  at_once : (n f : ℕ) → IsEnd t n f → options.within ≡ 0
+      → is_unfinished asked t n f ≡ false
+  at_once n f end none =
+      let first = first-same t in
+      let last = last-same t in
+      let low = end_high t order n f end in
+      let high = end_low t order n f end in
+      let (e, from, to, finished) = good.shows.again f (omega arith) (omega arith) in
+      let same : e ≡ f = omega arith in
+      of_finished programme options None t order n f end
+      (subst (IsFinished programme t options) same finished)
+
+  -- What is asked of content and of the page's end.
+  still : (n f : ℕ) → IsEnd t n f
+      → (broken_cell asked t n f ≡ None)
+      × IsFalse (is_late asked t n f && is_incomplete asked t n)
+  still n f end = by_within (cases_eq options.within 0)
+    where
+      late : is_late asked t n f ≡ (options.within == 0)
+      late = late_is programme options None t order n f (in_time n f end)
+
+      may_of : (row column : ℕ)
+          → IsDueWithin programme t options f row column
+          (shown options.page (packets_before t n) row column)
+          → MayShow options.page (packets_before t n) asked.due from f options.within row column
+      may_of row column (inl blank) = inl blank
+      may_of row column (inr (e, low, to, near, same)) =
+          inr (e, inl (omega (arith, first-same t)), to, near, same)
+
+      by_within : (options.within ≡ 0) ⊎ (options.within ≡ 0 → ⊥)
+          → (broken_cell asked t n f ≡ None)
+          × IsFalse (is_late asked t n f && is_incomplete asked t n)
+      by_within (inl none) =
+          let is_zero : (options.within == 0) ≡ true = grind (arith, nat_tests) in
+          let finished = at_once n f end none in
+          let parts =
+          or_parts (is_some (wrong_cell asked t n f)) (is_incomplete asked t n) finished in
+          let wrong = none_is (wrong_cell asked t n f) parts.0 in
+          (rw (late, is_zero) wrong, rw (late, is_zero) parts.1)
+      by_within (inr some) =
+          let is_zero : (options.within == 0) ≡ false = grind (arith, nat_tests) in
+          let first = first-same t in
+          let last = last-same t in
+          let low = end_high t order n f end in
+          let high = end_low t order n f end in
+          let on = end_is_on_air t order n f end in
+          let undue :
+          undue_after options.page (packets_before t n) asked.due from f options.within ≡ None =
+          none_undue options.page (packets_before t n) asked.due from f options.within
+          (λ row column named.
+          may_of row column
+          (subst
+          (λ ps. IsDueWithin programme t options f row column (shown options.page ps row column))
+          on (good.shows.codes f row column (omega arith) (omega arith) named))) in
+          (rw (late, is_zero) undue, rw (late, is_zero) refl)
+
+  -- No end is waited for.
+  none_waited : is_pending asked t ≡ false
+  unfolding is_pending
+  none_waited =
+      let end : IsEnd t (length t) (end_frame t) =
+      (good.rules.not_empty, le_refl (length t), inl refl) in
+      let finished =
+      of_finished programme options None t order (length t) (end_frame t) end
+      (subst (IsFinished programme t options) (last-same t) good.shows.ends) in
+      let none = no_since programme options None t order (length t) (end_frame t) end finished in
+      rw none refl
+
+  -- All that is asked holds.
+  pub holds-from_within : AllOk asked t
+  holds-from_within = holds-from_rules programme options t good.rules still none_waited
+
+-- ---- the law
+
+pub law_of_nothing_told_within : LawOfNothingToldWithin
+law_of_nothing_told_within programme options unread frames is every whole =
+    let told = nothing_told (task_of programme options unread) frames whole in (
+      λ none.
+          let h = told.0 none in
+          (Within-from_holds programme options unread frames every is h whole, h.unread),
+      λ good.
+          told.1
+          (subst (λ o. AllOk (task_of programme options o) frames) (sym good.1)
+          (holds-from_within programme options frames is good.0)),
+    )

@@ -1,0 +1,274 @@
+-- Since which frame the ends are unfinished: of tests one after another, `Since`; and where frames
+-- rise, of their ends, `since_end`.
+use Rattle.std.proofs.lemmas.Bool.Decides.{nat_tests}
+use Rattle.std.proofs.Common.{◌≡◌, ℕ, zero, suc, ◌+◌, ◌-◌, ◌<◌, ◌≤◌, ◌⊎◌, inl, inr, Bool, true}
+use Rattle.std.proofs.Common.{false, ◌&&◌, ◌||◌, Option, Some, None, is_some, length, refl, sym, ap}
+use Rattle.std.proofs.Common.{◌∙◌, subst, arith}
+use Rattle.std.proofs.lemmas.Bool.{cases_eq, cases_lt, true≢false}
+use Rattle.std.proofs.lemmas.Option.{none-some, same_Some}
+use Rattle.ttx_page.specs.PacketKind.{kind}
+use Rattle.ttx_page.specs.Span.{is_open_after}
+use Rattle.sub_rules.specs.Events.{gap_length, is_incomplete, is_unfinished, latest, since_frames}
+use Rattle.sub_rules.specs.Events.{since_in_gap, unfinished_from, unfinished_since, wrong_after}
+use Rattle.sub_rules.specs.FrameRules.{Task, frame_at}
+use Rattle.sub_rules.specs.Transmission.{Transmission, on_air_until}
+use Rattle.sub_rules.proofs.EndLemmas.{gap_length-is}
+use Rattle.sub_laws.specs.CleanStretch.{IsEnd}
+use Rattle.sub_laws.proofs.PrefixLemmas.{RiseTo, end_is_on_air, rises_to}
+use Rattle.sub_laws.proofs.RisingEndLemmas.{latest_at}
+
+-- ---- tests one after another
+
+module _ (un : ℕ → Bool) (first : ℕ) where
+  -- The frame of the earliest of the unfinished ones that follow one another up to first + k.
+  abbrev pub since_at : ℕ → Option ℕ
+  since_at zero = unfinished_from None (un first) first
+  since_at (suc k) = unfinished_from (since_at k) (un (first + suc k)) (first + suc k)
+
+  -- That is frame r: all from it on are unfinished, and the one before it is not, if there is one.
+  pub record Since (k r : ℕ) : Type 0 where
+    pub low : first ≤ r
+    pub high : r ≤ first + k
+    pub all : (e : ℕ) → r ≤ e → e ≤ first + k → un e ≡ true
+    pub begins : (r ≡ first) ⊎ ((first < r) × (un (r - 1) ≡ false))
+
+  -- There is none exactly where the last one is finished.
+  pub since_none : (k : ℕ) → since_at k ≡ None → un (first + k) ≡ false
+  since_none zero e =
+      let same : first + 0 ≡ first = omega arith in
+      ap un same ∙ finished (un first) e
+    where
+      finished : (b : Bool) → unfinished_from None b first ≡ None → b ≡ false
+      finished b e = grind (arith, nat_tests, none-some)
+  since_none (suc k) e = finished (un (first + suc k)) e
+    where
+      finished : (b : Bool) → unfinished_from (since_at k) b (first + suc k) ≡ None → b ≡ false
+      finished b e = grind (arith, nat_tests, none-some)
+
+  pub none_since : (k : ℕ) → un (first + k) ≡ false → since_at k ≡ None
+  none_since zero e =
+      let same : first ≡ first + 0 = omega arith in
+      ap (λ b. unfinished_from None b first) (ap un same ∙ e)
+  none_since (suc k) e = ap (λ b. unfinished_from (since_at k) b (first + suc k)) e
+
+  pub since_some : (k r : ℕ) → since_at k ≡ Some r → Since k r
+  since_some zero r e = go (un first) refl e
+    where
+      go : (b : Bool) → un first ≡ b → unfinished_from None b first ≡ Some r → Since 0 r
+      go false is e = absurd (none-some r e)
+      go true is e =
+          let at : first ≡ r = same_Some _ _ e in
+          record {
+            low = omega arith;
+            high = omega arith;
+            all = λ x l m. let same : first ≡ x = omega arith in ap un (sym same) ∙ is;
+            begins = inl (sym at);
+          }
+  since_some (suc k) r e = go (since_some k) (un (first + suc k)) refl (since_at k) refl e
+    where
+      go : ((s : ℕ) → since_at k ≡ Some s → Since k s)
+          → (b : Bool) → un (first + suc k) ≡ b
+          → (o : Option ℕ) → since_at k ≡ o
+          → unfinished_from o b (first + suc k) ≡ Some r
+          → Since (suc k) r
+      go so_far false is o before e = absurd (none-some r e)
+      go so_far true is None before e =
+          let at : first + suc k ≡ r = same_Some _ _ e in
+          let back : first + k ≡ r - 1 = omega arith in
+          record {
+            low = omega arith;
+            high = omega arith;
+            all = λ x l m. let same : first + suc k ≡ x = omega arith in ap un (sym same) ∙ is;
+            begins = inr (omega arith, ap un (sym back) ∙ since_none k before);
+          }
+      go so_far true is (Some s) before e =
+          let at : s ≡ r = same_Some _ _ e in
+          let earlier : Since k r = subst (Since k) at (so_far s before) in
+          record {
+            low = earlier.low;
+            high = let l = earlier.high in omega arith;
+            all = λ x l m. elim (cases_eq (first + suc k) x) [
+              | inl same ↦ ap un (sym same) ∙ is
+              | inr other ↦ earlier.all x l (omega arith)
+            ];
+            begins = earlier.begins;
+          }
+
+  -- One of those from a on is finished, where the unfinished ones do not begin so early.
+  pub finished_from : (a k : ℕ) → first ≤ a → a ≤ first + k
+      → ((r : ℕ) → since_at k ≡ Some r → r ≤ a → ⊥)
+      → (e : ℕ) × (a ≤ e) × (e ≤ first + k) × (un e ≡ false)
+  finished_from a k low high late = go (since_at k) refl
+    where
+      go : (o : Option ℕ) → since_at k ≡ o
+          → (e : ℕ) × (a ≤ e) × (e ≤ first + k) × (un e ≡ false)
+      go None is = (first + k, high, omega arith, since_none k is)
+      go (Some r) is =
+          let since = since_some k r is in
+          elim (cases_lt a r) [
+            | inr early ↦ absurd (late r is early)
+            | inl after ↦ elim since.begins [
+              | inl start ↦ absurd (omega arith)
+              | inr (some, before) ↦
+                  let top = since.high in (r - 1, omega arith, omega arith, before)
+            ]
+          ]
+
+  -- Where one of them is finished, they begin after it.
+  pub since_after : (k r e : ℕ) → since_at k ≡ Some r → un e ≡ false → e ≤ first + k → e < r
+  since_after k r e is finished high = elim (cases_lt e r) [
+    | inl after ↦ after
+    | inr not_after ↦
+        absurd (true≢false (sym ((since_some k r is).all e not_after high) ∙ finished))
+  ]
+
+-- ---- the ends of frames that rise
+
+module _ (g : Task) (t : Transmission) (rises : RiseTo t (length t)) where
+  -- The end of frame f is unfinished, by what is on air up to it.
+  abbrev pub unfinished_at : ℕ → Bool
+  unfinished_at f =
+      is_some (wrong_after g.watched.page (on_air_until t f) (g.due f))
+      || (g.watched.complete && is_open_after (kind g.watched.page) (on_air_until t f))
+
+  pub unfinished_is : (n f : ℕ) → IsEnd t n f → is_unfinished g t n f ≡ unfinished_at f
+  unfolding is_incomplete
+  unfinished_is n f end = rw (end_is_on_air t rises n f end) refl
+
+  -- The first of the unfinished ends up to that of a frame without packets, by the one before.
+  since_gap : (n m : ℕ)
+      → unfinished_since g t n (latest t n + suc m)
+      ≡ unfinished_from (unfinished_since g t n (latest t n + m))
+      (is_unfinished g t n (latest t n + suc m)) (latest t n + suc m)
+  unfolding unfinished_since since_in_gap
+  since_gap n m =
+      let next : latest t n + suc m - latest t n ≡ suc m = omega arith in
+      let here : latest t n + m - latest t n ≡ m = omega arith in
+      rw (next, here) refl
+
+  -- That up to the end of a frame of the list.
+  since_own : (i : ℕ)
+      → since_frames g t (suc i)
+      ≡ unfinished_from (unfinished_since g t i (latest t i + gap_length t i))
+      (is_unfinished g t (suc i) (frame_at t i)) (frame_at t i)
+  unfolding unfinished_since since_frames
+  since_own i =
+      let here : latest t i + gap_length t i - latest t i ≡ gap_length t i = omega arith in
+      rw here refl
+
+  since_first : unfinished_since g t 0 (latest t 0 + gap_length t 0) ≡ None
+  unfolding unfinished_since since_in_gap since_frames latest gap_length
+  since_first = refl
+
+  last_is : (n : ℕ) → 0 < n → n ≤ length t → latest t n ≡ frame_at t (n - 1)
+  last_is n some l = latest_at t n (λ i a b. rises i a (omega arith)) some
+
+  since_here : (i : ℕ) → i < length t
+      → unfinished_since g t (suc i) (frame_at t i) ≡ since_frames g t (suc i)
+  unfolding unfinished_since since_in_gap
+  since_here i l =
+      let last = last_is (suc i) (omega arith) (omega arith) in
+      let back : frame_at t (suc i - 1) ≡ frame_at t i = ap (frame_at t) (omega arith) in
+      let none : frame_at t i - latest t (suc i) ≡ 0 = omega arith in
+      rw none refl
+
+  -- A frame from the last of the first n on, and before the next one, has an end.
+  end_from_last : (n x : ℕ) → 0 < n → n < length t → frame_at t (n - 1) ≤ x → x < frame_at t n
+      → IsEnd t n x
+  end_from_last n x some there low high = elim (cases_eq x (frame_at t (n - 1))) [
+    | inl own ↦ (some, omega arith, inl own)
+    | inr other ↦ (
+      some,
+      omega arith,
+      inr (
+        there,
+        high,
+        λ i l.
+            let up = rises_to t (length t) rises i (n - 1) (omega arith) (omega arith) in
+            omega arith,
+      ),
+    )
+  ]
+
+  -- The end before that of a frame after the first.
+  pub record EndBefore (n f : ℕ) : Type 0 where
+    pub m : ℕ
+    pub end : IsEnd t m (f - 1)
+    pub since :
+        unfinished_since g t n f
+        ≡ unfinished_from (unfinished_since g t m (f - 1)) (is_unfinished g t n f) f
+
+  before_own : (i : ℕ) → suc i < length t → EndBefore (suc (suc i)) (frame_at t (suc i))
+  before_own i l =
+      let up : frame_at t (suc i - 1) < frame_at t (suc i) = rises (suc i) (omega arith) l in
+      let last = last_is (suc i) (omega arith) (omega arith) in
+      let long = gap_length-is t (suc i) (omega arith) in
+      let at : latest t (suc i) + gap_length t (suc i) ≡ frame_at t (suc i) - 1 = omega arith in
+      record {
+        m = suc i;
+        end = end_from_last (suc i) (frame_at t (suc i) - 1) (omega arith) l (omega arith)
+            (omega arith);
+        since =
+            since_here (suc i) l ∙ since_own (suc i)
+            ∙ ap (λ x. unfinished_from (unfinished_since g t (suc i) x)
+            (is_unfinished g t (suc (suc i)) (frame_at t (suc i))) (frame_at t (suc i))) at;
+      }
+
+  before_in_gap : (n f : ℕ) → 0 < n → n < length t → f < frame_at t n → frame_at t (n - 1) < f
+      → EndBefore n f
+  before_in_gap n f some there high low =
+      let last = last_is n some (omega arith) in
+      let now : latest t n + suc (f - 1 - latest t n) ≡ f = omega arith in
+      let earlier : latest t n + (f - 1 - latest t n) ≡ f - 1 = omega arith in
+      record {
+        m = n;
+        end = end_from_last n (f - 1) some there (omega arith) (omega arith);
+        since = rw (now, earlier) at (since_gap n (f - 1 - latest t n));
+      }
+
+  pub end_before : (n f : ℕ) → IsEnd t n f → frame_at t 0 < f → EndBefore n f
+  end_before zero f (some, l, at) after = absurd (omega arith)
+  end_before (suc zero) f (some, l, inl own) after =
+      let first : frame_at t (suc zero - 1) ≡ frame_at t 0 = ap (frame_at t) (omega arith) in
+      absurd (omega arith)
+  end_before (suc (suc i)) f (some, l, inl own) after =
+      let back : frame_at t (suc (suc i) - 1) ≡ frame_at t (suc i) =
+      ap (frame_at t) (omega arith) in
+      subst (EndBefore (suc (suc i))) (sym (own ∙ back)) (before_own i (omega arith))
+  end_before (suc n) f (some, l, inr (there, high, low)) after =
+      before_in_gap (suc n) f some there high (low (suc n - 1) (omega arith))
+
+  -- The end of the first frame.
+  pub end_first : (n f : ℕ) → IsEnd t n f → f ≡ frame_at t 0
+      → unfinished_since g t n f ≡ unfinished_from None (is_unfinished g t n f) f
+  end_first zero f (some, l, at) first = absurd (omega arith)
+  end_first (suc zero) f end first =
+      subst
+      (λ x. unfinished_since g t 1 x ≡ unfinished_from None (is_unfinished g t 1 x) x) (sym first)
+      (since_here 0 (let l = end.1 in omega arith) ∙ since_own 0
+      ∙ ap (λ o. unfinished_from o (is_unfinished g t 1 (frame_at t 0)) (frame_at t 0)) since_first)
+  end_first (suc (suc i)) f (some, l, inl own) first =
+      let up = rises (suc i) (omega arith) (omega arith) in
+      let low = rises_to t (length t) rises 0 (suc i - 1) (omega arith) (omega arith) in
+      let back : frame_at t (suc (suc i) - 1) ≡ frame_at t (suc i) =
+      ap (frame_at t) (omega arith) in
+      absurd (omega arith)
+  end_first (suc (suc i)) f (some, l, inr (there, high, low)) first =
+      let after = low 0 (omega arith) in absurd (omega arith)
+
+  -- At each end it is the first of the unfinished frames up to there.
+  pub since_end : (k n f : ℕ) → IsEnd t n f → f ≡ frame_at t 0 + k
+      → unfinished_since g t n f ≡ since_at unfinished_at (frame_at t 0) k
+  since_end zero n f end at =
+      let first : f ≡ frame_at t 0 = omega arith in
+      end_first n f end first
+      ∙ ap (λ b. unfinished_from None b f) (unfinished_is n f end)
+      ∙ ap (λ x. unfinished_from None (unfinished_at x) x) first
+  since_end (suc k) n f end at =
+      let before = end_before n f end (omega arith) in
+      let earlier = since_end k before.m (f - 1) before.end (omega arith) in
+      before.since
+      ∙ ap (λ o. unfinished_from o (is_unfinished g t n f) f) earlier
+      ∙ ap (λ b. unfinished_from (since_at unfinished_at (frame_at t 0) k) b f)
+      (unfinished_is n f end)
+      ∙ ap (λ x. unfinished_from (since_at unfinished_at (frame_at t 0) k) (unfinished_at x) x) at

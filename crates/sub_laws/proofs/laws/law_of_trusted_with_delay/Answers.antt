@@ -1,0 +1,6 @@
+-- The law: TrustedDelayLemmas.
+use Rattle.sub_laws.proofs.TrustedDelayLemmas.{law_of_trusted_with_delay}
+use Rattle.sub_laws.proofs.laws.law_of_trusted_with_delay.Goals as goal
+
+pub returns : goal.returns
+returns c = law_of_trusted_with_delay
