@@ -11,6 +11,22 @@ use std::alloc::Global;
 use std::process::Abort;
 use sub_io::MemSink;
 
+/// Asserts what is printed of a subtitle file and these bytes, with these options of a check.
+pub fn assert_told_of<'x>(
+    rt: &(impl Abort + Alloc<A = Global>),
+    stl: &[u8],
+    pes: &[u8],
+    options: &[&'x str],
+    lines: &str,
+) {
+    let mut words = ["a"; 10];
+    assert!(rt; options.len() <= 6);
+    words[..4].copy_from_slice(&CHECK);
+    words[4..4 + options.len()].copy_from_slice(options);
+    let words = &words[..4 + options.len()];
+    assert_all(rt, words, stl, pes, "", lines);
+}
+
 /// Asserts what is printed of the subtitle file of `Hi` and these bytes, with these options of a
 /// check.
 pub fn assert_told<'x>(
@@ -19,12 +35,7 @@ pub fn assert_told<'x>(
     options: &[&'x str],
     lines: &str,
 ) {
-    let mut words = ["a"; 9];
-    assert!(rt; options.len() <= 5);
-    words[..4].copy_from_slice(&CHECK);
-    words[4..4 + options.len()].copy_from_slice(options);
-    let words = &words[..4 + options.len()];
-    assert_all(rt, words, &file_of_hi(), pes, "", lines);
+    assert_told_of(rt, &file_of_hi(), pes, options, lines);
 }
 
 #[rattlefmt::skip]

@@ -26,3 +26,5 @@ mod passed_over;
 mod stopped;
 #[cfg(test)]
 mod trusted;
+#[cfg(test)]
+mod within;

@@ -1,7 +1,8 @@
 //! `listen`: what a receiver shows of the transmission of `Hi`.
 use crate::answers::{assert_fills, assert_prints, assert_prints_of};
 use fixtures::{
-    CLOSING, HEADER, ROW, TEN, every_second, every_second_twice, push_pes, schedule_of_hi,
+    CLOSING, HEADER, ROW, TEN, every_second, every_second_twice, push_pes, push_spelled,
+    schedule_of_hi,
 };
 use std::alloc::Global;
 use std::process::Abort;
@@ -221,6 +222,53 @@ fn hears_a_sending_anew_after_one_with_a_flip(rt: HostRuntime) {
     let flip = ["--flip", "4:21:1"];
     assert_hears(&rt, pes.written(), "10:00:00:01", &flip, HIT);
     assert_hears(&rt, pes.written(), "10:00:00:02", &flip, HI);
+}
+
+// Transmissions with several PES packets of one frame, what is listened up to with which options,
+// and what is printed.
+#[rattlefmt::skip]
+const SENDINGS: [[&[&str]; 3]; 16] = [
+    [&["0:h", "0+:rc", "1:hc"], &["10:00:00:00"], &["refused 61 OffFrame pes 1\n"]],
+    [&["0:h", "0+:rc", "1:hc"], &["10:00:00:00", "--within", "0"], &[
+        "refused 61 OffFrame pes 1\n"]],
+    [&["0:h", "0+:rc", "1:hc"], &["10:00:00:00", "--within", "1"], &[HI]],
+    [&["0:h", "0+:rc", "1:hc"], &["10:00:00:01", "--within", "1"], &[BLANK]],
+    [&["0:h", "0:rc", "1:hc"], &["10:00:00:00"], &["refused 62 Order pes 1\n"]],
+    [&["0:h", "0:", "0:r", "0+:c", "1-:hc"], &["10:00:00:00", "--within", "50"], &[HI]],
+    [&["0:hrc", "0:hc", "1:hrc"], &["10:00:00:00", "--within", "1"], &[BLANK]],
+    // a frame before, of which nothing is told after the time
+    [&["1:hrc", "1:h", "0+:rc"], &["10:00:00:01", "--within", "1"], &["refused 62 Order pes 2\n"]],
+    [&["1:hrc", "1:h", "0+:rc"], &["10:00:00:00", "--within", "1"], &[NOTHING]],
+    // a lost header, by its number in its frame
+    [&["0:h", "0+:rc", "0+:hc", "1:hc"], &["10:00:00:00", "--within", "1", "--lose", "3"], &[
+        "refused 76 LostHeader frame 10:00:00:00 packet 3\n"]],
+    [&["0:h", "0:", "0+:rc", "1:hc"], &["10:00:00:00", "--within", "1", "--lose", "2"], &[LOST_2]],
+    [&["0:h", "0+:rc", "1:r", "1:hc"], &["10:00:00:01", "--within", "1", "--lose", "4"], &[
+        "refused 76 LostHeader frame 10:00:00:01 packet 1\n"]],
+    [&["0:h", "1:rc", "2:hc"], &["10:00:00:02", "--within", "1", "--lose", "3"], &[
+        "refused 76 LostHeader frame 10:00:00:02 packet 0\n"]],
+    [&["0:h", "1:rc", "2:hc"], &["10:00:00:02", "--lose", "3"], &[
+        "refused 76 LostHeader frame 10:00:00:02 packet 0\n"]],
+    // a flip in the second PES packet of a frame
+    [&["0:h", "0+:rc", "1:hc"], &["10:00:00:00", "--within", "1", "--flip", "1:21:1"], &[HIT]],
+    [&["0:h", "0+:rc", "1:hc"], &["10:00:00:00", "--within", "1", "--complete"], &[HI]],
+];
+
+// Asserts what a row prints.
+fn assert_hears_row(rt: &(impl Abort + Alloc<A = Global>), row: &[&[&str]; 3]) {
+    let mut room = [0; 920];
+    let mut pes = MemSink::new(&mut room);
+    push_spelled(&mut pes, row[0]);
+    assert!(rt; row[1].len() >= 1 && row[2].len() == 1);
+    let (at, options) = row[1].split_at(1);
+    assert_hears(rt, pes.written(), at[0], options, row[2][0]);
+}
+
+#[test]
+fn hears_pes_packets_of_one_frame(rt: HostRuntime) {
+    for row in &SENDINGS {
+        assert_hears_row(&rt, row);
+    }
 }
 
 #[test]

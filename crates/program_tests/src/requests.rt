@@ -121,6 +121,35 @@ fn reads_the_flags_of_a_check(rt: HostRuntime) {
     assert_checks(&rt, &both, true, true);
 }
 
+// How many frames the options of a request allow.
+fn allowed(request: &Request<'_>) -> Option<u64> {
+    match request {
+        Request::Check { options, .. } => Some(options.within()),
+        Request::Listen { listening, .. } => Some(listening.options.within()),
+        _ => None,
+    }
+}
+
+// Asserts how many frames words allow.
+fn assert_allows<'a>(rt: &(impl Abort + Alloc<A = Global>), words: &'a [&'a str], frames: u64) {
+    match Request::parse(rt.alloc(), words) {
+        Ok(request) => assert_same(rt, &allowed(&request), &Some(frames)),
+        Err(_) => panic!(rt; "no request"),
+    }
+}
+
+#[rattlefmt::skip]
+#[test]
+fn reads_the_frames_that_are_allowed(rt: HostRuntime) {
+    assert_allows(&rt, &["subttx", "check", "a", "b"], 0);
+    assert_allows(&rt, &["subttx", "check", "a", "b", "--within", "0"], 0);
+    assert_allows(&rt, &["subttx", "check", "--within=50", "a", "b", "--complete"], 50);
+    assert_allows(&rt, &["subttx", "check", "a", "b", "--within", "0000000007"], 7);
+    let at = "10:00:00:10";
+    assert_allows(&rt, &["subttx", "listen", "a", "--at", at], 0);
+    assert_allows(&rt, &["subttx", "listen", "a", "--within", "1", "--at", at], 1);
+}
+
 // Asserts that words ask to listen to file a with this page and PTS of frame 0, up to a frame,
 // with this number of packets passed over, and with these flips and lost packets.
 fn assert_listens<'a>(

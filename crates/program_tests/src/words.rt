@@ -27,7 +27,7 @@ fn prints_the_line_of_refused_words_into_any_output(rt: HostRuntime) {
 
 // Words that are no command.
 #[rattlefmt::skip]
-const NO_WORDS: [&[&str]; 34] = [
+const NO_WORDS: [&[&str]; 39] = [
     &[], // not even the program's name
     &["subttx"],
     &["subttx", "--help"],
@@ -63,6 +63,12 @@ const NO_WORDS: [&[&str]; 34] = [
     &["subttx", "check", "a", "b", "--all", "--all"],
     &["subttx", "schedule", "a", "b", "--all"],
     &["subttx", "listen", "a", "--at", "10:00:00:10", "--all"],
+    // frames are allowed once, by a text, and of a check and a receiver
+    &["subttx", "check", "a", "b", "--within"],
+    &["subttx", "check", "a", "b", "--within", "1", "--within", "2"],
+    &["subttx", "listen", "a", "--at", "10:00:00:10", "--within=1", "--within=1"],
+    &["subttx", "schedule", "a", "b", "--within", "1"],
+    &["subttx", "packets", "a", "--within", "1"],
 ];
 
 #[test]
@@ -149,6 +155,48 @@ fn tells_the_first_fault_of_a_schedule(rt: HostRuntime) {
     assert_refuses(&rt, &["subttx", "normal", "a", "a"], "usage 7 SameFile\n");
 }
 
+// The arguments of a check and of a receiver, of which one is how many frames are allowed, and the
+// lines of both.
+#[rattlefmt::skip]
+const WITHINS: [[&str; 6]; 14] = [
+    // option, frames that are allowed, origin, time, line of the check, line of the receiver
+    ["french", "x", "x", "x", "usage 81 Origin\n", "usage 81 Origin\n"],
+    ["french", "51", "0", "x", "usage 83 BadOption\n", "usage 85 Within\n"],
+    ["english", "51", "0", "x", "usage 85 Within\n", "usage 85 Within\n"],
+    ["english", "x", "0", "x", "usage 85 Within\n", "usage 85 Within\n"],
+    ["english", "", "0", "x", "usage 85 Within\n", "usage 85 Within\n"],
+    ["english", "+1", "0", "x", "usage 85 Within\n", "usage 85 Within\n"],
+    ["english", " 1", "0", "x", "usage 85 Within\n", "usage 85 Within\n"],
+    ["english", "1.0", "0", "x", "usage 85 Within\n", "usage 85 Within\n"],
+    ["english", "00000000001", "0", "x", "usage 85 Within\n", "usage 85 Within\n"],
+    ["english", "9999999999", "0", "x", "usage 85 Within\n", "usage 85 Within\n"],
+    ["english", "4294967297", "0", "x", "usage 85 Within\n", "usage 85 Within\n"],
+    ["english", "0", "x", "x", "usage 81 Origin\n", "usage 81 Origin\n"],
+    ["french", "50", "0", "x", "usage 83 BadOption\n", "usage 6 BadTime\n"],
+    ["french", "0000000050", "0", "x", "usage 83 BadOption\n", "usage 6 BadTime\n"],
+];
+
+// Asserts both lines of a row.
+#[rattlefmt::skip]
+fn assert_refuses_within(rt: &(impl Abort + Alloc<A = Global>), row: &[&str; 6]) {
+    let words = [
+        "subttx", "check", "a", "b", "--within", row[1], "--option", row[0], "--origin", row[2],
+    ];
+    assert_refuses(rt, &words, row[4]);
+    let words = [
+        "subttx", "listen", "a", "--at", row[3], "--within", row[1], "--origin", row[2],
+        "--skip", "x",
+    ];
+    assert_refuses(rt, &words, row[5]);
+}
+
+#[test]
+fn refuses_frames_that_are_not_allowed(rt: HostRuntime) {
+    for row in &WITHINS {
+        assert_refuses_within(&rt, row);
+    }
+}
+
 // The arguments of a receiver in the order in which their faults are told, and the line.
 #[rattlefmt::skip]
 const RECEIVERS: [[&str; 8]; 14] = [
@@ -207,7 +255,9 @@ fn refuses_dashes_as_clap_does(rt: HostRuntime) {
     assert_refuses(&rt, &twice, no_words);
     let twice = ["subttx", "schedule", "a", "b", "--serial", "--serial"];
     assert_refuses(&rt, &twice, no_words);
+    assert_refuses(&rt, &["subttx", "check", "a", "b", "--within", "-1"], no_words);
     assert_refuses(&rt, &["subttx", "check", "a", "b", "--every=-1"], "usage 80 Every\n");
+    assert_refuses(&rt, &["subttx", "check", "a", "b", "--within=-1"], "usage 85 Within\n");
 }
 
 #[test]

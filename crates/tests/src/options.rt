@@ -1,5 +1,5 @@
 //! Options of a transmission.
-use crate::asserting::assert_same;
+use crate::asserting::{assert_same, assert_same_in};
 use fixtures::options;
 use std::process::Abort;
 use sub_plan::{OptionFault, Options};
@@ -48,4 +48,62 @@ fn asks_for_complete_pages_where_it_is_asked_to(rt: HostRuntime) {
     let plain = of_origin(&rt, 7);
     let asking = plain.asking_complete();
     assert!(rt; !plain.asks_complete() && asking.asks_complete() && asking.origin() == 7);
+}
+
+// The options of this origin that allow so many frames.
+fn allowing(rt: &impl Abort, origin: u64, frames: u64) -> Options {
+    match of_origin(rt, origin).allowing(frames) {
+        Ok(options) => options,
+        Err(_) => panic!(rt; "{frames} frames are not allowed"),
+    }
+}
+
+#[test]
+fn allows_two_seconds_at_most(rt: HostRuntime) {
+    assert_same(&rt, &of_origin(&rt, 7).within(), &0);
+    for frames in [0, 1, 50] {
+        let options = allowing(&rt, 7, frames);
+        assert_same(&rt, &(options.within(), options.origin()), &(frames, 7));
+    }
+    for frames in [51, u64::MAX] {
+        let fault = of_origin(&rt, 7).allowing(frames).err();
+        assert_same(&rt, &fault, &Some(OptionFault::Within));
+    }
+    // What was asked before stays, and none are allowed again.
+    let asking = of_origin(&rt, 7).asking_complete().allowing(3);
+    assert!(rt; asking.is_ok_and(|options| options.asks_complete() && options.within() == 3));
+    let none = allowing(&rt, 7, 3).allowing(0);
+    assert!(rt; none.is_ok_and(|options| options == of_origin(&rt, 7)));
+}
+
+// Asserts the frame of a PTS where so many frames are allowed.
+fn assert_read_as(rt: &impl Abort, origin: u64, frames: u64, pts: u64, frame: Option<u32>) {
+    let options = allowing(rt, origin, frames);
+    assert_same_in(rt, &options.frame_of(pts), &frame, &(origin, frames, pts));
+}
+
+#[test]
+fn reads_times_between_two_frames_where_frames_are_allowed(rt: HostRuntime) {
+    for frames in [1, 50] {
+        assert_read_as(&rt, 0, frames, 3600, Some(1));
+        assert_read_as(&rt, 0, frames, 2700, Some(1)); // a quarter of a frame early
+        assert_read_as(&rt, 0, frames, 2699, Some(0));
+        assert_read_as(&rt, 0, frames, 5400, Some(1)); // the second field
+        assert_read_as(&rt, 0, frames, 6299, Some(1));
+        assert_read_as(&rt, 0, frames, 6300, Some(2));
+        // before frame 0, past 33 bits
+        assert_read_as(&rt, 0, frames, 0x1_FFFF_FC7C, Some(0));
+        assert_read_as(&rt, 0, frames, 0x1_FFFF_FC7B, None);
+        assert_read_as(&rt, 0x1_FFFF_FFFF, frames, 0, Some(0));
+        assert_read_as(&rt, 900, frames, 0, Some(0));
+        assert_read_as(&rt, 901, frames, 0, None);
+        // the last frame of the day, and the end of it
+        assert_read_as(&rt, 0, frames, 7_775_999_099, Some(2_159_999));
+        assert_read_as(&rt, 0, frames, 7_775_999_100, None);
+        assert_read_as(&rt, 0, frames, 0x2_0000_0000, None); // one bit more than a PTS has
+    }
+    // Where none are allowed there is no frame between two.
+    assert_read_as(&rt, 0, 0, 3600, Some(1));
+    assert_read_as(&rt, 0, 0, 2700, None);
+    assert_read_as(&rt, 0, 0, 5400, None);
 }

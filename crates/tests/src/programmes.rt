@@ -45,6 +45,15 @@ fn assert_holds(rt: &impl Abort, programme: &Programme) {
     assert_same(rt, &programme.national(), &National::German);
 }
 
+// Asserts which of the two ends at a frame.
+fn assert_both_end(rt: &impl Abort, programme: &Programme) {
+    for frame in [0, TEN - 1, TEN, TEN + 49, TEN + 51, TEN + 99, TEN + 101] {
+        assert_same_in(rt, &programme.tci_of_ending(frame), &None, &frame);
+    }
+    assert_same(rt, &programme.tci_of_ending(TEN + 50), &Some(TEN));
+    assert_same(rt, &programme.tci_of_ending(TEN + 100), &Some(TEN + 50));
+}
+
 #[test]
 fn loads_subtitles_in_order(rt: HostRuntime) -> Result<(), Fail> {
     let second = block(&head(TEN + 50, TEN + 100, 22), &[0x41]);
@@ -54,6 +63,7 @@ fn loads_subtitles_in_order(rt: HostRuntime) -> Result<(), Fail> {
     assert!(rt; programme.len() == 2);
     assert_same(&rt, &programme.subtitle(1).text(), &&b"A"[..]);
     assert_both_due(&rt, &programme);
+    assert_both_end(&rt, &programme);
     Ok(())
 }
 
