@@ -5,14 +5,15 @@ receiver holds is looked up there at the end of each frame.
 """
 from __future__ import annotations
 
-from typing import Iterator, NamedTuple, Sequence
+from typing import Iterable, Iterator, NamedTuple, Sequence
 
 from ..teletext import CODE_WORDS, Page, address_of, is_odd
 from ..times import time_of
 from .reading import (
     Header, Record, StlFault, found_in, header_of, pieces_of, records_of, sending_in)
-from .rows import BLANK, COLUMNS, TextFault, drawn
-from .trust import Course, Event, Sent, lines_of
+from .rows import BLANK, COLUMNS, SPACE, TextFault, drawn
+from .trust import Course, End, Event, Sent, lines_of
+from .words import Options, options_of
 
 NAMES = dict(
     (int(words[0]), words[1]) for words in map(str.split, """
@@ -25,16 +26,6 @@ NAMES = dict(
     |71 NoFirstHeader|72 Content|73 Gap|74 Late|77 Incomplete""".split("|")))
 
 
-class Options(NamedTuple):
-    """The words of `check`."""
-
-    page: Page
-    every: int
-    origin: int
-    option: str
-    is_complete: bool
-
-
 class Packet(NamedTuple):
     """A Teletext packet as it is read: `header` is `None` in any other packet, and where it is
     none."""
@@ -42,17 +33,6 @@ class Packet(NamedTuple):
     data: bytes
     address: tuple[int, int] | None
     header: Header | None
-
-
-def options_of(words: list[str]) -> Options:
-    """The options of `check` from its words, each a name and a text but for `--complete`."""
-    is_complete = "--complete" in words
-    words = [word for word in words if word != "--complete"]
-    given = {"--page": "888", "--every": "250", "--origin": "0", "--option": "english",
-             **dict(zip(words[::2], words[1::2]))}
-    page = int(given["--page"][0]) % 8, int(given["--page"][1:], 16)
-    return Options(page, int(given["--every"]), int(given["--origin"]), given["--option"],
-                   is_complete)
 
 
 def refused(number: int, place: str = "") -> str:
@@ -98,6 +78,10 @@ class Due:
     def last(self) -> int | None:
         return self.pages[-1][1] if self.pages else None
 
+    def begins_of(self, end: int) -> list[int]:
+        """Where the subtitles begin that end at a frame."""
+        return [tci for tci, tco, _ in self.pages if tco == end]
+
 
 # What is on air
 
@@ -137,13 +121,25 @@ def codes_of(packet: Packet) -> bytes:
     return bytes(byte & 0x7F for byte in packet.data[2:])
 
 
-def shown(packets: Sequence[Packet], page: Page) -> bytes:
-    """The page that a receiver holds after the packets: 960 codes."""
+class Held(NamedTuple):
+    """What a receiver holds: 960 codes, and whether the page is open."""
+
+    page: bytes
+    is_open: bool
+
+
+def held_after(packets: Sequence[Packet], page: Page) -> Held:
+    """What a receiver holds after the packets."""
     rows: dict[int, bytes] = {}
-    for packet in span_of(packets, page)[0]:
+    span, is_open = span_of(packets, page)
+    for packet in span:
         if packet.address and is_row(packet, page):
             rows.setdefault(packet.address[1], codes_of(packet))
-    return b"".join(rows.get(row, BLANK[:COLUMNS]) for row in range(1, 25))
+    return Held(b"".join(rows.get(row, BLANK[:COLUMNS]) for row in range(1, 25)), is_open)
+
+
+def first_difference(page: bytes, other: bytes) -> int | None:
+    return next((at for at, code in enumerate(page) if code != other[at]), None)
 
 
 # The rules of a packet
@@ -189,25 +185,49 @@ class Ends:
         self.due, self.options = due, options
         self.first = self.frame = 0  # the first frame, and that of the end before
         self.standing: dict[int, int] = {}  # a number, and for 72 its cell
+        # Where the last end is unfinished: the frame of the first of those in a row up to it.
+        self.since: int | None = None
+        self.is_late = False  # of the last end
 
-    def stands(self, frame: int, packets: Sequence[Packet], headers: list[int]) -> dict[int, int]:
+    def stands(self, frame: int, held: Held, headers: list[int]) -> dict[int, int]:
         """The numbers that stand at an end; `headers` are the frames with a header of the page."""
-        options = self.options
+        options, due = self.options, self.due.at(frame)
+        is_open = options.is_complete and held.is_open
+        is_finished = held.page == due and not is_open
+        self.since = None if is_finished else frame if self.since is None else self.since
+        self.is_late = self.has_to_be_whole(frame)
         found: dict[int, int] = {}
-        held, due = shown(packets, options.page), self.due.at(frame)
-        if held != due:
-            found[72] = next(at for at in range(len(due)) if held[at] != due[at])
+        if held.page != due:
+            cell = first_difference(held.page, due) if self.is_late \
+                else self.first_wrong(held.page, frame)
+            if cell is not None:
+                found[72] = cell
         is_window = frame >= self.first + options.every - 1
         if is_window and not any(frame < one + options.every for one in headers):
             found[73] = NO_CELL
-        if options.is_complete and span_of(packets, options.page)[1]:
+        if self.is_late and is_open:
             found[77] = NO_CELL
         return found
 
-    def at(self, frame: int, packets: Sequence[Packet],
-           headers: list[int]) -> Iterator[tuple[int, str]]:
+    def has_to_be_whole(self, frame: int) -> bool:
+        """Whether an end is unfinished and late: as many frames as are allowed have passed, or a
+        subtitle is over at none of whose ends the page was whole."""
+        since, within = self.since, self.options.within
+        return since is not None and (within == 0 or frame >= since + within or any(
+            begin >= since or begin < self.first == since
+            for begin in self.due.begins_of(frame + 1)))
+
+    def first_wrong(self, page: bytes, frame: int) -> int | None:
+        """The first cell that holds neither a space nor what is due there, or was due up to so many
+        frames before."""
+        frames = [frame, *range(max(self.first, frame - self.options.within), frame)]
+        dues = [self.due.at(one) for one in frames]
+        return next((at for at, code in enumerate(page)
+                     if code != SPACE and all(due[at] != code for due in dues)), None)
+
+    def at(self, frame: int, held: Held, headers: list[int]) -> Iterator[tuple[int, str]]:
         """The numbers and the lines of an end."""
-        found = self.stands(frame, packets, headers)
+        found = self.stands(frame, held, headers)
         for number in (72, 73, 77):
             now, before = found.get(number), self.standing.get(number)
             if now == before:
@@ -236,14 +256,18 @@ class Transmission:
     def __init__(self, due: Due, options: Options) -> None:
         self.due, self.options = due, options
         self.course, self.ends = Course(), Ends(due, options)
-        self.frames: list[int] = []
+        self.frames: list[int] = []  # of the PES packets that were read
         self.packets: list[Packet] = []
         self.headers: list[int] = []  # the frames with a header of the page
+        # Of the PES packets that are sent together: the last one, where the end of their frame is
+        # still to come; how many Teletext packets they have; whether they are the first ones.
+        self.sending: int | None = None
+        self.count, self.is_first = 0, True
         # The number of the pieces in a row that were passed over last, the first and the last one.
         self.passed: tuple[int, int, int] | None = None
 
-    def tell(self, number: int, place: str, pes: int | None) -> None:
-        self.add(Event(refused(number, place), number, pes))
+    def tell(self, number: int, place: str, pes: int | None, frame: int | None = None) -> None:
+        self.add(Event(refused(number, place), number, pes, frame))
 
     def add(self, event: Event) -> None:
         """The next event, with the end of the pieces before it that were passed over."""
@@ -267,45 +291,69 @@ class Transmission:
         self.passed = None
 
     def take(self, pes: int, frame: int, teletext: list[bytes]) -> None:
-        """The next PES packet."""
+        """The next PES packet. Where a page may be late, those of one frame are sent together."""
+        if self.options.within == 0 or self.frames[-1:] != [frame]:
+            self.end_sending()
+            self.begin(pes, frame)
+            self.count = 0
+        has_header = self.take_packets(pes, frame, teletext)
+        self.frames.append(frame)
+        self.sending = pes
+        if self.course.is_rising:
+            self.course.sent.append(Sent(pes, frame, has_header))
+        if self.options.within == 0:
+            self.end_sending()
+
+    def begin(self, pes: int, frame: int) -> None:
+        """What is told before the packets of a frame."""
         begin = self.due.first()
         if not self.frames:
             self.ends.first = frame
             if begin is not None and begin < frame:
                 self.tell(63, f"frame {time_of(frame)}", pes)
-        else:
-            if frame <= self.frames[-1]:
-                self.tell(62, f"pes {pes}", pes)
-            for between in range(max(self.frames) + 1, frame):
-                self.end(pes, between)
-        has_header = self.take_packets(pes, frame, teletext)
-        if not self.frames and not has_header:
-            self.tell(71, f"frame {time_of(frame)}", pes)
-        self.frames.append(frame)
-        self.course.sent.append(Sent(pes, frame, has_header))
-        self.end(pes, frame)
+            return
+        if frame <= self.frames[-1]:
+            self.course.is_rising = False
+            self.tell(62, f"pes {pes}", pes)
+        self.end(pes, range(max(self.frames) + 1, frame))
 
     def take_packets(self, pes: int, frame: int, teletext: list[bytes]) -> bool:
         """Its Teletext packets; answers whether one of them is a header of the page."""
-        page, count = self.options.page, len(self.headers)
-        for number, one in enumerate(teletext):
+        page, before = self.options.page, len(self.headers)
+        for one in teletext:
             packet = Packet(one, address_of(one), header_of(one))
             for fault in packet_faults(packet, self.packets, self.options):
-                self.tell(fault, f"frame {time_of(frame)} packet {number}", pes)
+                self.tell(fault, f"frame {time_of(frame)} packet {self.count}", pes, frame)
             self.packets.append(packet)
+            self.count += 1
             if page_of(packet) == page:
                 self.headers.append(frame)
-        return len(self.headers) > count
+        return len(self.headers) > before
 
-    def end(self, pes: int, frame: int) -> None:
-        """The end of a frame, which comes before a PES packet or with it."""
-        for number, line in self.ends.at(frame, self.packets, self.headers):
-            self.add(Event(line, number, pes, frame))
-        if self.ends.standing:
-            self.course.standing.append((pes, frame))
+    def end_sending(self) -> None:
+        """The end of the frame that was read last, where it is still to come."""
+        if self.sending is None:
+            return
+        pes, frame, self.sending = self.sending, self.frames[-1], None
+        if self.is_first and not self.headers:
+            self.tell(71, f"frame {time_of(frame)}", pes)
+        self.is_first = False
+        self.end(pes, [frame])
+
+    def end(self, pes: int, frames: Iterable[int]) -> None:
+        """The ends of frames between which nothing is sent: those before a PES packet, or its own
+        after the last one of it."""
+        held, ends = held_after(self.packets, self.options.page), self.ends
+        for frame in frames:
+            for number, line in ends.at(frame, held, self.headers):
+                self.add(Event(line, number, pes, frame, True))
+            if self.course.is_rising:
+                self.course.ends.append(
+                    End(frame, bool(ends.standing), ends.since, ends.is_late))
 
     def close(self, broken: int | None, pes: int) -> Course:
         """The end after so many pieces, and what is wrong with the bytes after them, if any are."""
+        self.end_sending()
         self.end_passed()
         for number, line in self.ends.after_the_last():
             self.add(Event(line, number, None))
@@ -315,7 +363,8 @@ class Transmission:
             self.tell(broken, f"pes {pes}", None)
         elif pes == 0:
             self.tell(60, "", None)
-        elif self.frames and end is not None and end > self.frames[-1]:
+        elif self.frames and (self.ends.since is not None and not self.ends.is_late
+                              or end is not None and end > self.frames[-1]):
             self.tell(74, f"frame {time_of(self.frames[-1])}", None)
         return self.course
 
@@ -336,7 +385,7 @@ def course_of(due: Due, data: bytes, options: Options, is_failing: bool = False)
     pieces, broken = pieces_of(data)
     transmission = Transmission(due, options)
     for pes, piece in enumerate(pieces):
-        sending = sending_in(piece, options.origin)
+        sending = sending_in(piece, options.origin, options.within)
         if isinstance(sending, int):
             transmission.pass_over(pes, sending)
         else:
@@ -350,7 +399,7 @@ def transmissions(data: bytes, options: Options) -> tuple[int, int]:
     """The frames and the headers of the page of a file that is accepted."""
     frames, count = [], 0
     for piece in pieces_of(data)[0]:
-        sending = sending_in(piece, options.origin)
+        sending = sending_in(piece, options.origin, options.within)
         if not isinstance(sending, int):
             frames.append(sending[0])
             headers = [header_of(one) for one in sending[1]]
@@ -358,8 +407,13 @@ def transmissions(data: bytes, options: Options) -> tuple[int, int]:
     return frames[-1] - frames[0] + 1, count
 
 
-def check_all(stl: bytes, pes: bytes, options: Options, is_failing: bool = False) -> Iterator[str]:
-    """The lines of `check --all`, as they are found. A PES file may fail where its bytes end."""
+def check_all(stl: bytes, pes: bytes, words: list[str], is_failing: bool = False) -> Iterator[str]:
+    """The lines of `check --all` with these words, as they are found. A PES file may fail where its
+    bytes end."""
+    options = options_of(words)
+    if isinstance(options, str):
+        yield options
+        return
     count, failed = 0, None
     for line in stl_faults(stl, options.option):
         count += 1

@@ -3,7 +3,7 @@ from typing import NamedTuple
 
 from ..pes import pes_packet
 from ..stl import gsi_block, subtitle_blocks
-from ..times import TICKS
+from ..times import CLOCK, FRAMES_OF_A_DAY, TICKS
 
 FIRST = 900_000  # the frame 10:00:00:00
 
@@ -44,11 +44,13 @@ MARK = 0xA1  # an exclamation mark of odd parity
 PAGE = [HEADER, CLOSING]
 
 
-def programme(text: bytes | None = None) -> bytes:
-    """A file without a subtitle, or one on row 22 at the first frame alone, with this text."""
+def programme(text: bytes | None = None, begin: int = 0, end: int = 1) -> bytes:
+    """A file without a subtitle, or one on row 22 with this text: at the first frame alone, or from
+    one frame to another after it."""
     if text is None:
         return gsi_block(b"One rule", 0, 0)
-    return gsi_block(b"One rule", 1, 1) + subtitle_blocks(1, FIRST, FIRST + 1, 22, 2, text)
+    return gsi_block(b"One rule", 1, 1) + subtitle_blocks(1, FIRST + begin, FIRST + end, 22, 2,
+                                                          text)
 
 
 def sent(*frames: list[bytes], at: tuple[int, ...] = (0, 1, 2)) -> bytes:
@@ -62,7 +64,14 @@ def of_header(one: bytes) -> bytes:
     return sent([one, CLOSING])
 
 
+def sent_at(*ticks: int) -> bytes:
+    """A page without rows at these times."""
+    return b"".join(pes_packet(one % CLOCK, PAGE) for one in ticks)
+
+
 NONE, BLANK, HI = programme(), programme(b""), programme(b"Hi")
+HI_OF_9, HI_LATER = programme(b"Hi", 0, 9), programme(b"Hi", 2, 9)
+WHOLE, END_OF_DAY = [HEADER, ROW_22, CLOSING], TICKS * FRAMES_OF_A_DAY
 
 ONE_RULE = [
     OneRule("frames that do not rise", 62, NONE, sent(PAGE, PAGE, PAGE, at=(0, 2, 1)), "--every 3"),
@@ -100,3 +109,46 @@ ONE_RULE = [
     OneRule("a row that stands for a frame too long", 72, HI,
             sent([HEADER, ROW_22, CLOSING], PAGE, at=(0, 2)), "--every 2"),
 ]
+
+# Where a page may be two frames late.
+ONE_RULE += [
+    OneRule(name, number, stl, pes, f"--within 2 {words}".rstrip())
+    for name, number, stl, pes, words in (
+        ("a PTS just before the day", 61, NONE, sent_at(-901, 0), "--every 1"),
+        ("a PTS just after the day", 61, NONE, sent_at(0, END_OF_DAY - 900), "--every 1"),
+        ("a frame before that of the PES packet before", 62, NONE,
+         sent(PAGE, PAGE, PAGE, at=(0, 1, 0)), "--every 1"),
+        ("the first TCI is before the first frame", 63, BLANK, sent(PAGE, at=(1,)), "--every 1"),
+        ("a wrong bit in the second PES packet of a frame", 64, NONE,
+         sent(PAGE, [b"\x14" + HEADER[1:], CLOSING], at=(0, 0)), "--every 1"),
+        ("a packet X/0 that is no header in the second PES packet of a frame", 65, NONE,
+         sent(PAGE, [NO_HEADER], at=(0, 0)), "--every 1"),
+        ("C4 is clear in the second PES packet of a frame", 67, NONE,
+         sent(PAGE, [header(c4="15"), CLOSING], at=(0, 0)), "--every 1"),
+        ("another mode in the second PES packet of a frame", 66, NONE,
+         sent([HEADER], [SERIAL_CLOSING], at=(0, 0)), "--every 1"),
+        ("an even byte in the second PES packet of a frame", 68, NONE,
+         sent([HEADER], [row_1(0xA0), CLOSING], at=(0, 0)), "--every 1"),
+        ("another row in the second PES packet of a frame", 69, NONE,
+         sent([HEADER, row_1(0x20)], [row_1(MARK), CLOSING], at=(0, 0)), "--every 1"),
+        ("a packet X/26 in the second PES packet of a frame", 70, NONE,
+         sent([HEADER], [PACKET_26, CLOSING], at=(0, 0)), "--every 1"),
+        ("two PES packets of the first frame without a header", 71, NONE,
+         sent([CLOSING], [CLOSING], PAGE, at=(0, 0, 1)), "--every 2"),
+        ("a frame of two PES packets without a header", 73, NONE,
+         sent(PAGE, [CLOSING], [CLOSING], at=(0, 1, 1)), "--every 1"),
+        ("a row three frames after its header", 72, HI_OF_9,
+         sent([HEADER], [ROW_22, CLOSING], PAGE, at=(0, 3, 9)), ""),
+        ("a page that is not whole before its TCO", 72, HI, sent(PAGE, WHOLE, PAGE), ""),
+        ("a letter that was never due", 72, NONE, sent([HEADER, row_1(MARK), CLOSING], PAGE), ""),
+        ("a page a frame early", 72, HI_LATER, sent(PAGE, WHOLE, PAGE, at=(0, 1, 9)), ""),
+        ("a page of three frames before", 72, HI,
+         sent(WHOLE, PAGE, WHOLE, PAGE, at=(0, 1, 3, 4)), ""),
+        ("a page that is open for three frames", 77, NONE,
+         sent([HEADER], [CLOSING], at=(0, 3)), "--complete"),
+        ("a page that is open at its last frame", 77, HI,
+         sent([HEADER, ROW_22], PAGE), "--complete"),
+        ("the last TCO is after the last frame", 74, BLANK, sent(PAGE), ""),
+        ("a last frame that is not whole yet", 74, HI, sent(WHOLE, []), ""),
+        ("a last frame with an open page", 74, NONE, sent([HEADER]), "--complete"),
+    )]

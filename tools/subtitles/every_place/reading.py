@@ -11,7 +11,7 @@ from typing import Iterator, NamedTuple, Optional
 from ..pes import pts_in
 from ..stl import GSI, LAST, TTI, USER_DATA
 from ..teletext import NUMBER, Page, address_of, mirrored
-from ..times import frame_at, frame_of_code
+from ..times import CLOCK, FRAMES_OF_A_DAY, TICKS, frame_at, frame_of_code
 
 MOST_BLOCKS, MOST_BLOCKS_OF_ONE, MOST_PES_PACKETS = 99_999, 9, 2_160_000
 
@@ -214,7 +214,14 @@ def pieces_of(data: bytes) -> tuple[list[bytes], int | None]:
     return found, None
 
 
-def sending_in(piece: bytes, origin: int) -> Sending | int:
+def frame_near(pts: int, origin: int) -> int | None:
+    """The frame of the day in which a PTS lies, a quarter of a frame early or less than three
+    quarters late; `None` where it lies in none."""
+    frame = (pts - origin + TICKS // 4) % CLOCK // TICKS
+    return frame if frame < FRAMES_OF_A_DAY else None
+
+
+def sending_in(piece: bytes, origin: int, within: int) -> Sending | int:
     """The frame and the Teletext packets of a piece, or the number of what is wrong with it."""
     number = head_fault(piece)
     if number is not None:
@@ -222,7 +229,7 @@ def sending_in(piece: bytes, origin: int) -> Sending | int:
     packets, number = units_of(piece)
     if number is not None:
         return number
-    frame = frame_at(pts_in(piece), origin)
+    frame = frame_near(pts_in(piece), origin) if within else frame_at(pts_in(piece), origin)
     return 61 if frame is None else (frame, packets)
 
 

@@ -17,15 +17,18 @@ PASSED = {*range(33, 41), 61}  # what is told of a piece that is passed over
 
 
 class Event(NamedTuple):
-    """An event of the list, and the PES packet at which it comes; `None` after the last end.
+    """An event of the list, and its frame, `None` where it has none.
 
-    `end` is the frame at whose end it comes, `None` where it comes at a packet.
+    `pes` is the PES packet at which it comes, also where it comes at the end of a frame before that
+    one; `None` after the last end. `is_end` says that it comes at the end of its frame, and not at
+    a packet of it.
     """
 
     line: str
     number: int
     pes: int | None
-    end: int | None = None
+    frame: int | None = None
+    is_end: bool = False
 
 
 class Sent(NamedTuple):
@@ -34,6 +37,16 @@ class Sent(NamedTuple):
     pes: int
     frame: int
     has_header: bool
+
+
+class End(NamedTuple):
+    """The end of a frame: whether 72, 73 or 77 stands there, and where it is unfinished, the frame
+    of the first of the unfinished ends in a row up to it, and whether it is late."""
+
+    frame: int
+    is_standing: bool
+    since: int | None
+    is_late: bool
 
 
 class Run(NamedTuple):
@@ -47,16 +60,17 @@ class Run(NamedTuple):
 class Course:
     """What is told of a transmission, and what was read of it.
 
-    `passed` are the pieces that were passed over. `standing` are the ends at which 72, 73 or 77
-    stands: the PES packet before which or with which each end comes, and its frame. `is_left` says
-    that bytes are left after the pieces. `failed` is the piece in which the source failed: then no
-    event comes after the last end.
+    `sent` and `ends` are the PES packets before the first one that does not rise, and the ends of
+    frames before it; `is_rising` says that there is none such. `passed` are the pieces that were
+    passed over. `is_left` says that bytes are left after the pieces. `failed` is the piece in which
+    the source failed: then no event comes after the last end.
     """
 
     events: list[Event] = field(default_factory=list)
     sent: list[Sent] = field(default_factory=list)
+    ends: list[End] = field(default_factory=list)
     passed: list[int] = field(default_factory=list)
-    standing: list[tuple[int, int]] = field(default_factory=list)
+    is_rising: bool = True
     is_left: bool = False
     failed: int | None = None
 
@@ -65,55 +79,70 @@ class Trust:
     """The frames of a course before the first PES packet that does not rise, and the quiet ones."""
 
     def __init__(self, course: Course) -> None:
-        self.events = course.events
-        order = next((one.pes for one in course.events if one.number == ORDER), None)
-        self.rising = [one for one in course.sent if order is None or one.pes < order]
-        self.first, self.last = self.rising[0].frame, self.rising[-1].frame
-        frames = {one.pes: one.frame for one in self.rising}
-        self.broken = {frames[one.pes] for one in course.events
-                       if one.pes in frames and one.number in OF_PACKETS}
-        self.broken |= {frame for pes, frame in course.standing if pes in frames}
+        self.events, self.sent = course.events, course.sent
+        self.first, self.last = self.sent[0].frame, self.sent[-1].frame
+        self.ends = {one.frame: one for one in course.ends}
+        pes = {one.pes for one in self.sent}
+        self.loud = {one.frame for one in self.events
+                     if one.pes in pes and one.number in OF_PACKETS}
+        self.loud |= {one.frame for one in course.ends if one.is_standing}
         # What comes after a PES packet and was not read may have been sent in its frame, or later.
-        self.doubted = {self.last} if order is not None or course.is_left else set()
-        for pes in course.passed:
-            before = [one.frame for one in self.rising if one.pes < pes]
-            after = [one.frame for one in self.rising if one.pes > pes]
+        if not course.is_rising or course.is_left:
+            self.loud.add(self.last)
+        for piece in course.passed:
+            before = [one.frame for one in self.sent if one.pes < piece]
+            after = [one.frame for one in self.sent if one.pes > piece]
             if before:
-                self.doubted |= set(range(before[-1], after[0] if after else self.last + 1))
+                end = after[0] if after else self.last + 1
+                self.loud |= {before[-1], *range(before[-1], end)}
 
     def runs(self) -> Iterator[Run]:
         """The runs of quiet frames that no quiet frame adjoins."""
-        loud = {*self.broken, *self.doubted, self.last + 1}
         begin = self.first
         for frame in range(self.first, self.last + 2):
-            if frame in loud:
+            if frame in self.loud or frame > self.last:
                 if begin < frame:
                     yield Run(begin, frame - 1)
                 begin = frame + 1
 
-    def trusted(self) -> Iterator[Run]:
-        """What is trusted of each run: from its first header of the page on."""
+    def trusted(self) -> Iterator[tuple[int, Run]]:
+        """What is trusted of each run, from its first header of the page on, and the event before
+        which it is told, as its number."""
         for run in self.runs():
-            headers = [one.frame for one in self.rising
+            headers = [one.frame for one in self.sent
                        if one.has_header and run.first <= one.frame <= run.last]
             if headers:
-                yield Run(headers[0], run.last)
+                at = self.place(run.last)
+                found = Run(headers[0], self.last_of(run.last, at))
+                if any(self.is_finished(frame) for frame in range(found.first, found.last + 1)):
+                    yield at, found
+
+    def is_finished(self, frame: int) -> bool:
+        return frame in self.ends and self.ends[frame].since is None
 
     def place(self, last: int) -> int:
-        """The event before which it is told what is trusted up to a frame, as its number."""
-        events, after = self.events, last + 1
-        if last < self.last and after in self.broken:
-            pes = next(one.pes for one in self.rising if one.frame >= after)
-            of_packet = [at for at, one in enumerate(events)
-                         if one.pes == pes and one.number in OF_PACKETS]
-            of_end = [at for at, one in enumerate(events)
-                      if one.pes == pes and one.end == after]
-            is_sent = any(one.frame == after for one in self.rising)
-            return (of_packet if is_sent and of_packet else of_end)[0]
-        pes = [one.pes for one in self.rising if one.frame <= after][-1]
-        return next((at for at, one in enumerate(events)
-                     if one.number == ORDER or one.pes is None
-                     or one.number in PASSED and one.pes > pes), len(events))
+        """The event before which it is told what is trusted up to a frame: the first one that says
+        why the next frame is not quiet, or that comes after all frames before it."""
+        after = last + 1
+        pes = [one.pes for one in self.sent if one.frame == after]
+        for at, event in enumerate(self.events):
+            is_passed = event.number in PASSED and event.pes is not None
+            if event.number == ORDER or event.pes is None \
+                    or event.frame == after and (event.is_end or event.number in OF_PACKETS) \
+                    or is_passed and pes and event.pes > pes[0]:
+                return at
+        return len(self.events)
+
+    def last_of(self, last: int, at: int) -> int:
+        """The last frame that is trusted of a run, told before an event: none of those whose page
+        was never whole where the end that comes there is late, or is the last one."""
+        event = self.events[at] if at < len(self.events) else None
+        end: End | None = None
+        if event is None or event.pes is None:
+            end = self.ends.get(self.last)
+        elif event.is_end and event.frame is not None and self.ends[event.frame].is_late:
+            end = self.ends[event.frame]
+        return last if end is None or end.since is None else end.since - 1
 
 
 def lines_of(course: Course) -> Iterator[str]:
@@ -123,10 +152,9 @@ def lines_of(course: Course) -> Iterator[str]:
     """
     before: dict[int, list[str]] = {}
     if course.events and course.sent:
-        trust = Trust(course)
-        for run in trust.trusted():
+        for at, run in Trust(course).trusted():
             line = f"trusted frames {time_of(run.first)} {time_of(run.last)}"
-            before.setdefault(trust.place(run.last), []).append(line)
+            before.setdefault(at, []).append(line)
     for at, event in enumerate(course.events):
         yield from before.get(at, [])
         yield event.line
