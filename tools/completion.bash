@@ -17,8 +17,9 @@ _subttx_value() {
     case $1 in
         --option) _subttx_words 'english german' "$2" ;;
         --receiver) _subttx_words 'blank drop keep' "$2" ;;
-        --page | --every | --origin | --at | --skip | --flip | --lose | --from | --to | --pid | \
-            --part | --jobs | --settled | --patience | --stall | --breaks | --run | --start | --pes)
+        --page | --every | --within | --origin | --at | --skip | --flip | --lose | --from | --to | \
+            --pid | --part | --jobs | --settled | --patience | --stall | --breaks | --run | \
+            --start | --pes)
             COMPREPLY=()
             ;;
         *) return 1 ;;
@@ -42,8 +43,10 @@ _subttx() {
             return
             ;;
         schedule) options='--page --every --origin --option --serial' ;;
-        check) options='--page --every --origin --option --complete --all' ;;
-        listen) options='--page --origin --at --skip --flip --lose --receiver --complete' ;;
+        check) options='--page --every --origin --option --complete --all --within' ;;
+        listen)
+            options='--page --origin --within --at --skip --flip --lose --receiver --complete'
+            ;;
         *) options= ;;
     esac
     _subttx_value "$before" "$word" && return

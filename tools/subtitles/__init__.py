@@ -21,6 +21,7 @@ batch      many PES packets, of which all data units are looked at in one step
 cutting    the PES packets of some frames
 parting    the subtitles of some frames
 sent       the PTS at which the text of a page changes
+finding    the origin of a recording, by both files: what tools/origin does
 votes      the origin for which the edges of subtitles vote
 parts      the parts of a programme with breaks, each with its own origin
 words      words of a command line, and how a tool ends

@@ -6,10 +6,10 @@ from typing import Sequence
 from .parts import Part, by_breaks, ticks_after
 from .runs import Run
 from .sent import SentInBase
-from .times import CLOCK, FRAMES_A_SECOND, FRAMES_OF_A_DAY, TICKS, pts_of, time_of
+from .times import CLOCK, FRAMES_A_SECOND, FRAMES_OF_A_DAY, TICKS, frame_in, pts_of, time_of
 from .tracks import IN_A_ROW, Stretch
 from .votes import MOST_APART, Apart, Fit, points, points_of_few
-from .words import counted, tell
+from .words import counted, range_words, tell
 
 NEAR = 10 * FRAMES_A_SECOND  # to the origin 0
 NAMED = 5  # origins that are as good, or other pages
@@ -18,7 +18,7 @@ LISTED = 20  # places at which subtitles begin to be late
 
 def time_at(pts: int, origin: int) -> str:
     """The time of the day of a PTS, or that it is of none."""
-    frame = (pts - origin) % CLOCK // TICKS
+    frame = frame_in(pts, origin)
     return time_of(frame) if frame < FRAMES_OF_A_DAY else "outside of the day"
 
 
@@ -75,6 +75,8 @@ def tell_part(part: Part, count: int) -> None:
     agree = "agrees" if best.agree == 1 else "agree"
     tell(f"{best.agree} of {counted(best.among, 'edge')} {agree}, {best.letters} with the letters "
          f"that are due; {has} has {len(part.edges)}; next best: {following}")
+    if part.election.within:
+        tell(late_words(best.late))
     apart = part.election.apart(best)
     equal = as_good(part, apart)
     if equal:
@@ -91,6 +93,15 @@ def tell_part(part: Part, count: int) -> None:
     if best.agree * 2 < best.among and not apart:
         tell(f"fewer than half of the edges agree with --origin {best.origin}: check that this is "
              "the right subtitle file")
+
+
+def late_words(late: Sequence[int]) -> str:
+    """How many frames late edges are: the least, the greatest, and the one in the middle."""
+    known = sorted(late)
+    if not known[-1]:
+        return "no edge is late"
+    return f"edges are {range_words(known[0], known[-1])} late, {known[len(known) // 2]} in the " \
+        "middle"
 
 
 def apart_words(apart: Apart) -> str:

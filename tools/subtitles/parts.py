@@ -31,10 +31,11 @@ class Part(NamedTuple):
         return self.best.origin
 
 
-def elections_of(subtitles: Sequence[Shown], bases: Sequence[SentInBase]) -> list[Election]:
+def elections_of(subtitles: Sequence[Shown], bases: Sequence[SentInBase],
+                 within: int) -> list[Election]:
     """The elections of the time bases of a recording."""
     edges = edges_of(subtitles)
-    return [Election(edges, one.changes, one.first, one.last) for one in bases]
+    return [Election(edges, one.changes, one.first, one.last, within) for one in bases]
 
 
 def parts_of(subtitles: Sequence[Shown], elections: Sequence[Election],
@@ -50,7 +51,7 @@ def parts_of(subtitles: Sequence[Shown], elections: Sequence[Election],
         return []
     own = elections[base]
     best = own.fit(row[0].track.start) if row else own.by_beginnings(fits[base][0])
-    others = [fit for fit in fits[base] if fit.start != best.start]
+    others = [fit for fit in fits[base] if abs(fit.start - best.start) > own.within]
     begin, end = min(one.begin for one in subtitles), max(one.end for one in subtitles)
     return [Part(begin, end, own.edges, best, others, own, base, [])]
 
@@ -73,7 +74,7 @@ def part_of(subtitles: Sequence[Shown], elections: Sequence[Election], row: Sequ
     over = [one for one in subtitles if begin <= one.begin < stop < one.end]
     # Where subtitles adjoin at the end of a part, its last one is erased there.
     own = whole.limited(edges_of(inside) or whole.edges[first:end], low, high)
-    others = [fit for fit in own.fits() if fit.start != track.start]
+    others = [fit for fit in own.fits() if abs(fit.start - track.start) > own.within]
     return Part(min((one.begin for one in inside), default=begin),
                 max((one.end for one in inside), default=stop), own.edges, own.fit(track.start),
                 others, own, track.base, over)
@@ -82,8 +83,7 @@ def part_of(subtitles: Sequence[Shown], elections: Sequence[Election], row: Sequ
 def agreeing(whole: Election, stretch: Stretch) -> list[int]:
     """The distances of the changes with which the edges of a stretch agree."""
     track, first, end = stretch
-    return [whole.frames[number] - track.start for number in range(first, end)
-            if track.points[number]]
+    return [track.places[number] for number in range(first, end) if track.points[number]]
 
 
 def by_breaks(row: Sequence[Stretch]) -> list[Stretch]:

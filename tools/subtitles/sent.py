@@ -21,11 +21,13 @@ NO_LETTERS = bytes(range(0x21))
 
 
 class Change(NamedTuple):
-    """A PES packet after which the page holds another text: its PTS, the letters, its number."""
+    """A PES packet after which the page holds another text: its PTS, the letters, its number, and
+    what tells its rows from others."""
 
     pts: int
     letters: bytes
     number: int
+    rows: int = 0
 
 
 @dataclasses.dataclass
@@ -136,7 +138,8 @@ class Sent:
         if rows != self.before:
             self.before = rows
             letters = b"".join(rows[number] for number in sorted(rows))
-            self.changes.append(Change(pts, letters.translate(None, NO_LETTERS), self.number))
+            self.changes.append(Change(pts, letters.translate(None, NO_LETTERS), self.number,
+                                       hash(frozenset(rows.items()))))
 
     def note_header(self, pts: int) -> None:
         """Notes a header of the page."""

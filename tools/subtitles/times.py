@@ -1,4 +1,9 @@
-"""Times of the day, their frames at 25 a second, and the PTS of a frame."""
+"""Times of the day, their frames at 25 a second, the PTS of a frame, and the frame of a PTS.
+
+Within 0 frames a PES packet has the frame whose PTS it has, and no other PTS has one. Within more,
+as `check --within N` judges, it is of the frame in which it lies: from a quarter of a frame before
+the PTS of that frame on, so that PTS may be a little early, and two fields are of one frame.
+"""
 from __future__ import annotations
 
 import re
@@ -9,6 +14,7 @@ FRAMES_OF_A_DAY = 2_160_000
 CLOCK = 2**33  # a PTS has 33 bits
 TICKS = 3600  # of a frame, at 90 kHz
 NO_FRAME = -1  # stands for a frame where there is none, before all others
+EARLY = TICKS // 4  # ticks that a PTS may be before its frame, within 1 and more
 
 
 def frame_of(time: str) -> int | None:
@@ -43,18 +49,26 @@ def pts_of(frame: int, origin: int) -> int:
     return (origin + TICKS * frame) % CLOCK
 
 
-def frame_at(pts: int, origin: int) -> int | None:
-    """The frame of the day of a PTS, `None` where it is not the PTS of one."""
-    frame = frames_at([pts], origin)[0]
+def frame_in(pts: int, origin: int, within: int = 0) -> int:
+    """The frame in which a PTS lies, also after the day's end; within 0, from its own PTS on."""
+    return (pts - origin + EARLY * (within > 0)) % CLOCK // TICKS
+
+
+def frame_at(pts: int, origin: int, within: int = 0) -> int | None:
+    """The frame of the day of a PTS, `None` where it has none."""
+    frame = frames_at([pts], origin, within)[0]
     return None if frame == NO_FRAME else frame
 
 
-def frames_at(several: list[int], origin: int) -> Sequence[int]:
-    """The frame of the day of each of several PTS, `NO_FRAME` where it is not the PTS of one."""
+def frames_at(several: list[int], origin: int, within: int = 0) -> Sequence[int]:
+    """The frame of the day of each of several PTS, `NO_FRAME` where it has none."""
+    early = EARLY * (within > 0)
     end, count = TICKS * FRAMES_OF_A_DAY, len(several)
     if several and several == list(range(several[0], several[0] + TICKS * count, TICKS)):
-        ticks = (several[0] - origin) % CLOCK
-        if ticks % TICKS == 0 and ticks + TICKS * count <= end:
+        ticks = (several[0] - origin + early) % CLOCK
+        if (within or ticks % TICKS == 0) and ticks // TICKS + count <= FRAMES_OF_A_DAY:
             return range(ticks // TICKS, ticks // TICKS + count)  # as of most recordings
-    return [NO_FRAME if ticks % TICKS or ticks >= end else ticks // TICKS
-            for ticks in [(pts - origin) % CLOCK for pts in several]]
+    distances = [(pts - origin + early) % CLOCK for pts in several]
+    if within:
+        return [ticks // TICKS if ticks < end else NO_FRAME for ticks in distances]
+    return [NO_FRAME if ticks % TICKS or ticks >= end else ticks // TICKS for ticks in distances]

@@ -42,6 +42,7 @@ class Timing:
         self.listing, self.stream = listing, Stream(pid)
         self.samples: list[Sample] = []
         self.clock: Stream | None = None  # the PID of the PCR
+        self.first: int | None = None  # the first PCR
         self.pcr: int | None = None  # the last one that was read
         self.piece: Piece | None = None  # the last one, of which it may have been left unread
 
@@ -80,6 +81,7 @@ class Timing:
             if pcr is not None:
                 self.samples.append(Sample(pts_in(header), signed(pts_in(header) - pcr)))
         if clocks:
+            self.first = pcr_at(piece.data, clocks[0]) if self.first is None else self.first
             self.pcr = pcr_at(piece.data, clocks[-1])
 
     def last(self) -> int | None:
@@ -90,6 +92,12 @@ class Timing:
             if found:
                 self.pcr = pcr_at(self.piece.data, found[-1])
         return self.pcr
+
+    def reach(self) -> tuple[int | None, int | None]:
+        """From which PTS on what was sent came behind the first PCR, by how far PTS were ahead of
+        it at first; and the last PCR."""
+        ahead = max([0, *(one.ahead for one in self.samples[:MOST_LATE])])
+        return None if self.first is None else (self.first + ahead) % CLOCK, self.last()
 
     def late(self) -> int:
         """By how many ticks PTS were behind the PCR, at most."""

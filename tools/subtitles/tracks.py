@@ -12,7 +12,7 @@ import functools
 from typing import Iterator, NamedTuple, Sequence
 
 from .times import FRAMES_OF_A_DAY
-from .votes import VOTES, Edge, Election
+from .votes import VOTES, Change, Edge, Election
 
 IN_A_ROW = 5  # edges that have to agree with an origin of their own
 NEW_TRACK = IN_A_ROW - 1  # points that another track costs
@@ -29,8 +29,11 @@ class Track:
 
     def __init__(self, base: int, start: int, election: Election) -> None:
         self.base, self.start, self.edges = base, start, election.edges
-        self.points = [points_of(election, start, edge) for edge in election.edges]
-        self.places = [frame - start for frame in election.frames]
+        self.within = election.within
+        found = [election.change_of(edge, start) for edge in election.edges]
+        self.points = [points_of(edge, one) for edge, one in zip(election.edges, found)]
+        self.late = [one.late if one else 0 for one in found]
+        self.places = [frame - start + late for frame, late in zip(election.frames, self.late)]
 
     @functools.cached_property
     def in_a_row(self) -> list[int]:
@@ -48,6 +51,10 @@ class Track:
             return self.base > before.base
         return frames > self.start - before.start
 
+    def is_near(self, other: Track) -> bool:
+        """Whether an origin is so near to another one that it is no matter within so many frames.
+        """
+        return self.base == other.base and abs(self.start - other.start) <= self.within
 
     def away(self, before: Track) -> int:
         """How far the origin is from another one, where one of two that are as good is taken."""
@@ -71,12 +78,11 @@ class Stretch(NamedTuple):
     end: int
 
 
-def points_of(election: Election, start: int, edge: Edge) -> int:
-    """The points of an edge for a start."""
-    change = election.changes.get(edge.frame - start)
+def points_of(edge: Edge, change: Change | None) -> int:
+    """The points of an edge, by the change with which it agrees."""
     if not change:
         return 0
-    if change[0] != edge.letters:
+    if change.letters != edge.letters:
         return CHANGE
     return TEXT if edge.letters else ERASED
 
@@ -90,14 +96,14 @@ def find_row(elections: Sequence[Election]) -> list[Stretch]:
         is_all = best and (best.letters == len(one.edges) or one.apart(best))
         if best and is_all and len(one.edges) >= IN_A_ROW:
             return [Stretch(Track(base, best.start, one), 0, len(one.edges))]
-    tracks = tracks_of(elections, {(base, start) for base, one in enumerate(elections)
-                                   for start in candidates(one)})
+    tracks = lone(tracks_of(elections, {(base, start) for base, one in enumerate(elections)
+                                        for start in candidates(one)}))
     if not tracks:
         return []
     row = row_of(elections[0].frames, tracks)
     known = {(track.base, track.start) for track in tracks}
     more = tracks_of(elections, set(starts_between(elections, row)) - known)
-    return row_of(elections[0].frames, tracks + more) if more else row
+    return row_of(elections[0].frames, lone(tracks + more)) if more else row
 
 
 def candidates(election: Election) -> set[int]:
@@ -112,6 +118,15 @@ def tracks_of(elections: Sequence[Election], starts: set[tuple[int, int]]) -> li
     """The tracks with which five edges in a row agree."""
     tracks = [Track(base, start, elections[base]) for base, start in sorted(starts)]
     return [track for track in tracks if max(track.in_a_row, default=0) >= IN_A_ROW]
+
+
+def lone(tracks: Sequence[Track]) -> list[Track]:
+    """The tracks, within 1 and more without those that are near to a better one."""
+    found: list[Track] = []
+    for track in sorted(tracks, key=lambda one: (-sum(one.points), sum(one.late))):
+        if not any(map(track.is_near, found)) or not track.within:
+            found.append(track)
+    return [track for track in tracks if track in found]
 
 
 def row_of(frames: Sequence[int], tracks: Sequence[Track]) -> list[Stretch]:
@@ -187,13 +202,13 @@ def starts_between(elections: Sequence[Election],
                    row: Sequence[Stretch]) -> Iterator[tuple[int, int]]:
     """Time bases and starts for edges that agree with none of a row: those for which a few in a row
     vote."""
-    lone = [number for one in row for number in range(one.first, one.end)
-            if not one.track.points[number]]
+    alone = [number for one in row for number in range(one.first, one.end)
+             if not one.track.points[number]]
     left = VOTES
     for base, election in enumerate(elections):
         changes = sorted(election.changes)
-        for at in range(0, len(lone) - IN_A_ROW + 1, WINDOW // 2):
-            numbers = lone[at:at + WINDOW]
+        for at in range(0, len(alone) - IN_A_ROW + 1, WINDOW // 2):
+            numbers = alone[at:at + WINDOW]
             left -= len(numbers) * len(changes)
             if left < 0:
                 return

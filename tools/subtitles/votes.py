@@ -11,10 +11,11 @@ import collections
 import copy
 import decimal
 import heapq
-from typing import Hashable, Iterable, NamedTuple, Sequence
+import itertools
+from typing import Hashable, Iterable, Iterator, NamedTuple, Sequence
 
-from .sent import Change
-from .times import CLOCK, TICKS
+from .sent import Change as Sent
+from .times import CLOCK, EARLY, TICKS
 
 VOTES = 4_000_000  # how many are counted; of longer files some changes vote for all
 LONG = 600_000  # frames of an election in which each pair is counted by itself
@@ -44,7 +45,8 @@ class Edge(NamedTuple):
 class Fit(NamedTuple):
     """An origin: how many edges agree with it, how many of these with the same letters, with those
     of a text and with the very PTS, how many there are while the page was sent, and the first of
-    these that does not agree. `start` is the frame at the first PTS of the election."""
+    these that does not agree. `start` is the frame at the first PTS of the election, `late` by how
+    many frames each edge that agrees is late."""
 
     origin: int
     agree: int
@@ -54,6 +56,16 @@ class Fit(NamedTuple):
     among: int
     first_other: int | None
     start: int
+    late: Sequence[int] = ()
+
+
+class Change(NamedTuple):
+    """A change with which an edge agrees: how many frames late it is, the letters, and how many
+    ticks its PTS is off."""
+
+    late: int
+    letters: bytes
+    ticks: int
 
 
 class Apart(NamedTuple):
@@ -84,12 +96,21 @@ def edges_of(subtitles: Sequence[Shown]) -> list[Edge]:
 
 
 class Election:
-    """Edges and changes; the page was sent from the PTS `first` to the PTS `last`."""
+    """Edges and changes; the page was sent from the PTS `first` to the PTS `last`.
 
-    def __init__(self, edges: Sequence[Edge], changes: Sequence[Change], first: int,
-                 last: int) -> None:
+    Within 0 an edge agrees with a change at its frame, whatever the letters are. Within more it
+    agrees where the page gets the letters that are due, at its frame or as many later; PTS are then
+    of the frame in which they lie, so that of each frame the last change counts.
+    """
+
+    def __init__(self, edges: Sequence[Edge], changes: Sequence[Sent], first: int, last: int,
+                 within: int = 0) -> None:
         self.edges, self.frames = edges, [edge.frame for edge in edges]
-        self.first = first
+        self.within, self.first = within, first
+        if within:
+            phase = phase_of((change.pts - first) % CLOCK for change in changes)
+            self.first = (first + phase) % CLOCK
+            changes = list(self.at_ends(changes))
         # Of each change its distance from the first PTS: frames, and ticks more or less.
         self.changes: dict[int, tuple[bytes, int]] = {}
         for change in changes:
@@ -97,6 +118,16 @@ class Election:
             self.changes[frames] = change.letters, ticks
         self.length = max(self.distance(last)[0], 0)
         self.best: list[Fit] | None = None
+
+    def at_ends(self, changes: Sequence[Sent]) -> Iterator[Sent]:
+        """The changes from the end of one frame to that of another: a text that is erased and comes
+        again within a frame is none."""
+        before: int | None = None
+        ends = {self.distance(change.pts)[0]: change for change in changes}
+        for change in ends.values():
+            if change.rows != before or not change.letters:
+                yield change
+            before = change.rows
 
     def limited(self, edges: Sequence[Edge], low: int, high: int) -> Election:
         """The election of some of the edges, by the changes between two distances."""
@@ -107,9 +138,25 @@ class Election:
         return one
 
     def distance(self, pts: int) -> tuple[int, int]:
-        """From the first PTS to another: the nearest number of frames, and the rest in ticks."""
+        """From the first PTS to another: the nearest number of frames, within 1 and more the
+        frame in which it lies, and the rest in ticks."""
+        if self.within:
+            frames, ticks = divmod((pts - self.first + EARLY) % CLOCK, TICKS)
+            return frames, ticks - EARLY
         frames, ticks = divmod((pts - self.first) % CLOCK + TICKS // 2, TICKS)
         return frames, ticks - TICKS // 2
+
+    def change_of(self, edge: Edge, start: int) -> Change | None:
+        """The change with which an edge agrees for a start."""
+        place = edge.frame - start
+        if not self.within:
+            change = self.changes.get(place)
+            return change and Change(0, *change)
+        for late in range(self.within + 1):
+            change = self.changes.get(place + late)
+            if change and change[0] == edge.letters:
+                return Change(late, *change)
+        return None
 
     def fits(self) -> list[Fit]:
         """The best origins, falling."""
@@ -126,7 +173,9 @@ class Election:
         votes = differences(self.frames, self.sample(), least, most - least + 1)
         for start, count in self.alike().items():
             votes[start - least] += 2 * count
-        best = heapq.nlargest(TRIED, range(len(votes)), votes.__getitem__)
+        if self.within:
+            votes = summed(votes, self.within)
+        best = heapq.nlargest(TRIED + 4 * self.within, range(len(votes)), votes.__getitem__)
         # Where all subtitles are alike, the first and the last tell more than those between.
         return {least + at for at in best} | {self.frames[0], most - max(self.changes)}
 
@@ -153,18 +202,24 @@ class Election:
         high = bisect.bisect_right(self.frames, start + self.length)
         letters, texts, other = 0, 0, None
         ticks: list[int] = []
+        late: list[int] = []
         for edge in self.edges[low:high]:
-            change = self.changes.get(edge.frame - start)
+            change = self.change_of(edge, start)
             if change:
-                ticks.append(change[1])
-                letters += change[0] == edge.letters
-                texts += change[0] == edge.letters != b""
+                ticks.append(change.ticks)
+                late.append(change.late)
+                letters += change.letters == edge.letters
+                texts += change.letters == edge.letters != b""
             elif other is None:
                 other = edge.frame
+        least = min(late, default=0)
+        if least:
+            return self.fit(start - least)  # what all share is no delay, but of the origin
         # Where PTS are not whole frames apart, the origin is in the middle of what they say.
-        rest = sorted(ticks)[len(ticks) // 2] if ticks else 0
+        rest = sorted(ticks)[len(ticks) // 2] if ticks and not self.within else 0
         origin = (self.first + rest - TICKS * start) % CLOCK
-        return Fit(origin, len(ticks), letters, texts, ticks.count(rest), high - low, other, start)
+        exact = len(ticks) if self.within else ticks.count(rest)
+        return Fit(origin, len(ticks), letters, texts, exact, high - low, other, start, late)
 
     def apart(self, fit: Fit) -> Apart | None:
         """Whether beginnings and ends agree, but a constant number of frames apart.
@@ -179,6 +234,8 @@ class Election:
             several = (self.late_by(fit, is_begin, shift)
                        for shift in range(-MOST_APART, MOST_APART + 1))
             best = max(several, key=lambda one: (one.agree, -abs(one.late)))
+            if abs(best.late) <= self.within:
+                continue
             if best.agree >= least and best.agree * 10 >= best.of * 9:
                 return best
         return None
@@ -199,6 +256,21 @@ class Election:
         """The letters to which the page changes so many frames after the first PTS."""
         change = self.changes.get(frames)
         return change[0] if change else None
+
+
+def phase_of(distances: Iterable[int]) -> int:
+    """By how many ticks a frame begins after the first PTS, of the distances of others from it: the
+    median of those that are less than a quarter of a frame off. Others are of second fields."""
+    rests = [(ticks + TICKS // 2) % TICKS - TICKS // 2 for ticks in distances]
+    near = sorted(rest for rest in rests if abs(rest) < EARLY)
+    return near[len(near) // 2] if near else 0
+
+
+def summed(votes: Sequence[int], within: int) -> array.array[int]:
+    """The votes of each start, and of those up to so many frames before it."""
+    sums = [0, *itertools.accumulate(votes)]
+    return array.array("L", [sums[at + 1] - sums[max(at - within, 0)]
+                             for at in range(len(votes))])
 
 
 def differences(frames: Sequence[int], others: Sequence[int], least: int,

@@ -3,6 +3,7 @@ from __future__ import annotations
 
 import argparse
 import contextlib
+import io
 import os
 import re
 import shlex
@@ -17,6 +18,7 @@ HIDDEN = re.compile("[\x00-\x1f\x7f-\x9f\u061c\u200e\u200f\u2028-\u202e\u2066-\u
                     "\ud800-\udfff]")
 INSTALLED = "subttx-"  # before the names of tools that are installed
 MOST_EVERY = 1500  # frames of a repeat bound
+MOST_WITHIN = 50  # frames within which a page has to be whole
 MOST_DIGITS = 3  # of a number of breaks, or of a run
 TCP_WORD = "tcp"  # for the time code that the GSI block has
 NO_PID = 0x1FFF  # of the packets of a transport stream that hold nothing
@@ -86,12 +88,29 @@ def origin_word(text: str) -> int:
     return int(digits)
 
 
+def range_word(text: str) -> tuple[int, int]:
+    """The numbers of the first and the last PES packet."""
+    found = re.fullmatch(r"(\d{1,12})-(\d{1,12})", text, re.ASCII)
+    if not found or int(found[1]) > int(found[2]):
+        raise argparse.ArgumentTypeError(f"{text} are no PES packets: as 0-99")
+    return int(found[1]), int(found[2])
+
+
 def every_word(text: str) -> int:
     """The repeat bound in frames."""
     digits = text.lstrip("0")
     is_number = text.isascii() and text.isdecimal() and len(digits) <= len(str(MOST_EVERY))
     if not is_number or not 1 <= int(digits or "0") <= MOST_EVERY:
         raise argparse.ArgumentTypeError(f"{text} is no repeat bound: 1 to {MOST_EVERY} frames")
+    return int(digits)
+
+
+def within_word(text: str) -> int:
+    """The frames within which a page has to be whole."""
+    digits = text.lstrip("0") or "0"
+    is_number = text.isascii() and text.isdecimal() and len(digits) <= len(str(MOST_WITHIN))
+    if not is_number or int(digits) > MOST_WITHIN:
+        raise argparse.ArgumentTypeError(f"{text} is no number of frames: 0 to {MOST_WITHIN}")
     return int(digits)
 
 
@@ -144,6 +163,17 @@ def add_page(parser: Words) -> None:
                         help="the page, 888 where it is left out")
 
 
+def add_within(parser: Words) -> None:
+    """The option --within, 0 where it is left out."""
+    parser.add_argument("--within", type=within_word, default=0, metavar="N",
+                        help="frames within which a page has to be whole, 0 where it is left out")
+
+
+def within_words(within: int) -> list[str]:
+    """That option, where it is not the one that is taken without."""
+    return ["--within", str(within)] if within else []
+
+
 def add_program(parser: Words) -> None:
     """The option -p, the program that is tried."""
     parser.add_argument("-p", dest="program", metavar="PROGRAM",
@@ -159,6 +189,11 @@ def add_verbose(parser: Words) -> None:
 def counted(count: int, thing: str) -> str:
     """`1 fault`, `2 faults`."""
     return f"{count} {thing}" if count == 1 else f"{count} {thing}s"
+
+
+def range_words(least: int, most: int) -> str:
+    """`1 frame`, `0 to 2 frames`."""
+    return counted(most, "frame") if least == most else f"{least} to {counted(most, 'frame')}"
 
 
 def shown(text: str) -> str:
@@ -201,6 +236,20 @@ def run(main: Callable[[list[str]], int]) -> NoReturn:
         silence()
         status = 2
     sys.exit(status)
+
+
+def heard(main: Callable[[list[str]], int], words: list[str]) -> tuple[int, list[str], list[str]]:
+    """Calls the `main` of another tool here, which is quicker than another Python: its status, what
+    it printed, and what it told, without the name of a tool."""
+    out, told = io.StringIO(), io.StringIO()
+    with contextlib.redirect_stdout(out), contextlib.redirect_stderr(told):
+        try:
+            status = main(words)
+        except (Stop, OSError) as reason:
+            tell(line_of(reason))
+            status = 2
+    return status, out.getvalue().splitlines(), \
+        [line.partition(": ")[2] for line in told.getvalue().splitlines()]
 
 
 def answer(main: Callable[[list[str]], int]) -> int:

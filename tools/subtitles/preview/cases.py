@@ -96,6 +96,13 @@ PASSED = [
     Case("passed-all", "refused 37 DataId pes 0", "hello.stl", "hello.pes 45=20 229=20", []),
     Case("passed-cut", "refused 37 DataId pes 1", "story.stl", "story.pes 413=20 -c 900", []),
 ]
+# Within 1 frame: rows that are sent late, and the same with a wrong letter and an even byte.
+WITHIN = [
+    Case("within-1", "accepted", "story.stl", "late-rows.pes", ["--within", "1"]),
+    Case("within-2", "accepted", "story.stl", "late-rows.pes", ["--within", "2", "--complete"]),
+    Case("within-72", "refused 72 Content", "story.stl", "late-rows.pes 311=1C",
+         ["--within", "1"]),
+]
 # Without a subtitle the due page is blank, which `schedule` tells by 82.
 WITHOUT = [Case("82", "accepted", "hello.stl -c 1024", "hello.pes 92=FF", []),
            Case("82-72", "refused 72 Content", "hello.stl -c 1024", "hello.pes", [])]

@@ -216,11 +216,13 @@ class Pages:
 
     def __init__(self, trial: Trial, one: cases.Case, stl: str, pes: str) -> None:
         self.trial, self.pes = trial, pes
-        self.receiver = [word for name in ("--page", "--origin") if name in one.options
+        names = [name for name in ("--page", "--origin", "--within") if name in one.options]
+        self.receiver = [word for name in names
                          for word in (name, option_of(one.options, name, ""))]
         self.own = trial.path(one.name + "-due.pes")
         self.national = option_of(one.options, "--option", "english")
-        words = [*self.receiver, "--option", self.national]
+        words = ["--page", option_of(one.options, "--page", "888"),
+                 "--origin", option_of(one.options, "--origin", "0"), "--option", self.national]
         trial.run("schedule", stl, self.own, "--every", "1500", *words)
         self.due: dict[tuple[int, int], str] = {}
 

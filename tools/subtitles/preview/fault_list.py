@@ -3,6 +3,7 @@ from __future__ import annotations
 
 from typing import TYPE_CHECKING
 
+from ..qc.told import CONTENT, WITH_CAUSE
 from ..times import time_of
 from .counts import place_words
 from .drawing import text_of_code
@@ -18,7 +19,6 @@ if TYPE_CHECKING:
     from .report import Looks, Report
 
 MOST_PICTURED = 100  # entries with pictures
-CONTENT = 72
 
 
 class FaultList:
@@ -65,10 +65,12 @@ class FaultList:
         words: list[str] = []
         if fault.frame is None:
             return ""
-        if fault.number == CONTENT:
-            reasons, due = self.report.reasons, self.report.programme.subtitle(fault.frame)
-            cause = reasons.words(fault.frame, due.index if due else None) if reasons else ""
+        reasons = self.report.reasons
+        if fault.number in WITH_CAUSE and reasons:
+            due = self.report.programme.subtitle(fault.frame)
+            cause = reasons.words(fault.number, fault.frame, due.index if due else None)
             words += [cause] if cause else []
+        if fault.number == CONTENT:
             words.append(self.cell_words(fault))
         words.append(self.subtitle_words(fault.frame))
         fit = self.looks.fits.words(fault.frame) if fault.number == CONTENT else ""

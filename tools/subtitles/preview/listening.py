@@ -28,6 +28,10 @@ class Changes:
         self.frames, self.pages = array.array("I"), array.array("q")
 
     def add(self, frame: int, rows: Rows) -> None:
+        """Another page is held from a frame on; of one frame the last one stays."""
+        if self.frames and self.frames[-1] == frame:
+            self.frames.pop()
+            self.pages.pop()
         self.frames.append(frame)
         self.pages.append(hash(rows))
 
@@ -125,25 +129,27 @@ def owners_of(headers: Iterable[tuple[bytes, int]]) -> list[int]:
 class Heard:
     """A listing, heard to its end, and the states at the ends of the frames asked for.
 
-    The receiver hears PES packets while each is of a frame after the one before, as `listen` does;
-    `halt` is the first that is not: its number and its PTS. What can't be seen for that reason, or
+    The receiver hears PES packets while each is of a frame after the one before, within 1 and more
+    of that one or a later one, as `listen` does; `halt` is the first that is not: its number and
+    its PTS. What can't be seen for that reason, or
     since the file can't be read on, has no state. `changes` are the pages that it held, and `falls`
     the frames of all PES packets whose frame is not after the one before. The PES packets of the
-    frames `seen` are kept, and that of the last one. The listing is without those that were passed
+    frames `seen` are kept, and those of the last one. The listing is without those that were passed
     over; all have the numbers of the file. Without `hears_all` there are no changes, and of a state
     the screen says nothing.
     """
 
     def __init__(self, listing: Listing, asked: Iterable[int], page: Page, origin: int,
                  seen: Iterable[int] = (), passed: Passed | None = None,
-                 hears_all: bool = True) -> None:
+                 hears_all: bool = True, within: int = 0) -> None:
         self.page, self.origin, self.passed = page, origin, passed or Passed(Spans())
-        self.hears_all = hears_all
+        self.hears_all, self.within = hears_all, within
+        self.follows = operator.le if within else operator.lt  # whether a frame may come after one
         self.asked, self.next_asked = sorted(set(asked)), 0
         self.seen, self.next_seen = sorted(set(seen)), 0
         self.states: dict[int, State] = {}
-        self.seen_pes: dict[int, NumberedPes] = {}
-        self.last_pes: NumberedPes | None = None
+        self.seen_pes: dict[int, list[NumberedPes]] = {}
+        self.last_pes: list[NumberedPes] = []
         self.headers, self.kinds, self.receiver = Headers(), Kinds(page), Followed(page)
         self.sendings, self.falls = array.array("I"), array.array("I")
         self.halt: tuple[int, int] | None = None
@@ -160,7 +166,7 @@ class Heard:
         """Hears the next PES packets, as far as their frames rise."""
         pts, found = batch.pts(), Found(batch)
         self.headers.take(found, self.count, pts)
-        frames = frames_at(pts, self.origin)
+        frames = frames_at(pts, self.origin, self.within)
         heard = [] if self.halt else self.rising(frames)
         if heard:
             self.hear(batch, heard, Sendings(found, self.kinds))
@@ -168,7 +174,7 @@ class Heard:
         if at < len(frames) and self.halt is None:
             self.halt, self.before = (self.passed.number(self.count + at), pts[at]), self.last
         for frame in frames[at:]:
-            if NO_FRAME < frame <= self.before:
+            if NO_FRAME < frame and not self.follows(self.before, frame):
                 self.falls.append(frame)
             self.before = frame
         self.count += len(frames)
@@ -177,7 +183,8 @@ class Heard:
         """The first of some frames, as long as each is after the one before."""
         if isinstance(frames, range) and self.last < frames[0]:
             return frames
-        rises = list(map(operator.lt, [self.last, *frames], frames))
+        before = max(self.last, 0) if self.within else self.last
+        rises = list(map(self.follows, [before, *frames], frames))
         return frames if all(rises) else frames[:rises.index(False)]
 
     def hear(self, batch: Batch, frames: Sequence[int], sendings: Sendings) -> None:
@@ -186,16 +193,27 @@ class Heard:
             for number in sendings.heard(self.receiver, begin, end):
                 self.answer_before(frames[number])
                 self.receiver.hear(self.count + number, batch.packet(number), frames[number])
-        self.sendings.extend(frames[number] for number in sendings.of_page
-                             if number < len(frames))
+        for frame in dict.fromkeys(frames[number] for number in sendings.of_page
+                                   if number < len(frames)):
+            if not self.sendings or self.sendings[-1] != frame:
+                self.sendings.append(frame)
+        if self.last in self.seen_pes:  # more of that frame may come
+            self.seen_pes[self.last] += self.of_frame(batch, frames, self.last)
         while self.next_seen < len(self.seen) and self.seen[self.next_seen] <= frames[-1]:
             frame = self.seen[self.next_seen]
-            at = bisect.bisect_left(frames, frame)
-            if frames[at] == frame:
-                self.seen_pes[frame] = self.passed.number(self.count + at), batch.packet(at)
+            known = self.of_frame(batch, frames, frame)
+            if known:
+                self.seen_pes[frame] = known
             self.next_seen += 1
-        at, self.last = len(frames) - 1, frames[-1]
-        self.last_pes = self.passed.number(self.count + at), batch.packet(at)
+        before = self.last_pes if self.last == frames[-1] else []
+        self.last = frames[-1]
+        self.last_pes = before + self.of_frame(batch, frames, self.last)
+
+    def of_frame(self, batch: Batch, frames: Sequence[int], frame: int) -> list[NumberedPes]:
+        """The PES packets of a frame, by the frames of the first ones of a batch."""
+        first, end = bisect.bisect_left(frames, frame), bisect.bisect_right(frames, frame)
+        return [(self.passed.number(self.count + at), batch.packet(at))
+                for at in range(first, end)]
 
     def stretches(self, frames: Sequence[int], erasing: list[int]) -> Iterator[tuple[int, int]]:
         """The PES packets of a batch that have to be heard, each time the first and the one after
@@ -221,9 +239,9 @@ class Heard:
         """The state at the end of an asked frame; `None` where the file can't be read on."""
         return self.state if frame == self.last else self.states.get(frame)
 
-    def pes_at(self, frame: int) -> NumberedPes | None:
-        """The PES packet of one of the frames `seen`, or of the last one."""
-        return self.last_pes if frame == self.last else self.seen_pes.get(frame)
+    def pes_at(self, frame: int) -> list[NumberedPes]:
+        """The PES packets of one of the frames `seen`, or of the last one."""
+        return self.last_pes if frame == self.last else self.seen_pes.get(frame, [])
 
     @property
     def last_frame(self) -> int | None:

@@ -4,6 +4,7 @@ from __future__ import annotations
 import os
 from typing import TYPE_CHECKING, Iterable
 
+from ..qc.delays import spread_of
 from ..words import counted
 from .counts import heads, meaning_of_verdict, numbers_table
 from .manual import shown
@@ -15,7 +16,7 @@ if TYPE_CHECKING:
     from ..qc.made_with import Program as Made
     from ..qc.sums import File
     from .listening import Heard
-    from .report import Looks, Report
+    from .report import Asked, Looks, Report
     from .scope import Recorded
 
 GOOD = ('<svg aria-hidden="true" viewBox="0 0 62 62"><circle cx="31" cy="31" r="27" '
@@ -61,7 +62,33 @@ codes as ASCII, and spacing attributes as dots.</p>"""
 
 
 TRUSTED = ("<p><b>Trusted.</b> Green lines below the axis are the frames that <code>check --all"
-           "</code> calls trusted.</p>")
+           "</code> calls trusted.{}</p>")
+PROMISED = ("at the end of each frame every cell holds a space, or a code that was due there in "
+            "that frame or the {} before it. At the end of one frame at least of any {} in a row, "
+            "and at that of one of each subtitle's frames, the receiver holds the page that is "
+            "due, whole but for what was hit")
+COMPLETE = (". Receivers of complete pages have it on the screen then; of their screens nothing is "
+            "promised in between")
+FIRST = "held otherwise than it is due at its first frame"
+
+
+def promised(asked: Asked) -> str:
+    """What is promised within 1 frame and more."""
+    within = asked.within
+    words = PROMISED.format("one" if within == 1 else within, within + 1)
+    return words + COMPLETE * asked.is_complete
+
+
+def keys_of(within: int) -> str:
+    """How to read the page; within 1 and more a subtitle has some frames to become whole."""
+    more = f"not held as it is due within {counted(within, 'frame')}"
+    return KEYS.replace(FIRST, more) if within else KEYS
+
+
+def trusted_words(report: Report) -> str:
+    """What the green lines are, where there are some."""
+    words = f" There, {promised(report.asked)}." if report.asked.within else ""
+    return TRUSTED.format(words) if report.faults.trusted else ""
 
 
 def document(line: str, title: str, parts: Iterable[str]) -> str:
@@ -90,7 +117,7 @@ def report_page(report: Report) -> str:
     if report.pes:
         parts.append(pages_table(report))
     if report.looks:
-        parts += [KEYS, TRUSTED if report.faults.trusted else ""]
+        parts += [keys_of(report.asked.within), trusted_words(report)]
     parts.append(foot(report))
     return document(report.verdict.line, title, parts)
 
@@ -145,6 +172,9 @@ def verdict_box(report: Report) -> str:
         parts.append(meaning_of_verdict(report))
     else:
         parts.append(f"<p>{ACCEPTED}</p>")
+        if report.asked.within:
+            parts.append("<p>What receivers show, once they have heard the page: "
+                         f"{promised(report.asked)}.</p>")
     kind, shape = ("refused", BAD) if verdict.status else ("accepted", GOOD)
     if report.asked.lost:
         parts.append(lost_places(report.asked.lost))
@@ -227,7 +257,7 @@ def pages_table(report: Report) -> str:
         bits = "; ".join(f"{names} ({count})" for names, count in known.bits.most_common(4))
         cells = [f"{known.count:,}"]
         for pts in (known.first, known.last):
-            cells += [str(pts), place_of_pts(pts, report.origin)]
+            cells += [str(pts), place_of_pts(pts, report.origin, report.asked.within)]
         named = "".join(f'<td data-name="{name}">{cell}</td>'
                         for name, cell in zip(COLUMNS, [*cells, bits]))
         rows.append(f'<tr><th scope="row">{page_name} {words}</th>{named}</tr>')
@@ -252,8 +282,9 @@ def reading_words(held: Heard) -> str:
         words += (" A receiver is followed up to there, where <code>packets</code> ends with "
                   f"<code>{shown(held.end.line)}</code>.")
     if held.halt:
+        order = "before" if held.within else "not after"
         words += (f" A receiver follows the file as far as PES packet {held.halt[0]}, whose frame "
-                  "is none, or not after that of the one before.")
+                  f"is none, or {order} that of the one before.")
     return words
 
 
@@ -264,11 +295,18 @@ def subtitles_words(report: Report, looks: Looks) -> str:
     if not count:
         return ("<p>There is no subtitle, as <code>schedule</code> tells by 82 NoSubtitles: the "
                 "due page is blank at each frame.</p>")
-    words = f"{count:,} subtitle{'s' * (count != 1)}, pictures at the first frame of "
-    words += "each." if drawn == count else f"{drawn:,} of them."
+    within = report.asked.within
+    when = "the frame after which each is whole" if within else "the first frame of each"
+    words = f"{count:,} subtitle{'s' * (count != 1)}, pictures at {when}" if drawn == count else \
+        (f"{count:,} subtitles, pictures at the first frame of {drawn:,} of them" if not within
+         else f"{count:,} subtitles, {drawn:,} of them with pictures at the frame after which each "
+         "is whole")
+    words += "."
     kinds = entries.counted(report.subtitles)
     odd = sorted(entries.odd & set(entries.drawn))
     links = " ".join(f'<a href="#s{index}">{index}</a>' for index in odd[:MOST_LINKS])
     more = " ..." if len(odd) > MOST_LINKS else ""
     where = f" Not as due: {links}{more}" if links else ""
+    spread = spread_of(report.delays)
+    where += f" {spread.words().capitalize()}." if spread else ""
     return f"<p>{words} What a receiver holds then: {kinds}.{where}</p>"

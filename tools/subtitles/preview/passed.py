@@ -24,7 +24,7 @@ class Passed:
     """
 
     def __init__(self, spans: Spans, path: str = os.devnull, origin: int = 0,
-                 named: Collection[int] = ()) -> None:
+                 named: Collection[int] = (), within: int = 0) -> None:
         self.spans = spans
         # How many others stand before each span, and how many are passed over up to its end.
         self.kept, self.gone = array.array("I"), array.array("I")
@@ -37,8 +37,8 @@ class Passed:
         around = packets_at(path, (number for begin, end in spans for number in (begin - 1,
                                                                                  end + 1)))
         for before in around if spans else ():
-            self.before.append(frame_in(before, origin))
-            self.after.append(frame_in(next(around), origin))
+            self.before.append(frame_of_pes(before, origin, within))
+            self.after.append(frame_of_pes(next(around), origin, within))
         inside = sorted(number for number in named if self.span_of(number) is not None)
         found = packets_at(path, inside) if inside else iter(())
         self.pts = {number: pts for number, pes in zip(inside, found)
@@ -73,10 +73,10 @@ class Passed:
         return of_packets(kept)
 
 
-def frame_in(pes: bytes, origin: int) -> int:
+def frame_of_pes(pes: bytes, origin: int, within: int) -> int:
     """The frame of a PES packet."""
     pts = pts_or_none(pes)
-    frame = None if pts is None else frame_at(pts, origin)
+    frame = None if pts is None else frame_at(pts, origin, within)
     return NO_FRAME if frame is None else frame
 
 

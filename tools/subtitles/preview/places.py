@@ -6,7 +6,8 @@ from typing import TYPE_CHECKING, Iterator
 
 from ..pes import UNIT
 from ..teletext import CODE_WORDS, NUMBER
-from ..times import CLOCK, FRAMES_OF_A_DAY, TICKS, time_of
+from ..times import CLOCK, FRAMES_OF_A_DAY, TICKS, frame_at, pts_of, time_of
+from ..timing import signed
 from ..units import Units
 from .fits import frames_words
 from .manual import shown
@@ -24,8 +25,12 @@ FIRST_FIELD = 32  # field_parity
 BYTES_A_LINE = 14  # of a packet, at most
 
 
-def place_of_pts(pts: int, origin: int) -> str:
+def place_of_pts(pts: int, origin: int, within: int) -> str:
     """What a PTS is in frames of the day: its time, or why it is none."""
+    if within and (frame := frame_at(pts, origin, within)) is not None:
+        off = signed(pts - pts_of(frame, origin))
+        more = f", {abs(off)} ticks {'later' if off > 0 else 'earlier'}" if off else ""
+        return time_of(frame) + more
     ticks = (pts - origin) % CLOCK
     if ticks >= TICKS * FRAMES_OF_A_DAY:
         return "none: after the day's end"
@@ -43,12 +48,13 @@ def pes_words(fault: Verdict, until: int | None, report: Report) -> str:
         return f"<p>{passed_words(fault, them, report)} {between(held, span, until)}</p>"
     if held.halt and held.halt[0] == number:
         words = f"PES packet {number} has the PTS {held.halt[1]}. Its frame: " \
-            f"{place_of_pts(held.halt[1], report.origin)}."
+            f"{place_of_pts(held.halt[1], report.origin, report.asked.within)}."
         if held.last_frame is not None:
             words += f" That of the one before: {time_of(held.last_frame)}."
         return f"<p>{words}</p>"
     if fault.number == ORDER:
-        return f"<p>The frame of PES packet {number} is not after that of the one before.</p>"
+        words = "before" if report.asked.within else "not after"
+        return f"<p>The frame of PES packet {number} is {words} that of the one before.</p>"
     return f"<p>PES packet {number} can't be read, and nothing after it.</p>"
 
 
@@ -58,7 +64,8 @@ def passed_words(fault: Verdict, them: tuple[int, ...], report: Report) -> str:
     which = " to ".join(map(str, them))
     name = f"PES packet {which}" if len(them) == 1 else f"PES packets {which}"
     known = [report.passed.pts[pes] for pes in them if pes in report.passed.pts]
-    each = " to ".join(f"{pts} ({place_of_pts(pts, report.origin)})" for pts in known)
+    each = " to ".join(f"{pts} ({place_of_pts(pts, report.origin, report.asked.within)})"
+                       for pts in known)
     if fault.number == OFF_FRAME:
         return f"{name}: PTS {each}."
     words = f"{name} can't be read."
@@ -110,12 +117,15 @@ def around(held: Heard, frame: int, page: str) -> str:
     return f"<p>Headers of page {page} around frame {time_of(frame)}: {'; '.join(words)}.</p>"
 
 
-def units_table(program: Program, known: NumberedPes, frame: int, broken: int | None,
+def units_table(program: Program, known: list[NumberedPes], frame: int, broken: int | None,
                 has_all: bool) -> str:
-    """The Teletext packets of a PES packet as `packet` prints them, all or the broken one."""
-    number, pes = known
+    """The Teletext packets of the PES packets of a frame as `packet` prints them, all or the broken
+    one."""
+    numbers = " and ".join(str(number) for number, _ in known)
+    which = f"PES packet {numbers}" if len(known) == 1 else f"PES packets {numbers}"
     rows = []
-    for index, (line, data) in enumerate(lines_and_packets(pes)):
+    packets = (one for _, pes in known for one in lines_and_packets(pes))
+    for index, (line, data) in enumerate(packets):
         if not has_all and index != broken:
             continue
         said = program.packet(data.hex())
@@ -126,7 +136,7 @@ def units_table(program: Program, known: NumberedPes, frame: int, broken: int | 
                     f"<td><pre>{shown(chr(10).join(said))}\n{marked_bytes(data)}</pre></td></tr>")
     body = "".join(rows) or "<tr><td>no Teletext packet</td></tr>"
     is_open = ' open="open"' if broken is not None else ""
-    return (f"<details{is_open}><summary>PES packet {number}, of frame {time_of(frame)}</summary>"
+    return (f"<details{is_open}><summary>{which}, of frame {time_of(frame)}</summary>"
             "<p>Bytes that have a wrong bit, by Hamming 8/4 or parity, are underlined.</p>"
             f'<table class="packets">{body}</table></details>')
 

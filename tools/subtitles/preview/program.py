@@ -12,7 +12,7 @@ from ..batch import Batch, first_refused, is_listed
 from ..files import Damaged, Input
 from ..pes import pes_runs
 from ..times import FRAMES_OF_A_DAY, frame_of
-from ..words import Stop
+from ..words import Stop, counted, within_words
 
 if TYPE_CHECKING:
     from .passed import Passed
@@ -30,12 +30,28 @@ class NoReport(Stop):
 
 
 class Subtitle:
-    """A subtitle: its place in the file from 1, its SN, the frames of its TCI and TCO."""
+    """A subtitle: its place in the file from 1, its SN, the frames of its TCI and TCO; after how
+    many frames it was whole, and the frame of its pictures."""
 
     def __init__(self, index: int, number: str, first: int, end: int, row: int, justify: int,
                  text: bytes) -> None:
         self.index, self.number, self.first, self.end = index, number, first, end
         self.row, self.justify, self.text = row, justify, text
+        self.whole_after: int | None = None
+        self.look = first
+
+    def turn_to(self, frames: int | None, within: int) -> None:
+        """Takes after how many frames it was whole: its pictures are of that frame, if it is not
+        late, else of the first one at which it is."""
+        self.whole_after = frames
+        is_late = frames is None or frames > within
+        self.look = self.first + (min(within, self.end - 1 - self.first) if is_late
+                                  else frames or 0)
+
+    def whole_words(self) -> str:
+        """After how many frames it was whole."""
+        return "never whole while it is due" if self.whole_after is None else \
+            f"whole after {counted(self.whole_after, 'frame')}"
 
 
 class Verdict(NamedTuple):
@@ -126,13 +142,14 @@ class Program:
     """A program with the options of the report; messages name it as it was typed."""
 
     def __init__(self, name: str, path: str, page: str, every: str, origin: str, option: str,
-                 is_complete: bool) -> None:
+                 is_complete: bool, within: int = 0) -> None:
         self.name, self.path = name, os.path.abspath(path)
         self.receiver = ["--page", page, "--origin", origin]
         self.schedule_options = [*self.receiver, "--option", option]
         self.check_options = [*self.schedule_options, "--every", every]
         if is_complete:
             self.check_options.append("--complete")
+        self.check_options += within_words(within)
 
     def command(self, *words: str) -> list[str]:
         return [self.path, *words]

@@ -2,13 +2,15 @@
 from __future__ import annotations
 
 import re
-from typing import TYPE_CHECKING, Collection, Iterator, Sequence
+from typing import TYPE_CHECKING, Collection, Iterator, NamedTuple, Sequence
 
+from ..cutting import Range
 from ..qc.cause_words import Wording, names_line
 from ..qc.causes import Cause
-from ..qc.held import Held, Span
+from ..qc.held import Held, Near, Span
 from ..qc.naming import Causes
-from ..qc.programme import programme_of
+from ..qc.programme import Programme, programme_of
+from ..qc.told import BEGIN, END, told_of
 from ..qc.unclear import Unclear
 from ..times import FRAMES_OF_A_DAY, frame_of, time_of
 from ..words import counted
@@ -25,24 +27,35 @@ PLACE = re.compile(r"between (\S+|the beginning) and (\S+|the end): ")  # of wha
 COLUMNS = ("Cause", "Text", "Sent")
 
 
+class Around(NamedTuple):
+    """The PES packets of a recording of which some are judged: their file, the frames of which the
+    recording is, where more is known of that, and the numbers of those that have the same clock."""
+
+    path: str
+    reach: Span | None
+    packets: Range | None
+
+
 class Reasons:
-    """The causes of a report; there is none where the content is not refused."""
+    """The causes of a report; there are some only where something with a cause is refused."""
 
     def __init__(self, report: Report, program: str) -> None:
-        asked = report.asked
-        assert asked.pes is not None
+        asked, faults = report.asked, report.faults
         lost = list(lost_spans(asked.lost))
-        try:
-            programme = programme_of(program, asked.stl, asked.page, asked.option)
-        except Unclear as reason:
-            raise NoReport(reason.reason) from None
-        held = Held(asked.pes, asked.page, asked.origin)
+        programme = due_programme(program, asked)
+        held = held_of(asked, programme)
         held.follow()
-        self.causes = Causes(programme, held, lambda: lost)
-        marks, begun = report.faults.marks[CONTENT], report.faults.begun.get(CONTENT)
+        self.causes = Causes(programme, held, lambda: lost,
+                             lambda: asked.around.reach if asked.around else None)
+        begin, end = (told_of(faults.firsts.get(number, "")) for number in (BEGIN, END))
+        if begin:
+            self.causes.take(begin)
+        marks, begun = faults.marks[CONTENT], faults.begun.get(CONTENT)
         for first, last in [*marks, *[(begun, held.last)] * (begun is not None)]:
             if first is not None and first <= last:
                 self.causes.add(first, last)
+        if end:
+            self.causes.take(end)
         self.causes.settle(True)
         self.wording = Wording(self.causes, asked.option)
         self.drawn: Collection[int] = ()  # the subtitles with pictures, by their numbers from 1
@@ -51,10 +64,10 @@ class Reasons:
         """How many causes there are of each name."""
         return f"{counted(len(self.causes.named), 'subtitle')}: {shown(names_line([self.causes]))}"
 
-    def words(self, frame: int, due: int | None) -> str:
-        """The cause of the 72 at a frame, and of which subtitle it is, where another one is due, or
-        none; `due` is its number from 1."""
-        cause = self.causes.of(frame)
+    def words(self, number: int, frame: int, due: int | None) -> str:
+        """The cause of a fault at a frame, and of which subtitle it is, where another one is due,
+        or none; `due` is its number from 1."""
+        cause = self.causes.of(number, frame)
         if cause is None:
             return ""
         words = shown(self.wording.said(cause))
@@ -88,6 +101,24 @@ class Reasons:
         named = "".join(f'<td data-name="{name}">{cell}</td>'
                         for name, cell in zip(COLUMNS, cells))
         return f'<tr><th scope="row">{self.link(cause)}</th>{named}</tr>'
+
+
+def due_programme(program: str, asked: Asked) -> Programme:
+    """The subtitles with the pages that are due."""
+    try:
+        return programme_of(program, asked.stl, asked.page, asked.option)
+    except Unclear as reason:
+        raise NoReport(reason.reason) from None
+
+
+def held_of(asked: Asked, programme: Programme) -> Held:
+    """What is held of what was judged, or of the recording that this was cut out of."""
+    if asked.around is None:
+        assert asked.pes is not None
+        return Held(asked.pes, asked.page, asked.origin, within=asked.within)
+    due = Span(programme.begins[0], programme.subtitles[-1].end)
+    return Held(asked.around.path, asked.page, asked.origin,
+                Near(due, asked.every, asked.around.packets), asked.within)
 
 
 def lost_spans(places: Sequence[str]) -> Iterator[Span]:

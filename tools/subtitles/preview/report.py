@@ -10,12 +10,15 @@ from typing import NamedTuple
 from ..built import behind_script
 from ..gsi import titles_in
 from ..qc.clock import FITTED
+from ..qc.delays import MOVED, frames_of
+from ..qc.held import Held
 from ..qc.made_with import program_at
 from ..qc.sums import File, Files
+from ..qc.told import WITH_CAUSE
 from ..teletext import Page, page_name
 from ..times import NO_FRAME, time_of
 from ..words import counted
-from .fault_list import CONTENT, FaultList
+from .fault_list import FaultList
 from .faults import MOST_ENTRIES, Faults, Programme
 from .figures import Figures
 from .fits import Fits
@@ -25,7 +28,7 @@ from .manual import meanings
 from .counts import place_words
 from .passed import Passed
 from .program import NoReport, Program, Subtitle, Verdict
-from .reasons import Reasons
+from .reasons import Around, Reasons, due_programme
 from .receiver import Rows
 from .scope import Recorded, Scope
 from .subtitles import Entries
@@ -39,7 +42,8 @@ class Asked(NamedTuple):
 
     `words` are those of the command line. `pes` is `None` where there is none. `window` are the
     first and the last frame of which subtitles get pictures. `lost` tells what is missing, `notes`
-    what else stands beside the verdict.
+    what else stands beside the verdict, `clock` which clock it is; causes are looked for `around`
+    what is judged.
     """
 
     words: list[str]
@@ -57,12 +61,16 @@ class Asked(NamedTuple):
     notes: list[str]
     recording: Recorded | None
     part: tuple[int, int] | None
+    around: Around | None
+    clock: str | None
+    within: int = 0
 
     def options(self) -> str:
         """All options as they hold."""
         words = [f"--page {page_name(*self.page)}", f"--every {self.every}",
                  f"--origin {self.origin}", f"--option {self.option}"]
         words += ["--complete"] * self.is_complete
+        words += [f"--within {self.within}"] * (self.within > 0)
         return " ".join([*words, *map("{} {}".format, ("--from", "--to"),
                                       map(time_of, self.window))])
 
@@ -77,7 +85,8 @@ class Report:
         self.asked, self.stl, self.pes = asked, asked.stl, asked.pes
         path = behind_script(asked.program_path)  # the script looks for it at each call
         program = Program(asked.program, path, page_name(*asked.page),
-                          str(asked.every), str(asked.origin), asked.option, asked.is_complete)
+                          str(asked.every), str(asked.origin), asked.option, asked.is_complete,
+                          asked.within)
         self.page, self.origin = page_name(*asked.page), asked.origin
         self.command_line = shlex.join(["tools/preview", *asked.words])
         self.date = time.strftime("%Y-%m-%d %H:%M:%S UTC", time.gmtime())
@@ -109,17 +118,24 @@ class Report:
         self.is_refused_file = self.verdict.block is not None
         told = [entry.first.frame for entry in self.faults.entries
                 if entry.first.frame is not None]
-        firsts = [one.first for one in self.subtitles]
-        self.passed = Passed(self.faults.passed, path, asked.origin, self.faults.named())
+        self.passed = Passed(self.faults.passed, path, asked.origin, self.faults.named(),
+                             asked.within)
         told += [frame for frame in self.passed.before[:MOST_ENTRIES] if frame != NO_FRAME]
+        has_reasons = self.subtitles and any(map(self.faults.counts.get, WITH_CAUSE))
+        reasons = Reasons(self, program.path) if has_reasons else None
+        self.reasons: Reasons | None = reasons if reasons and reasons.causes.named else None
+        self.delays: list[int | None] = [] if self.is_refused_file else \
+            delays_of(self, program.path, reasons)
+        for one, frames in zip(self.subtitles, self.delays):
+            one.turn_to(frames, asked.within)
+        firsts = [one.look for one in self.subtitles]
         self.frames = [] if self.is_refused_file else [*told, *firsts]
         # Changes of the page are of interest where its content is refused.
         self.hears_all = asked.is_complete or any(entry.first.row is not None
                                                   for entry in self.faults.entries)
-        self.held = Heard(program.packets(path, self.passed, self.faults.ending()), self.frames,
-                          asked.page, asked.origin, told, self.passed, self.hears_all)
-        has_reasons = self.subtitles and self.faults.counts[CONTENT]
-        self.reasons = Reasons(self, program.path) if has_reasons else None
+        self.held: Heard = Heard(
+            program.packets(path, self.passed, self.faults.ending()), self.frames, asked.page,
+            asked.origin, told, self.passed, self.hears_all, asked.within)
 
     def scope(self) -> Scope | None:
         """What the page speaks of; `None` where the subtitle file is refused."""
@@ -127,7 +143,7 @@ class Report:
             return None
         return Scope(titles_in(self.stl), self.asked.recording, self.subtitles[0].first,
                      self.subtitles[-1].end, len(self.subtitles), self.asked.part,
-                     FITTED in self.asked.notes, self.asked.part is not None)
+                     FITTED in self.asked.notes, self.asked.part is not None, self.asked.clock)
 
     def first_link(self, fault: Verdict) -> str:
         """The place of the first fault of a number, as a link where the list has it."""
@@ -149,17 +165,32 @@ class Looks:
         due = due_pages(program, asked, [*report.frames, last or 0], report.hears_all)
         option = GERMAN if asked.option == "german" else ENGLISH
         header = bytes([0, 0, 0, 8, 0, 8, 1, option << 1])  # C4, C6 and C7
-        self.figures = Figures(due, held, header, report.page, asked.is_complete)
-        self.fits = Fits(due.changes if due else Changes(), held.changes,
-                         pages_of_content(faults, held, self.figures))
+        self.figures: Figures = Figures(due, held, header, report.page, asked.is_complete)
+        self.fits: Fits = Fits(due.changes if due else Changes(), held.changes,
+                               pages_of_content(faults, held, self.figures))
         pes = report.verdict.pes
         broken = report.verdict.frame if pes is None else held.last_before(pes)
-        self.entries = Entries(self.figures, held, report.subtitles, asked.window, faults, broken)
+        self.entries: Entries = Entries(self.figures, held, report.subtitles, asked.window, faults,
+                                        broken)
         if report.reasons:
             report.reasons.drawn = self.entries.drawn
         self.fault_list = FaultList(report, self, program)
         self.timeline = Timeline(report.subtitles, held.sendings, self.entries, faults, broken,
                                  report.verdict.line, end_of_knowledge(held, report.subtitles))
+
+
+def delays_of(report: Report, program: str, reasons: Reasons | None) -> list[int | None]:
+    """After how many frames each subtitle was whole."""
+    asked, numbers = report.asked, set(report.faults.counts)
+    if asked.pes is None or not asked.within and not numbers & MOVED:
+        return [0] * len(report.subtitles)
+    if reasons:
+        programme, held = reasons.causes.programme, reasons.causes.held
+    else:
+        programme, held = due_programme(program, asked), Held(asked.pes, asked.page, asked.origin,
+                                                              within=asked.within)
+        held.follow()
+    return frames_of(programme, held, asked.is_complete)
 
 
 def pages_of_content(faults: Faults, held: Heard, figures: Figures) -> dict[int, tuple[Rows, Rows]]:

@@ -23,7 +23,7 @@ class Recorded(NamedTuple):
 class Scope(NamedTuple):
     """What there is to say of a pair, or of a part of it: the titles of the programme, the
     recording, the first and the last frame of the subtitles, how many these are, which part it is
-    of how many, and whether there are several."""
+    of how many, whether there are several, and the clock, where more is to be said of it."""
 
     titles: Sequence[str]
     recording: Recorded | None
@@ -33,6 +33,7 @@ class Scope(NamedTuple):
     part: tuple[int, int] | None
     is_fitted: bool
     has_parts: bool
+    clock: str | None = None
 
     def not_checked(self) -> list[str]:
         """What nobody looked at."""
@@ -45,7 +46,8 @@ class Scope(NamedTuple):
             f"{counted(self.subtitles, 'subtitle')}"
         if self.part:
             words += f"; part {self.part[0]} of {self.part[1]}"
-        rows = [*titles, *self.recorded(), ("Judged", words),
+        clock = [("Clock", shown(self.clock))] if self.clock else []
+        rows = [*titles, *self.recorded(), ("Judged", words), *clock,
                 ("Not checked", "; ".join(map(shown, self.not_checked())))]
         return listed(rows, "made scope")
 

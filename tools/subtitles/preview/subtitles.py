@@ -26,7 +26,7 @@ class Entries:
         self.figures, self.held, self.faults = figures, held, faults
         self.subtitles = subtitles
         self.drawn: dict[int, str] = {}
-        self.kinds = {one.index: figures.kind_at(one.first) for one in subtitles}
+        self.kinds = {one.index: figures.kind_at(one.look) for one in subtitles}
         self.odd = {index for index, kind in self.kinds.items() if kind in (DIFFERENT, NOTHING)}
         self.unknown = {index for index, kind in self.kinds.items()
                         if kind not in (SAME, DIFFERENT, NOTHING)}
@@ -85,21 +85,22 @@ class Entries:
         return self.entry_at[self.entry_frames[at]] if is_one else None
 
     def small(self, subtitle: Subtitle) -> str:
-        first, end = time_of(subtitle.first), time_of(subtitle.end)
+        first, end = time_of(subtitle.look), time_of(subtitle.end)
         sent = counted(self.held.sendings_between(subtitle.first, subtitle.end), "time")
         return (f'<figure class="small" id="s{subtitle.index}"><figcaption title="to {end}, SN '
-                f'{subtitle.number}, row {subtitle.row}, sent {sent}"><b>{subtitle.index}</b>'
+                f'{subtitle.number}, row {subtitle.row}, sent {sent}, {subtitle.whole_words()}">'
+                f"<b>{subtitle.index}</b>"
                 f" {first}{self.faults_in(subtitle)}</figcaption>"
-                f"{self.figures.small_at(subtitle.first)}</figure>")
+                f"{self.figures.small_at(subtitle.look)}</figure>")
 
     def large(self, subtitle: Subtitle) -> str:
         first, end = time_of(subtitle.first), time_of(subtitle.end)
         sent = self.held.sendings_between(subtitle.first, subtitle.end)
-        words = f"sent {counted(sent, 'time')} while it is due"
+        words = f"sent {counted(sent, 'time')} while it is due, {subtitle.whole_words()}"
         return (f'<section class="entry" id="s{subtitle.index}"><h3>Subtitle {subtitle.index} '
                 f"(SN {subtitle.number}) <code>{first}</code> to <code>{end}</code></h3><p>row "
                 f"{subtitle.row}, justification {subtitle.justify}; {words}"
-                f"{self.faults_in(subtitle)}</p>{self.figures.at(subtitle.first)}</section>")
+                f"{self.faults_in(subtitle)}</p>{self.figures.at(subtitle.look)}</section>")
 
     def all(self, timeline: Timeline) -> str:
         """The entries in order, by minute where the timeline has strips of minutes."""

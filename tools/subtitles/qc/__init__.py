@@ -36,6 +36,8 @@ held          the pages that a receiver holds
 programme     the subtitles with the pages that are due
 lettering     what a person reads on a page, and where two differ
 cause_words   causes in words, and as values
+delays        after how many frames each subtitle was whole
+within        within how many frames a part that is refused would be accepted
 
 machine       a verdict as a JSON object
 table         pairs and faults as lines of CSV

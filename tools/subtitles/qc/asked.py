@@ -10,7 +10,8 @@ from typing import Sequence
 from ..files import plain_name
 from ..teletext import page_name
 from ..words import (
-    Stop, Words, add_page, breaks_word, every_word, origin_word, pid_word, run_word, start_word)
+    Stop, Words, add_page, add_within, breaks_word, every_word, origin_word, pid_word, run_word,
+    start_word, within_words)
 
 AUTO = "auto"  # the national option is that of the language
 LC, GERMAN = slice(14, 16), b"08"  # the field in the GSI block, and a language in it
@@ -36,6 +37,7 @@ class Asked:
     breaks: int
     run: int | None
     start: str | None
+    within: int = 0  # frames within which a page has to be whole
 
     @property
     def page_name(self) -> str:
@@ -52,6 +54,9 @@ class Asked:
     def every_words(self) -> list[str]:
         return [] if self.every == 250 else ["--every", str(self.every)]
 
+    def within_words(self) -> list[str]:
+        return within_words(self.within)
+
     def clock_words(self) -> list[str]:
         """What tools/origin is told of the clock, as options."""
         return [*(["--breaks", str(self.breaks)] if self.breaks else []),
@@ -60,7 +65,7 @@ class Asked:
     def check_words(self) -> list[str]:
         """The options of `check` that a person would type, but for the origin."""
         return [*self.page_words(), *self.every_words(), *self.option_words(),
-                *(["--complete"] if self.is_complete else [])]
+                *(["--complete"] if self.is_complete else []), *self.within_words()]
 
 
 def add_pair_options(parser: Words) -> None:
@@ -68,6 +73,7 @@ def add_pair_options(parser: Words) -> None:
     add_page(parser)
     parser.add_argument("--every", type=every_word, default=250, metavar="N",
                         help="the repeat bound, 250 frames where it is left out")
+    add_within(parser)
     parser.add_argument("--option", default="english", choices=("english", "german", AUTO),
                         help="the national option, english where it is left out; auto: the one "
                              "of the language that the subtitle file names")

@@ -7,7 +7,7 @@ from typing import Iterator, Sequence
 
 from ..files import whole_bytes
 from ..stl import letters_on_page, readable, times_of
-from ..times import TICKS
+from ..times import EARLY, TICKS
 from ..votes import REPEATED, Edge, Shown, edges_of
 from ..words import Stop
 
@@ -24,9 +24,12 @@ class Changes:
         self.times: list[int] = []
         self.letters: list[bytes] = []
 
-    def add(self, time: int, letters: bytes) -> None:
-        """One more change, after all others."""
-        self.times.append(time)
+    def add(self, time: int, letters: bytes, within: int = 0) -> None:
+        """One more change, after all others. Within 1 and more a text comes at the time at which
+        the page was erased for it in the same frame."""
+        is_erased = within and self.times and not self.letters[-1] and \
+            time - self.times[-1] < TICKS - EARLY
+        self.times.append(self.times[-1] if is_erased else time)
         self.letters.append(letters)
 
     def drop(self, before: int) -> None:
@@ -35,8 +38,13 @@ class Changes:
         del self.times[:count]
         del self.letters[:count]
 
-    def near(self, time: int) -> int | None:
-        """The number of the change that is nearest to a time, if it is near."""
+    def near(self, time: int, letters: bytes | None = None, room: int = 0) -> int | None:
+        """The number of the change that is nearest to a time, if it is near; or of the first with
+        some letters that is at most so many ticks farther off."""
+        if letters is not None:
+            first, end = (bisect.bisect_left(self.times, one)
+                          for one in (time - room - NEAR, time + room + NEAR + 1))
+            return next((at for at in range(first, end) if self.letters[at] == letters), None)
         at = bisect.bisect_left(self.times, time)
         found = min((one for one in (at - 1, at) if 0 <= one < len(self.times)),
                     key=lambda one: abs(self.times[one] - time), default=None)
@@ -44,9 +52,11 @@ class Changes:
 
 
 class Awaited:
-    """The edges of a subtitle file, looked for in changes from `since` on, and up to `until`."""
+    """The edges of a subtitle file, looked for in changes from `since` on, and up to `until`; of
+    those that agree one may be so many frames later than another: `within`."""
 
-    def __init__(self, stl: str, option: str, since: int, until: int) -> None:
+    def __init__(self, stl: str, option: str, since: int, until: int, within: int = 0) -> None:
+        self.room = TICKS * within
         shown = list(subtitles_of(stl, option))
         if not shown:
             raise Stop(f"{stl} has no subtitle that comes and goes within a day")
@@ -80,15 +90,16 @@ class Awaited:
         for start in range(max(0, number - count + 1), min(number, len(self.edges) - count) + 1):
             rest = list(self.rests(changes, midnight, self.edges[start:start + count]))
             end = midnight + TICKS * self.edges[start + count - 1].frame
-            if len(rest) == count and end <= self.until:
-                return midnight + sorted(rest)[count // 2]
+            if len(rest) == count and end <= self.until and \
+                    max(rest) - min(rest) <= self.room + 2 * NEAR:
+                return midnight + (min(rest) if self.room else sorted(rest)[count // 2])
         return None
 
     def rests(self, changes: Changes, midnight: int, edges: Sequence[Edge]) -> Iterator[int]:
         """How many ticks late edges are, up to the first that does not agree."""
         for edge in edges:
             time = midnight + TICKS * edge.frame
-            at = changes.near(time)
+            at = changes.near(time, edge.letters, self.room) if self.room else changes.near(time)
             if at is None or changes.letters[at] != edge.letters or changes.times[at] < self.since:
                 return
             yield changes.times[at] - time

@@ -8,7 +8,7 @@ import subprocess
 import tempfile
 import time
 
-from ..words import Stop, counted, line_of, shown
+from ..words import Stop, counted, line_of, shown, tell
 from . import collecting
 from .asked import Asked
 from .checking import NOT_JUDGED
@@ -16,6 +16,7 @@ from .made_with import program_at
 from .objects import ENDING, Row, found, is_current, object_at, put, row_of, unjudged
 from .pairs import Item, pairs_at
 from .progress import Progress
+from .single import ignore_signals
 from .typed import Typed
 
 WAIT = 0.2  # seconds between two looks at what is done
@@ -81,6 +82,7 @@ def words_of(asked: Asked) -> list[str]:
     """A pair as the words of a call."""
     words = ["--page", asked.page_name, "--every", str(asked.every), "--option", asked.option]
     words += ["--origin", str(asked.origin)] if asked.origin is not None else []
+    words += ["--within", str(asked.within)]
     words += asked.clock_words()
     words += ["--start", asked.start] if asked.start is not None else []
     words += ["--pid", str(asked.pid)] if asked.pid is not None else []
@@ -102,10 +104,17 @@ def judge(words: argparse.Namespace, called: str) -> int:
     with tempfile.TemporaryDirectory(prefix="subttx-qc-") as folder:
         calls = Calls(typed, folder, words.out, words.is_kept)
         kept = kept_rows(calls, items) if words.is_resumed else {}
-        rows = all_rows(calls, items, kept, words.jobs or os.cpu_count() or 1)
+        known = all_rows(calls, items, kept, words.jobs or os.cpu_count() or 1)
+        done = [item for item in items if item.name in known]
+        rows = [known[item.name] for item in done]
         if words.out is not None:
             collecting.write_index(words.out, rows)
-        return collecting.end(words, rows, [calls.path(item) for item in items])
+        status = collecting.end(words, rows, [calls.path(item) for item in done],
+                                calls.is_stopped)
+        if calls.is_stopped:
+            tell(f"stopped when {len(done)} of {counted(len(items), 'pair')} were judged"
+                 + ("; --resume judges the others" if words.out is not None else ""))
+        return status
 
 
 def kept_rows(calls: Calls, items: list[Item]) -> dict[str, Row]:
@@ -120,8 +129,10 @@ def kept_rows(calls: Calls, items: list[Item]) -> dict[str, Row]:
     return rows
 
 
-def all_rows(calls: Calls, items: list[Item], kept: dict[str, Row], jobs: int) -> list[Row]:
-    """The rows in the order of the pairs, with a line of progress."""
+def all_rows(calls: Calls, items: list[Item], kept: dict[str, Row], jobs: int) \
+        -> dict[str, Row]:
+    """The rows of all pairs, with a line of progress; where a signal ends it, of those that were
+    judged before."""
     progress, began, rows = Progress(), time.monotonic(), dict(kept)
     with concurrent.futures.ThreadPoolExecutor(jobs) as pool:
         waiting = {pool.submit(calls.judge, item): item for item in items if item.name not in kept}
@@ -130,16 +141,20 @@ def all_rows(calls: Calls, items: list[Item], kept: dict[str, Row], jobs: int) -
                 done, _ = concurrent.futures.wait(
                     waiting, WAIT, concurrent.futures.FIRST_COMPLETED)
                 for one in done:
-                    item = waiting.pop(one)
-                    rows[item.name] = one.result()
+                    rows[waiting[one].name] = one.result()
+                    del waiting[one]
                 progress.show(progress_line(rows, len(items), len(kept), began))
-        except BaseException:
+        except BaseException as reason:
+            if isinstance(reason, KeyboardInterrupt):
+                ignore_signals()  # what is known is written now
+            rows |= {item.name: one.result() for one, item in waiting.items() if one.done()}
             for one in waiting:
                 one.cancel()
             calls.stop()
-            raise
+            if not isinstance(reason, KeyboardInterrupt):
+                raise
     progress.clear()
-    return [rows[item.name] for item in items]
+    return rows
 
 
 def progress_line(rows: dict[str, Row], count: int, kept: int, began: float) -> str:

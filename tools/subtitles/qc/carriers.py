@@ -53,7 +53,8 @@ class Kept:
     def flush(self) -> None:
         """What was kept can be read from the file then."""
         with naming(self.path):
-            self.file.flush()
+            if not self.file.closed:
+                self.file.flush()
 
     def close(self) -> None:
         with naming(self.path):
@@ -79,6 +80,16 @@ class Carrier(Kept):
 
     def late(self) -> int:
         return self.timing.late()
+
+    def move(self, path: str) -> None:
+        """Gives the file another name."""
+        os.replace(self.path, path)
+        self.path = path
+
+    def reach(self) -> tuple[int, int] | None:
+        """From which PTS to which all is in the recording that was sent of the PID, by the PCR."""
+        first, last = self.timing.reach()
+        return None if first is None or last is None else (first, last - self.late())
 
     def last(self) -> int | None:
         """The last PTS, or the last PCR where that is later."""

@@ -10,7 +10,8 @@ from typing import NamedTuple
 
 from ..preview.receiver import BLANK_PAGE, Rows
 from ..times import time_of
-from .held import Held, Span
+from ..words import counted
+from .held import LEAST, Held, Span
 from .lettering import attribute_words, is_moved, is_part, place_words, words_on
 from .programme import Programme, Subtitle
 
@@ -18,7 +19,6 @@ LATE, EARLY, NEVER, OTHER = "late", "early", "never sent", "another subtitle's t
 TEXT, PLACE, ATTRIBUTE = "wrong text", "wrong place", "wrong colour or attribute"
 NOT_ERASED, UNKNOWN = "not erased", "unknown"
 NAMES = (LATE, EARLY, NEVER, OTHER, TEXT, PLACE, ATTRIBUTE, NOT_ERASED, UNKNOWN)
-LEAST = 250  # frames before and after a TCI in which its page is looked for
 UNSEEN = "not all that was sent then can be read"
 
 
@@ -62,6 +62,13 @@ class Namer:
         self.subtitles = programme.subtitles
 
     # Whose the faults are.
+
+    def is_due(self, frame: int) -> bool:
+        """Whether at a frame the page is held that is due."""
+        place = self.programme.place_at(frame)
+        is_subtitle = place >= 0 and frame < self.subtitles[place].end
+        due: Rows = self.subtitles[place].rows if is_subtitle else BLANK_PAGE
+        return self.held.page_at(frame) == due
 
     def split(self, first: int, last: int) -> list[Span]:
         """Faulty frames, so that in each stretch one page is due and one is held."""
@@ -135,11 +142,13 @@ class Namer:
 
     def strange(self, place: int, came: int | None) -> int | None:
         """The number of the page, of no subtitle, that is held for longest of the time of one,
-        or of that up to where its own page came."""
+        or of that up to where its own page came: before the first one that is an older one."""
         one = self.subtitles[place]
         end = one.end if came is None or came <= one.begin else min(came, one.end)
+        least = one.begin if place == 0 and came is not None else 0
         found = [number for number in self.held.numbers(one.begin, end)
-                 if self.is_of_its_time(number, place) and self.is_strange(number, place)]
+                 if self.is_of_its_time(number, place) and self.is_strange(number, place)
+                 and self.held.frames[number] >= least]
         lengths = [self.length(number, one.begin, end) for number in found]
         return found[lengths.index(max(lengths))] if found else None
 
@@ -218,7 +227,9 @@ class Namer:
                     is_part(page, one.rows):
                 return Cause(place, TEXT, None, page, None, "rows are missing", window.last)
         sent = self.held.page_at(one.begin)
-        return Cause(place, NEVER, None, None if sent == BLANK_PAGE else sent, None, "",
+        is_all = self.held.last >= min(window.last, one.begin + LEAST)
+        words = "" if is_all else f"the recording was read up to {time_of(self.held.last)}"
+        return Cause(place, NEVER, None, None if sent == BLANK_PAGE else sent, None, words,
                      window.last)
 
     def differs(self, place: int, number: int) -> Cause:
@@ -252,7 +263,15 @@ class Namer:
                                 f"sent after its TCO, at {time_of(faulty.after.first)}")
         if not self.held.is_seen(one.end, until):
             return self.unknown(place, one.end, one.end, UNSEEN)
-        return Cause(place, NOT_ERASED, None, self.held.pages[number], None, "", one.end)
+        return Cause(place, NOT_ERASED, None, self.held.pages[number], None,
+                     self.gone_words(number, one.end), one.end)
+
+    def gone_words(self, number: int, end: int) -> str:
+        """How long after a TCO another page comes than the one that is held there."""
+        until = self.held.stretch(number).last
+        if until == self.held.last or self.held.is_lost:
+            return ""
+        return f"gone {counted(until + 1 - end, 'frame')} later"
 
     def broken(self, place: int, span: Span) -> Cause:
         """Its page was there, and another one came before its TCO."""

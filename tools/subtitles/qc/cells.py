@@ -2,13 +2,14 @@
 from __future__ import annotations
 
 import bisect
+import itertools
 from typing import Iterable, Iterator, NamedTuple
 
 from ..files import Damaged
 from ..pes import data_field, has_pts, pes_packets, pts_in, teletext_packets
 from ..preview.receiver import BLANK_PAGE, OLD, STORED, TUNED, Packet, hear
 from ..teletext import address_of, header_of
-from ..times import CLOCK, FRAMES_OF_A_DAY, TICKS
+from ..times import FRAMES_OF_A_DAY, frame_in
 from .told import PASSED_OVER, Told
 
 ROWS = 24
@@ -55,7 +56,7 @@ class Due:
         listener, wanted = Listener(page), sorted(set(asked))
         with open(path, "rb") as file:
             for data in pes_packets(file):
-                frame = (pts_in(data) - origin) % CLOCK // TICKS
+                frame = frame_in(pts_in(data), origin)
                 listener.hear(data)
                 if not self.pages or self.pages[-1] != listener.state.rows:
                     self.drop_unasked(wanted, frame)
@@ -88,17 +89,43 @@ class Place(NamedTuple):
 NOWHERE = Place(None, None, None)
 
 
-class Places:
-    """Walks through the PES packets beside the faults, which are told in the order of these."""
+class Sending:
+    """What is sent in a frame: the PES packets by their numbers, each with its PTS and its bytes;
+    within 0 one alone. `rows` is what is held at its end."""
 
-    def __init__(self, path: str, page: tuple[int, int], origin: int,
+    def __init__(self, frame: int) -> None:
+        self.frame = frame
+        self.members: list[tuple[int, int, bytes]] = []
+        self.rows: tuple[bytes, ...] = TUNED.rows
+
+    def place(self, packet: int | None) -> Place:
+        """Its last PES packet, or the one with a Teletext packet of that number, which is counted
+        on from one to the next."""
+        at = len(self.members) - 1
+        if packet is not None and at:
+            counts = (len(teletext_packets(data_field(data))) for _, _, data in self.members)
+            ends = list(itertools.accumulate(counts))
+            at = min(bisect.bisect_right(ends, packet), at)
+        number, pts, _ = self.members[at]
+        return Place(number, pts, self.rows)
+
+
+class Places:
+    """Walks through the sendings beside the faults, which are told in the order of these: those of
+    a sending before the next one, and what names a frame at the end of one."""
+
+    def __init__(self, path: str, page: tuple[int, int], clock: tuple[int, int],
                  passed_over: Iterator[tuple[int, int]], is_heard: bool) -> None:
-        self.origin, self.listener, self.is_heard = origin, Listener(page), is_heard
+        (self.origin, self.within), self.is_heard = clock, is_heard
+        self.listener = Listener(page)
         self.passed_over, self.span = passed_over, next(passed_over, None)
         self.packets = self.read(path)
-        self.index, self.frame, self.highest = -1, -1, -1
-        self.pts: int | None = None
-        self.before: tuple[bytes, ...] = TUNED.rows  # what was held before this PES packet
+        self.index, self.highest = -1, -1
+        self.before: Sending | None = None
+        self.now: Sending | None = None
+        self.next: tuple[int, int, bytes] | None = None  # which is of another sending
+        self.pts: dict[int, int | None] = {}  # of the PES packets from the sending before on
+        self.is_over = False
 
     @staticmethod
     def read(path: str) -> Iterator[bytes]:
@@ -111,38 +138,59 @@ class Places:
     def of(self, fault: Told) -> Place:
         """The place of the next fault of a PES file."""
         while True:
-            if fault.pes is not None and fault.pes <= self.index:
-                return Place(self.index, self.pts, None)
-            frame = fault.frame
-            if frame is not None and self.index >= 0:
-                if frame == self.frame:
-                    return Place(self.index, self.pts, self.listener.state.rows)
-                if self.highest < frame < self.frame:
-                    return Place(None, None, self.before)
-            if not self.advance():
-                return NOWHERE
+            place = self.known(fault)
+            if place or self.is_over:
+                return place or NOWHERE
+            self.advance()
 
-    def advance(self) -> bool:
-        """Goes on to the next PES packet, where there is one."""
-        data = next(self.packets, None)
-        if data is None:
-            return False
-        self.index += 1
-        self.pts = pts_in(data) if has_pts(data) else None
-        while self.span and self.span[1] < self.index:
-            self.span = next(self.passed_over, None)
-        if self.span and self.span[0] <= self.index or self.pts is None:
-            return True
-        self.highest = max(self.highest, self.frame) if self.frame >= 0 else \
-            self.frame_of(self.pts)
-        self.frame = self.frame_of(self.pts)
-        self.before = self.listener.state.rows
-        if self.is_heard:
-            self.listener.hear(data)
-        return True
+    def known(self, fault: Told) -> Place | None:
+        """The same, where that sending is heard, or the PES packet is read."""
+        if fault.pes is not None:
+            return Place(fault.pes, self.pts.get(fault.pes), None) if fault.pes <= self.index \
+                else None
+        frame, now = fault.frame, self.now
+        if frame is None or now is None:
+            return None
+        if frame == now.frame:
+            return now.place(fault.packet)
+        if self.before and frame == self.before.frame:
+            return self.before.place(fault.packet)
+        is_between = self.before and self.highest < frame < now.frame
+        return Place(None, None, self.before.rows) if is_between and self.before else None
+
+    def advance(self) -> None:
+        """Goes on to the next sending, where there is one."""
+        first = self.next or self.read_on()
+        if first is None:
+            self.is_over = True
+            return
+        if self.now:
+            self.highest = max(self.highest, self.now.frame)
+        self.before, self.now = self.now, Sending(self.frame_of(first[1]))
+        least = self.before.members[0][0] if self.before else first[0]
+        self.pts = {number: pts for number, pts in self.pts.items() if number >= least}
+        member: tuple[int, int, bytes] | None = first
+        while member and (member is first or self.within and
+                          self.frame_of(member[1]) == self.now.frame):
+            self.now.members.append(member)
+            if self.is_heard:
+                self.listener.hear(member[2])
+            member = self.read_on() if self.within else None
+        self.next, self.now.rows = member, self.listener.state.rows
+
+    def read_on(self) -> tuple[int, int, bytes] | None:
+        """The next PES packet that is not passed over, and has a PTS."""
+        for data in self.packets:
+            self.index += 1
+            pts = self.pts[self.index] = pts_in(data) if has_pts(data) else None
+            while self.span and self.span[1] < self.index:
+                self.span = next(self.passed_over, None)
+            if pts is not None and not (self.span and self.span[0] <= self.index):
+                return self.index, pts, data
+        return None
 
     def frame_of(self, pts: int) -> int:
-        frame = (pts - self.origin) % CLOCK // TICKS
+        frame = frame_in(pts, self.origin, self.within)
         return frame if frame < FRAMES_OF_A_DAY else -1
 
 

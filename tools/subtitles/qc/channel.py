@@ -196,8 +196,9 @@ class Channel:
     def note_changes(self) -> None:
         """Takes the changes that the page has made."""
         assert self.sent
+        asked = self.programme.asked if self.programme else None
         for change in self.sent.changes:
-            self.changes.add(self.clock.now, change.letters)
+            self.changes.add(self.clock.now, change.letters, asked.within if asked else 0)
         self.sent.changes.clear()
 
     def hear(self, page: Page) -> None:
@@ -253,7 +254,8 @@ class Channel:
         try:
             if asked is None:
                 raise Stop(self.programme.reason or "")
-            self.awaited = Awaited(asked.stl, asked.option, self.ended, self.since + self.patience)
+            self.awaited = Awaited(asked.stl, asked.option, self.ended, self.since + self.patience,
+                                   asked.within)
             self.hear(asked.page)
         except (Stop, OSError) as reason:
             self.leave(line_of(reason))

@@ -1,6 +1,7 @@
 """`subttx check --all`, asked about a pair: its list in a file, and what it comes to."""
 from __future__ import annotations
 
+import re
 import shutil
 import subprocess
 from typing import BinaryIO, Callable, Iterator
@@ -9,6 +10,7 @@ from ..files import naming
 from .told import ACCEPTED, COUNT, TRUSTED, Told, told_of
 from .unclear import Unclear
 
+TIME = re.compile(r"\d\d:\d\d:\d\d:\d\d")
 ACCEPTED_WORD, REFUSED_WORD, NOT_JUDGED = "accepted", "refused", "not judged"
 
 
@@ -56,6 +58,11 @@ class Answer:
         with naming(self.path):
             self.file.close()
 
+    def told_up_to(self) -> str | None:
+        """The last time that a line has: what is before it was told."""
+        times: list[str] = TIME.findall(self.last)
+        return times[-1] if times else None
+
     def move(self, path: str) -> None:
         """Moves the file of its lines."""
         with naming(path):
@@ -99,9 +106,8 @@ class Answer:
                 yield found[1], found[2]
 
 
-def check(command: list[str], path: str, hear: Callable[[str], None]) -> Answer:
+def check(command: list[str], answer: Answer, hear: Callable[[str], None]) -> Answer:
     """Runs `check --all`; `hear` gets each line as it comes."""
-    answer = Answer(path)
     with subprocess.Popen(command, stdin=subprocess.DEVNULL, stdout=subprocess.PIPE,
                           encoding="utf-8", errors="replace") as process:
         assert process.stdout

@@ -4,6 +4,8 @@ from __future__ import annotations
 from typing import NamedTuple
 
 RECORDING, GIVEN, START, TCP = "recording", "given", "start", "tcp"
+SOURCES = {RECORDING: "fitted to the recording", GIVEN: "given", START: "by the first picture",
+           TCP: "by the first picture, TCP"}
 FITTED = "the clock was fitted to the recording: a delay that all subtitles share is not seen; " \
     "give --origin or --start"
 FITTED_LATER = "the clock after a break was fitted to the recording: a delay that all subtitles " \
@@ -24,3 +26,7 @@ class Clock(NamedTuple):
     def is_fitted(self) -> bool:
         """Whether it was found in the recording that it judges."""
         return self.source == RECORDING
+
+    def words(self) -> str:
+        """The origin, and where it is from."""
+        return f"origin {self.origin}, {SOURCES[self.source]}"

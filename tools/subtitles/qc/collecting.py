@@ -38,16 +38,17 @@ def collect(words: argparse.Namespace) -> int:
     return end(words, rows, paths)
 
 
-def end(words: argparse.Namespace, rows: Sequence[Row], paths: Sequence[str]) -> int:
+def end(words: argparse.Namespace, rows: Sequence[Row], paths: Sequence[str],
+        is_stopped: bool = False) -> int:
     """Writes the files for machines, by the files of the objects, and prints the table; answers the
-    status."""
-    status, date = status_of(rows), now()
+    status, which is 2 where others were to be judged too."""
+    status, date = 2 if is_stopped else status_of(rows), now()
     for path, pieces in ((words.json, lambda: objects(rows, paths, status, date)),
                          (words.csv, lambda: lines_of(paths)),
                          (words.junit, lambda: testcases(rows, date))):
         put(path, pieces)
     is_output_taken = any(path in OWN_OUTPUT for path in (words.json, words.csv, words.junit))
-    for line in table_of(rows):
+    for line in table_of(rows) if rows else ():
         print(shown(line), file=sys.stderr if is_output_taken else sys.stdout)
     return status
 

@@ -9,11 +9,11 @@ from typing import Iterator, TypedDict
 
 from ..preview.letters import ENGLISH, GERMAN, letters
 from ..preview.manual import meanings
-from ..times import CLOCK, FRAMES_OF_A_DAY, TICKS, time_of
+from ..times import frame_at, time_of
 from .cause_words import CauseWords, SubtitleWords, Wording
 from .cells import NOWHERE, Due, Place, Places, code_at, passed_over
 from .subtitle_file import Subtitle, SubtitleFile
-from .told import CONTENT, LETTERS, STL_FAULTS, Told
+from .told import CONTENT, LETTERS, STL_FAULTS, WITH_CAUSE, Told
 from .typed import Typed
 from .unclear import Unclear
 from .verdict import Part, Verdict
@@ -100,7 +100,7 @@ class PartFaults:
                      if one.is_fault and one.number == CONTENT and one.frame is not None]
             if asked:
                 self.due = due_pages(typed, verdict, part, asked)
-            self.places = Places(part.pes, self.asked.page, part.origin,
+            self.places = Places(part.pes, self.asked.page, (part.origin, self.asked.within),
                                  passed_over(part.answer.told()), bool(asked))
 
     def __iter__(self) -> Iterator[Fault]:
@@ -130,10 +130,10 @@ class PartFaults:
         }
 
     def cause_of(self, told: Told) -> CauseWords | None:
-        """The cause of the subtitle whose fault a 72 is."""
-        if self.wording is None or told.number != CONTENT or told.frame is None:
+        """The cause of the subtitle whose fault a 63, 72 or 74 is."""
+        if self.wording is None or told.number not in WITH_CAUSE or told.frame is None:
             return None
-        cause = self.wording.causes.of(told.frame)
+        cause = self.wording.causes.of(told.number, told.frame)
         return self.wording.values(cause) if cause else None
 
     def subtitle_of(self, told: Told) -> Subtitle | None:
@@ -146,8 +146,8 @@ class PartFaults:
         """The time of a PTS that is one of a frame of the day."""
         if pts is None or self.part.origin is None:
             return None
-        frame, rest = divmod((pts - self.part.origin) % CLOCK, TICKS)
-        return time_of(frame) if rest == 0 and frame < FRAMES_OF_A_DAY else None
+        frame = frame_at(pts, self.part.origin, self.asked.within)
+        return None if frame is None else time_of(frame)
 
     def due_cell(self, told: Told) -> Cell | None:
         """The cell of a 72 as it is due."""
@@ -170,8 +170,11 @@ class PartFaults:
 
 
 def words_of(subtitle: Subtitle | None) -> SubtitleWords | None:
-    if subtitle is None:
-        return None
+    return None if subtitle is None else words_of_subtitle(subtitle)
+
+
+def words_of_subtitle(subtitle: Subtitle) -> SubtitleWords:
+    """A subtitle for machines."""
     return {"number": subtitle.number, "begin": subtitle.begin, "end": subtitle.end}
 
 

@@ -116,8 +116,9 @@ class Feed:
 
     def is_over(self, kept: Kept, data: bytes) -> bool:
         """Whether nothing more is needed."""
-        if self.live:
-            return self.live.is_over() or self.live.is_past(kept.pcr(), kept.late())
+        if self.live:  # the PCR is that of the piece of the feed, of which all has to be heard
+            return self.live.is_over() or \
+                not data and self.live.is_past(kept.pcr(), kept.late())
         now = pts_or_none(data) if data else kept.pcr()
         self.now = self.now if now is None else now
         return self.until is not None and now is not None and signed(now - self.until) > 0

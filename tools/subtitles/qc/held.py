@@ -6,12 +6,14 @@ import bisect
 from typing import Iterator, NamedTuple
 
 from ..batch import Batch, is_listed, of_packets
-from ..pes import AT_A_TIME, UNIT, begins_in
+from ..cutting import Cut, Range
+from ..pes import AT_A_TIME, UNIT, begins_in, sliced
 from ..preview.receiver import BLANK_PAGE, HIT, OLD, Receiver, Rows
 from ..teletext import Page
-from ..times import NO_FRAME, frames_at
+from ..times import FRAMES_OF_A_DAY, NO_FRAME, frames_at
 
 CLEARED = bytes(0x20 if code in (OLD, HIT) else code for code in range(256))
+LEAST = 250  # frames around those that are due in which more is looked for
 
 
 class Span(NamedTuple):
@@ -21,35 +23,74 @@ class Span(NamedTuple):
     last: int
 
 
+class Near:
+    """Frames that are due, `span`, and of which PES packets; what is heard of a recording there
+    begins 250 frames before them, or as many as the repeat bound, and ends as many after them."""
+
+    def __init__(self, span: Span, every: int, packets: Range | None = None) -> None:
+        self.span, self.packets, more = span, packets, max(LEAST, every)
+        self.heard = Span(max(span.first - more, 0), min(span.last + more, FRAMES_OF_A_DAY - 1))
+
+    def cut(self, page: Page, origin: int, within: int) -> Cut:
+        """Takes these PES packets out of all."""
+        return Cut(*self.heard, page, origin, None, self.packets, within)
+
+
 class Held:
     """The pages, each with the frame from whose end on it is held; the frames rise.
 
-    `last` is the frame of the last PES packet that was heard. `doubts` are frames of which not all
-    is known that was sent: from the PES packet before one that is passed over to the next one.
-    Where a frame is before that of the PES packet before nothing more is heard: `is_lost`.
+    `first` and `last` are the frames of the first and the last PES packet there. `doubts` are
+    frames of which not all is known that was sent: from the PES packet before one that is passed
+    over to the next one. Where a frame is before that of the PES packet before nothing more is
+    heard: `is_lost`; but `near` frames that are due what comes before these is forgotten.
     """
 
-    def __init__(self, path: str, page: Page, origin: int) -> None:
-        self.path, self.origin, self.at, self.rest = path, origin, 0, b""
-        self.receiver = Receiver(page)
+    def __init__(self, path: str, page: Page, origin: int, near: Near | None = None,
+                 within: int = 0) -> None:
+        self.path, self.page, self.origin, self.within = path, page, origin, within
+        self.at, self.rest = 0, b""
+        self.cut = near.cut(page, origin, within) if near else None
+        self.begin = near.span.first if near else NO_FRAME
+        self.lost: list[Span] = []  # frames of which something is lost, whoever knows it
+        self.is_lost = False
+        self.forget()
+
+    def forget(self) -> None:
+        """Holds nothing, and has heard nothing."""
+        self.receiver = Receiver(self.page)
         self.frames, self.pages = array.array("i"), list[Rows]()
         self.when: dict[Rows, array.array[int]] = {}  # the frames at which a page came
-        self.last, self.is_lost, self.is_settled, self.field = NO_FRAME, False, False, b""
+        self.turns = array.array("i")  # the frames at whose ends the page turns open, or closed
+        self.first = self.last = NO_FRAME
+        self.is_settled, self.field, self.is_doubted = False, b"", False
         self.doubts: list[Span] = []
-        self.lost: list[Span] = []  # frames of which something is lost, whoever knows it
-        self.is_doubted = False
 
     def follow(self) -> None:
         """Hears what has come since the last time."""
         with open(self.path, "rb") as file:
             file.seek(self.at)
-            while not self.is_lost and (piece := file.read(AT_A_TIME)):
+            while not self.is_over() and (piece := file.read(AT_A_TIME)):
                 self.at += len(piece)
                 data = self.rest + piece
                 begins = begins_in(data)
                 self.rest = data[begins[-1]:]
                 if len(begins) > 1:
-                    self.take(Batch(data, begins))
+                    self.take_near(Batch(data, begins))
+
+    def is_over(self) -> bool:
+        """Whether nothing more is heard."""
+        return self.is_lost or self.cut is not None and self.cut.is_over
+
+    def take_near(self, batch: Batch) -> None:
+        """Hears those of some PES packets that are near."""
+        if self.cut is None:
+            self.take(batch)
+            return
+        found = self.cut.taken(sliced(batch.data, batch.begins))
+        if self.first == NO_FRAME and self.cut.came is not None:
+            self.first = self.cut.came
+        if found:
+            self.take(of_packets(found))
 
     def take(self, batch: Batch) -> None:
         """Hears some PES packets."""
@@ -60,20 +101,23 @@ class Held:
                 else:
                     self.is_doubted = True
             return
-        for number, frame in enumerate(frames_at(batch.pts(), self.origin)):
+        for number, frame in enumerate(frames_at(batch.pts(), self.origin, self.within)):
             if frame == NO_FRAME:
                 self.is_doubted = True
-            elif frame < self.last or self.is_lost:
+                continue
+            if frame < self.last < self.begin:
+                self.forget()
+            if frame < self.last or self.is_lost:
                 self.is_lost = True
                 return
-            else:
-                self.hear(batch.packet(number), frame)
+            self.hear(batch.packet(number), frame)
 
     def hear(self, data: bytes, frame: int) -> None:
         """Hears a PES packet; the same units again change nothing where they changed nothing."""
         if self.is_doubted:
             self.doubts.append(Span(max(self.last, 0), frame))
             self.is_doubted = False
+        self.first = frame if self.first == NO_FRAME else self.first
         self.last = frame
         field = data[UNIT:]
         if self.is_settled and field == self.field:
@@ -81,8 +125,17 @@ class Held:
         before = self.receiver.state
         self.receiver.hear_pes(data)
         self.field, self.is_settled = field, before == self.receiver.state
+        if self.receiver.state.is_open != len(self.turns) % 2:
+            self.turn(frame)
         if self.receiver.state.rows is not before.rows:
             self.change(frame, cleared(self.receiver.state.rows))
+
+    def turn(self, frame: int) -> None:
+        """The page is open from the end of a frame on, or no more."""
+        if self.turns and self.turns[-1] == frame:
+            self.turns.pop()
+        else:
+            self.turns.append(frame)
 
     def change(self, frame: int, page: Rows) -> None:
         """Another page is held from a frame on, unless it is the same once more."""
@@ -112,6 +165,13 @@ class Held:
         while number < len(self.frames) and self.frames[number] < end:
             yield number
             number += 1
+
+    def closed_from(self, frame: int) -> int | None:
+        """The first frame from one on at whose end the page is not open."""
+        at = bisect.bisect_right(self.turns, frame)
+        if at % 2 == 0:
+            return frame
+        return self.turns[at] if at < len(self.turns) else None
 
     def stretch(self, number: int) -> Span:
         """From when to when a page is held."""

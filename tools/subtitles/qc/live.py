@@ -8,8 +8,7 @@ from typing import TYPE_CHECKING, BinaryIO
 from ..cutting import Cut
 from ..files import naming
 from ..pes import pes_packets
-from ..teletext import Page
-from ..times import CLOCK, FRAMES_OF_A_DAY, TICKS, time_of
+from ..times import FRAMES_OF_A_DAY, frame_in, time_of
 from ..words import counted
 from .checking import Answer
 from .names import Names
@@ -17,6 +16,7 @@ from .speech import Speech
 from .why import Following
 
 if TYPE_CHECKING:
+    from .asked import Asked
     from .fitting import Found
 
 
@@ -24,9 +24,10 @@ class Live:
     """A call of `check --all` that is handed the PES packets of the time of the subtitles; it is
     heard beside that."""
 
-    def __init__(self, command: list[str], found: Found, page: Page, every: int, names: Names,
+    def __init__(self, command: list[str], found: Found, asked: Asked, names: Names,
                  speech: Speech, following: Following) -> None:
-        self.cut = Cut(found.begin, found.end, page, found.origin, every, found.packets)
+        self.cut = Cut(found.begin, found.end, asked.page, found.origin, asked.every,
+                       found.packets, asked.within)
         self.speech = speech
         self.origin, self.answer = found.origin, Answer(names.list_path)
         self.path = names.cut_path
@@ -76,8 +77,6 @@ class Live:
     def follow(self) -> None:
         """Tells the causes that are known by now."""
         if self.following.is_due():
-            with naming(self.path):
-                self.kept.flush()
             self.following.follow()
 
     def is_over(self) -> bool:
@@ -93,7 +92,7 @@ class Live:
         judged."""
         if pcr is None:
             return False
-        frame = (pcr - late - self.cut.origin) % CLOCK // TICKS
+        frame = frame_in(pcr - late, self.cut.origin, self.cut.within)
         return self.cut.high < frame < FRAMES_OF_A_DAY
 
     def show(self, still: float = 0.0) -> None:

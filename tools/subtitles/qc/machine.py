@@ -6,9 +6,10 @@ from typing import Iterable, Iterator, Mapping
 
 from .asked import Asked
 from .cause_words import Wording
-from .faults import faults_of
+from .faults import faults_of, words_of_subtitle
 from .made_with import Program
 from .naming import counts_of
+from .subtitle_file import SubtitleFile
 from .sums import File
 from .typed import Typed
 from .verdict import Gap, Part, Verdict
@@ -28,7 +29,8 @@ def asked_words(asked: Asked) -> dict[str, Value]:
             "page": asked.page_name, "every": asked.every, "option": asked.option,
             "origin": asked.origin, "complete": asked.is_complete, "pid": asked.pid,
             "allow_lost": asked.is_loss_allowed, "severity": asked.severity,
-            "breaks": asked.breaks, "run": asked.run, "start": asked.start}
+            "breaks": asked.breaks, "run": asked.run, "start": asked.start,
+            "within": asked.within}
 
 
 def part_words(part: Part, is_kept: bool) -> dict[str, Value]:
@@ -80,6 +82,8 @@ def head_of(verdict: Verdict, program: Program) -> dict[str, Value]:
         "date": verdict.date,
         "seconds": verdict.seconds,
         "cause_counts": counts_of(part.causes for part in parts if part.causes),
+        "accepted_within": verdict.accepted_within,
+        "whole_after": verdict.delays and verdict.delays._asdict(),
     }
 
 
@@ -94,6 +98,8 @@ def object_of(verdict: Verdict, program: Program, typed: Typed) -> Iterator[str]
     yield from listed(faults_of(verdict, typed))
     yield '],\n "causes": ['
     yield from listed(causes_of(verdict))
+    yield '],\n "subtitles": ['
+    yield from listed(subtitles_of(verdict))
     yield "]\n}\n"
 
 
@@ -104,6 +110,14 @@ def causes_of(verdict: Verdict) -> Iterator[dict[str, Value]]:
             wording = Wording(part.causes, verdict.asked.option)
             for cause in part.causes.all():
                 yield {"part": part.number, **wording.values(cause)}
+
+
+def subtitles_of(verdict: Verdict) -> Iterator[dict[str, Value]]:
+    """The subtitles of all parts, each with the number of frames after which it was whole."""
+    for part in verdict.parts:
+        if part.delays:
+            for one, frames in zip(SubtitleFile(part.stl_path).all(), part.delays):
+                yield {"part": part.number, **words_of_subtitle(one), "whole_after": frames}
 
 
 def listed(items: Iterable[Mapping[str, Value]]) -> Iterator[str]:

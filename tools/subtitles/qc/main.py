@@ -3,6 +3,7 @@ from __future__ import annotations
 
 import argparse
 
+from ..files import plain_name
 from ..words import Stop, Words
 from . import single
 from .asked import add_pair_options
@@ -74,6 +75,7 @@ def main(text: str, called: str, line: list[str]) -> int:
     """Does what the words ask; answers the status."""
     words = parser_of(text).parse_args(line)
     refuse_strangers(words)
+    words.out = words.out and plain_name(words.out)
     if words.collect is not None:
         from . import collecting  # one pair needs nothing of these
         return collecting.collect(words)

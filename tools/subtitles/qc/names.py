@@ -10,15 +10,23 @@ from .asked import Asked
 from .typed import Typed, line_of
 
 
+LINK = ".out"  # in the temporary folder
+
+
 class Names:
     """The files that the steps make: as a person types them, and where they stand here.
 
     What is judged is kept in the folder that was asked for; the rest is temporary, under the names
-    that a person would type.
+    that a person would type. The program asks for names that are UTF-8: `here` is another one of
+    that folder, where its own is none.
     """
 
     def __init__(self, name: str, folder: str, out: str | None) -> None:
-        self.name, self.folder, self.out = name, folder, out
+        self.name, self.folder, self.out, self.here = name, folder, out, out
+        if out is not None and not is_utf_8(out):
+            self.here = os.path.join(folder, LINK)
+            if not os.path.lexists(self.here):
+                os.symlink(os.path.abspath(out), self.here)
         self.given = self.given_typed = ""  # the subtitle file, for the program and as it is typed
         self.whole, self.whole_path = self.typed("recording.pes"), self.temporary("recording.pes")
         self.cut, self.cut_path = self.typed("cut.pes"), self.place("cut.pes")
@@ -37,7 +45,8 @@ class Names:
 
     def place(self, ending: str) -> str:
         """Where it stands, if it is kept where a folder is asked for."""
-        return self.typed(ending) if self.out else self.temporary(ending)
+        return os.path.join(self.here, f"{self.name}.{ending}") if self.here else \
+            self.temporary(ending)
 
     def of_part(self, number: int) -> Names:
         """The files of a part."""
@@ -68,6 +77,8 @@ class Names:
         """A line of a tool, in which files have the names that a person types."""
         if self.given != self.given_typed:
             line = line.replace(self.given, self.given_typed)
+        if self.out and self.here and self.out != self.here:
+            line = line.replace(self.here, self.out)
         return line.replace(os.path.join(self.folder, ""), os.path.join(self.out or "", ""))
 
 
@@ -75,7 +86,7 @@ def again(asked: Asked, typed: Typed, *more: str) -> str:
     """The call of this tool for the pair, with more words, or with others of an option."""
     words = [typed.tool("qc"), asked.stl, *([asked.recording] if asked.recording else [])]
     options = [asked.page_words(), asked.every_words(), asked.option_words(),
-               [] if asked.is_complete else ["--no-complete"],
+               [] if asked.is_complete else ["--no-complete"], asked.within_words(),
                ["--pid", f"0x{asked.pid:X}"] if asked.pid is not None else [],
                ["--origin", str(asked.origin)] if asked.origin is not None else [],
                ["--start", asked.start] if asked.start is not None else [],

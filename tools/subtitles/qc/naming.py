@@ -4,33 +4,46 @@ from __future__ import annotations
 import collections
 from typing import Callable, Iterable
 
-from .causes import NAMES, Cause, Faulty, Namer
+from .causes import EARLY, NAMES, NEVER, Cause, Faulty, Namer
 from .held import Held, Span
 from .programme import Programme
-from .told import CONTENT, Told
+from .told import BEGIN, CONTENT, END, Told
+
+FEW = 3  # subtitles, which have the edges of a part
+BEFORE = f"its sending stands before what was cut, so {BEGIN} is told"
 
 
 class Causes:
     """The causes of subtitles, by the lines of the list and by what is held.
 
-    `named` are those that are known, in order; `of_frame` is the subtitle whose fault a 72 is.
-    `unseen` tells frames of which not all is known that was sent, beside those that can't be read.
+    `named` are those that are known, in order; `of_frame` is the subtitle whose fault a 72 is, and
+    `of_edge` the one whose fault a 63 or 74 is, where the recording goes on there. `unseen` tells
+    frames of which not all is known that was sent, beside those that can't be read, and `reach`
+    the frames of which the recording is, where that is known of more than its PES packets.
     """
 
     def __init__(self, programme: Programme, held: Held,
-                 unseen: Callable[[], Iterable[Span]] = tuple) -> None:
-        self.programme, self.held, self.unseen = programme, held, unseen
+                 unseen: Callable[[], Iterable[Span]] = tuple,
+                 reach: Callable[[], Span | None] = lambda: None) -> None:
+        self.programme, self.held, self.unseen, self.reach = programme, held, unseen, reach
         self.namer = Namer(programme, held)
         self.named: dict[int, Cause] = {}
         self.of_frame: dict[int, int] = {}
+        self.of_edge: dict[int, int] = {}
         self.open: dict[int, Faulty] = {}
         self.begun: int | None = None  # the frame of a 72 that stands
 
     def take(self, told: Told) -> None:
         """Takes a line; what is held at its frame has to be heard before."""
-        if told.number != CONTENT or told.frame is None:
+        if told.frame is None:
             return
-        if told.is_fault:
+        if told.number == BEGIN:
+            self.look_before(told.frame)
+        elif told.number == END:
+            self.look_after(told.frame)
+        elif told.number != CONTENT:
+            return
+        elif told.is_fault:
             self.end(told.frame - 1)
             self.begun = told.frame
             self.of_frame[told.frame] = self.add(told.frame, told.frame)
@@ -45,14 +58,51 @@ class Causes:
 
     def add(self, first: int, last: int) -> int:
         """Takes frames at which another page is held than is due; answers whose the first is."""
-        owners = []
+        spans = self.namer.split(first, last)
+        return [self.add_to(self.namer.owner(span.first), span) for span in spans][0]
+
+    def add_to(self, place: int, span: Span) -> int:
+        """Takes such frames as those of a subtitle."""
+        if place not in self.named:
+            self.open.setdefault(place, Faulty()).add(span, self.programme.subtitles[place])
+        return place
+
+    # What was sent before the first frame that is judged, and after the last one.
+
+    def reached(self) -> Span:
+        """The frames of which the recording is."""
+        first, last = self.held.first, self.held.last
+        known = self.reach()
+        return Span(min(first, known.first), max(last, known.last)) if known else Span(first, last)
+
+    def look_before(self, frame: int) -> None:
+        """Looks at what was sent up to a frame, the first that is judged, from the first TCI on,
+        where the recording has it; and what of the first subtitle came before that. One that is
+        late is known where the recording begins as long before its TCI: it was not early then.
+        """
+        begin, held = self.programme.begins[0], self.held
+        if not (held.frames and held.frames[0] <= begin or
+                self.reached().first <= 2 * begin - frame):
+            return
+        came = self.namer.sending(0)
+        if came is not None and came < begin and self.namer.is_due(begin):
+            self.of_edge[BEGIN] = self.add_to(0, Span(came, begin - 1))
+        self.compare(BEGIN, begin, frame - 1)
+
+    def look_after(self, frame: int) -> None:
+        """Looks at what was sent after a frame, the last that is judged, up to the last TCO, where
+        the recording has it."""
+        end = self.programme.subtitles[-1].end
+        if self.reached().last >= end:
+            self.compare(END, frame + 1, end)
+
+    def compare(self, number: int, first: int, last: int) -> None:
+        """Takes those of some frames at which another page is held than is due, as what a 63 or 74
+        is."""
         for span in self.namer.split(first, last):
-            place = self.namer.owner(span.first)
-            owners.append(place)
-            if place not in self.named:
-                faulty = self.open.setdefault(place, Faulty())
-                faulty.add(span, self.programme.subtitles[place])
-        return owners[0]
+            if not self.namer.is_due(span.first):
+                place = self.add_to(self.namer.owner(span.first), span)
+                self.of_edge.setdefault(number, place)
 
     def settle(self, is_over: bool) -> list[Cause]:
         """The causes that are known now, and were not before; at the end all are."""
@@ -61,17 +111,37 @@ class Causes:
         self.held.lost = list(self.unseen()) if self.open else []
         found = []
         for place in sorted(self.open):
-            cause = self.namer.cause(place, self.open[place])
+            cause = self.named_by(place)
             if is_over or cause.known <= self.held.last:
                 del self.open[place]
                 self.named[place] = cause
                 found.append(cause)
         return found
 
-    def of(self, frame: int) -> Cause | None:
-        """The cause of the 72 at a frame."""
+    def named_by(self, place: int) -> Cause:
+        """The cause of a subtitle, as it is known by now."""
+        cause = self.namer.cause(place, self.open[place])
+        is_before = cause.name == EARLY and self.of_edge.get(BEGIN) == place
+        return cause._replace(words=BEFORE) if is_before else cause
+
+    def of(self, number: int, frame: int) -> Cause | None:
+        """The cause of a fault of a number at a frame."""
+        if number != CONTENT:
+            edge = self.of_edge.get(number)
+            return None if edge is None else self.named.get(edge)
         place = self.of_frame.get(frame)
         return self.named.get(self.namer.owner(frame) if place is None else place)
+
+    def unsent_from(self) -> int | None:
+        """The TCI from which on no subtitle was sent, where these are a few."""
+        subtitles = self.programme.subtitles
+        place = len(subtitles)
+        while place and self.is_never_sent(place - 1):
+            place -= 1
+        return subtitles[place].begin if len(subtitles) - place >= FEW else None
+
+    def is_never_sent(self, place: int) -> bool:
+        return place in self.named and self.named[place].name == NEVER
 
     def all(self) -> list[Cause]:
         """All that are known, in the order of the subtitles."""

@@ -35,7 +35,7 @@ def overview(verdict: Verdict, program: Program, names: Names, typed: Typed) -> 
     yield document(line, title, [
         box(verdict, line), scope(verdict), f'<h2 id="parts">{len(verdict.parts)} parts</h2>',
         table(verdict, names), between(verdict.parts),
-        made_from(files, verdict.date, program, words)])
+        made_from(files, verdict.date.replace("T", " ").replace("Z", " UTC"), program, words)])
 
 
 def box(verdict: Verdict, line: str) -> str:
@@ -91,9 +91,7 @@ def clock_of(part: Part) -> str:
     """The clock of a part in words."""
     if part.clock is None:
         return ""
-    source = {"recording": "fitted to the recording", "given": "given",
-              "start": "by the first picture", "tcp": "by the first picture, TCP"}
-    words = f"origin {part.clock.origin}, {source[part.clock.source]}"
+    words = part.clock.words()
     delay = part.clock.delay_frames
     if delay:
         words += f", all {counted(abs(delay), 'frame')} {'late' if delay > 0 else 'early'}"

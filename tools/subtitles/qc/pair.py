@@ -2,14 +2,16 @@
 from __future__ import annotations
 
 import os
+from typing import NamedTuple
 
 from ..extracting import TOLD, what_of
 from ..joining import Place
-from ..times import CLOCK, FRAMES_OF_A_DAY, TICKS, time_of
+from ..times import CLOCK, FRAMES_OF_A_DAY, TICKS, frame_in, time_of
 from ..words import counted, shown
 from .carriers import Carrier, Kept
 from .checking import Answer
 from .clock import GIVEN, RECORDING, TCP, Clock
+from .delays import frames_in
 from .feed import At, Feed, Finder
 from .fitting import Found, found_in, notes_of, runs_in, with_delay
 from .kinds import is_recording
@@ -22,16 +24,26 @@ from .speech import Speech
 from .stall import Stall
 from .start import Starting, refuse_outside
 from .steps import Steps, Stretch, origin_words, packets_words
-from .sums import file_of
+from .subtitle_file import SubtitleFile
+from .sums import File, file_of
 from .told import EMPTY
 from .typed import Typed
 from .unclear import Unclear
 from .verdict import Gap, Part, Verdict
 from .warned import Warned, of_repeat, of_tables, of_timing
 from .whole import of_end, of_growth
-from .why import Asking, Following, Telling
+from .why import Asking, Following, Heard, Telling
+from .within import Trying, line_of
 
 NO_CLOCK = Clock(0, RECORDING)  # stands for one that is not found yet
+
+
+class Begun(NamedTuple):
+    """A part that is being judged: its number, what it is, and what was told of it."""
+
+    number: int
+    one: Stretch
+    answer: Answer
 
 
 class Pair:
@@ -50,6 +62,7 @@ class Pair:
         self.count = 1  # of the parts
         self.times: list[tuple[int, int]] = []  # at which each subtitle comes and goes
         self.starting = Starting(self.asked, speech) if self.asked.start else None
+        self.begun: Begun | None = None
 
     def judge(self) -> None:
         """Judges the pair; `Unclear` where a step is not clear."""
@@ -74,13 +87,23 @@ class Pair:
             raise Unclear("nothing of the recording was read, and --severity leaves no fault an "
                           "error")
 
-    def stop(self) -> str | None:
-        """Takes what was told of a feed before a signal came; the time up to which it was judged.
-        """
+    def stop(self, now: str) -> str:
+        """Takes what was told before a signal came; at which time that was, of a feed or of `now`,
+        and up to where a file was judged."""
         live = self.recording.live if self.recording else None
-        if live is None or live.cut.frame is None or self.verdict.parts:
-            return None
-        answer, frame = live.stop_early(), live.cut.frame
+        if live and live.cut.frame is not None and not self.verdict.parts:
+            return self.stop_live(live, live.cut.frame)
+        if self.begun is None or len(self.verdict.parts) >= self.begun.number:
+            return now
+        number, one, answer = self.begun
+        answer.stop()
+        self.verdict.parts.append(part_of(number, one, None, answer))
+        time = answer.told_up_to()
+        return f"{now}, when check had told {f'all up to {time}' if time else 'nothing yet'}"
+
+    def stop_live(self, live: Live, frame: int) -> str:
+        """The same of a feed."""
+        answer = live.stop_early()
         clock = self.starting.began.clock if self.starting and self.starting.began else \
             self.given() or Clock(live.origin, RECORDING)
         self.verdict.parts.append(Part(
@@ -104,7 +127,7 @@ class Pair:
         self.verdict.parts.append(Part(1, stl, given, None, None, None, None, None, answer))
         if is_refused:
             unread = [f"{shown(self.asked.recording)} was not read"] if self.asked.recording else []
-            self.steps.draw(self.names, [given], [stl], 0, [], unread)
+            self.steps.draw(self.names, [given], [stl], Clock(0, GIVEN), [], unread)
 
     def judge_transmission(self) -> None:
         """Judges what was recorded, part by part."""
@@ -134,7 +157,9 @@ class Pair:
             self.count = len(stretches)
             for number, one in enumerate(stretches, 1):
                 steps.cut(recording, one)
-                self.end_part(number, one, steps.check(one), recording)
+                self.begun = Begun(number, one, Answer(one.names.list_path))
+                steps.check(one, self.begun.answer)
+                self.end_part(number, one, self.begun.answer, recording)
         if not any(warned.kind == "grew" for warned in self.verdict.warnings):
             self.verdict.warnings += of_growth(recording)
         self.note_gaps(recording.places())
@@ -171,8 +196,18 @@ class Pair:
             self.verdict.notes.append(f"{done.told[0]}: of a feed the first run is judged")
             done = self.steps.ask_origin(recording, given, "--run", "1")
         clock, notes = with_delay(given, done) if given else (Clock(origin, RECORDING), [])
-        self.verdict.notes += [*notes, *notes_of(done)]
+        self.verdict.notes += [*notes, *(notes_of(done) or self.unsent(recording))]
         return clock
+
+    @staticmethod
+    def unsent(recording: Recording) -> list[str]:
+        """That the last subtitles of a feed did not come: it is not read long enough to tell a
+        break."""
+        causes = recording.live.following.causes if recording.live else None
+        frame = causes.unsent_from() if causes else None
+        return [] if frame is None else [
+            f"from {time_of(frame)} on no subtitle was sent while the feed was read; if the "
+            "programme has a break there, say --breaks 1"]
 
     def by_start(self, recording: Recording) -> Clock | None:
         """The clock that the first picture tells, where it is asked."""
@@ -193,9 +228,8 @@ class Pair:
 
     def all_of(self, found: Found) -> Stretch:
         """All subtitles, with one clock."""
-        stl, whole = self.asked.stl, self.whole
-        return Stretch(stl, self.names.given, self.names, whole.begin, whole.end, found.clock,
-                       found.packets)
+        whole = self.whole._replace(clock=found.clock, packets=found.packets)
+        return Stretch(self.asked.stl, self.names.given, self.names, whole)
 
     def stretches(self, found: list[Found], count: int) -> list[Stretch]:
         """What is judged, one after another; each of the subtitles has to be in one."""
@@ -212,27 +246,46 @@ class Pair:
         """Takes what `check` said of a part, and draws its report, with what is missing there."""
         cut = one.names.cut_path
         judged = file_of(cut, one.names.cut) if self.is_summed else None
-        part = Part(number, one.stl, one.stl_path, cut, one.origin, one.begin, one.end, judged,
-                    answer, one.clock)
+        found, origin = one.found, one.found.origin
+        part = part_of(number, one, judged, answer)
         self.verdict.parts.append(part)
-        part.causes = self.causes(part, recording)
-        for warned in of_repeat(cut, self.asked, one.origin, self.times):
+        part.causes = self.causes(one, answer, recording)
+        self.measure(part, one, recording)
+        within = [] if part.accepted_within is None else [line_of(part.accepted_within)]
+        for warned in of_repeat(cut, self.asked, origin, self.times):
             if warned not in self.verdict.warnings:
                 self.verdict.warnings.append(warned)
-        lost = [gap_of(place, one.origin, True).line() for place in recording.places()
+        lost = [gap_of(place, origin, True).line() for place in recording.places()
                 if is_in(place, part)]
         if len(lost) > TOLD:
             lost = [*lost[:TOLD], f"and at {counted(len(lost) - TOLD, 'more place')}"]
-        self.steps.draw(one.names, [one.stl_path, cut], [one.stl, one.names.cut], one.origin, lost,
-                        [*self.verdict.notes, *map(Warned.said, self.verdict.warnings)],
-                        one.clock.is_fitted, self.verdict.recording,
-                        ["--part", str(number), str(self.count)] if self.count > 1 else [])
+        self.steps.draw(one.names, [one.stl_path, cut], [one.stl, one.names.cut], found.clock,
+                        lost, [*self.verdict.notes, *map(Warned.said, self.verdict.warnings),
+                               *within],
+                        self.verdict.recording,
+                        ["--part", str(number), str(self.count)] if self.count > 1 else [],
+                        around_words(recording, found) if part.causes else ((), ()))
 
-    def causes(self, part: Part, recording: Recording) -> Causes | None:
-        """Why the content of a part is refused; it is said, as far as it was not said before."""
+    def measure(self, part: Part, one: Stretch, recording: Recording) -> None:
+        """Takes after how many frames the subtitles of a part were whole, and of one that is
+        refused within how many it would be accepted."""
+        answer, asked = part.answer, self.asked
+        if self.is_summed or asked.within:
+            part.delays = frames_in(
+                asked, self.typed.program_path, (one.stl_path, one.names.cut_path),
+                one.found.origin, len(SubtitleFile(one.stl_path).begins), answer, part.causes)
+        is_lost = any(is_in(place, part) for place in recording.places())
+        if answer.status and not (asked.within or recording.is_feed or
+                                  is_lost and not asked.is_loss_allowed):
+            part.accepted_within = Trying(self.steps, recording, one, self.count == 1).least(
+                answer.numbers, part.causes)
+
+    def causes(self, one: Stretch, answer: Answer, recording: Recording) -> Causes | None:
+        """Why what a part holds is refused; it is said, as far as it was not said before."""
         if recording.live:
             return recording.live.following.causes
-        causes = Asking(self.asked, self.typed, recording.places).of(part)
+        heard = Heard(recording.path, recording.carrier)
+        causes = Asking(self.asked, self.typed).of(one.stl_path, heard, one.found, answer)
         if causes:
             telling = Telling(self.speech, self.asked.option)
             telling.tell(causes, causes.all())
@@ -249,16 +302,17 @@ class Pair:
             if isinstance(kept, Carrier) else []
         self.speech.command(*taken, self.typed.tool("cut"), "-" if taken else str(asked.recording),
                             "--stl", asked.stl, *asked.page_words(), *asked.every_words(),
-                            *origin_words(origin), *packets_words(at.packets), "-o", "-", "|",
+                            *asked.within_words(), *origin_words(origin),
+                            *packets_words(at.packets), "-o", "-", "|",
                             self.typed.program_word, "check", asked.stl, "/dev/stdin", *words)
-        asking = Asking(asked, self.typed,
-                        lambda: kept.places() if isinstance(kept, Carrier) else [])
-        following = Following(lambda: asking.begin(self.names.given, self.names.cut_path, origin),
-                              Telling(self.speech, asked.option))
+        found = self.whole._replace(clock=Clock(origin, RECORDING), packets=at.packets)
+        heard = Heard(kept.path, kept if isinstance(kept, Carrier) else None)
+        following = Following(
+            lambda: Asking(asked, self.typed).begin(self.names.given, heard, found), kept,
+            Telling(self.speech, asked.option))
         return Live([self.typed.program_path, "check", *words, "--", self.names.given,
                      "/dev/stdin"],
-                    self.whole._replace(clock=Clock(origin, RECORDING), packets=at.packets),
-                    asked.page, asked.every, self.names, self.speech, following)
+                    found, asked, self.names, self.speech, following)
 
     # What is missing.
 
@@ -268,6 +322,20 @@ class Pair:
             parts = [part for part in self.verdict.parts if is_in(place, part)]
             origin = (parts or self.verdict.parts)[0].origin or 0
             self.verdict.gaps.append(gap_of(place, origin, bool(parts)))
+
+
+def part_of(number: int, one: Stretch, judged: File | None, answer: Answer) -> Part:
+    """A part of which something was told."""
+    found = one.found
+    return Part(number, one.stl, one.stl_path, one.names.cut_path, found.origin, found.begin,
+                found.end, judged, answer, found.clock)
+
+
+def around_words(recording: Recording, found: Found) -> tuple[list[str], list[str]]:
+    """Where the report looks for causes: words as they are given, and as they are typed."""
+    heard, packets = Heard(recording.path, recording.carrier), packets_words(found.packets)
+    return ([*heard.words(found, recording.path), *packets],
+            [*heard.words(found, recording.shown), *packets])
 
 
 def gap_of(place: Place, origin: int, is_judged: bool) -> Gap:
@@ -297,5 +365,5 @@ def time_at(pts: int | None, origin: int) -> str | None:
     """The time of a PTS, to the frame before it."""
     if pts is None:
         return None
-    frame = (pts - origin) % CLOCK // TICKS
+    frame = frame_in(pts, origin)
     return time_of(frame) if frame < FRAMES_OF_A_DAY else None

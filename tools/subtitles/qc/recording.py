@@ -138,7 +138,7 @@ class Recording:
                 self.speech.say(line)
         if carriers.skipped:
             self.speech.say(f"{counted(carriers.skipped, 'byte')} of no TS packet passed over")
-        os.replace(carrier.path, self.path)
+        carrier.move(self.path)
         for other in carriers.by_pid.values():
             if other is not carrier:
                 os.unlink(other.path)

@@ -12,7 +12,7 @@ import time
 from typing import Callable, Iterator
 
 from ..extracting import TOLD
-from ..files import OWN_OUTPUT, as_file, refuse_name, whole_file
+from ..files import OWN_OUTPUT, refuse_name, whole_file
 from ..words import Stop, counted, escaped, line_of, shown
 from . import junit, machine, table
 from .asked import Asked, asked_of
@@ -31,6 +31,7 @@ from .speech import Speech
 from .typed import Typed
 from .unclear import Unclear
 from .verdict import LOST, Verdict
+from .within import line_of as line_of_within
 
 ESCAPED = re.compile("[\ud800-\udfff]")  # bytes of a name that is not UTF-8
 SIGNALS = (signal.SIGINT, signal.SIGTERM, signal.SIGHUP)
@@ -45,7 +46,7 @@ def now() -> str:
 def judge(words: argparse.Namespace, called: str) -> int:
     """Judges the pair of a command line; answers its status."""
     asked = asked_of(words)
-    out = as_file(words.out) if words.out else None
+    out = words.out or None
     is_output_taken = any(path in OWN_OUTPUT for path in (words.json, words.csv, words.junit))
     speech = Speech(Progress(), is_output_taken)
     typed = Typed(called, words.program)
@@ -77,15 +78,20 @@ def judge_pair(pair: Pair, files: Files) -> None:
         verdict.to_type = reason.to_type if isinstance(reason, Unclear) else ()
         verdict.reason = reason.reason if isinstance(reason, Unclear) else line_of(reason)
     except KeyboardInterrupt:
-        for one in SIGNALS:
-            signal.signal(one, signal.SIG_IGN)  # what is known is written now
+        ignore_signals()  # what is known is written now
         verdict.is_stopped = True
-        verdict.reason = f"stopped at {pair.stop() or now()}"
+        verdict.reason = f"stopped at {pair.stop(now())}"
     verdict.commands = pair.speech.commands
     verdict.seconds = round(time.monotonic() - began, 3)
     failed = files.write()
     if failed:
         verdict.reason = "\n".join([*([verdict.reason] if verdict.reason else []), *failed])
+
+
+def ignore_signals() -> None:
+    """Takes no signal any more that would end this call."""
+    for one in SIGNALS:
+        signal.signal(one, signal.SIG_IGN)
 
 
 def end(verdict: Verdict, speech: Speech) -> None:
@@ -107,6 +113,10 @@ def end(verdict: Verdict, speech: Speech) -> None:
     for warned in verdict.warnings:
         speech.tell(warned.said())
     if verdict.line is not None:
+        if verdict.asked.within and verdict.delays:
+            speech.say(verdict.delays.words())
+        if verdict.accepted_within is not None:
+            speech.say(line_of_within(verdict.accepted_within))
         if verdict.fitted:
             speech.say(verdict.fitted)
         speech.end(verdict.line)

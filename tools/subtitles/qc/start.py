@@ -6,7 +6,7 @@ from typing import NamedTuple
 
 from ..pictures import First, NoFirst, Videos
 from ..stl import GSI
-from ..times import CLOCK, TICKS, frame_of, frame_of_code, time_of
+from ..times import CLOCK, EARLY, TICKS, frame_in, frame_of, frame_of_code, time_of
 from ..words import counted, shown
 from .asked import Asked
 from .clock import START, TCP, Clock
@@ -42,12 +42,14 @@ class Grid:
         self.ticks[(pts - self.first) % CLOCK % TICKS] += 1
         self.count += 1
 
-    def after(self, pts: int) -> int:
-        """How many ticks after a frame that begins at a PTS most of them are, less than a frame."""
+    def after(self, pts: int, within: int) -> int:
+        """How many ticks after a frame that begins at a PTS most of them are, less than a frame;
+        within 1 and more, where there are some, of those that are near it: fields have two."""
         assert self.first is not None
-        most = self.ticks.most_common(1)[0][0]
         distance = (self.first - pts + CLOCK // 2) % CLOCK - CLOCK // 2
-        return (distance + most) % TICKS
+        known = [(distance + rest) % TICKS for rest, _ in self.ticks.most_common()]
+        near = [ticks for ticks in known if ticks <= EARLY or ticks >= TICKS - EARLY]
+        return (near if within and near else known)[0]
 
 
 def start_frame(asked: Asked) -> int:
@@ -71,7 +73,7 @@ def began(asked: Asked, first: First, grid: Grid) -> Began:
     """The clock, moved to the PTS of the Teletext by less than half a frame."""
     frame = start_frame(asked)
     origin = (first.pts - TICKS * frame) % CLOCK
-    after = grid.after(first.pts)
+    after = grid.after(first.pts, asked.within)
     if after * 2 == TICKS:
         raise Unclear(f"{first.line()}. The PTS of the Teletext are half a frame after it: the "
                       "frame of neither is clear")
@@ -97,7 +99,7 @@ def refuse_outside(asked: Asked, one: Began, begin: int, end: int, last: int | N
     if begin < one.frame:
         raise Unclear(f"the first subtitle of {asked.stl} comes at {time_of(begin)}, before its "
                       f"TCP {time_of(one.frame)}, at which the recording would begin")
-    over = None if last is None else (last - one.clock.origin) % CLOCK // TICKS
+    over = None if last is None else frame_in(last, one.clock.origin)
     if over is not None and end > over + FRAMES_NEAR:
         raise Unclear(f"the last subtitle of {asked.stl} goes at {time_of(end)}, and by the TCP "
                       f"the recording ends at {time_of(over)}")

@@ -6,10 +6,12 @@ import re
 import subprocess
 from typing import NamedTuple, Sequence
 
+from ..finding import main as find_origin
 from ..times import frame_of, time_of
+from ..words import heard
 from .asked import Asked
 from .checking import Answer, check
-from .clock import Clock
+from .clock import START, TCP, Clock
 from .fitting import Done, Found, Packets, breaks_in, found_in, refuse, runs_in
 from .names import Names, again
 from .recording import Recording
@@ -24,20 +26,12 @@ SHOWN = re.compile(r"\d{5} (\S+) (\S+) ")  # a line of `show`
 
 class Stretch(NamedTuple):
     """What is judged by itself: its subtitle file as it is typed and where it stands, the files
-    that are made of it, its first and its last frame, its clock, its PES packets where PTS go back.
-    """
+    that are made of it, and its frames with their clock."""
 
     stl: str
     stl_path: str
     names: Names
-    begin: int
-    end: int
-    clock: Clock
-    packets: Packets | None = None
-
-    @property
-    def origin(self) -> int:
-        return self.clock.origin
+    found: Found
 
 
 class Steps:
@@ -56,18 +50,23 @@ class Steps:
         done = subprocess.run([*self.typed.call(name), *words], stdin=subprocess.DEVNULL,
                               stdout=subprocess.PIPE, stderr=subprocess.PIPE, encoding="utf-8",
                               errors="replace", check=False)
-        printed, told = ([self.names.as_typed(line) for line in text.splitlines()]
-                         for text in (done.stdout, done.stderr))
-        for line in printed + told:
+        told = [line.partition(": ")[2] for line in done.stderr.splitlines()]
+        return self.say(name, Done(done.returncode, done.stdout.splitlines(), told))
+
+    def say(self, name: str, done: Done) -> Done:
+        """Says what a tool said, with files as they are typed."""
+        printed, told = ([*map(self.names.as_typed, lines)] for lines in (done.printed, done.told))
+        name = os.path.basename(self.typed.tool(name))
+        for line in [*printed, *(f"{name}: {line}" for line in told)]:
             self.speech.say(line)
-        return Done(done.returncode, printed, [line.partition(": ")[2] for line in told])
+        return Done(done.status, printed, told)
 
     def check_alone(self) -> Answer:
         """What is wrong with the subtitle file; nothing is said of it yet."""
         words = ["check", "--option", self.asked.option, "--all", "--", self.names.given,
                  NO_PES]
-        return check([self.typed.program_path, *words], self.names.temporary("alone.txt"),
-                     lambda line: None)
+        return check([self.typed.program_path, *words],
+                     Answer(self.names.temporary("alone.txt")), lambda line: None)
 
     def say_alone(self) -> None:
         """Says the command for that."""
@@ -86,24 +85,21 @@ class Steps:
 
     def fit(self, recording: Recording, clock: Clock | None, *more: str) -> Done:
         """What tools/origin says of the clock, also compared with one that is known."""
-        words = self.fit_words(clock, *more)
-        return self.tool("origin", [self.asked.stl, recording.path, *words],
-                         [self.asked.stl, recording.shown, *words])
+        words = [self.asked.stl, recording.shown, *self.fit_words(clock, *more)]
+        self.speech.command(self.typed.tool("origin"), *words)
+        return self.say("origin", self.ask_origin(recording, clock, *more))
 
     def ask_origin(self, recording: Recording, clock: Clock | None, *more: str) -> Done:
         """The same, where a feed was judged already, and nothing is said of it."""
-        done = subprocess.run([*self.typed.call("origin"), *self.fit_words(clock, *more), "--",
-                               self.asked.stl, recording.path], stdin=subprocess.DEVNULL,
-                              stdout=subprocess.PIPE, stderr=subprocess.PIPE, encoding="utf-8",
-                              errors="replace", check=False)
-        return Done(done.returncode, done.stdout.splitlines(),
-                    [line.partition(": ")[2] for line in done.stderr.splitlines()])
+        return Done(*heard(lambda words: find_origin("", words),
+                           [*self.fit_words(clock, *more), "--", self.asked.stl, recording.path]))
 
     def fit_words(self, clock: Clock | None, *more: str) -> list[str]:
         """The options of tools/origin."""
         known = [] if clock is None else ["--origin", str(clock.origin)]
         asked = self.asked
-        return [*asked.page_words(), *asked.option_words(), *known, *asked.clock_words(), *more]
+        return [*asked.page_words(), *asked.option_words(), *known, *asked.clock_words(),
+                *asked.within_words(), *more]
 
     def fitted(self, done: Done, whole: Found) -> list[Found]:
         """The parts that tools/origin finds; else `Unclear`."""
@@ -125,12 +121,13 @@ class Steps:
                          [self.asked.stl, *times, "-o", names.stl])
         if not os.path.exists(names.stl_path):
             raise Unclear(f"a part of the subtitle file is not clear: {'; '.join(done.told)}")
-        return Stretch(names.stl, names.stl_path, names, *found)
+        return Stretch(names.stl, names.stl_path, names, found)
 
     def cut(self, recording: Recording, one: Stretch) -> None:
         """Cuts the PES packets of the time of the subtitles out of the recording."""
-        more = [*self.asked.page_words(), *self.asked.every_words(), *origin_words(one.origin),
-                *packets_words(one.packets)]
+        more = [*self.asked.page_words(), *self.asked.every_words(),
+                *self.asked.within_words(), *origin_words(one.found.origin),
+                *packets_words(one.found.packets)]
         done = self.tool(
             "cut", [recording.path, "--stl", one.stl_path, *more, "-o", one.names.cut_path],
             [recording.shown, "--stl", one.stl, *more, "-o", one.names.cut])
@@ -140,33 +137,37 @@ class Steps:
             raise Unclear("nothing of the page is in the recording at the time of the subtitles",
                           self.again("--origin", "T"), self.again("--page", "P"))
 
-    def check(self, one: Stretch) -> Answer:
+    def check(self, one: Stretch, answer: Answer) -> None:
         """Tells all that is broken."""
-        words = [*self.asked.check_words(), *origin_words(one.origin), "--all"]
+        words = [*self.asked.check_words(), *origin_words(one.found.origin), "--all"]
         self.speech.command(self.typed.program_word, "check", one.stl, one.names.cut, *words)
-        answer = check([self.typed.program_path, "check", *words, "--", one.stl_path,
-                        one.names.cut_path], one.names.list_path, self.speech.of_list)
+        check([self.typed.program_path, "check", *words, "--", one.stl_path, one.names.cut_path],
+              answer, self.speech.of_list)
         self.speech.end_list(answer.last)
-        return answer
 
-    def draw(self, names: Names, given: list[str], typed: list[str], origin: int,
-             lost: list[str], notes: Sequence[str] = (), is_fitted: bool = False,
-             recording: File | None = None, part: Sequence[str] = ()) -> None:
+    def draw(self, names: Names, given: list[str], typed: list[str], clock: Clock,
+             lost: list[str], notes: Sequence[str] = (), recording: File | None = None,
+             part: Sequence[str] = (),
+             around: tuple[Sequence[str], Sequence[str]] = ((), ())) -> None:
         """Draws the report of some files, of what is lost and what else is said, of a recording or
-        of a part of it, where there is a folder for it."""
+        of a part of it, where there is a folder for it; causes are looked for `around` what was
+        judged, by words as they are given and as they are typed."""
         if names.out is None:
             return
-        words = [*self.asked.check_words(), *origin_words(origin),
+        is_by_picture = clock.source in (START, TCP)
+        words = [*self.asked.check_words(), *origin_words(clock.origin),
                  *(word for words in lost for word in ("--lost", words)),
                  *(word for words in notes for word in ("--note", words)),
-                 *["--fitted"] * is_fitted, *part]
+                 *["--fitted"] * clock.is_fitted,
+                 *(["--clock", clock.words()] if is_by_picture else []), *part]
         # What was read is not read once more; a person can do that, but not with a feed.
         sums = ["--recording", recording.name, str(recording.size), recording.sha256] \
             if recording else []
         shown = sums[:2] if recording and os.path.isfile(recording.name) else sums
         done = self.tool(
-            "preview", [*given, *words, *sums, "-p", self.typed.program_path, "-o", names.report],
-            [*typed, *words, *shown, *self.typed.program_words, "-o", names.report])
+            "preview",
+            [*given, *words, *sums, *around[0], "-p", self.typed.program_path, "-o", names.report],
+            [*typed, *words, *shown, *around[1], *self.typed.program_words, "-o", names.report])
         if done.status == 2:
             raise Unclear(f"no report was made: {'; '.join(done.told)}")
 

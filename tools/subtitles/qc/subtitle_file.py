@@ -3,7 +3,7 @@ from __future__ import annotations
 
 import array
 import bisect
-from typing import NamedTuple
+from typing import Iterator, NamedTuple
 
 from ..letters import ACCENTS, letters_of
 from ..stl import GSI, LAST, TTI, UNUSED, USER_DATA
@@ -51,6 +51,13 @@ class SubtitleFile:
             return None
         one = self.block(self.firsts[block])
         return Subtitle(one[1] + 256 * one[2], time_of_code(one[5:9]), time_of_code(one[9:13]))
+
+    def all(self) -> Iterator[Subtitle]:
+        """All subtitles, of a file that is read without a fault."""
+        for block in self.blocks:
+            one = self.at_block(block)
+            assert one
+            yield one
 
     def at_frame(self, frame: int) -> Subtitle | None:
         """The subtitle that is due at a frame, of a file whose subtitles rise."""

@@ -18,6 +18,8 @@ EMPTY = 60  # the number for a file without PES packets
 STL_FAULTS = {*range(10, 26), *range(50, 58)}
 PASSED_OVER = {*range(33, 41), 61}  # of PES packets that can't be read
 CONTENT, LETTERS = 72, (50, 51)
+BEGIN, END = 63, 74  # what is judged begins after the first TCI, or ends before the last TCO
+WITH_CAUSE = {BEGIN, CONTENT, END}
 
 
 class Told(NamedTuple):

@@ -2,6 +2,7 @@
 from __future__ import annotations
 
 import dataclasses
+from typing import Sequence
 
 from ..joining import Place
 from ..pes import pes_runs
@@ -10,6 +11,7 @@ from .asked import Asked
 from .cells import passed_over
 from .checking import ACCEPTED_WORD, NOT_JUDGED, REFUSED_WORD, Answer
 from .clock import FITTED, FITTED_LATER, Clock
+from .delays import Spread, spread_of
 from .naming import Causes
 from .severity import Severity
 from .sums import File
@@ -38,6 +40,8 @@ class Part:
     answer: Answer
     clock: Clock | None = None
     causes: Causes | None = None
+    delays: Sequence[int | None] = ()  # after how many frames each subtitle was whole
+    accepted_within: int | None = None  # the least number of frames, of one that is refused
 
     def is_read(self) -> bool:
         """Whether one of its PES packets at least could be read; the file has to be there still."""
@@ -122,6 +126,19 @@ class Verdict:
         if any(part.answer.status for part in self.parts):
             return REFUSED_WORD
         return LOST if self.is_lost and not self.asked.is_loss_allowed else ACCEPTED_WORD
+
+    @property
+    def accepted_within(self) -> int | None:
+        """The least number of frames within which all parts would be accepted, where one is
+        refused within 0 and it is known."""
+        refused = [part.accepted_within for part in self.parts if part.answer.status]
+        known = [one for one in refused if one is not None]
+        return max(known) if known and len(known) == len(refused) else None
+
+    @property
+    def delays(self) -> Spread | None:
+        """After how many frames subtitles were whole."""
+        return spread_of(frames for part in self.parts for frames in part.delays)
 
     @property
     def faults(self) -> int:

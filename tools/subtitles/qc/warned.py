@@ -8,7 +8,7 @@ from ..listing import Listing
 from ..programmes import KINDS, SUBTITLE_KINDS, Announced
 from ..repeat import measured, sendings
 from ..stl import GSI
-from ..times import CLOCK, FRAMES_OF_A_DAY, TICKS, time_of
+from ..times import FRAMES_OF_A_DAY, frame_in, time_of
 from ..timing import SECOND, Timing
 from ..words import counted, pid_name, shown
 from .asked import Asked
@@ -33,7 +33,7 @@ class Warned(NamedTuple):
 def of_timing(timing: Timing, origin: int) -> Iterator[Warned]:
     """Where PTS and PCR do not go together."""
     for one in timing.strange():
-        frame = (one.first.pts - origin) % CLOCK // TICKS
+        frame = frame_in(one.first.pts, origin)
         time = time_of(frame) if frame < FRAMES_OF_A_DAY else None
         where = f"from {time} on" if time else f"from PTS {one.first.pts} on"
         yield Warned(f"pts_{one.kind}", f"{where} PTS of the Teletext {SAID[one.kind]}, by up to "
@@ -90,7 +90,7 @@ def of_repeat(path: str, asked: Asked, origin: int, times: list[tuple[int, int]]
     """Where the page is repeated so often that `--every` would not see a repeat that is missing."""
     edges = sorted({frame for pair in times for frame in pair})
     with open(path, "rb", buffering=0) as file:
-        frames = [(pts - origin) % CLOCK // TICKS for pts in sendings(file, asked.page)]
+        frames = [frame_in(pts, origin, asked.within) for pts in sendings(file, asked.page)]
     every = measured(frames, edges)
     if every is not None and every * 2 < asked.every:
         yield Warned("repeat", f"the page is repeated each "

@@ -12,7 +12,7 @@ import xml.etree.ElementTree as tree
 
 from .bench import Case, Done, example, example_bytes, tool_path
 from .muxed import teletext_descriptor
-from .qc import ACCEPTED, RECORDING, STORY, lines_of, qc
+from .qc import ACCEPTED, RECORDING, STORY, in_two_parts, lines_of, qc
 from .warnings import stream
 
 ESC = "\x1b[31m"
@@ -46,6 +46,35 @@ def judges_names_like_any_other(case: Case) -> None:
         done = in_folder(case, ".", "--batch", folder, "-o", "all")
         case.test(f"{what}: in a folder", done.status == 0 and " accepted " in lines_of(done)[1]
                   and not controls(done.out), done)
+
+
+def writes_into_a_folder_of_any_name(case: Case) -> None:
+    """One part, which is kept, several, and a batch."""
+    os.mkdir(case.path("in"))
+    stl, pes = in_two_parts(case)
+    two = case.write("in/two.pes", pes)
+    os.rename(stl, case.path("in/two.stl"))
+    for what, name in NAMES.items():
+        out = case.path(name)
+        words = [f"-o{name}"] if name[0] == "-" else ["-o", name]
+        done = qc(case, STORY, example("five-faults.pes"), "--every", "25", "--keep", *words)
+        case.test(what, done.status == 1 and sorted(os.listdir(out)) == [
+            "story.cut.pes", "story.html", "story.json", "story.txt"], (done, os.listdir(out)))
+        case.test(f"{what}: is shown escaped", not controls(
+            done.out + "".join(done.told).encode("utf-8", "replace")), done)
+        verdict = json.loads(case.read(f"{name}/story.json"))
+        case.test(f"{what}: the object", verdict["verdict"] == "refused"
+                  and len(verdict["faults"]) == 5, verdict)
+        tree.fromstring(case.read(f"{name}/story.html"))
+        for command in [line[2:] for line in lines_of(done) if line.startswith("+ ")]:
+            again = case.call(["bash", "-c", command])
+            is_program = what == "not UTF-8" and ("check" in command or "preview" in command)
+            case.test(f"{what}: {command}", again.status in (0, 1) or is_program, again)
+        done = qc(case, case.path("in/two.stl"), two, "--breaks", "1", *words)
+        case.test(f"{what}: two parts", done.status == 0 and "two.2.html" in os.listdir(out), done)
+        done = qc(case, "--batch", "in", "--breaks", "1", *words)
+        case.test(f"{what}: a batch", done.status == 0 and not controls(done.out)
+                  and "index.html" in os.listdir(out), done)
 
 
 def in_folder(case: Case, folder: str, *words: str) -> Done:
@@ -154,6 +183,7 @@ def takes_any_first_time_stamp(case: Case) -> None:
                   "is a recording" in done.told[0], done)
 
 
-CASES = [judges_names_like_any_other, shows_a_language_escaped, says_that_a_folder_is_in_use,
+CASES = [judges_names_like_any_other, writes_into_a_folder_of_any_name, shows_a_language_escaped,
+         says_that_a_folder_is_in_use,
          says_that_a_folder_can_not_be_written_to, says_that_a_disk_is_full,
          takes_any_first_time_stamp]

@@ -13,6 +13,7 @@ import time
 from ..pes import pts_in
 from ..stl import boxed, gsi_block, subtitle_blocks
 from ..times import TICKS, time_of
+from ..words import counted
 from .bench import Case, example, example_bytes, moved, packets, tool_path
 from .muxed import PRIVATE, TELETEXT_PID, Maker, teletext_descriptor
 from .qc import STORY, qc, stream
@@ -235,6 +236,34 @@ def is_stopped_by_signals(case: Case) -> None:
     running.close()
 
 
+def tells_what_was_judged_of_a_file(case: Case) -> None:
+    """Where a signal comes while `check` judges a file: how far it had come, and what it told."""
+    for count, faults, up_to in ((0, 0, "nothing yet"), (1, 0, "all up to 20:15:00:24"),
+                                 (2, 1, "all up to 20:15:01:00"), (4, 3, "all up to 20:15:03:00")):
+        script = (f"#!/bin/sh\ncase $* in check*.cut.pes) '{case.bench.program}' \"$@\" "
+                  f"| head -n {count}; exec sleep 60 ;; esac\nexec '{case.bench.program}' \"$@\"\n")
+        os.chmod(case.write("program", script.encode()), 0o755)
+        with subprocess.Popen([tool_path("qc"), STORY, example("five-faults.pes"), "--every", "25",
+                               "-o", "out", "-p", "./program"], cwd=case.folder,
+                              stdout=subprocess.PIPE, stderr=subprocess.PIPE) as process:
+            assert process.stdout
+            for line in process.stdout:
+                if line.startswith(b"+ ./program check"):
+                    break
+            came = [process.stdout.readline() for _ in range(count)]
+            time.sleep(0.5)
+            process.send_signal(signal.SIGTERM)
+            lines, told = (text.decode().splitlines() for text in process.communicate())
+        known = json.loads(case.read("out/story.json"))
+        case.test(f"{count}: status", process.returncode == 2 and known["status"] == 2, told)
+        case.test(f"{count}: how much", f"{counted(faults, 'fault')} so far" in lines, lines)
+        case.test(f"{count}: how far", told[-1:] == [f"qc: not judged: {known['reason']}"]
+                  and known["reason"].endswith(f"Z, when check had told {up_to}"), told)
+        case.test(f"{count}: the object", len(known["faults"]) == faults
+                  and known["parts"][0]["verdict"] == "not judged", known)
+        case.test(f"{count}: the list", case.read("out/story.txt") == b"".join(came), came)
+
+
 def lets_a_reader_leave(case: Case) -> None:
     """`| head -2`: no traceback, and the object is whole."""
     five = case.write("five.ts", stream(case, "five", example_bytes("five-faults.pes")))
@@ -277,5 +306,6 @@ def ends_where_later_pes_packets_come(case: Case) -> None:
 
 
 CASES = [ends_at_the_last_tco, ends_after_the_last_part,
-         ends_where_nothing_is_sent_at_the_last_tco, is_stopped_by_signals, lets_a_reader_leave,
-         tells_a_stall, ends_where_later_pes_packets_come]
+         ends_where_nothing_is_sent_at_the_last_tco, is_stopped_by_signals,
+         tells_what_was_judged_of_a_file, lets_a_reader_leave, tells_a_stall,
+         ends_where_later_pes_packets_come]

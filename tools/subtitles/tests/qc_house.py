@@ -123,6 +123,38 @@ def resumes_where_nothing_changed(case: Case, program: str) -> None:
     case.test("it goes with a folder", done.status == 2 and len(done.told) == 1, done)
 
 
+def tells_what_is_judged_when_it_is_stopped(case: Case) -> None:
+    """By a signal a batch ends with what it has: the table, the files, and how many there were."""
+    fill(case, "in", 6)
+    program = slow_program(case)
+    for one in (signal.SIGINT, signal.SIGTERM, signal.SIGHUP):
+        name, out = one.name, f"out.{one.name}"
+        words = [tool_path("qc"), "--batch", "in", "-o", out, "--jobs", "1", "-p", program,
+                 "--json", "all.json", "--csv", "all.csv", "--junit", "all.xml"]
+        with subprocess.Popen(words, cwd=case.folder, stdout=subprocess.PIPE,
+                              stderr=subprocess.PIPE) as process:
+            came = comes(lambda: os.path.isdir(case.path(out))
+                         and len(objects_in(case, out)) >= 2)
+            process.send_signal(one)
+            lines, told = (text.decode().splitlines() for text in process.communicate())
+        count = len(json.loads(case.read("all.json"))["pairs"])
+        case.test(f"{name}: status", came and process.returncode == 2, (lines, told))
+        case.test(f"{name}: is said", 0 < count < 6 and told == [
+            f"qc: stopped when {count} of 6 pairs were judged; --resume judges the others"], told)
+        case.test(f"{name}: the table", len(lines) == count + 2
+                  and lines[-1].startswith(f"{count} pair"), lines)
+        rows = [row for row in csv.DictReader(case.read("all.csv").decode().splitlines())
+                if not row["number"]]
+        case.test(f"{name}: the files", len(rows) == count
+                  and all(row["verdict"] in ("accepted", "refused") for row in rows)
+                  and tree.fromstring(case.read("all.xml")).get("tests") == str(count)
+                  and json.loads(case.read("all.json"))["status"] == 2, rows)
+        case.test(f"{name}: the page", case.read(f"{out}/index.html").count(b">report<") == count)
+    done = case.tool("qc", "--batch", "in", "-o", out, "--resume", "-p", program)
+    case.test("it goes on", done.status == 1 and done.out.decode().splitlines()[-1] ==
+              "6 pairs: 5 accepted, 1 refused", done)
+
+
 def writes_a_page_over_all(case: Case) -> None:
     """What is broken comes first, then what nobody judged; each link leads to a file."""
     fill(case, "in", 3)
@@ -319,6 +351,7 @@ def has_a_unit(case: Case) -> None:
         "subttx-watch.service" in line for line in done.told), done)
 
 
-CASES = [goes_on_after_a_kill, writes_a_page_over_all, collects_objects,
+CASES = [goes_on_after_a_kill, tells_what_is_judged_when_it_is_stopped,
+         writes_a_page_over_all, collects_objects,
          takes_the_option_of_the_language, rows_of_what_is_no_pair, judges_nothing_that_grows,
          judges_hostile_names, watches_a_folder, has_a_unit]

@@ -4,6 +4,7 @@ from __future__ import annotations
 import json
 import shutil
 import subprocess
+from xml.etree import ElementTree
 
 from ..stl import boxed, gsi_block, subtitle_blocks
 from ..times import CLOCK, TICKS, time_of
@@ -45,8 +46,11 @@ def finds_the_first_picture(case: Case) -> None:
     done = judged(case, "192", long, "--start", STARTED)
     case.test("192 bytes", done.status == 0, done)
     done = judged(case, "late", data, "--start", time_of(BEGIN - EARLIER - 2), "--json",
-                  "late.json")
+                  "late.json", "-o", "out")
     clock = json.loads(case.read("late.json"))["parts"][0]["clock"]
+    page = "".join(ElementTree.fromstring(case.read("out/story.html")).itertext())
+    case.test("the report has the clock",
+              f"Clockorigin {clock['origin']}, by the first picture" in page, page)
     case.test("all is two frames late", done.status == 1 and clock["source"] == "start", done)
 
 

@@ -1,0 +1,75 @@
+"""After how many frames each subtitle was whole: what a house needs to choose --within N."""
+from __future__ import annotations
+
+from typing import Iterable, NamedTuple, Sequence
+
+from ..words import range_words
+from .asked import Asked
+from .checking import Answer
+from .held import Held
+from .naming import Causes
+from .programme import Programme, Subtitle, programme_of
+
+# Where none of these is told, within 0, each page is whole at the end of the frame of its TCI.
+MOVED = {*range(30, 33), 44, 60, 62, 63, 71, 72, 74, 77}
+
+Frames = Sequence[int | None]  # of each subtitle; `None` where nobody saw it whole while it is due
+
+
+class Spread(NamedTuple):
+    """The least of some numbers of frames, the one in the middle, and the greatest; how many
+    subtitles are never whole."""
+
+    least: int
+    middle: int
+    greatest: int
+    never: int
+
+    def words(self) -> str:
+        """All that in a line."""
+        middle = "" if self.least == self.greatest else f", {self.middle} in the middle"
+        never = f"; {self.never} never" if self.never else ""
+        return f"subtitles are whole after {range_words(self.least, self.greatest)}{middle}{never}"
+
+
+def spread_of(several: Iterable[int | None]) -> Spread | None:
+    """That of some subtitles; `None` where none is whole."""
+    all_of = list(several)
+    known = sorted(frames for frames in all_of if frames is not None)
+    if not known:
+        return None
+    return Spread(known[0], known[len(known) // 2], known[-1], len(all_of) - len(known))
+
+
+def frames_of(programme: Programme, held: Held, is_complete: bool) -> list[int | None]:
+    """After how many frames each subtitle was whole, and where complete pages are asked for
+    closed."""
+    return [frames_until(one, held, is_complete) for one in programme.subtitles]
+
+
+def frames_until(one: Subtitle, held: Held, is_complete: bool) -> int | None:
+    """The same of one."""
+    for number in held.numbers(one.begin, one.end):
+        if held.pages[number] != one.rows:
+            continue
+        stretch = held.stretch(number)
+        first = max(stretch.first, one.begin)
+        frame = held.closed_from(first) if is_complete else first
+        if frame is not None and frame <= min(stretch.last, one.end - 1):
+            return frame - one.begin
+    return None
+
+
+def frames_in(asked: Asked, program: str, files: tuple[str, str], origin: int, count: int,
+              answer: Answer, causes: Causes | None) -> list[int | None]:
+    """The same of a part that was judged, of so many subtitles: of its two files, or where causes
+    were looked for by what was heard then."""
+    if not asked.within and not answer.numbers & MOVED:
+        return [0] * count
+    stl, pes = files
+    if causes:
+        return frames_of(causes.programme, causes.held, asked.is_complete)
+    held = Held(pes, asked.page, origin, within=asked.within)
+    held.follow()
+    return frames_of(programme_of(program, stl, asked.page, asked.option), held,
+                     asked.is_complete)

@@ -1,0 +1,101 @@
+"""The least number of frames within which a part that is refused would be accepted."""
+from __future__ import annotations
+
+import os
+import subprocess
+
+from ..words import within_words
+from .asked import Asked
+from .causes import EARLY, LATE, NOT_ERASED, UNKNOWN, Cause
+from .fitting import Found, found_in
+from .naming import Causes
+from .recording import Recording
+from .steps import Steps, Stretch, origin_words, packets_words
+from .told import told_of
+
+MOST = 5  # frames that are tried
+# Faults that stay whatever N is: of the subtitle file, of PES packets that can't be read.
+FIXED = {*range(10, 26), *range(30, 41), 44, *range(50, 58), 60}
+# Faults that stay where each PES packet has a frame of its own, and others that N may take away.
+OF_PACKETS, OF_FRAMES = {*range(63, 72), 73}, {61, 62}
+OF_ENDS = {72, 77}
+
+
+def line_of(least: int) -> str:
+    """What is said of it."""
+    return f"within {least} it is accepted: --within {least}"
+
+
+class Trying:
+    """Judges a part once more, within 1 to 5 frames, each time as --within N would."""
+
+    def __init__(self, steps: Steps, recording: Recording, one: Stretch, is_alone: bool) -> None:
+        self.steps, self.recording, self.one, self.is_alone = steps, recording, one, is_alone
+        self.asked: Asked = steps.asked
+        self.path = one.names.temporary("within.pes")
+
+    def least(self, numbers: set[int], causes: Causes | None) -> int | None:
+        """The least such number; `None` where there is none."""
+        if not self.may_be(numbers, causes):
+            return None
+        found = self.clocked(MOST)
+        if found is None or not self.cut(found):
+            return None
+        try:
+            for within in range(1, MOST + 1):
+                line = self.check(found, within)
+                told = told_of(line)
+                if told is None:
+                    return within if line.startswith("accepted ") and \
+                        self.is_same(found, within) else None
+                if told.number not in OF_ENDS:
+                    return None
+        finally:
+            os.unlink(self.path)
+        return None
+
+    def may_be(self, numbers: set[int], causes: Causes | None) -> bool:
+        """Whether none of the faults, and no cause, is one that no N changes."""
+        if numbers & FIXED or numbers & OF_PACKETS and not numbers & OF_FRAMES:
+            return False
+        return all(map(self.is_delay, causes.named.values())) if causes else True
+
+    def is_delay(self, cause: Cause) -> bool:
+        """Whether a cause may be a delay; a clock that was fitted may be late."""
+        if cause.name in (LATE, EARLY):
+            most = 2 * MOST if self.one.found.clock.is_fitted else MOST
+            return (cause.frames or 0) <= most
+        return cause.name in (NOT_ERASED, UNKNOWN)
+
+    def clocked(self, within: int) -> Found | None:
+        """The part by its clock; one that was fitted is fitted within so many frames."""
+        found = self.one.found
+        if not found.clock.is_fitted or not self.is_alone:
+            return found
+        done = self.steps.ask_origin(self.recording, None, *within_words(within))
+        parts = found_in(done, found)
+        return parts[0] if len(parts) == 1 else None
+
+    def is_same(self, found: Found, within: int) -> bool:
+        """Whether the clock is the same within fewer frames, or accepted by too."""
+        other = self.clocked(within) if within < MOST else found
+        return other is not None and (other.origin == found.origin or self.cut(other) and
+                                      self.check(other, within).startswith("accepted "))
+
+    def cut(self, found: Found) -> bool:
+        """Cuts the PES packets out; whether there are some."""
+        words = [*self.asked.page_words(), *self.asked.every_words(), "--within", str(MOST),
+                 *origin_words(found.origin), *packets_words(found.packets)]
+        subprocess.run([*self.steps.typed.call("cut"), *words, "--stl", self.one.stl_path, "-o",
+                        self.path, "--", self.recording.path], stdin=subprocess.DEVNULL,
+                       stdout=subprocess.DEVNULL, stderr=subprocess.DEVNULL, check=False)
+        return os.path.exists(self.path)
+
+    def check(self, found: Found, within: int) -> str:
+        """The line of `check`."""
+        words = [*self.asked.check_words(), *origin_words(found.origin), "--within", str(within)]
+        done = subprocess.run([self.steps.typed.program_path, "check", *words, "--",
+                               self.one.stl_path, self.path], stdin=subprocess.DEVNULL,
+                              stdout=subprocess.PIPE, encoding="utf-8", errors="replace",
+                              check=False)
+        return "".join(done.stdout.splitlines()[-1:])

@@ -1,0 +1,396 @@
+"""--within N: frames of PES packets, origin, cut, verdicts, and what is said of each subtitle."""
+from __future__ import annotations
+
+import json
+import os
+import random
+import subprocess
+from typing import Callable, Sequence
+from xml.etree import ElementTree
+
+from ..pes import data_field, pes_packet, pts_in, teletext_packets
+from ..stl import gsi_block, subtitle_blocks
+from ..times import CLOCK, EARLY, FRAMES_OF_A_DAY, NO_FRAME, TICKS, frame_at, frame_in, frames_at
+from .bench import Case, example, example_bytes, packets, random_subtitles, tool_path
+from .causes import LATE_AT
+from .qc import STORY, lines_of, qc, stream
+
+ORIGIN = 5_000_000_000
+WORDS = ["--origin", str(ORIGIN)]
+LATE_ROWS = example("late-rows.pes")
+HELLO = example("hello.stl")
+TEN = 900_000  # 10:00:00:00
+FITTED = "the clock was fitted to the recording: a delay that all subtitles share is not seen; " \
+    "give --origin or --start"
+
+NOTHING: list[list[str]] = [[], ["--within", "0"]]
+
+Sent = list[tuple[int, list[bytes]]]  # PTS, and the Teletext packets then
+
+
+def sent(case: Case, stl: str, *words: str) -> Sent:
+    """The sendings of a subtitle file, repeated each second."""
+    case.schedule(stl, "planned.pes", "--every", "25", *words)
+    return [(pts_in(one), teletext_packets(data_field(one)))
+            for one in packets(case.read("planned.pes"))]
+
+
+def joined(sendings: Sent) -> bytes:
+    return b"".join(pes_packet(pts % CLOCK, some) for pts, some in sendings)
+
+
+def in_fields(sendings: Sent) -> Sent:
+    """The header in the first field of each frame, the rows in the second."""
+    return [one for pts, some in sendings
+            for one in ((pts, some[:1]), (pts + TICKS // 2, some[1:]))]
+
+
+def with_late_rows(sendings: Sent) -> Sent:
+    """The rows a frame after their header."""
+    found: Sent = []
+    for pts, some in sendings:
+        found += [(pts, some)] if len(some) == 2 else [(pts, some[:1]), (pts + TICKS, some[1:])]
+    return found
+
+
+def with_jitter(sendings: Sent) -> Sent:
+    """Each PTS a few milliseconds off."""
+    chance = random.Random(1)
+    return [(pts + chance.randrange(-EARLY // 2, EARLY // 2), some) for pts, some in sendings]
+
+
+def under_load(sendings: Sent, most: int = 2) -> Sent:
+    """Each sending up to so many frames late."""
+    chance = random.Random(2)
+    return [(pts + TICKS * chance.randrange(most + 1), some) for pts, some in sendings]
+
+
+WAYS: dict[str, tuple[Callable[[Sent], Sent], int, tuple[int, int]]] = {
+    # What is done, the least N that accepts it, and after how many frames subtitles are whole, the
+    # last of them between these.
+    "fields": (in_fields, 1, (0, 0)),
+    "late rows": (with_late_rows, 1, (1, 1)),
+    "jitter": (with_jitter, 1, (0, 0)),
+    "load": (under_load, 2, (0, 2)),
+}
+
+
+def takes_the_frames_of_pts(case: Case) -> None:
+    """A PTS is of the frame in which it lies, from a quarter of a frame before it on; within 0 of
+    the one whose PTS it is."""
+    for off, exact, lying in ((0, 7, 7), (1, None, 7), (-EARLY, None, 7), (-EARLY - 1, None, 6),
+                              (TICKS - EARLY - 1, None, 7), (TICKS - EARLY, None, 8),
+                              (TICKS // 2, None, 7)):
+        for origin in (0, 1, ORIGIN, CLOCK - 1):
+            pts = (origin + 7 * TICKS + off) % CLOCK
+            found = [frame_at(pts, origin), frame_at(pts, origin, 1), frame_at(pts, origin, 50)]
+            case.test(f"{off} ticks from frame 7, {origin}", found == [exact, lying, lying], found)
+            case.test(f"{off} ticks, where it lies", frame_in(pts, origin, 1) == lying)
+    last = (FRAMES_OF_A_DAY - 1) * TICKS
+    for pts, frame in ((last, FRAMES_OF_A_DAY - 1), (last + TICKS, None), (CLOCK - EARLY, 0),
+                       (CLOCK - EARLY - 1, None), (last + TICKS - EARLY, None)):
+        case.test(f"PTS {pts}", frame_at(pts, 0, 1) == frame, frame_at(pts, 0, 1))
+    rising = [100 + TICKS * number for number in range(5)]
+    case.test("several", list(frames_at(rising, 0, 1)) == list(range(5))
+              and list(frames_at(rising, 0)) == [NO_FRAME] * 5)
+
+
+def judges_what_is_blameless(case: Case) -> None:
+    """Fields, late rows, jitter and load: refused or unclear without, accepted within N; each
+    command answers the same when it is typed."""
+    data, _ = random_subtitles(5)
+    for stl in (STORY, case.write("random.stl", data)):
+        for name, (way, least, (first, last)) in WAYS.items():
+            what = f"{os.path.basename(stl)}, {name}"
+            pes = case.write("sent.pes", joined(way(sent(case, stl, *WORDS))))
+            done = qc(case, stl, pes, *WORDS)
+            lines = lines_of(done)
+            case.test(f"{what}: refused", done.status == 1, done)
+            case.test(f"{what}: what would accept it",
+                      lines[-2:-1] == [f"within {least} it is accepted: --within {least}"], lines)
+            done = qc(case, stl, pes, "--within", str(least), "--json", "one.json")
+            lines = lines_of(done)
+            case.test(f"{what}: accepted", done.status == 0 and lines[-2:-1] == [FITTED], done)
+            known = json.loads(case.read("one.json"))
+            spread = known["whole_after"]
+            case.test(f"{what}: whole after", spread and spread["never"] == 0 and
+                      first <= spread["greatest"] <= last, spread)
+            commands = [line[2:] for line in lines if line.startswith("+ ")]
+            case.test(f"{what}: said", len(commands) == 3 and
+                      all(f"--within {least}" in line for line in commands), commands)
+            for line in commands:
+                again = case.call(["sh", "-c", line])
+                case.test(f"{what}: {line}", again.status == 0 and set(
+                    again.out.decode().splitlines()) <= set(lines), again)
+
+
+def stays_without_it(case: Case) -> None:
+    """Within 0 all is as without."""
+    for name in ("story.pes", "late-rows.pes", "five-faults.pes"):
+        both = [qc(case, STORY, example(name), *words, "--json", f"{len(words)}.json", "--csv",
+                   f"{len(words)}.csv") for words in NOTHING]
+        case.test(f"{name}: lines", both[0] == both[1], both)
+        objects = [json.loads(case.read(f"{count}.json")) for count in (0, 2)]
+        for one in objects:
+            del one["date"], one["seconds"]
+        case.test(f"{name}: object", objects[0] == objects[1])
+        case.test(f"{name}: table", case.read("0.csv") == case.read("2.csv"))
+    for tool, words in (("origin", [STORY, LATE_ROWS]),
+                        ("cut", [LATE_ROWS, "--stl", STORY, "-o", "-"])):
+        done = [case.tool(tool, *words, *more) for more in NOTHING]
+        case.test(tool, done[0] == done[1], done)
+
+
+def finds_the_origin(case: Case) -> None:
+    """The most edges agree within N frames, and of equals the one of which the first is not late:
+    a delay that all share is no matter of N."""
+    for seed in range(4):
+        data, edges = random_subtitles(seed)
+        stl = case.write("random.stl", data)
+        planned = sent(case, stl, *WORDS)
+        for name, (way, least, _) in WAYS.items():
+            for within in sorted({least, 5, 50}):
+                done = case.tool("origin", stl, case.write("sent.pes", joined(way(planned))),
+                                 "--within", str(within))
+                found = int((done.out.decode().split() or ["", "-1"])[1])
+                off = found - ORIGIN
+                case.test(f"seed {seed}, {name}, within {within}", done.status == 0 and
+                          (abs(off) < EARLY if name != "late rows" else off == 0), done)
+                told = [line for line in done.told if "late" in line.split(": ", 1)[1]]
+                case.test(f"seed {seed}, {name}, within {within}: how late", len(told) == 1 and
+                          (told[0] == "origin: no edge is late" or "edges are 0 to " in told[0]),
+                          done)
+        moved = joined([(pts + 3 * TICKS, some) for pts, some in with_late_rows(planned)])
+        done = case.tool("origin", stl, case.write("moved.pes", moved), "--within", "5", *WORDS)
+        case.test(f"seed {seed}: all are three frames late", done.status == 0 and
+                  done.out.decode() == f"--origin {ORIGIN + 3 * TICKS}\n", done)
+
+
+def tells_how_late_edges_are(case: Case) -> None:
+    done = case.tool("origin", STORY, LATE_ROWS, "--within", "1")
+    case.test("rows", (done.status, done.out) == (0, b"--origin 0\n") and
+              "origin: edges are 0 to 1 frame late, 1 in the middle" in done.told, done)
+    done = case.tool("origin", STORY, example("story.pes"), "--within", "1")
+    case.test("none", (done.status, done.out) == (0, b"--origin 0\n") and
+              "origin: no edge is late" in done.told, done)
+
+
+def with_last(case: Case, late: int, more: Sequence[int] = ()) -> bytes:
+    """The sendings of one subtitle, whose page is erased so many frames after its TCO, and comes
+    again in frames after that."""
+    (first, rows), *_, (last, erased) = sent(case, HELLO)
+    every = [(first + TICKS * number, rows) for number in range(50 + late)]
+    return joined([*every, (last + TICKS * late, erased),
+                   *((last + TICKS * number, rows) for number in more)])
+
+
+def cuts_to_the_blank_page(case: Case) -> None:
+    """Within N the cut ends with the first frame from the last TCO on at whose end the page is
+    blank, at most N frames later; within 0 with the first sending then."""
+    for late, within, last in ((0, 0, 0), (2, 0, 0), (0, 1, 0), (1, 1, 1), (2, 1, 1), (2, 2, 2),
+                               (2, 5, 2), (5, 5, 5), (6, 5, 5)):
+        pes = case.write("sent.pes", with_last(case, late, range(late + 1, late + 4)))
+        done = case.tool("cut", pes, "--stl", HELLO, "--within", str(within), "-o", "cut.pes")
+        end = pts_in(packets(case.read("cut.pes"))[-1]) // TICKS - TEN - 50
+        case.test(f"{late} late, within {within}", done.status == 0 and end == last, (end, done))
+        status, lines = case.program("check", HELLO, case.path("cut.pes"), "--within", str(within))
+        case.test(f"{late} late, within {within}: the verdict", status == (late > within), lines)
+    fields = case.write("fields.pes", joined(in_fields(sent(case, HELLO))))
+    done = case.tool("cut", fields, "--stl", HELLO, "--within", "1", "-o", "whole.pes")
+    case.test("both fields of the last frame", done.status == 0 and
+              case.read("whole.pes") == case.read("fields.pes"), done)
+    early = [(pts - TICKS * (number == 2) * 3, some)
+             for number, (pts, some) in enumerate(sent(case, HELLO))]
+    later = (early[-1][0] + 100 * TICKS, early[-1][1])
+    pes = case.write("early.pes", joined([*early, later]))
+    done = case.tool("cut", pes, "--stl", HELLO, "--within", "1", "-o", "early.cut.pes")
+    end = pts_in(packets(case.read("early.cut.pes"))[-1]) // TICKS - TEN - 50
+    case.test("nothing comes for some time", done.status == 0 and end == 97, (end, done))
+
+
+def begins_with_a_blank_frame(case: Case) -> None:
+    """Before the first subtitle a sending is all that comes in a frame: rows in the second field
+    stand at its end."""
+    (first, rows), *rest = sent(case, HELLO)
+    blank = rest[-1][1]
+    before = [(first - 40 * TICKS, blank), *in_fields([(first - 20 * TICKS, rows)]),
+              (first - 10 * TICKS, blank)]
+    pes = case.write("sent.pes", joined([*before, *in_fields([(first, rows), *rest])]))
+    done = case.tool("cut", pes, "--stl", HELLO, "--within", "1", "-o", "cut.pes")
+    begin = pts_in(packets(case.read("cut.pes"))[0])
+    case.test("after the text of another one", begin == first - 10 * TICKS, (begin - first, done))
+    del before[-1]
+    pes = case.write("text.pes", joined([*before, *in_fields([(first, rows), *rest])]))
+    done = case.tool("cut", pes, "--stl", HELLO, "--within", "1", "-o", "cut.pes")
+    begin = pts_in(packets(case.read("cut.pes"))[0])
+    case.test("not within that", begin != first - 20 * TICKS, (begin - first, done))
+
+
+def third_late(planned: Sent, late: int) -> Sent:
+    """The example's transmission; its third subtitle comes so many frames late."""
+    return [(pts + late * TICKS * (pts == LATE_AT * TICKS), some) for pts, some in planned]
+
+
+def names_the_least(case: Case) -> None:
+    """The least N of 1 to 5 that accepts, and none where nothing would."""
+    planned = sent(case, STORY)
+    for late in range(1, 8):
+        moved = third_late(planned, late)
+        lines = lines_of(qc(case, STORY, case.write("late.pes", joined(moved)), "--origin", "0"))
+        said = [line for line in lines if line.startswith("within ")]
+        wanted = [f"within {late} it is accepted: --within {late}"] if late <= 5 else []
+        case.test(f"{late} frames late", said == wanted and lines[-1].startswith("refused"), lines)
+    wrong = joined([(pts, [one.replace(b"\x61", b"\x62") for one in some])
+                    for pts, some in planned])
+    for name, data in (("five faults", example_bytes("five-faults.pes")), ("letters", wrong)):
+        done = qc(case, STORY, case.write("none.pes", data), "--every", "25", "--origin", "0",
+                  "--json", "none.json")
+        known = json.loads(case.read("none.json"))
+        case.test(f"{name}: none", not any(line.startswith("within ") for line in lines_of(done))
+                  and known["accepted_within"] is None, done)
+    done = qc(case, STORY, "-", "--origin", "0", data=example_bytes("late-rows.pes"))
+    case.test("not of a feed", done.status == 1 and
+              not any(line.startswith("within ") for line in lines_of(done)), done)
+    done = qc(case, STORY, LATE_ROWS, "--within", "1", "--json", "one.json")
+    case.test("not where it is asked", done.status == 0 and
+              json.loads(case.read("one.json"))["accepted_within"] is None, done)
+
+
+def says_of_each_subtitle(case: Case) -> None:
+    """The object and the report say after how many frames each was whole, also within 0."""
+    planned = sent(case, STORY)
+    pes = case.write("late.pes", joined(third_late(planned, 2)))
+    frames = [0, 0, 2]
+    for within, status in (("0", 1), ("1", 1), ("2", 0)):
+        done = qc(case, STORY, pes, "--origin", "0", "--within", within, "-o", "out")
+        known = json.loads(case.read("out/story.json"))
+        case.test(f"within {within}: status", done.status == status, done)
+        case.test(f"within {within}: asked", known["asked"]["within"] == int(within))
+        case.test(f"within {within}: each", [one["whole_after"] for one in known["subtitles"]] ==
+                  frames, known["subtitles"])
+        case.test(f"within {within}: of all", known["whole_after"] ==
+                  {"least": 0, "middle": 0, "greatest": 2, "never": 0}, known["whole_after"])
+        case.test(f"within {within}: would be accepted", known["accepted_within"] ==
+                  (2 if within == "0" else None), known["accepted_within"])
+        text = words_of(case.read("out/story.html"))
+        case.test(f"within {within}: the report", "Subtitles are whole after 0 to 2 frames, 0 in "
+                  "the middle." in text, text)
+        promise = "every cell holds a space, or a code that was due there in that frame or the "
+        case.test(f"within {within}: what is promised", (promise in text) == (within != "0"), text)
+        case.test(f"within {within}: the line", ("subtitles are whole after 0 to 2 frames, 0 in "
+                  "the middle" in lines_of(done)) == (within != "0"), done)
+    lost = case.write("lost.pes", joined([one for one in planned if not 3 * 25 <=
+                                          one[0] // TICKS - LATE_AT + 175 < 137]))
+    qc(case, STORY, lost, "--origin", "0", "--json", "lost.json")
+    known = json.loads(case.read("lost.json"))
+    case.test("never", [one["whole_after"] for one in known["subtitles"]] == [0, None, 0] and
+              known["whole_after"]["never"] == 1, known["subtitles"])
+
+
+def words_of(page: bytes) -> str:
+    """The text of a report."""
+    return " ".join("".join(ElementTree.fromstring(page).itertext()).split())
+
+
+def places_faults_of_fields(case: Case) -> None:
+    """A fault of a packet has the PES packet that holds it, though the packets of a frame are
+    counted on; one of a frame's end the last of its PES packets."""
+    some = in_fields(sent(case, HELLO))
+    some[1][1][0] = some[1][1][0][:10] + bytes([some[1][1][0][10] ^ 0x80]) + some[1][1][0][11:]
+    qc(case, HELLO, case.write("sent.pes", joined(some)), "--within", "1", "--origin", "0",
+       "--json", "one.json")
+    known = json.loads(case.read("one.json"))["faults"]
+    places = [(one["number"], one["pes"], one["packet"], one["pes_time"]) for one in known]
+    case.test("the second field", places[:1] == [(68, 1, 1, "10:00:00:00")], places)
+    wrong = in_fields(sent(case, HELLO))
+    letter = wrong[1][1][0]
+    wrong[1][1][0] = letter[:22] + bytes([letter[22] ^ 0x06]) + letter[23:]
+    qc(case, HELLO, case.write("wrong.pes", joined(wrong)), "--within", "1", "--origin", "0",
+       "--json", "two.json")
+    known = [one for one in json.loads(case.read("two.json"))["faults"] if one["number"] == 72]
+    case.test("the end of the frame", known and known[0]["pes"] == 1 and known[0]["held"] and
+              known[0]["due"] != known[0]["held"], known)
+
+
+def goes_with_every_call(case: Case) -> None:
+    """On lines of a list, as a default of the call, in a batch, a feed, a channel, a folder."""
+    case.write("list", f"{STORY} {LATE_ROWS} --within 1\n{STORY} {LATE_ROWS} --within 0\n"
+               f"{STORY} {LATE_ROWS}\n".encode())
+    calls: list[tuple[list[str], list[str]]] = [
+        (["--within", "1"], ["accepted", "refused", "accepted"]),
+        ([], ["accepted", "refused", "refused"])]
+    for words, wanted in calls:
+        qc(case, "--batch", "list", *words, "--json", "all.json")
+        known = json.loads(case.read("all.json"))["pairs"]
+        case.test(f"a list, {words}", [one["verdict"] for one in known] == wanted and
+                  [one["asked"]["within"] for one in known] ==
+                  [1, 0, 1 if words else 0], known)
+    for name, data in (("PES packets", example_bytes("late-rows.pes")),
+                       ("a stream", stream(case, "rows", example_bytes("late-rows.pes")))):
+        done = qc(case, STORY, "-", "--origin", "0", "--within", "1", data=data)
+        lines = lines_of(done)
+        case.test(f"a feed of {name}", done.status == 0 and lines[0].count("--within 1") == 2,
+                  done)
+    programme = case.write("programme.stl", many())
+    rows = joined(with_late_rows(sent(case, programme, *WORDS)))
+    case.write("programmes", f"{programme} --within 1\n".encode())
+    done = qc(case, "--channel", "programmes", case.write("feed.pes", rows), "-o", "air")
+    known = json.loads(case.read("air/programme.json"))
+    case.test("a channel", done.status == 0 and known["asked"]["within"] == 1, (done, known))
+
+
+def many() -> bytes:
+    """A subtitle file of ten subtitles."""
+    blocks = [subtitle_blocks(number, 100 * number, 100 * number + 60, 22, 2,
+                              b"Subtitle %d" % number) for number in range(1, 11)]
+    return gsi_block(b"Ten", 10, 10) + b"".join(blocks)
+
+
+def judges_parts(case: Case) -> None:
+    """With a break each part is judged within N; the least N of all is said."""
+    one = case.write("one.stl", many())
+    planned = sent(case, one, *WORDS)
+    half = len(planned) // 2
+    late = with_late_rows(planned)
+    moved = [(pts + 2000 * TICKS * (pts > planned[half][0]), some) for pts, some in late]
+    pes = case.write("break.pes", joined(moved))
+    done = qc(case, one, pes, "--breaks", "1", "--within", "1", *WORDS, "--every", "1500")
+    case.test("accepted", done.status == 0 and lines_of(done)[-1].endswith("in 2 parts"), done)
+    done = qc(case, one, pes, "--breaks", "1", *WORDS, "--every", "1500")
+    case.test("refused", done.status != 0, done)
+
+
+def refuses_other_words(case: Case) -> None:
+    for tool, words in (("qc", [STORY, LATE_ROWS]), ("origin", [STORY, LATE_ROWS]),
+                        ("cut", [LATE_ROWS, "--stl", STORY, "-o", "no.pes"]),
+                        ("preview", [STORY, LATE_ROWS])):
+        for word in ("51", "-1", "x", "1.5", "", "5000000000000000000"):
+            done = case.tool(tool, *words, f"--within={word}")
+            case.test(f"{tool} {word}", done.status == 2 and len(done.told) == 1, done)
+        done = case.tool(tool, "--help")
+        case.test(f"{tool}: its help", "--within N" in done.out.decode(), done)
+    done = case.call(["bash", "-c", f". {tool_path('completion.bash')}; "
+                      "COMP_WORDS=(subttx check --w); COMP_CWORD=2; _subttx; "
+                      'echo "${COMPREPLY[*]}"; COMP_WORDS=(subttx listen --w); _subttx; '
+                      'echo "${COMPREPLY[*]}"'])
+    case.test("completion", done.out.decode().split() == ["--within", "--within"], done)
+
+
+def is_quick_without_it(case: Case) -> None:
+    """Nothing is judged twice where it is accepted: one call of `check` for the subtitle file, and
+    one for the pair."""
+    log = case.path("calls")
+    wrapper = case.write("program", f'#!/bin/sh\necho "$1" >>{log}\n'
+                         f'exec {case.bench.program} "$@"\n'.encode())
+    os.chmod(wrapper, 0o755)
+    subprocess.run([tool_path("qc"), STORY, example("story.pes"), "-p", wrapper],
+                   stdout=subprocess.DEVNULL, stderr=subprocess.DEVNULL, check=True,
+                   cwd=case.folder)
+    calls = case.read("calls").decode().split()
+    case.test("calls", sorted(calls) == ["check", "check", "show"], calls)
+
+
+CASES = [takes_the_frames_of_pts, judges_what_is_blameless, stays_without_it, finds_the_origin,
+         tells_how_late_edges_are, cuts_to_the_blank_page, begins_with_a_blank_frame,
+         names_the_least, says_of_each_subtitle, places_faults_of_fields, goes_with_every_call,
+         judges_parts, refuses_other_words, is_quick_without_it]
