@@ -89,7 +89,7 @@ opened-first : (r : Result (List ℕ) StlFault) (b : List ℕ)
 opened-first (Err e) b = refl
 opened-first (Ok g) b = findings_at-first 99999 false None b
 
--- So what any bytes give.
+-- One byte more than the longest file has decides what any bytes give.
 findings_of-first : (s : List ℕ) → findings_of (take 12800897 s) ≡ findings_of s
 unfolding findings_of opened_at
 findings_of-first s = elim (cases_lt 12800897 (length s)) [

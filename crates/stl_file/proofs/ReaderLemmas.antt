@@ -66,7 +66,7 @@ one_group : (s : SubtitleValue) (gs : List (List (List ℕ)))
     → AreBlocksOf s (groups_of gs)
 one_group s gs h = grind (arith, nat_tests, append-nil)
 
--- And none has none.
+-- No subtitle has no blocks.
 no_group : (gs : List (List (List ℕ))) → AllZip AreBlocksOf [] gs → groups_of gs ≡ []
 no_group gs h = grind (arith, nat_tests)
 

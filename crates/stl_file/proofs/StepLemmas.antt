@@ -39,7 +39,7 @@ first_complete : (b : List ℕ) (s : SubtitleValue)
 unfolding first_at
 first_complete b s h = grind (arith, nat_tests)
 
--- So it is kept.
+-- A block that begins a subtitle is kept.
 pub first_kept : (s : SubtitleValue) (b : List ℕ)
     → Begins s b
     → kept_at None b ≡ Ok (closed (ebn b) (record s { text = text_of b }) 1)

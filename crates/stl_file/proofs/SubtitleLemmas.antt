@@ -49,7 +49,7 @@ has_no_unused-before_unused (x ∷ xs) = grind (arith, nat_tests, has_no_unused-
 -- What `push_text` needs.
 pub ruleset cleaned = (has_no_unused-append, has_no_unused-before_unused)
 
--- So the joined text of blocks has none.
+-- The joined text of blocks has no unused space.
 pub has_no_unused-texts : (g : List (List ℕ)) → has_no_unused (flat_map text_of g) ≡ true
 has_no_unused-texts [] = refl
 has_no_unused-texts (b ∷ g) =

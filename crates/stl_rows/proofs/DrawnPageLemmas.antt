@@ -43,7 +43,7 @@ get_or_push-none : (ls : List (List ℕ)) (k : ℕ) → get_or ls k [] ≡ get_o
 get_or_push-none [] k = grind (arith, nat_tests)
 get_or_push-none (l ∷ ls) k = grind (arith, nat_tests, get_or_push-none ls)
 
--- The row after those of lines is that of one more.
+-- The row after those of lines is that of the line that follows them.
 line_on-last : (vp row : ℕ) (done : List (List ℕ)) (line : List ℕ)
     → row ≡ vp + length done
     → line_on vp (done ++ line ∷ []) row ≡ line
@@ -118,11 +118,11 @@ is_drawn-on_page {vp = vp} {row} {all = all} {left} h none =
 module _ {jc vp row : ℕ} {page : Rows} {all left : List (List ℕ)} (cells : List ℕ) (first : 1 ≤ vp)
     (h : IsDrawn jc vp row page all (prepared cells ∷ left))
     (none : line_faults 0 vp false all ≡ []) where
-  -- So it fits its row.
+  -- The cells fit their row.
   pub is_drawn-fits : FitsRow row cells
   is_drawn-fits = grind (arith, nat_tests, is_drawn-on_page h none, prepared_longer cells)
 
-  -- It is put.
+  -- The page with their line put is drawn up to the next row.
   pub is_drawn-next : IsDrawn jc vp (row + 1) (put_line jc row cells page) all left
   is_drawn-next = search (rules, put_line-page, is_drawn-fits, length-append, append_assoc)
 
@@ -139,7 +139,7 @@ no_faults : (n : National) (t : SubtitleValue) → IsOk (drawn n t) → subtitle
 unfolding drawn
 no_faults n t ok = grind (arith, nat_tests)
 
--- Nor have its lines. For `drawn_page`.
+-- The lines of a subtitle that draws a page have no fault. For `drawn_page`.
 pub no_line_faults : (n : National) (t : SubtitleValue)
     → IsOk (drawn n t)
     → line_faults 0 t.vp false (lines n t) ≡ []

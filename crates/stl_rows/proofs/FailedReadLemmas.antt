@@ -26,7 +26,7 @@ pub record HasTaken (old now : Option (List ℕ)) (block : ℕ) : Type 0 where
   pub consumed : Consumes old now bytes
   pub long : length bytes ≡ 1024 + 128 * block
 
--- And the blocks of an answer after which reading goes on.
+-- The blocks of an answer after which reading goes on were taken too.
 pub has_taken-next : {old mid now : Option (List ℕ)} {from to : ℕ} {refused next : Option Begun}
     {t : SubtitleValue} {result : Result Found StlFault}
     → LeadsOn from to refused next mid now t result

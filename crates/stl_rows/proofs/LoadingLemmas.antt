@@ -77,7 +77,7 @@ told-next national before t from to early le h =
     h)
     (at_block national before t to)
 
--- And what one is refused for.
+-- What was told of the subtitles so far, and what one is refused for.
 pub told-refused : (fault : StlFault) (from to : ℕ) (early : List LoadFault)
     → from ≤ to
     → is_of_first fault ≡ true
@@ -303,7 +303,7 @@ module _ {D : Type 0} {IsTold : D → LoadFault → D → Type 0} {old mid new :
         told = stops.3;
       }
 
-  -- So is the fault that ends reading.
+  -- The fault that ends reading is one of the file too.
   pub of_file-end : (early : List LoadFault) (fault : StlFault) {from block : ℕ}
       → All (IsToldBy from) early
       → is_read fault ≡ false

@@ -261,7 +261,8 @@ answers_end national options stl pes Untouched old new given end end_count statu
           ));
     }
 
--- The same of a sink that stands so. For `print_every_fault`.
+-- What is answered of a sink is answered of one with the same contents and count. For
+-- `print_every_fault`.
 pub answers_at :
     (national : National) (options : OptionsValue) (stl pes : SourceCall) (Untouched : Type 0)
     (old mid new : Option (List ℕ)) (m n p : ℕ) (status : Status)

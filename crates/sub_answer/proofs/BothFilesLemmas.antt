@@ -55,7 +55,7 @@ told-runs false other = refl
 pub stl-fails : (f : CheckFault) → is_stl_read f ≡ true → is_failure f ≡ true
 stl-fails f is = grind (arith, nat_tests)
 
--- So is that of the PES file.
+-- That the source of the PES file failed is a failure.
 pub pes-fails : (f : CheckFault) → is_pes_read f ≡ true → is_failure f ≡ true
 pes-fails f is = grind (arith, nat_tests)
 

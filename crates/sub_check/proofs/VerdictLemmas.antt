@@ -284,7 +284,7 @@ module _ (programme : ProgrammeValue) (options : OptionsValue) (is : IsOptions o
           plan_accepted serial result written some (decides fine);
     }
 
-    -- The same where the page has to be whole at the end of each frame.
+    -- What is checked where the page has to be whole at the end of each frame.
     pub checked_at_once : options.within ≡ 0 → IsChecked programme options bytes result
     checked_at_once none =
         let within = checked_within in

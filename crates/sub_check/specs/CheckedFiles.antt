@@ -211,8 +211,8 @@ pub record IsCheckedWithin
       → failed is_pes_read answer ≡ false
       → IsOk answer
 
--- The same where the page has to be whole at the end of each frame: in the words of the seven
--- rules.
+-- What is answered where the page has to be whole at the end of each frame: in the words of the
+-- seven rules.
 pub record IsChecked
     (programme : ProgrammeValue) (options : OptionsValue) (bytes : List ℕ)
     (answer : Result Accepted CheckFault)
@@ -309,8 +309,8 @@ TellsWhatMayStay programme options bytes =
     → Contains (all_events_of programme options bytes) (Trusted from to)
     → MayStay programme (rising_part (frames_read options bytes)) options from to
 
--- So they may within frames: receivers recover there with a delay, and one of the frames at least is
--- finished.
+-- So they may within frames: receivers recover there with a delay, and one of the frames at least
+-- is finished.
 abbrev pub TellsWhatMayStayWithDelay : ProgrammeValue → OptionsValue → List ℕ → Type 0
 TellsWhatMayStayWithDelay programme options bytes =
     (from to : ℕ)

@@ -60,11 +60,11 @@ kind_22 = refl
 abbrev on_blank : State
 on_blank = record { heard = true; is_open = true; page = blank }
 
--- The header makes each receiver such a one.
+-- The header may make each receiver such a one.
 opens : (old : State) → Step page_888 old header_888 on_blank
 opens old = subst (λ k. StepAt k header_888 old on_blank) (sym kind_888) refl
 
--- And nothing else.
+-- The header makes no receiver any other.
 opened :
     (old new : State) → Step page_888 old header_888 new → new ≡ on_blank
 opened old new step = subst (λ k. StepAt k header_888 old new) kind_888 step
@@ -102,11 +102,11 @@ first_header = grind (arith, nat_tests, true≢false)
 shows_again : ShowsAt page_888 (open_with None) header_888 (open_with (Some blank))
 shows_again = grind (arith, nat_tests, true≢false, kind_888)
 
--- Or not.
+-- At the next one a receiver may show no page.
 waits_again : ShowsAt page_888 (open_with None) header_888 (open_with None)
 waits_again = grind (arith, nat_tests, true≢false)
 
--- So both are runs.
+-- A page that begins again may be shown, and may not.
 pub example_of_page_begun_again : ExampleOfPageBegunAgain
 example_of_page_begun_again = record {
   shown = open_with (Some blank);

@@ -105,8 +105,9 @@ pub fn law_of_plan_within()
     ensures { LawOfPlanWithin }
 {}
 
-/// A stretch of which nothing is told that a receiver depends on has what suffices, whatever else is
-/// told, there or elsewhere; and where the page stands open at no end of it, its pages are complete.
+/// A stretch of which nothing is told that a receiver depends on has what suffices, whatever else
+/// is told, there or elsewhere; and where the page stands open at no end of it, its pages are
+/// complete.
 pub fn law_of_untold_stretch()
     ensures { LawOfUntoldStretch }
 {}
@@ -173,8 +174,8 @@ pub fn law_of_plan_read()
 {}
 
 /// What is read packet by packet as frames that rise is a PES file of the grammar that is sent as
-/// these frames, and the other way round. So it is within frames too, where PES packets of one frame
-/// are sent as one.
+/// these frames, and the other way round. So it is within frames too, where PES packets of one
+/// frame are sent as one.
 pub fn law_of_pes_files()
     ensures { LawOfPesFiles }
 {}

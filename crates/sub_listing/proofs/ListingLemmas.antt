@@ -93,7 +93,7 @@ counts-fault old new false risen = record {
   once = omega (arith, risen);
 }
 
--- And where it did not.
+-- The count of a source's failures, where the sink did not fail.
 pub counts-status : (old new : ℕ) (status : Status) → RisesIf old (has_failed (Some status)) new
     → Counts old status new
 counts-status old new Fault risen = record {

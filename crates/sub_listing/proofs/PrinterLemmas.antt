@@ -99,7 +99,7 @@ prints-prefix a b events more failing prints = record {
   cut_count = λ fails. prints.cut_count failing;
 }
 
--- The same, where these are the first of a list.
+-- A printer that has failed has printed a list's events where it has printed its first ones.
 pub prints-taken : {A : Type 0} (event : A → Event) (a b : PrinterValue) (n : ℕ) (items : List A)
     → b.failed ≡ true
     → PrintsEvents a (map event (take n items)) b
@@ -177,7 +177,7 @@ map-same : (events : List Event) → map (λ (e : Event). e) events ≡ events
 map-same [] = refl
 map-same (e ∷ events) = ap (λ (es : List Event). e ∷ es) (map-same events)
 
--- The same of a list of events.
+-- A list of events is printed as it is told.
 pub as_told : (a b : PrinterValue) (events : List Event)
     → PrintsEvents a (map (λ (e : Event). e) events) b
     → PrintsEvents a events b

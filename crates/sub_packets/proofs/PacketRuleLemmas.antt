@@ -54,7 +54,7 @@ enhancement_is_other :
 unfolding kind
 enhancement_is_other w p e = grind (arith, nat_tests)
 
--- So any other packet is none.
+-- A packet that is a header or a row is no packet 25 to 28.
 pub no_enhancement :
     (w : Watched) (p : List ℕ)
     → (kind w.page p ≡ Other → ⊥)

@@ -24,7 +24,7 @@ abbrev every : ℕ → (List Bool → Bool) → Bool
 every zero test = test []
 every (suc n) test = every n (λ bs. test (true ∷ bs)) && every n (λ bs. test (false ∷ bs))
 
--- So does each of them.
+-- Each of the lists that all pass a test passes it.
 every_at :
     (n : ℕ) (test : List Bool → Bool) (bs : List Bool)
     → length bs ≡ n
@@ -95,7 +95,7 @@ none_passes test e rule.Parity = sym (holds_rule test rule.Parity 0 16 (sym e) r
 none_passes test e rule.RowChanged = sym (holds_rule test rule.RowChanged 0 32 (sym e) refl)
 none_passes test e rule.Enhancement = sym (holds_rule test rule.Enhancement 0 64 (sym e) refl)
 
--- So they are no rules.
+-- Of an empty set there are no rules.
 pub no_rules : (test : PacketRule → Bool) → rule_set test ≡ 0 → filter test packet_rules ≡ []
 unfolding packet_rules
 no_rules test e =

@@ -120,7 +120,7 @@ module _
         let h = header_of w first is in rw h.2 (grind (arith, nat_tests))
     first_again others rule.Enhancement = grind (arith, nat_tests, header_of, no_enhancement)
 
-    -- And so does each of the packets.
+    -- Each of the packets breaks the same rules again.
     breaks_again : (others : List (List ℕ))
         → BreakAlike w heard (heard ++ first ∷ others) (first ∷ others)
     breaks_again others zero l =

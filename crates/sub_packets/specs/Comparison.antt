@@ -1,5 +1,5 @@
--- The page that is shown beside the page that is due, as a listener keeps them. Of the crates above,
--- private functions alone cite this.
+-- The page that is shown beside the page that is due, as a listener keeps them. Of the crates
+-- above, private functions alone cite this.
 use Rattle.std.specs.Prelude.{◌≡◌, ℕ, ◌+◌, ◌-◌, IfSome, Option, Some, None}
 use Rattle.ttx_page.specs.Differing.{differing}
 use Rattle.ttx_page.specs.Page.{Rows, blank}

@@ -31,12 +31,12 @@ pub some_out : (ts : List SubtitleValue) (a : ℕ) → Some a ≡ first_in ts �
 some_out [] a h k = refl
 some_out (t ∷ ts) a h k = let e = last_is t ts in cc
 
--- The first TCI is before the last TCO, which is a frame of the day.
+-- The one is before the other, which is a frame of the day.
 pub record IsSpan (a b : ℕ) : Type 0 where
   pub rises : a < b
   pub in_day : b < day
 
--- So it is of a programme.
+-- The first TCI of a programme is before its last TCO, which is a frame of the day.
 pub span-rises : (national : National) (ts : List SubtitleValue) (a b : ℕ) → IsProgramme national ts
     → Some a ≡ first_in ts → Some b ≡ last_out ts → IsSpan a b
 span-rises national [] a b ok h k = cc

@@ -150,7 +150,7 @@ sends-base : (due : ℕ → Rows) (every first last f : ℕ) → 1 ≤ every →
     → is_sending due every first last f ≡ true
 sends-base due every first last f some is = grind (arith, nat_tests, sends, base-at, aligned-start)
 
--- So it is at the first frame.
+-- At the first frame something is sent.
 pub sends-first : (due : ℕ → Rows) (every first last : ℕ) → 1 ≤ every
     → is_sending due every first last first ≡ true
 sends-first due every first last some = sends-base due every first last first some (inl refl)

@@ -118,12 +118,12 @@ cut_end kind_of (r ∷ rows) c zero go e = refl
 cut_end kind_of (r ∷ rows) c (suc m) go e =
     rw go.0 (ap (λ ps. r ∷ ps) (cut_end kind_of rows c m go.1 e))
 
--- C11 of each header is that of the mode.
+-- C11 of the header of the page is that of the mode.
 mode_opener : (w : PageIdValue) (national : National) (serial : Bool)
     → c11 (watched_header w national serial) ≡ serial
 mode_opener w national serial = grind (arith, nat_tests)
 
--- So it is of the closing header.
+-- C11 of the closing header is that of the mode.
 mode_closer : (serial : Bool) → c11 (closing_header serial) ≡ serial
 mode_closer serial = grind (arith, nat_tests)
 
@@ -174,7 +174,7 @@ module _ (w : PageIdValue) (national : National) (serial : Bool) (page : Rows) (
   unfolding sending
   sending_holds = or_left _ _ opens
 
-  -- Also when it is cut short, and with what follows it.
+  -- A sending that is cut short, also with what follows it, holds a header of the page.
   pub opens_cut : (m : ℕ) (more : List (List ℕ))
       → holds_header (kind w) (take (suc m) (sending w national serial page ++ more)) ≡ true
   unfolding sending
@@ -189,7 +189,7 @@ module _ (w : PageIdValue) (national : National) (serial : Bool) (page : Rows) (
       ∙ after-here (kind w) (opener w national serial) rest
       (rw (take_all (length rest) rest (omega arith)) at (no_header (length rest))) opens
 
-  -- So the span is its rows.
+  -- Whatever came before, the span is its rows.
   pub span_after : (before : List (List ℕ))
       → span (kind w) (before ++ sending w national serial page) ≡ rows
   span_after before =
@@ -198,12 +198,12 @@ module _ (w : PageIdValue) (national : National) (serial : Bool) (page : Rows) (
       ap (before_end (kind w)) (after_sending before)
       ∙ rw (take_all n rest (omega arith), take_all n rows (omega arith)) at (rows_before_end n)
 
-  -- So each cell that is shown is that of the page.
+  -- Whatever came before, each cell that is shown is that of the page.
   pub shown_after : (before : List (List ℕ)) (row column : ℕ) → IsCell row column
       → shown w (before ++ sending w national serial page) row column ≡ cell page row column
   shown_after before row column named = grind (arith, nat_tests, span_after, page_found)
 
-  -- And the closing header ends the page.
+  -- Whatever came before, the closing header ends the page.
   pub ended_after : (before : List (List ℕ))
       → is_unended (kind w) (before ++ sending w national serial page) ≡ false
   ended_after before = search (rules, after_sending, list_any-append, closer, closes, or-true)

@@ -39,11 +39,11 @@ byte_at xs all n = grind (arith, nat_tests, get_or_past)
 code_word_small : (n : ℕ) → code_word n < 0x100
 code_word_small n = grind (arith, nat_tests, byte_at, ltb-true, AllPass-from_list_all)
 
--- So is each of several.
+-- Code words are bytes.
 code_words_small : (numbers : List ℕ) → All IsByte (map code_word numbers)
 code_words_small numbers = search (rules, All-map, code_word_small)
 
--- So is a byte of odd parity.
+-- A byte of odd parity is a byte.
 odd_byte_small : (code : ℕ) → code < 0x80 → odd_byte code < 0x100
 odd_byte_small code l = grind (arith, nat_tests)
 
@@ -83,7 +83,7 @@ watched_is : (w : PageIdValue) (national : National) (serial : Bool) → IsWatch
     → IsHeader (watched_header w national serial)
 watched_is w national serial ok = grind (arith, nat_tests, bit_small)
 
--- So is the closing header.
+-- The closing header is one that a packet can say.
 closing_is : (serial : Bool) → IsHeader (closing_header serial)
 closing_is serial = grind (arith, nat_tests, bit_small)
 

@@ -199,9 +199,9 @@ impl Options {
 
     /// The frame of the day that a PTS is read as. `None` for a PTS that is that of no frame.
     ///
-    /// Where the page has to be whole at the end of each frame, a PTS is that of the frame which has
-    /// it. Where frames are allowed (`allowing`), a PTS may be a quarter of a frame early, and two
-    /// fields are of one frame.
+    /// Where the page has to be whole at the end of each frame, a PTS is that of the frame which
+    /// has it. Where frames are allowed (`allowing`), a PTS may be a quarter of a frame early, and
+    /// two fields are of one frame.
     pub fn frame_of(&self, pts: u64) -> Option<u32>
         ensures value { result ≡ clock_of self.now pts }
         // Where no frames are allowed, it is the frame that has this PTS.

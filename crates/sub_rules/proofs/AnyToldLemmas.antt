@@ -53,7 +53,7 @@ module _ (test : Event → Bool)
     no_gap i zero = refl
     no_gap i (suc n) = only_first _ _ (at_end _ _ _ _) ∙ no_gap i n
 
-    -- And none of the first header: then what is told of the frame's number decides.
+    -- Where none of the first header is, what is told of the frame's number decides.
     pub any_frame : (i : ℕ) → list_any test (first_header_events g frames i) ≡ false
         → list_any test (frame_events g frames i) ≡ list_any test (order_events g frames i)
     unfolding frame_events

@@ -58,7 +58,7 @@ joined_after-append within sent [] ys = refl
 joined_after-append within sent (x ∷ xs) ys =
     joined_after-append within (sent_after within sent x) xs ys
 
--- And one more.
+-- Frames after others, and the one after them.
 pub joined_after-push : (within : ℕ) (sent xs : Transmission) (s : SentFrame)
     → joined_after within sent (xs ++ s ∷ [])
     ≡ sent_after within (joined_after within sent xs) s
@@ -211,7 +211,7 @@ module _ (P : List ℕ → Type 0) where
       joined_after-each within (sent_after within sent s) frames
       (sent_after-each within sent s each (All-head Of s frames more)) (All-tail Of s frames more)
 
-  -- The same, as each packet of a file that was read is told.
+  -- The property holds of each packet, as is told of those of a file that was read.
   abbrev pub EachRead : Transmission → Type 0
   EachRead frames = AllByRecursion (λ (s : SentFrame). AllByRecursion P s.packets) frames
 

@@ -17,7 +17,7 @@ use Rattle.std.specs.Option.{option_or}
 use Rattle.ttx_packet.specs.PageHeader.{header}
 
 module _ {X : Type 0} where
-  -- What holds of each item and of one more.
+  -- What holds of each item and of the one after them.
   pub Each-push : (P : X → Type 0) (xs : List X) (x : X) → AllByRecursion P xs → P x
       → AllByRecursion P (xs ++ x ∷ [])
   Each-push P [] x h p = (p, tt)
@@ -70,7 +70,7 @@ pub header_count-append :
     → header_count page (ps ++ qs) ≡ header_count page ps + header_count page qs
 header_count-append page ps qs = grind (arith, nat_tests, filter-append, length-append)
 
--- And one packet on.
+-- The headers of the page in a list, and whether the packet after it is one.
 pub header_count-push :
     (page : PageIdValue) (ps : List (List ℕ)) (p : List ℕ)
     → header_count page (ps ++ p ∷ []) ≡ header_count page ps + cond (is_this_page (kind page p)) 1

@@ -1,5 +1,5 @@
 -- What is told of a PES file that is read on, by runs of quiet frames, where the page has to be
--- whole at the end of each frame: of all pieces `all_are`, of some `events_are`.
+-- whole at the end of each frame: of all pieces `all_are`.
 use Rattle.std.proofs.lemmas.Bool.Decides.{nat_tests}
 use Rattle.std.proofs.Common.{◌≡◌, ℕ, suc, ◌+◌, ◌-◌, ◌||◌, Bool, true}
 use Rattle.std.proofs.Common.{false, not, List, [], ◌∷◌, ◌++◌, length, map, Option, Some, None}

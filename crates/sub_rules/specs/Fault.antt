@@ -1,6 +1,6 @@
 -- The faults of a pair of files, a row each: the number and the name by which one is told (own),
--- where it is, and what follows where it is told; and which of them are those of a device, of memory
--- or of the one file.
+-- where it is, and what follows where it is told; and which of them are those of a device, of
+-- memory or of the one file.
 use Rattle.std.specs.Prelude.{ℕ, List, Bool, true, false, Option, Some, None}
 use Rattle.std.specs.Prelude.{codes, unwrap_or}
 use Rattle.sub_io.specs.FaultCode.{FaultCodeValue, fault_code}
@@ -38,6 +38,7 @@ abbrev pub coded_row : FaultCodeValue → FaultPlace → Bool → FaultRow
 coded_row code place doubts =
     record { code = code; place = place; doubts = doubts; is_passed = false }
 
+-- The row of a fault with this number and name, for which no PES packet is passed over.
 abbrev pub rule_row : ℕ → List ℕ → FaultPlace → Bool → FaultRow
 rule_row number name place doubts = coded_row (fault_code number name) place doubts
 
@@ -66,10 +67,11 @@ fault_row (fault.Gap f) = coded_row (rule_code end.Gap) (place.Frame f) true
 fault_row (fault.Incomplete f) = coded_row (rule_code end.Incomplete) (place.Frame f) true
 fault_row (fault.Late f) = rule_row 74 (codes "Late") (place.Frame f) false
 
--- Its number and name, and its place.
+-- The number and the name of a fault.
 abbrev pub check_code : CheckFault → FaultCodeValue
 check_code f = (fault_row f).code
 
+-- The place of a fault.
 abbrev pub place_of : CheckFault → FaultPlace
 place_of f = (fault_row f).place
 

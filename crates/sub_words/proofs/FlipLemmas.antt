@@ -68,7 +68,7 @@ record IsNoise (sent : List ℕ) (number : ℕ) (flips : List Flip) : Type 0 whe
       → list_any (is_same_byte f) flips ≡ false
       → slice_index (with_flips flips number sent) f.byte ≡ slice_index sent f.byte
 
--- So do they and one more, in another byte.
+-- Flips and one in another byte are such.
 IsNoise-more : (sent : List ℕ) (number : ℕ) (flips : List Flip) (f : Flip)
     → IsNoise sent number flips
     → list_any (is_same_byte f) flips ≡ false

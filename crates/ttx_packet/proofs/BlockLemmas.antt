@@ -26,7 +26,7 @@ block_at n (suc k) xs (suc i) l =
     block_at n k (drop n xs) i (omega arith)
     ∙ ap (take n) (drop-drop (n * i) n xs ∙ ap (λ m. drop m xs) e)
 
--- The same, of the blocks that `as_chunks` gives.
+-- A block that `as_chunks` gives is the chunk at its place.
 pub block_of : (blocks : List (List ℕ)) (n : ℕ) (xs : List ℕ) (i : ℕ)
     → blocks ≡ first_chunks n (length xs / n) xs
     → i < length xs / n

@@ -59,7 +59,7 @@ module _ (w : PageIdValue) (before heard : List (List ℕ)) where
       → shown w (before ++ heard) row column ≡ shown w heard row column
   shown-later holds row column = grind (arith, nat_tests, unwrap_or, after-append)
 
-  -- And it is ended where all is.
+  -- With a header of the page among it, what is heard is ended where all is.
   pub unended-later : holds_header (kind w) heard ≡ true
       → is_unended (kind w) (before ++ heard) ≡ is_unended (kind w) heard
   unended-later holds = grind (arith, nat_tests, after-append)

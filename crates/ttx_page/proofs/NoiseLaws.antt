@@ -79,7 +79,7 @@ module _ (class : ReceiverClass) (w : PageIdValue) (sent : List (List ℕ)) (mar
   sent-items : sent ≡ map sent_of items
   sent-items = grind (arith, nat_tests, firsts-zip, length-arrivals_of, AllZip-long)
 
-  -- So are those of their span.
+  -- The packets of the items' span are the span of the packets.
   span-items : span (kind w) sent ≡ map sent_of (span (kind_of_item w) items)
   span-items = ap (span (kind w)) sent-items ∙ span-map (kind w) sent_of items
 
@@ -174,7 +174,7 @@ items-all_true [] [] all may = refl
 items-all_true [] (m ∷ marks) all may = elim may [ ]
 items-all_true (p ∷ sent) marks all may = grind (arith, nat_tests, items-all_true sent)
 
--- And then nothing of what was got is lost.
+-- Where marks are all true nothing of what was got is lost.
 arrivals_of-all_true : (sent got : List (List ℕ)) (marks : List Bool)
     → AllByRecursion IsTrue marks
     → AllZip MayBeMarked sent marks
@@ -213,7 +213,7 @@ pub all_true : (sent : List (List ℕ)) → All IsTrue (all_kept sent)
 all_true [] = All-nil _
 all_true (p ∷ sent) = All-cons IsTrue true (all_kept sent) refl (all_true sent)
 
--- And no page header is lost by them.
+-- No page header is lost by them.
 pub may_all : (sent : List (List ℕ)) → AllZip MayBeMarked sent (all_kept sent)
 may_all [] = tt
 may_all (p ∷ sent) = (λ h a is. let e : true ≡ false = h in absurd (cc), may_all sent)

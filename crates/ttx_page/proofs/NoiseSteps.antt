@@ -93,7 +93,7 @@ even_byte_of packet some = go (first_even_byte packet) refl some
         let found = first_below_is 40 (λ column. not (is_odd (text_byte packet column))) column e in
         (column, found.0, grind (arith, nat_tests))
 
--- So a row that was odd, and is dropped, has lost a byte.
+-- A row that was odd, and is dropped, has lost a byte.
 dropped_loses : (w : PageIdValue) (sent got : List ℕ) (row column : ℕ)
     → HasOddText sent
     → is_dropped w got ≡ true
@@ -150,7 +150,7 @@ at_lost : (class : ReceiverClass) (w : PageIdValue) (row column : ℕ) (sent : L
     → AtItem class w row column sent None old old
 at_lost class w row column sent old named may = search (rules, lost_is_no_header, excused_here)
 
--- And of each that is got.
+-- It is so of a packet that is got.
 at_got : (class : ReceiverClass) (w : PageIdValue) (row column : ℕ) (sent got : List ℕ)
     (old new : State)
     → IsCell row column

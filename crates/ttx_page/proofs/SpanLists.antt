@@ -113,7 +113,7 @@ pub holds-append_right : {A : Type 0} (kind_of : A → PacketKind) (xs ys : List
     → holds_header kind_of (xs ++ ys) ≡ true
 holds-append_right kind_of xs ys e = rw (list_any-append, e) (or_right _ _ refl)
 
--- And one in the first.
+-- A header of the page in the first of two lists is one in both, joined.
 pub holds-append_left : {A : Type 0} (kind_of : A → PacketKind) (xs ys : List A)
     → holds_header kind_of xs ≡ true
     → holds_header kind_of (xs ++ ys) ≡ true

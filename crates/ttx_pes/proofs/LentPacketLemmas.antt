@@ -43,7 +43,7 @@ lent-more held lent left rest room to least at k n whole gives below within fits
     Consumes-more (Some (held ++ lent)) (Some left) (Some rest) at k n room to within fits whole
     (gives (some_left held lent left room least at whole below within many))
 
--- Nor does the pull fail.
+-- While there are fewer bytes than the least number, the pull does not fail.
 pub lent-fails : (held lent left room : List ℕ) (least at : ℕ)
     → held ++ lent ≡ take at room ++ left
     → (left ≢ [] → ⊥)

@@ -50,7 +50,7 @@ module _ (field places : List ℕ) (k : ℕ) (l : k < length places) where
   unit_at_place other =
       get_or-map (λ at. unit_of (take 46 (drop at field))) places k 0 other l
 
-  -- And its packet.
+  -- Its packet is that of the data unit at its place.
   pub packet_at_place : (block : List ℕ)
       → block ≡ drop 4 (take 46 (drop (get_or places k 0) field))
       → map mirror block
