@@ -21,7 +21,8 @@ const BLOCKS: [&[u8]; 5] = [
     b"fault 26 Read block 4\n",
 ];
 
-// The same of a PES file. A call gives a PES packet.
+// What is told of a PES file whose source fails at the call of this number. A call gives a PES
+// packet.
 const PACKETS: [&[u8]; 4] = [
     b"fault 41 Read pes 0\n",
     b"fault 41 Read pes 1\n",

@@ -195,6 +195,6 @@ findings_opened b (Ok r) = findings_from 0 None b
 unfoldable pub findings_of : List ℕ → Findings
 findings_of s = findings_opened (drop gsi_size s) (opened_at s)
 
--- The same, up to the first fault.
+-- What reading the bytes of a whole file gives, up to the first fault.
 abbrev pub outcome_of : List ℕ → Outcome
 outcome_of s = stopped (findings_of s)

@@ -44,7 +44,7 @@ pub fn open_and_answer<D: FileSystem, K: Sink>(
     open_in_rooms(alloc, files, request, rooms.as_mut_slice(), out)
 }
 
-// The same, where the room is there.
+// Opens the files of a request, and answers it, with these rooms for buffers.
 fn open_in_rooms<D: FileSystem, K: Sink>(
     alloc: Global,
     files: &mut D,

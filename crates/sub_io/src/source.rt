@@ -85,7 +85,7 @@ pub fn fill<S: Source>(source: &mut S, to: &mut [u8]) -> Result<usize, Failed>
         Consumes (S.remaining source.old) (S.remaining source.new) (take n to.new)) }
     ensures end { IfOk result (λ n. n < length to.new → IsAtEnd (S.remaining source.new)) }
 
-    // The same three facts as one, and what they say where the source tells its bytes.
+    // These three facts as one, and what they say where the source tells its bytes.
     ensures fills { IfOk result (λ n.
         Fills (S.remaining source.old) n (S.remaining source.new) to.new) }
     ensures told { IfTold (S.remaining source.old) (λ bytes.

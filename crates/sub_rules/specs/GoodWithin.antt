@@ -92,7 +92,7 @@ pub record ShowsWithin
   -- Of the frames of each subtitle one at least is, so that none is left out.
   pub subtitles :
       All (λ t. SomeFinished programme transmission options t.tci (t.tco - 1)) programme.records
-  -- And the last frame is.
+  -- The last frame is finished.
   pub ends : IsFinished programme transmission options (last_frame transmission)
 
 -- A good transmission of a programme, within as many frames as the options give.

@@ -47,7 +47,8 @@ fn sent_entry(byte: u8) -> u32
     SENT_WORDS[byte as usize] as u32
 }
 
-// The same. `None` for any other byte.
+// The number of the code word that a byte is, where the bit that is sent first is the highest.
+// `None` for any other byte.
 #[inline(always)]
 fn sent_number(byte: u8) -> Option<u8>
     ensures { MatchOption result (IsCodeWord (mirror byte) → ⊥)

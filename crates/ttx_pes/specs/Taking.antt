@@ -81,7 +81,7 @@ pub record HeldValue : Type 0 where
   pub count : ℕ
   pub places : List ℕ
 
--- The same of no packet, whose data field is empty.
+-- What is known of no packet, whose data field is empty.
 abbrev pub no_packet : HeldValue
 no_packet = record { pts = 0; count = 0; places = [] }
 

@@ -29,8 +29,8 @@ pub(crate) fn is_same(a: &[u8], b: &[u8]) -> bool
     }
 }
 
-// The same by blocks of 64. The last one takes in bytes of the one before it, so that none is left
-// over; it is compared first, since of subtitles the last row is mostly another.
+// Whether bytes are equal, by blocks of 64. The last one takes in bytes of the one before it, so
+// that none is left over; it is compared first, since of subtitles the last row is mostly another.
 #[inline(always)]
 #[tactic(auto, using(crate::proofs::SameBytesLemmas::same_blocks))]
 fn is_same_by_blocks(a: &[u8], b: &[u8]) -> bool
@@ -51,7 +51,7 @@ fn is_same_by_blocks(a: &[u8], b: &[u8]) -> bool
     true
 }
 
-// The same by blocks of 256.
+// Whether bytes are equal, by blocks of 256.
 #[inline(always)]
 #[tactic(auto, using(crate::proofs::SameBytesLemmas::same_blocks))]
 fn is_same_by_long_blocks(a: &[u8], b: &[u8]) -> bool

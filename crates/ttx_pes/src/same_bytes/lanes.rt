@@ -14,7 +14,7 @@ pub(super) fn is_same_block(a: &[u8; 64], b: &[u8; 64]) -> bool
         == 0
 }
 
-// The same of four times as many bytes: no branch stands between its quarters.
+// Whether 256 bytes are equal: no branch stands between their quarters.
 #[inline(always)]
 pub(super) fn is_same_long_block(a: &[u8; 256], b: &[u8; 256]) -> bool
     ensures { (result ≡ true) ↔ (a.now ≡ b.now) }
