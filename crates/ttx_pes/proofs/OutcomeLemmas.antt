@@ -29,7 +29,8 @@ same_rest : (given : ℕ) (bytes : List ℕ) (answer : Result (Option PesValue) 
 same_rest given bytes (Err f) is = refl
 same_rest given bytes (Ok None) is = refl
 same_rest given bytes (Ok (Some v)) is =
-    ap (λ (b : List ℕ). gives v (outcome_after (given + 1) b)) (sym (behind_packet given bytes v is))
+    ap (λ (b : List ℕ). gives v (outcome_after (given + 1) b))
+    (sym (behind_packet given bytes v is))
 
 -- What the bytes that are left after `given` PES packets give, by the next answer.
 pub outcome_after-next : (given : ℕ) (bytes : List ℕ) (answer : Result (Option PesValue) PesFault)

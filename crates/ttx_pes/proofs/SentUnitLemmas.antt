@@ -42,6 +42,19 @@ pub ruleset places_left = (places_next, units_none, placed_next, placed_none)
 
 -- ---- a unit by its number
 
+-- The number of a unit is that of a place.
+pub has_place : (field places : List ℕ) (units : List UnitValue) (k : ℕ)
+    → sent_units field places ≡ units
+    → k < length units
+    → k < length places
+has_place field places units k is l =
+    omega (
+      arith,
+      l,
+      ap length (sym is),
+      length-map places (λ at. unit_of (take 46 (drop at field))),
+    )
+
 module _ (field places : List ℕ) (k : ℕ) (l : k < length places) where
   -- It is that of the data unit at its place.
   pub unit_at_place : (other : UnitValue)

@@ -1,12 +1,15 @@
 -- What was taken of a packet settles the answer: by TakingLemmas. What is known of it then is so of
 -- its data field in the room: by KeptFrameLemmas.
-use Rattle.std.proofs.Common.{arith, refl, sym, ◌∙◌, rules}
+use Rattle.std.proofs.Common.{◌≡◌, arith, drop, refl, sym, ◌∙◌, rules}
 use Rattle.std.proofs.lemmas.List.{length-take-le}
+use Rattle.ttx_pes.specs.Taking.{field_in}
 use Rattle.ttx_pes.proofs.DataUnitLemmas.{AreBytes-take}
 use Rattle.ttx_pes.proofs.KeptFrameLemmas.{field_of_body, none_held}
 use Rattle.ttx_pes.proofs.PieceLemmas.{taken_piece}
 use Rattle.ttx_pes.proofs.TakingLemmas.{settled_field, settles_as, tells_settled}
+use Rattle.ttx_pes.proofs.kept_frame.read_compared.Given.{Over}
 use Rattle.ttx_pes.proofs.kept_frame.read_compared.Goals as goal
+use Rattle.ttx_pes.proofs.kept_frame.read_compared.Goals.{In-Ok-false, In-Ok-true}
 
 pub returns-in-Ok-None-clause-held : goal.returns-in-Ok-None-clause-held
 returns-in-Ok-None-clause-held g c = rw c.clear.ensures none_held
@@ -20,20 +23,30 @@ returns-in-Err-clause-held g c = rw c.clear-in-Err.ensures none_held
 pub returns-in-Err-take-clause-held : goal.returns-in-Err-take-clause-held
 returns-in-Err-take-clause-held g c = rw c.clear-in-Err-take.ensures none_held
 
+-- Where the data field is the one of the packet before: it stands in the room.
+field-true : (g : Over) (c : In-Ok-true g)
+    → field_in c.take.new.self.count c.take_packet.new.room ≡ drop 39 c.body_of.result.now
+field-true g c =
+    let range = rw c.in-Ok-Some.field-0-is at c.in-Ok-Some.ensures.range in
+    field_of_body c.in-Ok-Some.size _ _ _ c.body_of.ensures.value c.in-Ok-true.ensures.count
+    (omega arith) (omega arith)
+
+-- Where the data field is another: it stands in the room.
+field-false : (g : Over) (c : In-Ok-false g)
+    → field_in c.take.new.self.count c.take_packet.new.room ≡ drop 39 c.body_of.result.now
+field-false g c =
+    let range = rw c.in-Ok-Some.field-0-is at c.in-Ok-Some.ensures.range in
+    field_of_body c.in-Ok-Some.size _ _ _ c.body_of.ensures.value c.in-Ok-false.ensures.count
+    (omega arith) (omega arith)
+
 pub returns-in-Ok-true-clause-held : goal.returns-in-Ok-true-clause-held
 returns-in-Ok-true-clause-held g c =
-    let range = rw c.in-Ok-Some.field-0-is at c.in-Ok-Some.ensures.range in
-    let there =
-    field_of_body c.in-Ok-Some.size _ _ _ c.body_of.ensures.value c.in-Ok-true.ensures.count
-    (omega arith) (omega arith) in
+    let there = field-true g c in
     rw there c.in-Ok-true.ensures.held
 
 pub returns-in-Ok-true-clause-tells : goal.returns-in-Ok-true-clause-tells
 returns-in-Ok-true-clause-tells g c =
-    let range = rw c.in-Ok-Some.field-0-is at c.in-Ok-Some.ensures.range in
-    let there =
-    field_of_body c.in-Ok-Some.size _ _ _ c.body_of.ensures.value c.in-Ok-true.ensures.count
-    (omega arith) (omega arith) in
+    let there = field-true g c in
     let whole = rw c.in-Ok-Some.field-0-is at c.in-Ok-Some.ensures.taken in
     let few = rw c.in-Ok-Some.field-0-is at c.in-Ok-Some.ensures.below in
     rw there (tells_settled c.args.given _ _ _ _
@@ -42,10 +55,7 @@ returns-in-Ok-true-clause-tells g c =
 
 pub returns-in-Ok-true-clause-taken : goal.returns-in-Ok-true-clause-taken
 returns-in-Ok-true-clause-taken g c = λ _.
-    let range = rw c.in-Ok-Some.field-0-is at c.in-Ok-Some.ensures.range in
-    let there =
-    field_of_body c.in-Ok-Some.size _ _ _ c.body_of.ensures.value c.in-Ok-true.ensures.count
-    (omega arith) (omega arith) in
+    let there = field-true g c in
     let whole = rw c.in-Ok-Some.field-0-is at c.in-Ok-Some.ensures.taken in
     rw there (settled_field _ _ _ _ _ _
     (settles_as _ _ _ _ _ whole c.body_of.ensures.value c.in-Ok-true.ensures.value)
@@ -53,34 +63,22 @@ returns-in-Ok-true-clause-taken g c = λ _.
 
 pub returns-in-Ok-true-clause-same : goal.returns-in-Ok-true-clause-same
 returns-in-Ok-true-clause-same g c = λ _.
-    let range = rw c.in-Ok-Some.field-0-is at c.in-Ok-Some.ensures.range in
-    let there =
-    field_of_body c.in-Ok-Some.size _ _ _ c.body_of.ensures.value c.in-Ok-true.ensures.count
-    (omega arith) (omega arith) in
+    let there = field-true g c in
     let same = c.in-Ok-true.ensures.same in there ∙ same.0 (search rules)
 
 pub returns-in-Ok-true-clause-units : goal.returns-in-Ok-true-clause-units
 returns-in-Ok-true-clause-units g c = λ _.
-    let range = rw c.in-Ok-Some.field-0-is at c.in-Ok-Some.ensures.range in
-    let there =
-    field_of_body c.in-Ok-Some.size _ _ _ c.body_of.ensures.value c.in-Ok-true.ensures.count
-    (omega arith) (omega arith) in
+    let there = field-true g c in
     rw there (c.in-Ok-true.ensures.units (search rules))
 
 pub returns-in-Ok-false-clause-held : goal.returns-in-Ok-false-clause-held
 returns-in-Ok-false-clause-held g c =
-    let range = rw c.in-Ok-Some.field-0-is at c.in-Ok-Some.ensures.range in
-    let there =
-    field_of_body c.in-Ok-Some.size _ _ _ c.body_of.ensures.value c.in-Ok-false.ensures.count
-    (omega arith) (omega arith) in
+    let there = field-false g c in
     rw there c.in-Ok-false.ensures.held
 
 pub returns-in-Ok-false-clause-tells : goal.returns-in-Ok-false-clause-tells
 returns-in-Ok-false-clause-tells g c =
-    let range = rw c.in-Ok-Some.field-0-is at c.in-Ok-Some.ensures.range in
-    let there =
-    field_of_body c.in-Ok-Some.size _ _ _ c.body_of.ensures.value c.in-Ok-false.ensures.count
-    (omega arith) (omega arith) in
+    let there = field-false g c in
     let whole = rw c.in-Ok-Some.field-0-is at c.in-Ok-Some.ensures.taken in
     let few = rw c.in-Ok-Some.field-0-is at c.in-Ok-Some.ensures.below in
     rw there (tells_settled c.args.given _ _ _ _
@@ -89,10 +87,7 @@ returns-in-Ok-false-clause-tells g c =
 
 pub returns-in-Ok-false-clause-taken : goal.returns-in-Ok-false-clause-taken
 returns-in-Ok-false-clause-taken g c = λ _.
-    let range = rw c.in-Ok-Some.field-0-is at c.in-Ok-Some.ensures.range in
-    let there =
-    field_of_body c.in-Ok-Some.size _ _ _ c.body_of.ensures.value c.in-Ok-false.ensures.count
-    (omega arith) (omega arith) in
+    let there = field-false g c in
     let whole = rw c.in-Ok-Some.field-0-is at c.in-Ok-Some.ensures.taken in
     rw there (settled_field _ _ _ _ _ _
     (settles_as _ _ _ _ _ whole c.body_of.ensures.value c.in-Ok-false.ensures.value)
@@ -100,10 +95,7 @@ returns-in-Ok-false-clause-taken g c = λ _.
 
 pub returns-in-Ok-false-clause-other : goal.returns-in-Ok-false-clause-other
 returns-in-Ok-false-clause-other g c = λ _ e.
-    let range = rw c.in-Ok-Some.field-0-is at c.in-Ok-Some.ensures.range in
-    let there =
-    field_of_body c.in-Ok-Some.size _ _ _ c.body_of.ensures.value c.in-Ok-false.ensures.count
-    (omega arith) (omega arith) in
+    let there = field-false g c in
     let same = c.in-Ok-false.ensures.same in
     let yes = same.1 (sym there ∙ e) in absurd (search rules)
 

@@ -1,5 +1,5 @@
 -- What its first six bytes say is what their definition reads: holds_read.
-use Rattle.std.proofs.Common.{◌≡◌, ◌≤◌, ◌∙◌, Err, Ok, ap, length, rules, sym, take}
+use Rattle.std.proofs.Common.{◌≡◌, ◌≤◌, ◌∙◌, Err, Ok, ap, length, rules, take}
 use Rattle.ttx_pes.specs.Reading.{size_at}
 use Rattle.ttx_pes.proofs.LentPacketLemmas.{holds_read}
 use Rattle.ttx_pes.proofs.lent_packet.holds_packet.Goals as goal
@@ -14,4 +14,5 @@ pub returns-in-Err : goal.returns-in-Err
 returns-in-Err c =
     let long : 6 ≤ length c.args.lent.now = search rules in
     let head : take 6 c.args.lent.now ≡ c.in-Some.head.now = search rules in
-    holds_read c.args.lent.now (Err c.in-Err.field-0) long (ap size_at head ∙ c.in-Err.ensures.exact)
+    holds_read c.args.lent.now (Err c.in-Err.field-0) long
+    (ap size_at head ∙ c.in-Err.ensures.exact)

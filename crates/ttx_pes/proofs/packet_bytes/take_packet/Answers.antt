@@ -56,19 +56,6 @@ returns-then-branch-size-clause-fault g c =
     (c.in_ok-fill_on.ensures.end (omega arith)) (omega arith) (omega arith) sized)
     c.if-given-eq-MOST_PACKETS-2.false tt refl
 
-pub returns-clause-taken : goal.returns-clause-taken
-returns-clause-taken g c =
-    let n = c.in_ok-fill_on.field-0 in
-    let from = c.in_ok-fill_on.ensures.from in
-    let all : n ≡ c.in_ok-size.size = omega (arith, c.in_ok-fill_on.ensures.bound) in
-    let len = length-take-le n c.fill_on-2.new.room c.in_ok-fill_on.ensures.room in
-    let sized = size_kept c.in_ok-got.got n c.fill_on.new.room c.fill_on-2.new.room
-    c.unwrap.result.now _ (omega arith) from c.in_ok-fill_on.ensures.kept (search rules)
-    c.in_ok-size.ensures.exact in
-    rw (← all) (whole_settles _ _ _
-    (c.in_ok-fill_on.ensures.bytes _ (c.in_ok-got.ensures.bytes _ (Consumes-nil _)))
-    (omega arith) (sized ∙ ap (λ (k : ℕ). Ok k) (sym all ∙ sym len)))
-
 pub returns-clause-sized : goal.returns-clause-sized
 returns-clause-sized g c =
     let n = c.in_ok-fill_on.field-0 in
@@ -79,6 +66,17 @@ returns-clause-sized g c =
     c.unwrap.result.now _ (omega arith) from c.in_ok-fill_on.ensures.kept (search rules)
     c.in_ok-size.ensures.exact in
     rw (← all) (sized ∙ ap (λ (k : ℕ). Ok k) (sym all ∙ sym len))
+
+pub returns-clause-taken : goal.returns-clause-taken
+returns-clause-taken g c =
+    let n = c.in_ok-fill_on.field-0 in
+    let all : n ≡ c.in_ok-size.size = omega (arith, c.in_ok-fill_on.ensures.bound) in
+    let from = c.in_ok-fill_on.ensures.from in
+    let len = length-take-le n c.fill_on-2.new.room c.in_ok-fill_on.ensures.room in
+    let sized = rw (← all) at (returns-clause-sized g c) in
+    rw (← all) (whole_settles _ _ _
+    (c.in_ok-fill_on.ensures.bytes _ (c.in_ok-got.ensures.bytes _ (Consumes-nil _)))
+    (omega arith) sized)
 
 pub returns-in_err-fill_on-clause-fault : goal.returns-in_err-fill_on-clause-fault
 returns-in_err-fill_on-clause-fault g c =
@@ -95,4 +93,5 @@ returns-in_err-fill_on-clause-lent g c = λ holds.
     c.in_ok-size.ensures.exact in
     absurd (c.in_err-fill_on.ensures.lent
     (lent_rest _ _ c.fill_on.new.room c.in_ok-got.got c.in_ok-size.size holds
-    (c.in_ok-got.ensures.lent (omega (arith, lent_head _ holds))) (omega arith) c.in_ok-got.ensures.room sized))
+    (c.in_ok-got.ensures.lent (omega (arith, lent_head _ holds))) (omega arith)
+    c.in_ok-got.ensures.room sized))

@@ -4,15 +4,19 @@ use Rattle.std.proofs.lemmas.Result.{err_from_is_err_and}
 use Rattle.ttx_pes.specs.Taking.{HeldValue}
 use Rattle.ttx_pes.proofs.KeptFrameLemmas.{IsBody, held_again, held_anew, value_refused}
 use Rattle.ttx_pes.proofs.held_packet.HeldPacket.take.Goals as goal
+use Rattle.ttx_pes.proofs.held_packet.HeldPacket.take.Goals.{In_ok-pts}
+
+-- The bytes are those of a packet.
+is_body : (c : In_ok-pts) → IsBody c.args.body.now
+is_body c = record {
+  short = c.requires.short;
+  whole = c.requires.whole;
+  long = c.requires.long;
+  fit = λ i. let fits = c.type_inv.body i in omega (arith, fits);
+}
 
 pub returns-then-is_kept-clause-value : goal.returns-then-is_kept-clause-value
 returns-then-is_kept-clause-value c =
-    let body : IsBody c.args.body.now = record {
-      short = c.requires.short;
-      whole = c.requires.whole;
-      long = c.requires.long;
-      fit = λ i. let fits = c.type_inv.body i in omega (arith, fits);
-    } in
     let count : c.self.inside.count ≡ c.args.self.now.count =
     ap (λ (h : HeldValue). h.count) c.self.view_is in
     let places : c.self.inside.places ≡ c.args.self.now.places =
@@ -22,7 +26,8 @@ returns-then-is_kept-clause-value c =
       count = c.self.inside.count;
       places = c.self.inside.places;
     } in
-    (held_again c.args.body.now c.split_at.result.1.now _ _ h body c.in_ok-pts.ensures.exact
+    (held_again c.args.body.now c.split_at.result.1.now _ _ h
+    (is_body (goal.at.returns-then-is_kept-clause-value c).In_ok-pts) c.in_ok-pts.ensures.exact
     (search rules) (search rules) c.requires.held count places).value
 
 pub returns-in_err-find_places-clause-err : goal.returns-in_err-find_places-clause-err
@@ -34,24 +39,14 @@ returns-in_err-find_places-clause-err c =
 
 pub returns-clause-value : goal.returns-clause-value
 returns-clause-value c =
-    let body : IsBody c.args.body.now = record {
-      short = c.requires.short;
-      whole = c.requires.whole;
-      long = c.requires.long;
-      fit = λ i. let fits = c.type_inv.body i in omega (arith, fits);
-    } in
-    (held_anew c.args.body.now c.split_at.result.1.now _ body c.in_ok-pts.ensures.exact
-    (search rules) refl c.in_ok-find_places.ensures.within c.in_ok-find_places.ensures.all
+    (held_anew c.args.body.now c.split_at.result.1.now _
+    (is_body (goal.at.returns-clause-value c).In_ok-pts) c.in_ok-pts.ensures.exact (search rules)
+    refl c.in_ok-find_places.ensures.within c.in_ok-find_places.ensures.all
     c.in_ok-find_places.ensures.ok).value
 
 pub returns-clause-held : goal.returns-clause-held
 returns-clause-held c =
-    let body : IsBody c.args.body.now = record {
-      short = c.requires.short;
-      whole = c.requires.whole;
-      long = c.requires.long;
-      fit = λ i. let fits = c.type_inv.body i in omega (arith, fits);
-    } in
-    (held_anew c.args.body.now c.split_at.result.1.now _ body c.in_ok-pts.ensures.exact
-    (search rules) refl c.in_ok-find_places.ensures.within c.in_ok-find_places.ensures.all
+    (held_anew c.args.body.now c.split_at.result.1.now _
+    (is_body (goal.at.returns-clause-held c).In_ok-pts) c.in_ok-pts.ensures.exact (search rules)
+    refl c.in_ok-find_places.ensures.within c.in_ok-find_places.ensures.all
     c.in_ok-find_places.ensures.ok).held

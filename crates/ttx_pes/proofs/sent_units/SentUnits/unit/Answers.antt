@@ -1,21 +1,14 @@
 -- The unit of the data unit at its place: unit_at_place.
-use Rattle.std.proofs.Common.{◌≡◌, ◌<◌, length, take, drop, get_or, rules, arith, sym, ap, ◌∙◌}
-use Rattle.std.proofs.lemmas.List.{length-map}
+use Rattle.std.proofs.Common.{◌≡◌, take, drop, get_or, rules, sym, ap, ◌∙◌}
 use Rattle.ttx_pes.specs.Reading.{unit_of}
-use Rattle.ttx_pes.proofs.SentUnitLemmas.{is_unit_at_place, unit_at_place}
+use Rattle.ttx_pes.proofs.SentUnitLemmas.{has_place, is_unit_at_place, unit_at_place}
 use Rattle.ttx_pes.proofs.sent_units.SentUnits.unit.Goals as goal
 
 pub unit_in-requires-clause-id : goal.unit_in-requires-clause-id
 unit_in-requires-clause-id c =
     let field = c.self.inside.field.now in
     let places = c.self.inside.places.now in
-    let l : c.args.number < length places =
-    omega (
-      arith,
-      c.requires,
-      ap length (sym c.self.view_is),
-      length-map places (λ at. unit_of (take 46 (drop at field))),
-    ) in
+    let l = has_place field places _ c.args.number c.self.view_is c.requires in
     let block : c.split_at-2.result.0.now ≡ take 46 (drop (get_or places c.args.number 0) field) =
     search rules in
     rw block (is_unit_at_place field places c.args.number l c.self.invariant.2).id
@@ -24,13 +17,7 @@ pub returns : goal.returns
 returns c = λ other.
     let field = c.self.inside.field.now in
     let places = c.self.inside.places.now in
-    let l : c.args.number < length places =
-    omega (
-      arith,
-      c.requires,
-      ap length (sym c.self.view_is),
-      length-map places (λ at. unit_of (take 46 (drop at field))),
-    ) in
+    let l = has_place field places _ c.args.number c.self.view_is c.requires in
     let block : c.split_at-2.result.0.now ≡ take 46 (drop (get_or places c.args.number 0) field) =
     search rules in
     rw (← c.self.view_is)
