@@ -74,9 +74,9 @@ commands =
       codes "listen",
       required_rule (codes "pes") ∷ option_rule (codes "page") (codes "888")
           ∷ option_rule (codes "origin") (codes "0") ∷ within_rule
-          ∷ required_option_rule (codes "at") ∷ option_rule (codes "skip") (codes "0") ∷ bare_option_rule (codes "flip")
-          ∷ bare_option_rule (codes "lose") ∷ option_rule (codes "receiver") (codes "blank")
-          ∷ flag_rule (codes "complete") ∷ [],
+          ∷ required_option_rule (codes "at") ∷ option_rule (codes "skip") (codes "0")
+          ∷ bare_option_rule (codes "flip") ∷ bare_option_rule (codes "lose")
+          ∷ option_rule (codes "receiver") (codes "blank") ∷ flag_rule (codes "complete") ∷ [],
     )
     ∷ []
 

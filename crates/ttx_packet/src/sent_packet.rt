@@ -85,7 +85,8 @@ impl<'a> Model for SentPacket<'a> {
 }
 
 impl<'a> SentPacket<'a> {
-    ghost use Rattle.ttx_packet.specs.PageHeader.{HasExactHeader, HasExactPage, coded_header, coded_page};
+    ghost use Rattle.ttx_packet.specs.PageHeader.{HasExactHeader, HasExactPage, coded_header};
+    ghost use Rattle.ttx_packet.specs.PageHeader.{coded_page};
     ghost use Rattle.ttx_packet.specs.declared.header.Header.{Header};
 
     /// The packet that a data unit carries as these 42 bytes.

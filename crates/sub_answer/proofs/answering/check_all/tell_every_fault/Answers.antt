@@ -94,7 +94,8 @@ returns-in-Ok-Some-clause-told g c =
     (λ holds same. still_goes _ _ _
     (subst (λ (p : Printer g.row.K.Denot). g.K.Sink.failure_count p.out.now
     < 0xFFFF_FFFF_FFFF_FFFF) (sym kept) c.requires.out) holds same)
-    e.some e.told (both_answers _ _ _ c.check_all.result e.first_within e.first) e.stopped e.goes_on e.only e.count e.read)
+    e.some e.told (both_answers _ _ _ c.check_all.result e.first_within e.first) e.stopped
+    e.goes_on e.only e.count e.read)
 
 pub returns-in-Ok-Some-clause-asked : goal.returns-in-Ok-Some-clause-asked
 returns-in-Ok-Some-clause-asked g c = λ none.
