@@ -39,11 +39,11 @@ module _ (w : Watched) (frame from : ℕ) (before ps : List (List ℕ)) where
 
   -- Nothing is told of a packet that breaks no rule.
   pub packets_told-passed : (k : ℕ)
-      → rule_set (λ r. breaks r w (before ++ take k ps) (get_or ps k [])) ≡ 0
+      → rule_set (λ r. breaks r w (before ++ take k ps) (get_or ps k [])) packet_rules ≡ 0
       → packets_told w frame from before ps (k + 1) ≡ packets_told w frame from before ps k
   packets_told-passed k empty =
       packets_told-more k (get_or ps k []) refl
-      ∙ rw (no_rules (λ r. breaks r w (before ++ take k ps) (get_or ps k [])) empty)
+      ∙ rw (no_rules (λ r. breaks r w (before ++ take k ps) (get_or ps k [])) packet_rules empty)
       (append-nil (packets_told w frame from before ps k))
 
   -- What is told of some packets is a prefix of what is told of more.
@@ -83,7 +83,7 @@ module _ (w : Watched) (frame from : ℕ) (before ps : List (List ℕ)) where
 
   -- One packet more breaks no rule. For `hear_all`.
   pub clean_one : (k : ℕ) (p : List ℕ) → get_or ps k [] ≡ p → BreakNone w before ps k
-      → rule_set (λ r. breaks r w (before ++ take k ps) p) ≡ 0
+      → rule_set (λ r. breaks r w (before ++ take k ps) p) packet_rules ≡ 0
       → BreakNone w before ps (k + 1)
   unfolding broken_rules
   clean_one k p at clean empty j l = grind (arith, nat_tests, cases_eq, no_rules)

@@ -2,7 +2,7 @@
 use Rattle.std.proofs.lemmas.Bool.Decides.{nat_tests}
 use Rattle.std.proofs.lemmas.Bool.Decides.{same_from_decides}
 use Rattle.std.proofs.Common.{◌≡◌, ℕ, Bool, true, false, not, ◌&&◌, ◌==◌, cond}
-use Rattle.std.proofs.Common.{List, Option, None, Some, is_some, option_map, bit_or}
+use Rattle.std.proofs.Common.{◌+◌, ◌*◌, List, Option, None, Some, drop, is_some, option_map}
 use Rattle.std.proofs.Common.{refl, sym, ap, ◌∙◌, arith}
 use Rattle.std.specs.Bool.{Decides}
 use Rattle.ttx_packet.specs.PacketAddress.{HasExactAddress, address}
@@ -14,11 +14,11 @@ use Rattle.ttx_page.specs.PacketKind.{kind}
 use Rattle.ttx_page.specs.Span.{is_open_after, span}
 use Rattle.ttx_page.specs.declared.packet_kind.PacketKind.TheVariants.{EndsPage, Other, Row}
 use Rattle.ttx_page.specs.declared.packet_kind.PacketKind.TheVariants.{ThisPage}
-use Rattle.sub_packets.specs.Listener.{held, later_set, rule_set}
+use Rattle.sub_packets.specs.Listener.{held, rule_set}
 use Rattle.sub_rules.specs.PacketRules.{codes_of, first_header}
 use Rattle.sub_rules.proofs.CodeWordLemmas.{address_decided, header_decided}
 use Rattle.sub_rules.specs.PacketTests.{are_code_words, breaks, first_of_row, is_of_enhancement}
-use Rattle.sub_rules.specs.PacketTests.{is_of_header, is_other_mode, is_other_text}
+use Rattle.sub_rules.specs.PacketTests.{is_of_header, is_other_mode, is_other_text, packet_rules}
 use Rattle.sub_rules.specs.PacketTests.{is_subtitle_header}
 use Rattle.sub_rules.specs.declared.packet_rule.Watched.{Watched}
 
@@ -68,56 +68,51 @@ other_text :
 other_text None codes = refl
 other_text (Some q) codes = refl
 
-module _ (w : Watched) (heard : List (List ℕ)) (p : List ℕ) (set : ℕ) where
+module _ (w : Watched) (heard : List (List ℕ)) (p : List ℕ) where
   -- A header of the page breaks no later rule but that of its control bits.
   pub later_this : (h : Header) → kind w.page p ≡ ThisPage h
-      → later_set (λ r. breaks r w heard p) set
-      ≡ cond (not (is_subtitle_header w.national h)) (bit_or set 8) set
-  unfolding breaks
+      → rule_set (λ r. breaks r w heard p) (drop 3 packet_rules)
+      ≡ cond (not (is_subtitle_header w.national h)) 1 0
+  unfolding breaks rule_set packet_rules
   later_this h k =
       let none = no_enhancement w p (λ e. let both = sym k ∙ e in cc) in
       rw (k, none) (grind (arith, nat_tests))
 
   -- A header that ends the page breaks none.
-  pub later_ends : kind w.page p ≡ EndsPage → later_set (λ r. breaks r w heard p) set ≡ set
-  unfolding breaks
+  pub later_ends : kind w.page p ≡ EndsPage
+      → rule_set (λ r. breaks r w heard p) (drop 3 packet_rules) ≡ 0
+  unfolding breaks rule_set packet_rules
   later_ends k =
       let none = no_enhancement w p (λ e. let both = sym k ∙ e in cc) in
       rw (k, none) (grind (arith, nat_tests))
 
   -- Any other packet that is no row may be one that enhances the page.
   pub later_other : kind w.page p ≡ Other
-      → later_set (λ r. breaks r w heard p) set
-      ≡ cond (is_open_after (kind w.page) heard && is_of_enhancement w.page (address p))
-      (bit_or set 0x40) set
-  unfolding breaks
+      → rule_set (λ r. breaks r w heard p) (drop 3 packet_rules)
+      ≡ 8 * cond (is_open_after (kind w.page) heard && is_of_enhancement w.page (address p)) 1 0
+  unfolding breaks rule_set packet_rules
   later_other k = rw k (grind (arith, nat_tests))
 
   -- A row may have an even byte, and other codes than those that are held of it.
   pub later_row : (y : ℕ) (o : Option (List ℕ)) → kind w.page p ≡ Row y
       → o ≡ first_of_row w.page (span (kind w.page) heard) y
-      → later_set (λ r. breaks r w heard p) set
-      ≡ (let even : ℕ =
-      cond (is_open_after (kind w.page) heard && is_some (first_even_byte p)) (bit_or set 0x10)
-      set in
-      cond
+      → rule_set (λ r. breaks r w heard p) (drop 3 packet_rules)
+      ≡ 2 * cond (is_open_after (kind w.page) heard && is_some (first_even_byte p)) 1 0
+      + 4 * cond
       (is_open_after (kind w.page) heard && is_some o
       && not (row_differing (held o) (codes_of p) == 0))
-      (bit_or even 0x20) even)
-  unfolding breaks
+      1 0
+  unfolding breaks rule_set packet_rules
   later_row y o k e = grind (arith, nat_tests, no_enhancement, other_text)
 
 -- The rules of every packet, and then the later ones. For `broken_rules`.
 pub rules_are :
     (w : Watched) (heard : List (List ℕ)) (p : List ℕ) (serial : Option Bool)
     → serial ≡ option_map (λ (h : Header). c11 h) (first_header heard)
-    → rule_set (λ r. breaks r w heard p)
-    ≡ (let address_set : ℕ = cond (not (are_code_words 0 2 p)) (bit_or 0 1) 0 in
-    let header_set : ℕ =
-    cond (is_of_header (address p) && not (are_code_words 2 8 p)) (bit_or address_set 2)
-    address_set in
-    later_set (λ r. breaks r w heard p)
-    (cond (is_other_mode serial (option_map (λ (h : Header). c11 h) (header p)))
-    (bit_or header_set 4) header_set))
-unfolding breaks rule_set
+    → rule_set (λ r. breaks r w heard p) packet_rules
+    ≡ cond (not (are_code_words 0 2 p)) 1 0
+    + 2 * (cond (is_of_header (address p) && not (are_code_words 2 8 p)) 1 0
+    + 2 * (cond (is_other_mode serial (option_map (λ (h : Header). c11 h) (header p))) 1 0
+    + 2 * rule_set (λ r. breaks r w heard p) (drop 3 packet_rules)))
+unfolding breaks rule_set packet_rules
 rules_are w heard p serial e = rw e refl

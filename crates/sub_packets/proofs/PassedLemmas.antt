@@ -1,7 +1,7 @@
 -- Packets that are passed break no rule and leave what is kept as it is: `passed_packet`,
 -- `passed_header`.
 use Rattle.std.proofs.Common.{◌≡◌, ◌≢◌, ℕ, ◌&&◌, ◌==◌, Bool, true, false, List}
-use Rattle.std.proofs.Common.{Option, Some, None, cond, refl, sym, ◌∙◌, arith}
+use Rattle.std.proofs.Common.{Option, Some, None, cond, drop, refl, sym, ◌∙◌, arith}
 use Rattle.std.proofs.Common.{nat_le}
 use Rattle.std.proofs.Common.{inl, inr}
 use Rattle.std.proofs.lemmas.Bool.{cases_Bool, cond-false, cond-true}
@@ -12,13 +12,12 @@ use Rattle.ttx_packet.specs.declared.header.Header.{Header}
 use Rattle.ttx_page.specs.PacketKind.{is_this_page, kind}
 use Rattle.ttx_page.specs.Span.{span}
 use Rattle.ttx_page.specs.declared.packet_kind.PacketKind.TheVariants.{EndsPage, Other, Row}
-use Rattle.sub_packets.specs.Listener.{IsPassed, Knows, is_passed_header, later_set, rule_set}
+use Rattle.sub_packets.specs.Listener.{IsPassed, Knows, is_passed_header, rule_set}
 use Rattle.sub_packets.specs.declared.listener.Listener.{Listener}
 use Rattle.sub_packets.proofs.ListenerLemmas.{knows_still}
 use Rattle.sub_packets.proofs.PacketRuleLemmas.{later_ends, later_other, later_row, rules_are}
 use Rattle.sub_rules.proofs.CodeWordLemmas.{address_decided, header_decided}
-use Rattle.sub_rules.specs.PacketTests.{breaks, first_of_row}
-use Rattle.sub_rules.specs.PacketTests.{is_other_mode}
+use Rattle.sub_rules.specs.PacketTests.{breaks, first_of_row, is_other_mode, packet_rules}
 
 -- No header agrees with every mode.
 no_header_mode : (serial : Option Bool) → is_other_mode serial None ≡ false
@@ -60,7 +59,7 @@ module _
     -- A packet of another magazine, and any while the page is not open, but for a header.
     module _ (some : a.packet_number ≢ 0)
         (closed : (s.is_open && a.magazine == s.watched.page.magazine) ≡ false) where
-      plain_later : later_set (λ r. breaks r s.watched heard p) 0 ≡ 0
+      plain_later : rule_set (λ r. breaks r s.watched heard p) (drop 3 packet_rules) ≡ 0
       plain_later =
           let is = (plain_kind some).1 in
           elim
@@ -68,7 +67,7 @@ module _
             | inl row ↦
                 let shut : s.is_open ≡ false = grind (arith, nat_tests) in
                 rw (
-                  later_row s.watched heard p 0 a.packet_number
+                  later_row s.watched heard p a.packet_number
                       (first_of_row s.watched.page (span (kind s.watched.page) heard)
                       a.packet_number) (is ∙ cond-true _ _ _ row) refl,
                   ← known.open_is,
@@ -76,13 +75,13 @@ module _
                 ) refl
             | inr other ↦
                 rw (
-                  later_other s.watched heard p 0 (is ∙ cond-false _ _ _ other),
+                  later_other s.watched heard p (is ∙ cond-false _ _ _ other),
                   ← known.open_is,
                   at,
                 ) (grind (arith, nat_tests))
           ]
 
-      plain_rules : rule_set (λ r. breaks r s.watched heard p) ≡ 0
+      plain_rules : rule_set (λ r. breaks r s.watched heard p) packet_rules ≡ 0
       plain_rules =
           let is = plain_kind some in
           rules_are s.watched heard p s.serial known.serial_is
@@ -115,14 +114,14 @@ module _
       unfolding kind
       header_kind = let says = header_is in grind (arith, nat_tests)
 
-      header_later : later_set (λ r. breaks r s.watched heard p) 0 ≡ 0
+      header_later : rule_set (λ r. breaks r s.watched heard p) (drop 3 packet_rules) ≡ 0
       header_later =
           let is = header_kind in
-          let ends = later_ends s.watched heard p 0 in
-          let other = later_other s.watched heard p 0 in
+          let ends = later_ends s.watched heard p in
+          let other = later_other s.watched heard p in
           grind (arith, nat_tests, known.open_is)
 
-      header_rules : rule_set (λ r. breaks r s.watched heard p) ≡ 0
+      header_rules : rule_set (λ r. breaks r s.watched heard p) packet_rules ≡ 0
       header_rules =
           rules_are s.watched heard p s.serial known.serial_is
           ∙ rw ((address_decided p).1 exact, (header_decided p).1 coded, at, header_is)

@@ -8,7 +8,7 @@ use Rattle.std.proofs.Common.{ap, false, length, subst, sym}
 use Rattle.std.proofs.Common.{get_or, take, refl, ◌∙◌, arith, append_assoc, inl, inr}
 use Rattle.ttx_page.specs.PacketKind.{is_this_page, kind}
 use Rattle.sub_packets.specs.Listener.{BreakNone, IsAlwaysPassed, Knows, rule_set}
-use Rattle.sub_rules.specs.PacketTests.{breaks}
+use Rattle.sub_rules.specs.PacketTests.{breaks, packet_rules}
 use Rattle.sub_packets.specs.declared.listener.Listener.{Listener}
 use Rattle.sub_packets.proofs.PacketEventLemmas.{clean_one, packets_told-passed}
 use Rattle.sub_rules.specs.Events.{packets_told}
@@ -66,7 +66,7 @@ module _ (w : Watched) (ps : List (List ℕ)) (s : Listener) (same : s.watched �
     passed_one k l passes before =
         let p = get_or ps k [] in
         let one = passes.passed (heard ++ take k ps) before.knows in
-        let breaks_none : rule_set (λ r. breaks r w (heard ++ take k ps) p) ≡ 0 =
+        let breaks_none : rule_set (λ r. breaks r w (heard ++ take k ps) p) packet_rules ≡ 0 =
         rw (← same) one.breaks_none in
         record {
           knows =

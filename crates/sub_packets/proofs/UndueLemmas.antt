@@ -3,17 +3,15 @@
 use Rattle.std.proofs.lemmas.Bool.Decides.{nat_tests}
 use Rattle.std.proofs.lemmas.Bool.{cases_lt}
 use Rattle.std.proofs.lemmas.List.{get_or-replicate}
-use Rattle.std.proofs.lemmas.Grind.{get_or-set_at}
-use Rattle.std.proofs.Common.{◌≡◌, ℕ, zero, suc, ◌+◌, ◌-◌, ◌<◌, ◌≤◌, ◌==◌}
-use Rattle.std.proofs.Common.{cond, List, [], length, Option, Some, None, MatchOption, get_or}
-use Rattle.std.proofs.Common.{set, replicate, refl, sym, ap, ◌∙◌, subst, arith, inl, inr}
-use Rattle.std.proofs.Common.{get_or-set_other}
+use Rattle.std.proofs.Common.{◌≡◌, ℕ, zero, suc, ◌+◌, ◌-◌, ◌<◌, ◌≤◌}
+use Rattle.std.proofs.Common.{List, [], Option, Some, None, MatchOption, get_or}
+use Rattle.std.proofs.Common.{replicate, refl, sym, ap, ◌∙◌, subst, arith, inl, inr}
 use Rattle.stl_rows.specs.DuePage.{IsEdge}
 use Rattle.stl_rows.specs.Programme.{ProgrammeValue}
 use Rattle.stl_rows.proofs.DuePageLemmas.{due_back}
 use Rattle.ttx_page.proofs.DifferingLemmas.{cells_same}
 use Rattle.ttx_page.specs.Differing.{columns_differing, differing, row_differing}
-use Rattle.ttx_page.specs.Page.{DiffersFirst, IsCell, IsRow, Rows, blank, blank_row, cell, row_at}
+use Rattle.ttx_page.specs.Page.{DiffersFirst, IsCell, Rows, blank, blank_row, cell, row_at}
 use Rattle.ttx_page.specs.Page.{space}
 use Rattle.sub_plan.specs.Schedule.{due_in}
 use Rattle.sub_packets.specs.Listener.{Knows}
@@ -185,13 +183,3 @@ blank_stays left row column due same l =
     let is = columns_same 40 (row_at left row) blank_row same column l in
     let space_is = get_or-replicate 40 column space 0 l in
     grind (arith, nat_tests)
-
--- A row that is set shows its codes; the others stay. For `excuse_row`.
-pub cell-set : (left : Rows) (row r column : ℕ) (codes : List ℕ)
-    → length left ≡ 24
-    → IsRow row
-    → 1 ≤ r
-    → cell (set left (row - 1) codes) r column
-    ≡ cond (r == row) (get_or codes column 0) (cell left r column)
-cell-set left row r column codes long is low =
-    grind (arith, nat_tests, get_or-set_at, get_or-set_other)

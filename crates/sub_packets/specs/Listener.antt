@@ -1,8 +1,8 @@
 -- What a listener keeps of the packets that it heard, tied to the packets, whatever rules they
 -- break. Of the crates above, private functions alone cite this.
 use Rattle.std.specs.Prelude.{◌≡◌, ℕ, ◌-◌, ◌<◌, ◌≤◌, Bool, false, List, [], ◌∷◌, ◌++◌, Option}
-use Rattle.std.specs.Prelude.{None, Some, bit_or, if◌then◌else◌, is_some, length, option_map, not}
-use Rattle.std.specs.Prelude.{◌&&◌, ◌==◌}
+use Rattle.std.specs.Prelude.{None, Some, if◌then◌else◌, is_some, length, option_map, not}
+use Rattle.std.specs.Prelude.{◌+◌, ◌*◌, ◌&&◌, ◌==◌}
 use Rattle.std.specs.Prelude.{slice_index_or, take}
 use Rattle.ttx_packet.specs.PageHeader.{c11}
 use Rattle.ttx_packet.specs.declared.header.Header.{Header}
@@ -11,43 +11,18 @@ use Rattle.ttx_page.specs.PacketKind.{is_this_page, kind}
 use Rattle.ttx_page.specs.Span.{is_open_after, span}
 use Rattle.sub_rules.specs.PacketRules.{codes_of, first_header, header_count}
 use Rattle.sub_rules.specs.PacketTests.{breaks, broken_rules, first_of_row, is_same_bit}
+use Rattle.sub_rules.specs.PacketTests.{packet_rules}
 use Rattle.sub_packets.specs.SentAgain.{BeginsWithHeader}
 use Rattle.sub_packets.specs.declared.listener.Listener.{Listener}
 use Rattle.sub_rules.specs.declared.packet_rule.PacketRule.{PacketRule}
-use Rattle.sub_rules.specs.declared.packet_rule.PacketRule.TheVariants as rule
 use Rattle.sub_rules.specs.declared.packet_rule.Watched.{Watched}
 
 -- ---- a set of rules
 
--- The bit of a rule in a set.
-abbrev pub bit_of : PacketRule → ℕ
-bit_of rule.Address = 1
-bit_of rule.HeaderCode = 2
-bit_of rule.Mode = 4
-bit_of rule.Control = 8
-bit_of rule.Parity = 0x10
-bit_of rule.RowChanged = 0x20
-bit_of rule.Enhancement = 0x40
-
--- A set, with a rule more where it passes a test.
-abbrev pub with_rule : (PacketRule → Bool) → ℕ → PacketRule → ℕ
-with_rule test set r = if test r then bit_or set (bit_of r) else set
-
--- The rules of every packet that pass a test.
-abbrev pub first_set : (PacketRule → Bool) → ℕ
-first_set test =
-    with_rule test (with_rule test (with_rule test 0 rule.Address) rule.HeaderCode) rule.Mode
-
--- A set, with the rules of a packet by what it is that pass a test.
-abbrev pub later_set : (PacketRule → Bool) → ℕ → ℕ
-later_set test set =
-    with_rule test
-    (with_rule test (with_rule test (with_rule test set rule.Control) rule.Parity) rule.RowChanged)
-    rule.Enhancement
-
--- The set of all rules that pass a test.
-unfoldable pub rule_set : (PacketRule → Bool) → ℕ
-rule_set test = later_set test (first_set test)
+-- The set of the rules of a list that pass a test: a bit for each, that of the first the lowest.
+unfoldable pub rule_set : (PacketRule → Bool) → List PacketRule → ℕ
+rule_set test [] = 0
+rule_set test (r ∷ rules) = (if test r then 1 else 0) + 2 * rule_set test rules
 
 -- ---- what is kept
 
@@ -104,7 +79,7 @@ is_passed_header magazine h s =
 
 -- A packet that comes now breaks no rule, and leaves what is kept as it is.
 pub record IsPassed (heard : List (List ℕ)) (p : List ℕ) (s : Listener) : Type 0 where
-  pub breaks_none : rule_set (λ r. breaks r s.watched heard p) ≡ 0
+  pub breaks_none : rule_set (λ r. breaks r s.watched heard p) packet_rules ≡ 0
   pub knows : Knows (heard ++ p ∷ []) s
 
 -- Whenever the packet comes it is no header of the page, breaks no rule, and leaves what is kept as

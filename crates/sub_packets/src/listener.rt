@@ -1,7 +1,7 @@
 //! What is kept of the packets that were heard, and the rules that the next packet breaks.
 ghost use Rattle.std.specs.Prelude.{◌≡◌, ◌≢◌, ℕ, ◌+◌, ◌-◌, ◌<◌, ◌≤◌, ◌++◌, List, [], ◌∷◌};
 ghost use Rattle.std.specs.Prelude.{MatchResult};
-ghost use Rattle.std.specs.Prelude.{length, IfOk, IsTrue, OnOk, true, false, is_err, map};
+ghost use Rattle.std.specs.Prelude.{drop, length, IfOk, IsTrue, OnOk, true, false, is_err, map};
 ghost use Rattle.std.specs.Prelude.{replicate};
 ghost use Rattle.std.specs.Prelude.{if◌then◌else◌, ◌&&◌, ◌==◌, not, Some, None, is_some};
 ghost use Rattle.std.specs.Prelude.{slice_index_or, slice_set};
@@ -65,7 +65,7 @@ struct Heard {
 
 impl Listener {
     ghost use Rattle.sub_packets.specs.Listener.{IsPassed, Knows, KnowsLast, IsAlwaysPassed};
-    ghost use Rattle.sub_packets.specs.Listener.{is_passed_header, later_set, rule_set};
+    ghost use Rattle.sub_packets.specs.Listener.{is_passed_header, rule_set};
 
     /// Nothing was heard, and this page is due.
     pub fn new(watched: Watched, due: Page) -> Self
@@ -286,7 +286,8 @@ impl Listener {
         }
     }
 
-    // The same, of what the header says, in code words.
+    // Whether a page header that says this, in code words, breaks no rule and changes nothing of
+    // what is kept.
     #[inline(always)]
     fn is_passed_header(&self, magazine: u8, header: &Header) -> bool
         ensures { result ≡ is_passed_header magazine header.now self.now }
@@ -322,7 +323,7 @@ impl Listener {
             ≡ is_this_page (kind self.old.watched.page packet.now)) }
         ensures clean { (heard : List (List ℕ)) → Knows heard self.old → IfOk result (λ was.
             was.is_clean ≡ true
-            → rule_set (λ r. breaks r self.old.watched heard packet.now) ≡ 0) }
+            → rule_set (λ r. breaks r self.old.watched heard packet.now) packet_rules ≡ 0) }
         ensures told { (heard : List (List ℕ)) → Knows heard self.old
             → TellsUntilStopped A.is_told audience.old audience.new
             (map (λ r. Event.Told (packet_fault r frame number))
@@ -353,33 +354,38 @@ impl Listener {
         requires page_header { page_header ≡ header packet.now }
         requires row { (row : ℕ) → found ≡ PacketKind.Row row → (1 ≤ row) × (row ≤ 24) }
         ensures { (heard : List (List ℕ)) → Knows heard self.now
-            → result.0 ≡ rule_set (λ r. breaks r self.now.watched heard packet.now) }
+            → result.0 ≡ rule_set (λ r. breaks r self.now.watched heard packet.now) packet_rules }
     {
-        let rules = RuleSet::none()
-            .with(RuleSet::ADDRESS, has_wrong_address(packet))
-            .with(RuleSet::HEADER_CODE, has_wrong_codes(packet, page_header))
-            .with(RuleSet::MODE, is_other_mode(self.serial, page_header));
-        self.with_later(rules, packet, found)
+        self.broken_later(packet, found)
+            .with_before(is_other_mode(self.serial, page_header))
+            .with_before(has_wrong_codes(packet, page_header))
+            .with_before(has_wrong_address(packet))
     }
 
-    // A set, with the rules that a packet breaks by what it is.
+    // Those after the third of their order, which a packet breaks by what it is.
     #[inline(always)]
-    fn with_later(&self, rules: RuleSet, packet: &Packet, found: PacketKind) -> RuleSet
+    fn broken_later(&self, packet: &Packet, found: PacketKind) -> RuleSet
         requires kind { found ≡ kind self.now.watched.page packet.now }
         requires row { (row : ℕ) → found ≡ PacketKind.Row row → (1 ≤ row) × (row ≤ 24) }
-        ensures { (heard : List (List ℕ)) → Knows heard self.now
-            → result.0 ≡ later_set (λ r. breaks r self.now.watched heard packet.now) rules.0 }
+        ensures small { result.0 < 0x10 }
+        ensures rules { (heard : List (List ℕ)) → Knows heard self.now → result.0
+            ≡ rule_set (λ r. breaks r self.now.watched heard packet.now) (drop 3 packet_rules) }
     {
+        let none = RuleSet::none();
         match found {
-            PacketKind::ThisPage(header) => rules.with(
-                RuleSet::CONTROL,
-                !is_subtitle_header(self.watched.national, &header),
-            ),
-            PacketKind::EndsPage => rules,
-            PacketKind::Row(row) => rules
-                .with(RuleSet::PARITY, self.has_even_row(packet))
-                .with(RuleSet::ROW_CHANGED, self.has_changed(row, packet)),
-            PacketKind::Other => rules.with(RuleSet::ENHANCEMENT, self.is_enhanced(packet)),
+            PacketKind::ThisPage(header) => {
+                none.with_before(!is_subtitle_header(self.watched.national, &header))
+            }
+            PacketKind::EndsPage => none,
+            PacketKind::Row(row) => none
+                .with_before(self.has_changed(row, packet))
+                .with_before(self.has_even_row(packet))
+                .with_before(false),
+            PacketKind::Other => none
+                .with_before(self.is_enhanced(packet))
+                .with_before(false)
+                .with_before(false)
+                .with_before(false),
         }
     }
 

@@ -1,21 +1,29 @@
--- The rules so far are told.
-use Rattle.std.proofs.Common.{◌≡◌, Bool, false, map, take}
+-- What is left to be told of the rules that are left is told of all.
+use Rattle.std.proofs.Common.{◌≡◌, Bool, Result, false, drop, map}
 use Rattle.std.specs.List.{filter}
-use Rattle.sub_io.specs.Telling.{Tells, TellsSome}
+use Rattle.sub_io.specs.Telling.{TellsSome, TellsUntilStopped}
+use Rattle.sub_io.specs.declared.audience.Stopped.{Stopped}
 use Rattle.sub_rules.specs.Events.{packet_fault}
 use Rattle.sub_packets.specs.Listener.{rule_set}
 use Rattle.sub_rules.specs.PacketTests.{packet_rules}
+use Rattle.sub_rules.specs.declared.event.Event.{Event}
 use Rattle.sub_rules.specs.declared.event.Event.TheVariants.{Told}
 use Rattle.sub_rules.specs.declared.packet_rule.PacketRule.{PacketRule}
 use Rattle.sub_packets.proofs.rule_set.tell_rules.Given as goal
 
-abbrev pub invariant-loop-i : goal.invariant-loop-i
-invariant-loop-i g l = record {
-  goes_on : g.A.Audience.has_stopped l.audience ≡ false;
-  some : TellsSome g.A.Audience.is_told l.fn.audience l.audience;
-  told :
-      (test : PacketRule → Bool)
-      → l.rules.0 ≡ rule_set test
-      → Tells g.A.Audience.is_told l.fn.audience l.audience
-      (map (λ r. Told (packet_fault r l.frame l.packet)) (filter test (take l.i packet_rules)));
-}
+abbrev pub invariant-loop-rule : goal.invariant-loop-rule
+invariant-loop-rule g l =
+    let tell : PacketRule → Event = λ r. Told (packet_fault r l.frame l.packet) in
+    record {
+      goes_on : g.A.Audience.has_stopped l.audience ≡ false;
+      some : TellsSome g.A.Audience.is_told l.fn.audience l.audience;
+      told :
+          (test : PacketRule → Bool)
+          → l.fn.rules.0 ≡ rule_set test packet_rules
+          → (l.left ≡ rule_set test (drop l.rule-index packet_rules))
+          × ((new : g.row.A.Denot) (result : Result (Unit {0}) Stopped)
+          → TellsUntilStopped g.A.Audience.is_told l.audience new
+          (map tell (filter test (drop l.rule-index packet_rules))) result
+          → TellsUntilStopped g.A.Audience.is_told l.fn.audience new
+          (map tell (filter test packet_rules)) result);
+    }

@@ -7,5 +7,5 @@ pub returns : goal.returns
 returns c heard known =
     let is = rules_are c.args.self.now.watched heard c.args.packet.now c.args.self.now.serial
     known.serial_is in
-    let later = c.with_later.ensures heard known in
+    let later = c.broken_later.ensures.rules heard known in
     rw is (grind arith)

@@ -1,0 +1,28 @@
+-- What a packet is decides which rules it may break: PacketRuleLemmas.
+use Rattle.std.proofs.Common.{refl, sym, ◌∙◌, arith}
+use Rattle.sub_packets.proofs.PacketRuleLemmas.{later_ends, later_other, later_row, later_this}
+use Rattle.sub_packets.proofs.listener.Listener.broken_later.Goals as goal
+
+pub returns-in-ThisPage-clause-rules : goal.returns-in-ThisPage-clause-rules
+returns-in-ThisPage-clause-rules c heard known =
+    rw (later_this c.args.self.now.watched heard c.args.packet.now
+    c.in-ThisPage.header (sym c.requires.kind ∙ c.in-ThisPage.is)) (grind arith)
+
+pub returns-in-EndsPage-clause-rules : goal.returns-in-EndsPage-clause-rules
+returns-in-EndsPage-clause-rules c heard known =
+    c.none-none.ensures
+    ∙ sym (later_ends c.args.self.now.watched heard c.args.packet.now
+    (sym c.requires.kind ∙ c.in-EndsPage.is))
+
+pub returns-in-Row-clause-rules : goal.returns-in-Row-clause-rules
+returns-in-Row-clause-rules c heard known =
+    let range = c.requires.row c.in-Row.row c.in-Row.is in
+    let sent = known.sent_is c.in-Row.row range.0 range.1 in
+    let page = known.page_is c.in-Row.row range.0 range.1 in
+    rw (later_row c.args.self.now.watched heard c.args.packet.now c.in-Row.row _
+    (sym c.requires.kind ∙ c.in-Row.is) refl) (grind (arith, known.open_is))
+
+pub returns-in-Other-clause-rules : goal.returns-in-Other-clause-rules
+returns-in-Other-clause-rules c heard known =
+    rw (later_other c.args.self.now.watched heard c.args.packet.now
+    (sym c.requires.kind ∙ c.in-Other.is)) (grind (arith, known.open_is))
