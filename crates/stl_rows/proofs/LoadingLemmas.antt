@@ -31,7 +31,7 @@ use Rattle.stl_rows.specs.declared.fault.LoadFaultKind.TheVariants.{File, OutOfO
 use Rattle.stl_rows.specs.declared.times.Times.{Times}
 use Rattle.stl_rows.specs.DrawnPage.{drawn}
 use Rattle.stl_rows.specs.EveryFault.{StopsWithin, TellsFaults, TellsOfFile, faults, faults_behind}
-use Rattle.stl_rows.specs.EveryFault.{is_told_before, is_of_file, is_unfinished, kept_after}
+use Rattle.stl_rows.specs.EveryFault.{ends_in_subtitle, is_told_before, is_of_file, kept_after}
 use Rattle.stl_rows.specs.EveryFault.{load_fault}
 use Rattle.stl_rows.specs.Loading.{EndsBehind, EndsRecord, loaded, records_of}
 use Rattle.stl_rows.specs.Programme.{IsProgramme, follow_faults, order_faults, row_faults}
@@ -422,7 +422,7 @@ some_items items kept h = grind (arith, nat_tests)
 -- ---- where the source failed
 
 -- What was told before comes before this block.
-not_unfinished : (kind : LoadFaultKind) → is_of_subtitle kind ≡ true → is_unfinished kind ≡ false
+not_unfinished : (kind : LoadFaultKind) → is_of_subtitle kind ≡ true → ends_in_subtitle kind ≡ false
 not_unfinished kind h = grind (arith, nat_tests)
 
 filter-early : (from block : ℕ) (early : List LoadFault)

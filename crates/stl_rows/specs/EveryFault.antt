@@ -74,14 +74,14 @@ pub record TellsFaults
   pub prefix : StopsWithin IsTold old new items
 
 -- The file ends inside a subtitle.
-abbrev pub is_unfinished : LoadFaultKind → Bool
-is_unfinished (File Unfinished) = true
-is_unfinished _ = false
+abbrev pub ends_in_subtitle : LoadFaultKind → Bool
+ends_in_subtitle (File Unfinished) = true
+ends_in_subtitle _ = false
 
 -- A fault that is found before this block is asked for. The end of the file inside a subtitle,
 -- which names the last whole block, is found only where the block after it is.
 abbrev pub is_told_before : ℕ → LoadFault → Bool
-is_told_before block fault = nat_lt fault.block block && not (is_unfinished fault.kind)
+is_told_before block fault = nat_lt fault.block block && not (ends_in_subtitle fault.kind)
 
 -- The source failed: the block is that of the byte that was asked for, the first one after those
 -- that were taken. The device was told the faults that are found before it, and no others.

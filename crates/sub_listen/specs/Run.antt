@@ -47,22 +47,22 @@ least_frame within frames zero = 0
 least_frame within frames (suc i) = least_after within (frame_at frames i)
 
 -- Within frames PES packet i of the list is of the frame of the one before it.
-abbrev pub goes_on : ℕ → Transmission → ℕ → Bool
-goes_on within frames zero = false
-goes_on within frames (suc i) =
+abbrev pub is_of_same_frame : ℕ → Transmission → ℕ → Bool
+is_of_same_frame within frames zero = false
+is_of_same_frame within frames (suc i) =
     not (within == 0) && (frame_at frames (suc i) == frame_at frames i)
 
 -- How many packets of the frame of the last one are in the first n PES packets of the list.
 abbrev pub sent_in_frame : ℕ → Transmission → ℕ → ℕ
 sent_in_frame within frames zero = 0
 sent_in_frame within frames (suc i) =
-    (if goes_on within frames i then sent_in_frame within frames i else 0)
+    (if is_of_same_frame within frames i then sent_in_frame within frames i else 0)
     + length (packets_of_frame frames i)
 
 -- The number, in its frame, of the first packet of PES packet i of the list.
 abbrev pub first_in_frame : ℕ → Transmission → ℕ → ℕ
 first_in_frame within frames i =
-    if goes_on within frames i then sent_in_frame within frames i else 0
+    if is_of_same_frame within frames i then sent_in_frame within frames i else 0
 
 -- The number of the first packet of frame i of the list, counted over the whole file.
 abbrev pub first_number : Transmission → ℕ → ℕ

@@ -26,7 +26,7 @@ use Rattle.clap.proofs.WalkLemmas.{first_value-rows}
 use Rattle.sub_words.specs.Commands.{are_sound, clap_rule, command_in, clap_refusals, subttx_app}
 use Rattle.sub_words.specs.Commands.{texts_of}
 use Rattle.sub_words.specs.declared.command.Argument.{Argument}
-use Rattle.sub_words.specs.Requests.{Asked, IsFaultIn, IsFaultOf, IsReadAs, IsReadExactly}
+use Rattle.sub_words.specs.Requests.{Asked, IsFaultIn, IsFaultOf, IsReadExactly, IsReadGivenMemory}
 use Rattle.sub_words.specs.Requests.{asked_for, asked_in, is_own}
 use Rattle.sub_request.specs.declared.request.Request.{Request}
 use Rattle.sub_request.specs.declared.request.UsageFault.{UsageFault}
@@ -99,7 +99,7 @@ own-fault asked f is = is
 -- What takes no memory is read so too where memory may run out.
 pub read_exactly : (asked : Result Asked UsageFault) (result : Result Request UsageFault)
     → IsReadExactly asked result
-    → IsReadAs asked result
+    → IsReadGivenMemory asked result
 read_exactly asked (Ok r) is = is
 read_exactly asked (Err f) is = own-fault asked f is
 
@@ -122,7 +122,7 @@ pub fault-of_read :
     → words ≢ []
     → clap_refusals words ≡ []
     → asked_for words ≡ Some asked
-    → IsReadAs asked result
+    → IsReadGivenMemory asked result
     → IfErr result (IsFaultOf words)
 fault-of_read words asked (Ok r) some taken is read = tt
 fault-of_read words asked (Err f) some taken is read =

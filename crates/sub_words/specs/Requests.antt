@@ -125,8 +125,9 @@ IsFaultIn asked fault.Memory = ⊤
 IsFaultIn asked fault = (asked ≡ Err fault) × (is_own fault ≡ true)
 
 -- The result is what the arguments ask for or their fault, or memory ran out before it was known.
-abbrev pub IsReadAs : Result Asked UsageFault → Result Request UsageFault → Type 0
-IsReadAs asked result = MatchResult result (λ r. asked ≡ Ok (asked_by r)) (IsFaultIn asked)
+abbrev pub IsReadGivenMemory : Result Asked UsageFault → Result Request UsageFault → Type 0
+IsReadGivenMemory asked result =
+    MatchResult result (λ r. asked ≡ Ok (asked_by r)) (IsFaultIn asked)
 
 -- ---- words
 

@@ -1,6 +1,6 @@
 //! The arguments of each command, read as a request.
 ghost use Rattle.clap.specs.Words.{found_of, rows_of};
-ghost use Rattle.sub_words.specs.Requests.{IsReadAs, IsReadExactly, asked_in, check_asked};
+ghost use Rattle.sub_words.specs.Requests.{IsReadExactly, IsReadGivenMemory, asked_in, check_asked};
 ghost use Rattle.sub_words.specs.Requests.{listen_asked, normal_asked, packet_asked};
 ghost use Rattle.sub_words.specs.Requests.{schedule_asked};
 
@@ -24,7 +24,7 @@ pub fn read_command<'a>(
     name: &str,
     matches: &ArgMatches<'a>,
 ) -> Result<Request<'a>, UsageFault>
-    ensures { IsReadAs (asked_in name.now (rows_of (found_of matches.now))) result }
+    ensures { IsReadGivenMemory (asked_in name.now (rows_of (found_of matches.now))) result }
 {
     match name {
         "packet" => read_packet(matches),
@@ -108,7 +108,7 @@ fn read_check<'a>(matches: &ArgMatches<'a>) -> Result<Request<'a>, UsageFault>
 // `listen PES [--page P] [--origin T] [--within N] [--complete] --at TIME [--skip N] [--flip F]
 // [--lose L] [--receiver R]`
 fn read_listen<'a>(alloc: Global, matches: &ArgMatches<'a>) -> Result<Request<'a>, UsageFault>
-    ensures { IsReadAs (listen_asked (rows_of (found_of matches.now))) result }
+    ensures { IsReadGivenMemory (listen_asked (rows_of (found_of matches.now))) result }
 {
     // The repeat bound is not looked at.
     let plain = options_at(matches, Some(1))?;
