@@ -30,7 +30,8 @@ use Rattle.sub_rules.specs.declared.event.Event.TheVariants.{Told}
 use Rattle.sub_rules.specs.declared.fault.CheckFault.{CheckFault}
 use Rattle.sub_rules.specs.declared.packet_rule.PacketRule.{PacketRule}
 use Rattle.sub_rules.specs.declared.passed_run.PassedRun.{PassedRun}
-use Rattle.sub_rules.proofs.PieceEventLemmas.{announced_first, first_of_two, or_else}
+use Rattle.sub_rules.proofs.PacketLists.{or-none}
+use Rattle.sub_rules.proofs.PieceEventLemmas.{announced_first, first_of_two}
 use Rattle.sub_laws.proofs.MarkTestLemmas.{FramesPass, PassedPass, Passes, before_passes, both_pass}
 use Rattle.sub_laws.proofs.MarkTestLemmas.{each_passes, first_fine, says_bad, says_pass, tells_bad}
 use Rattle.sub_laws.proofs.MarkTestLemmas.{told_fine}
@@ -173,13 +174,10 @@ first_all : (told : List Event)
     ≡ first_told told
 first_all told =
     first_of_two (all_announced no_run told) _
-    ∙ rw (announced_first told, ended (passed_after_all no_run told)) (or_none (first_told told))
+    ∙ rw (announced_first told, ended (passed_after_all no_run told)) (or-none (first_told told))
   where
     ended : (run : PassedRun) → first_told (ended_run run) ≡ None
     ended run = grind (arith, nat_tests)
-
-    or_none : (o : Option CheckFault) → or_else o None ≡ o
-    or_none o = grind (arith, nat_tests)
 
 not_foreign : (f : CheckFault) → is_foreign f ≡ false → is_of_rule f ≡ true
 not_foreign f e = grind (arith, nat_tests)

@@ -5,6 +5,7 @@ use Rattle.std.proofs.Common.{◌≡◌, ℕ, suc, ◌⊎◌, inl, inr, List, []
 use Rattle.std.proofs.Common.{None, refl, sym, ap, ◌∙◌, arith, append_assoc, Bool, ◌||◌}
 use Rattle.std.proofs.Common.{if◌then◌else◌}
 use Rattle.std.proofs.lemmas.Option.{none-some, same_Some}
+use Rattle.std.specs.Option.{option_or}
 use Rattle.sub_rules.specs.Events.{events, first_told}
 use Rattle.sub_rules.specs.Fault.{fault_at_pes}
 use Rattle.sub_rules.specs.FrameRules.{Task, Unread}
@@ -25,7 +26,7 @@ use Rattle.sub_rules.specs.declared.fault.CheckFault.{CheckFault}
 use Rattle.sub_rules.specs.declared.fault.CheckFault.TheVariants as fault
 use Rattle.sub_rules.specs.declared.passed_run.PassedRun.{PassedRun}
 use Rattle.sub_rules.specs.declared.trust.Trust.{Trust}
-use Rattle.sub_rules.proofs.PieceEventLemmas.{announced_first, first_of_two, or_else}
+use Rattle.sub_rules.proofs.PieceEventLemmas.{announced_first, first_of_two}
 use Rattle.sub_laws.proofs.SaidLemmas.{pieces_said, said, said-append}
 
 -- ---- pieces
@@ -65,7 +66,7 @@ module _ (frame row column : ℕ) where
   parts_first xs ys e = go (first_told xs) refl (sym (first_of_two xs ys) ∙ e)
     where
       go : (o : Option CheckFault) → first_told xs ≡ o
-          → or_else o (first_told ys) ≡ Some (fault.Content frame row column)
+          → option_or o (first_told ys) ≡ Some (fault.Content frame row column)
           → IsFirst xs ⊎ ((first_told xs ≡ None) × IsFirst ys)
       go None is e = inr (is, e)
       go (Some f) is e = inl (is ∙ e)

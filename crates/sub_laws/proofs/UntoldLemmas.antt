@@ -7,6 +7,7 @@ use Rattle.std.proofs.Common.{false, not, List, [], ◌∷◌, ◌++◌, length,
 use Rattle.std.proofs.Common.{refl, sym, ap, ◌∙◌, arith, ◌||◌}
 use Rattle.std.proofs.Common.{if◌then◌else◌}
 use Rattle.std.proofs.lemmas.Option.{none-some}
+use Rattle.std.specs.Option.{option_or}
 use Rattle.std.specs.List.{list_any}
 use Rattle.sub_rules.specs.Events.{end_events, events}
 use Rattle.sub_rules.specs.Events.{first_header_events, first_told}
@@ -32,13 +33,13 @@ use Rattle.sub_rules.specs.declared.fault.CheckFault.{CheckFault}
 use Rattle.sub_rules.specs.declared.passed_run.PassedRun.{PassedRun}
 use Rattle.sub_rules.specs.declared.trust.Trust.{Trust}
 use Rattle.sub_laws.proofs.MarkTestLemmas.{PassedPass, Passes, before_passes}
-use Rattle.sub_rules.proofs.PieceEventLemmas.{announced_first, first_of_two, or_else}
+use Rattle.sub_rules.proofs.PieceEventLemmas.{announced_first, first_of_two}
 use Rattle.sub_rules.proofs.TrustedLemmas.{told_by-append}
 use Rattle.sub_laws.proofs.SaidLemmas.{pieces_said, said, said-append, said-says}
 
 -- ---- what is told first
 
-both_none : (a b : Option CheckFault) → (or_else a b ≡ None) ↔ ((a ≡ None) × (b ≡ None))
+both_none : (a b : Option CheckFault) → (option_or a b ≡ None) ↔ ((a ≡ None) × (b ≡ None))
 both_none a b = grind (arith, nat_tests)
 
 two_none : (xs ys : List Event)

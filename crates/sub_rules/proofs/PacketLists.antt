@@ -88,12 +88,12 @@ holds-count page (q ∷ qs) = let ih = holds-count page qs in grind (arith, nat_
 -- ---- the first header
 
 -- The first of three options, in either way.
-or_assoc : {A : Type 0} (a b c : Option A)
+pub or_assoc : {A : Type 0} (a b c : Option A)
     → option_or a (option_or b c) ≡ option_or (option_or a b) c
 or_assoc a b c = grind arith
 
 -- With none nothing changes.
-or-none : {A : Type 0} (a : Option A) → option_or a None ≡ a
+pub or-none : {A : Type 0} (a : Option A) → option_or a None ≡ a
 or-none a = grind arith
 
 -- The first header of two lists, joined.

@@ -5,6 +5,7 @@ use Rattle.std.proofs.Common.{map, Option, Some, None, refl, sym, ap, ◌∙◌,
 use Rattle.std.proofs.Common.{length-append}
 use Rattle.std.proofs.lemmas.Bool.Decides.{nat_tests}
 use Rattle.std.proofs.lemmas.List.{append-nil}
+use Rattle.std.specs.Option.{option_or}
 use Rattle.std.specs.Prelude.{option_map}
 use Rattle.sub_rules.specs.Events.{Standing, closing_events, end_events, endings, events}
 use Rattle.sub_rules.specs.Events.{events_of_first, first_told, frame_events}
@@ -22,6 +23,7 @@ use Rattle.sub_rules.specs.declared.event.Event.{Event}
 use Rattle.sub_rules.specs.declared.event.Event.TheVariants.{Ended, PassedUntil, Told, Trusted}
 use Rattle.sub_rules.specs.declared.fault.CheckFault.{CheckFault}
 use Rattle.sub_rules.specs.declared.passed_run.PassedRun.{PassedRun}
+use Rattle.sub_rules.proofs.PacketLists.{or-none, or_assoc}
 use Rattle.sub_rules.proofs.PrefixEventLemmas.{frame_events-prefix}
 use Rattle.sub_rules.proofs.AnyToldLemmas.{own_closing, own_frame, own_names}
 use Rattle.sub_rules.proofs.RunLemmas.{all_are, all_in_runs, closing_told, last_of_run}
@@ -31,20 +33,9 @@ use Rattle.sub_rules.proofs.TrustedLemmas.{with_run}
 
 -- ---- what is told first of two lists
 
--- The first, if there is one; else the other.
-abbrev pub or_else : Option CheckFault → Option CheckFault → Option CheckFault
-or_else None b = b
-or_else (Some f) b = Some f
-
-or_else_assoc : (a b c : Option CheckFault) → or_else (or_else a b) c ≡ or_else a (or_else b c)
-or_else_assoc a b c = grind (arith, nat_tests)
-
-or_else_none : (a : Option CheckFault) → or_else a None ≡ a
-or_else_none a = grind (arith, nat_tests)
-
 -- What is told first of the one list, or else of the other.
 pub first_of_two : (xs ys : List Event)
-    → first_told (xs ++ ys) ≡ or_else (first_told xs) (first_told ys)
+    → first_told (xs ++ ys) ≡ option_or (first_told xs) (first_told ys)
 first_of_two [] ys = refl
 first_of_two (Told f ∷ xs) ys = refl
 first_of_two (Ended rule frame ∷ xs) ys = first_of_two xs ys
@@ -137,8 +128,8 @@ walk : (g : Task) (done all first : Transmission) (n : ℕ) (run : Option ℕ) (
     → u ≡ (read_until_passed pieces g.unread).unread
     → (length (frames_of pieces) ≡ length pieces
     → after ≡ first_told (closing_events g all (length all)))
-    → or_else (first_told (told_of_each g all n n run pieces)) after
-    ≡ or_else (first_told (told_plain (record g { unread = u }) first n
+    → option_or (first_told (told_of_each g all n n run pieces)) after
+    ≡ option_or (first_told (told_plain (record g { unread = u }) first n
     (read_until_passed pieces g.unread).frames))
     (first_told (closing_events (record g { unread = u }) first (length first)))
 unfolding told_of_each frames_of read_until_passed told_plain
@@ -161,7 +152,7 @@ walk g done all first n run (Sent s ∷ pieces) u after size all_is first_is u_i
     ∙ ap (λ (fs : Transmission). frame_events (record g { unread = u }) fs n) (sym first_next) in
     let rest = walk g next all first (suc n) (run_at g all n run) pieces u after longer all_next
     first_next u_is (λ e. closing (ap suc e)) in
-    grind (arith, nat_tests, first_of_two, frame_first, or_else_assoc)
+    grind (arith, nat_tests, first_of_two, frame_first, or_assoc)
 
 -- After pieces that are all sent.
 closing_same : (g : Task) (frames : Transmission) (n : ℕ) → length frames ≡ n
@@ -190,12 +181,12 @@ first_told_is g pieces none =
     let last = last_of_run g frames (run_after_each g frames 0 None pieces) any in
     ap first_told (all_are g pieces none)
     ∙ first_of_two (all_announced no_run (each ++ last ++ closing)) _
-    ∙ ap (or_else (first_told (all_announced no_run (each ++ last ++ closing)))) (ended_first _)
-    ∙ or_else_none _
+    ∙ ap (option_or (first_told (all_announced no_run (each ++ last ++ closing)))) (ended_first _)
+    ∙ or-none _
     ∙ announced_first (each ++ last ++ closing)
     ∙ first_of_two (each ++ last) closing
-    ∙ ap (λ (o : Option CheckFault). or_else o (first_told closing))
-    (grind (arith, nat_tests, first_of_two, last_of_first, or_else_none))
+    ∙ ap (λ (o : Option CheckFault). option_or o (first_told closing))
+    (grind (arith, nat_tests, first_of_two, last_of_first, or-none))
     ∙ walk g [] frames stop.frames 0 None pieces stop.unread (first_told closing) refl refl refl
     refl (grind (arith, nat_tests, closing_same))
     ∙ sym (first_of_two (told_plain h stop.frames 0 stop.frames) _)
