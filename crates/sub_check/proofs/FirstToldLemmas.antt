@@ -43,10 +43,6 @@ each_whole [] h = tt
 each_whole (s ∷ frames) h =
     (All-from_recursion IsPacket s.packets h.0, each_whole frames h.1)
 
--- A fault that is neither one of PES packets or the subtitle file nor a wrong cell is of a rule.
-plain_is : (f : CheckFault) → is_plain f ≡ true → is_of_rule f ≡ true
-plain_is f e = grind (arith, nat_tests)
-
 -- What the test says.
 pub of_rule : (f : CheckFault) → is_of_rule f ≡ true → IsRuleFault f
 of_rule f e = grind (arith, nat_tests)

@@ -11,14 +11,14 @@ use Rattle.sub_rules.specs.Events.{frame_events}
 use Rattle.sub_rules.specs.Events.{unread_fault}
 use Rattle.sub_rules.specs.FrameRules.{Task, Unread, end_frame, frame_at}
 use Rattle.sub_rules.specs.PieceEvents.{all_announced, all_of_pieces, closing_of_pieces, ended_run}
-use Rattle.sub_rules.specs.PieceEvents.{events_of_pieces, marks_of_closing}
+use Rattle.sub_rules.specs.PieceEvents.{marks_of_closing}
 use Rattle.sub_rules.specs.PieceEvents.{marks_of_pieces}
 use Rattle.sub_rules.specs.PieceEvents.{no_run}
 use Rattle.sub_rules.specs.PieceEvents.{passed_after_all, told_of_pieces}
 use Rattle.sub_rules.specs.Pieces.{Piece, frames_of}
 use Rattle.sub_rules.specs.Pieces.Piece.{Passed, Sent}
 use Rattle.sub_rules.specs.Transmission.{Transmission}
-use Rattle.sub_rules.specs.Trusted.{Mark, after_mark, at_pes, doubted, is_order, no_trust}
+use Rattle.sub_rules.specs.Trusted.{after_mark, at_pes, doubted, is_order, no_trust}
 use Rattle.sub_rules.specs.Trusted.{tells_none, told_by, told_with, trust_after}
 use Rattle.sub_rules.specs.Trusted.Mark.{AtPes, Closes, Says}
 use Rattle.sub_rules.specs.declared.event.Event.{Event}
@@ -29,7 +29,7 @@ use Rattle.sub_rules.proofs.TrustedLemmas.{says_told, tells_none-at, tells_none-
 use Rattle.sub_rules.proofs.TrustedLemmas.{tells_none-two, told_by-append, trust_after-append}
 use Rattle.sub_rules.proofs.TrustedLemmas.{trusted_whole, whole_says, with_run}
 use Rattle.sub_rules.proofs.TrustedLemmas.{with_run-none}
-use Rattle.sub_rules.proofs.RunFrameLemmas.{Judges, frame_told, judges_next, marks_are}
+use Rattle.sub_rules.proofs.RunFrameLemmas.{Judges, frame_told, judges_next}
 use Rattle.sub_rules.proofs.RunFrameLemmas.{pieces_marks}
 pub use Rattle.sub_rules.proofs.RunFrameLemmas.{arriving_events, closing_told, marks_of_frame}
 pub use Rattle.sub_rules.proofs.RunFrameLemmas.{own_events, told_of_frame, told_of_passed}
@@ -102,7 +102,8 @@ pub each_are : (g : Task) (frames : Transmission) (pes i : ℕ) (run : Option �
     (t : Trust) (pieces : List Piece)
     → Judges g frames i run told t
     → ReadsEach g frames pes i run told t pieces
-unfolding told_by told_with trust_after after_mark marks_in_list told_of_each run_after_each frames_of
+unfolding told_by told_with trust_after after_mark marks_in_list told_of_each run_after_each
+    frames_of
 each_are g frames pes i run told t [] is = record {
   says = refl;
   left = record {
@@ -215,18 +216,6 @@ judges_none g frames = record {
   rises_is = refl;
   told_is = refl;
 }
-
--- What is told of some pieces, by the list of the frames that they send and of more.
-pub events_are : (g : Task) (frames more : Transmission) (pieces : List Piece)
-    → g.within ≡ 0
-    → frames ≡ frames_of pieces ++ more
-    → events_of_pieces g pieces ≡ all_announced no_run (told_of_each g frames 0 0 None pieces)
-unfolding events_of_pieces
-events_are g frames more pieces none all =
-    ap (λ (ms : List Mark). all_announced no_run (told_by no_trust ms))
-    (marks_are g none [] frames more 0 0 pieces refl all)
-    ∙ ap (all_announced no_run)
-    (each_are g frames 0 0 None false no_trust pieces (judges_none g frames)).says
 
 -- What is told of all.
 told_are : (g : Task) (pieces : List Piece) → g.within ≡ 0
