@@ -218,7 +218,8 @@ module _ (g : Task) where
       abbrev longer : Transmission
       longer = with_packets packets sent
 
-      abbrev numbers : map (λ (s : SentFrame). s.frame) longer ≡ map (λ (s : SentFrame). s.frame) sent
+      abbrev numbers : map (λ (s : SentFrame). s.frame) longer
+          ≡ map (λ (s : SentFrame). s.frame) sent
       numbers = with_packets-frames packets sent
 
       abbrev front : take i longer ≡ take i sent
