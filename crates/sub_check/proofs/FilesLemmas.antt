@@ -151,32 +151,26 @@ own_fault :
 own_fault national stl programme block kind told fine is = grind (arith, nat_tests)
 
 -- Both files, where the subtitle file was refused. For `check_files`.
-pub files_refused :
-    (national : National) (options : OptionsValue) (stl pes : List ℕ) (f : LoadFault)
-    → LawOfLoading
-    → TellsFault national stl f.block f.kind
-    → AreAccepted national options stl pes (Err (fault.Subtitles f))
-files_refused national options stl pes f loading told = record {
-  accepted = λ fine. (
-    λ ok. cc,
-    λ g.
-        absurd (own_fault national stl _ f.block f.kind told fine
-        (loads national options stl pes loading g.0 g.1 g.2)),
-  );
-  serves = λ subtitles transmission mean ok. cc;
-}
+module _ (national : National) (options : OptionsValue) (stl pes : List ℕ) (f : LoadFault)
+    (loading : LawOfLoading) (told : TellsFault national stl f.block f.kind) where
+  pub files_refused : AreAccepted national options stl pes (Err (fault.Subtitles f))
+  files_refused = record {
+    accepted = λ fine. (
+      λ ok. cc,
+      λ g.
+          absurd (own_fault national stl _ f.block f.kind told fine
+          (loads national options stl pes loading g.0 g.1 g.2)),
+    );
+    serves = λ subtitles transmission mean ok. cc;
+  }
 
-pub files_refused_within :
-    (national : National) (options : OptionsValue) (stl pes : List ℕ) (f : LoadFault)
-    → LawOfLoading
-    → TellsFault national stl f.block f.kind
-    → AreAcceptedWithin national options stl pes (Err (fault.Subtitles f))
-files_refused_within national options stl pes f loading told = record {
-  accepted = λ fine. (
-    λ ok. cc,
-    λ g.
-        absurd (own_fault national stl _ f.block f.kind told fine
-        (loads_within national options stl pes loading g.0 g.1 g.2)),
-  );
-  serves = λ subtitles transmission mean ok. cc;
-}
+  pub files_refused_within : AreAcceptedWithin national options stl pes (Err (fault.Subtitles f))
+  files_refused_within = record {
+    accepted = λ fine. (
+      λ ok. cc,
+      λ g.
+          absurd (own_fault national stl _ f.block f.kind told fine
+          (loads_within national options stl pes loading g.0 g.1 g.2)),
+    );
+    serves = λ subtitles transmission mean ok. cc;
+  }
