@@ -45,9 +45,9 @@ is_read fault.Read = true
 is_read _ = false
 
 -- The sink failed.
-abbrev pub is_write : NormalFault → Bool
-is_write Write = true
-is_write _ = false
+abbrev pub is_normal_write : NormalFault → Bool
+is_normal_write Write = true
+is_normal_write _ = false
 
 -- A block's own bytes or its place among the blocks of its subtitle are at fault.
 abbrev pub is_of_block : StlFault → Bool

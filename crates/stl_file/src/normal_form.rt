@@ -6,7 +6,7 @@ ghost use Rattle.std.specs.List.{concat};
 ghost use Rattle.sub_io.specs.Device.{CanFail, CountsFailure, CountsIf, Writes, failed};
 ghost use Rattle.stl_file.specs.declared.fault.NormalFault.TheVariants.{Write};
 ghost use Rattle.stl_file.specs.declared.progress.Progress.TheVariants.{Reading};
-ghost use Rattle.stl_file.specs.Fault.{is_write};
+ghost use Rattle.stl_file.specs.Fault.{is_normal_write};
 ghost use Rattle.stl_file.specs.NormalForm.{NormalAnswers, all_blocks, blocks_of, subtitles_of};
 ghost use Rattle.stl_file.specs.NormalCounts.{given, judged_on, normal_counts};
 ghost use Rattle.stl_file.specs.Reader.{outcome_from, outcome_left};
@@ -33,7 +33,7 @@ use sub_io::{Failed, MemSource, Sink, put_all};
 pub fn normal<K: Sink>(file: &[u8], sink: &mut K) -> Result<u32, NormalFault>
     requires { CanFail (K.failure_count sink.old) }
     ensures answer { NormalAnswers file.now (K.contents sink.old) (K.contents sink.new) result }
-    ensures count { CountsIf K.failure_count sink.old (failed is_write result) sink.new }
+    ensures count { CountsIf K.failure_count sink.old (failed is_normal_write result) sink.new }
 {
     let mut source = MemSource::new(file);
     let reader = match StlReader::open(&mut source) {

@@ -20,7 +20,7 @@ use Rattle.sub_rules.specs.Fault.{check_code, is_failure, place_of}
 use Rattle.sub_rules.specs.declared.fault.CheckFault.{CheckFault}
 use Rattle.sub_rules.specs.declared.fault.CheckFault.TheVariants as check
 use Rattle.sub_rules.specs.declared.fault_place.FaultPlace.TheVariants as place
-use Rattle.sub_plan.specs.Fault.{is_write, plan_code}
+use Rattle.sub_plan.specs.Fault.{is_plan_write, plan_code}
 use Rattle.sub_request.specs.Fault.{usage_code}
 use Rattle.sub_request.specs.declared.request.UsageFault.{UsageFault}
 use Rattle.sub_request.specs.declared.request.UsageFault.TheVariants as usage
@@ -75,4 +75,4 @@ write_told (write.Input input.Memory) = usage_told usage.Memory
 write_told (write.Load f) = load_told f.kind f.block
 write_told (write.Normal (normal.Refused f block)) = stl_told f block
 write_told (write.Normal f) = told_as kind.Fault (normal_code f) place.Nowhere
-write_told (write.Plan f) = told_as (kind_by (is_write f)) (plan_code f) place.Nowhere
+write_told (write.Plan f) = told_as (kind_by (is_plan_write f)) (plan_code f) place.Nowhere

@@ -4,7 +4,7 @@ use Rattle.std.specs.Prelude.{false, Option, Result, Ok, Err, IsOkAnd}
 use Rattle.std.specs.Io.KnownBytes.{Appends, Consumes, Keeps}
 use Rattle.sub_io.specs.Device.{AppendsPrefix, RisesIf, failed}
 use Rattle.sub_io.specs.Reading.{IfTold}
-use Rattle.stl_file.specs.Fault as stl_fault
+use Rattle.stl_file.specs.Fault.{is_normal_write}
 use Rattle.stl_file.specs.NormalForm.{NormalAnswers}
 use Rattle.stl_file.specs.Reader.{block_of_byte}
 use Rattle.stl_rows.specs.Fault as load_fault
@@ -12,7 +12,7 @@ use Rattle.stl_rows.specs.Loading.{EndsRecord, FailsLoading, TellsFault, loaded}
 use Rattle.stl_rows.specs.Programme.{ProgrammeValue}
 use Rattle.stl_rows.specs.declared.fault.LoadFaultKind.TheVariants.{Memory}
 use Rattle.stl_rows.specs.declared.national.National.{National}
-use Rattle.sub_plan.specs.Fault as plan_fault
+use Rattle.sub_plan.specs.Fault.{is_plan_write}
 use Rattle.sub_plan.specs.Options.{OptionsValue}
 use Rattle.sub_plan.specs.Schedule.{plan, plan_frames}
 use Rattle.sub_plan.specs.declared.fault.PlanFault.{PlanFault}
@@ -42,8 +42,8 @@ is_input_failure _ = false
 
 -- The file failed.
 abbrev pub is_file_failure : WriteFault → Bool
-is_file_failure (write.Normal f) = stl_fault.is_write f
-is_file_failure (write.Plan f) = plan_fault.is_write f
+is_file_failure (write.Normal f) = is_normal_write f
+is_file_failure (write.Plan f) = is_plan_write f
 is_file_failure _ = false
 
 -- What is printed: how many things are in the file, or what is told of the fault.

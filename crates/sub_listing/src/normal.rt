@@ -2,7 +2,7 @@
 ghost use Rattle.std.specs.Prelude.{◌≡◌, ◌<◌, IfErr, IfOk, List, OnOk, codes, take, ℕ};
 ghost use Rattle.sub_io.specs.Device.{CanFail, CountsIf, failed};
 ghost use Rattle.sub_io.specs.Reading.{IfTold};
-ghost use Rattle.stl_file.specs.Fault.{is_write};
+ghost use Rattle.stl_file.specs.Fault.{is_normal_write};
 ghost use Rattle.stl_file.specs.NormalForm.{NormalAnswers};
 ghost use Rattle.stl_file.specs.Reader.{block_of_byte};
 ghost use Rattle.sub_listing.specs.DeviceCall.{CountsFault, sink_call, source_call};
@@ -90,7 +90,7 @@ fn put_normal<F: Flush>(bytes: &[u8], file: &mut F) -> Result<u32, NormalFault>
     requires { CanFail (F.failure_count file.old) }
     ensures answer { (s : List ℕ) → bytes.now ≡ take most_read s
         → NormalAnswers s (F.contents file.old) (F.contents file.new) result }
-    ensures count { CountsIf F.failure_count file.old (failed is_write result) file.new }
+    ensures count { CountsIf F.failure_count file.old (failed is_normal_write result) file.new }
     ensures held { OnOk result (F.held file.new ≡ 0) }
 {
     match normal(bytes, file) {

@@ -1,7 +1,7 @@
 //! `schedule STL PES`: writes the schedule of a subtitle file.
 ghost use Rattle.std.specs.Prelude.{◌≡◌, OnOk, codes};
 ghost use Rattle.sub_io.specs.Device.{CanFail, CountsIf, failed};
-ghost use Rattle.sub_plan.specs.Fault.{is_write};
+ghost use Rattle.sub_plan.specs.Fault.{is_plan_write};
 ghost use Rattle.sub_listing.specs.DeviceCall.{CountsFault, sink_call, source_call};
 ghost use Rattle.sub_listing.specs.Writing.{EndsWork, Schedules, WritesSchedule};
 
@@ -86,7 +86,7 @@ fn put_schedule<F: Flush>(
     requires { CanFail (F.failure_count file.old) }
     ensures written { WritesSchedule programme.now options.now serial
         (F.contents file.old) (F.contents file.new) result }
-    ensures count { CountsIf F.failure_count file.old (failed is_write result) file.new }
+    ensures count { CountsIf F.failure_count file.old (failed is_plan_write result) file.new }
     ensures held { OnOk result (F.held file.new ≡ 0) }
 {
     let count = schedule(programme, options, serial, file)?;

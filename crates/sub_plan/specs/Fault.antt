@@ -11,6 +11,6 @@ plan_code fault.NoSubtitles = fault_code 82 (codes "NoSubtitles")
 plan_code fault.Write = fault_code 42 (codes "Write")
 
 -- The sink failed.
-abbrev pub is_write : PlanFault → Bool
-is_write fault.Write = true
-is_write _ = false
+abbrev pub is_plan_write : PlanFault → Bool
+is_plan_write fault.Write = true
+is_plan_write _ = false

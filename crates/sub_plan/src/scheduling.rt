@@ -4,7 +4,7 @@ ghost use Rattle.std.specs.Prelude.{length};
 ghost use Rattle.std.specs.List.{flat_map};
 ghost use Rattle.sub_io.specs.Device.{CanFail, CountsFailure, CountsIf, Writes, failed};
 ghost use Rattle.ttx_pes.specs.LineOrder.{numbered_units};
-ghost use Rattle.sub_plan.specs.Fault.{is_write};
+ghost use Rattle.sub_plan.specs.Fault.{is_plan_write};
 ghost use Rattle.sub_plan.specs.declared.fault.PlanFault.TheVariants.{NoSubtitles};
 ghost use Rattle.stl_file.specs.TimeCode.{day};
 ghost use Rattle.sub_plan.specs.Schedule.{due_in, plan, plan_frames, sendings, sendings_at};
@@ -184,7 +184,7 @@ pub fn schedule<K: Sink>(
         (λ n. n ≡ length (plan_frames programme.now options.now.every)) }
     ensures empty { (result ≡ Err NoSubtitles) ↔ (programme.now.records ≡ []) }
     ensures nothing { result ≡ Err NoSubtitles → sink.new ≡ sink.old }
-    ensures count { CountsIf K.failure_count sink.old (failed is_write result) sink.new }
+    ensures count { CountsIf K.failure_count sink.old (failed is_plan_write result) sink.new }
 {
     let Some(first) = programme.first_in() else {
         return Err(PlanFault::NoSubtitles);
