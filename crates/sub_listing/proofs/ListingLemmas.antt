@@ -1,5 +1,6 @@
 -- A listing that is printed piece after piece. Main lemmas: front-more, front-end, front-cut,
 -- gives-next, gives-last.
+use Rattle.std.proofs.lemmas.Bool.Decides.{nat_tests}
 use Rattle.std.proofs.Common.{◌≡◌, ◌∙◌, ap, refl, sym, subst, arith, ℕ, ◌+◌, ◌<◌, ◌≤◌, List, []}
 use Rattle.std.proofs.Common.{◌∷◌, ◌++◌, append_assoc, drop, length, inl, inr, Bool, false, true}
 use Rattle.std.proofs.Common.{Option, Some, None, Ok, Err}
@@ -82,30 +83,12 @@ front-kept Before After told left old now new i kept = record {
 
 -- The count of a source's failures, where the sink failed. For `list`.
 pub counts-fault : (old new : ℕ) (failed : Bool) → RisesIf old failed new → Counts old Fault new
-counts-fault old new true risen = record {
-  kept = λ other. absurd (other refl);
-  risen = omega (arith, risen);
-  once = omega (arith, risen);
-}
-counts-fault old new false risen = record {
-  kept = λ other. absurd (other refl);
-  risen = omega (arith, risen);
-  once = omega (arith, risen);
-}
+counts-fault old new failed risen = grind (arith, nat_tests)
 
 -- The count of a source's failures, where the sink did not fail.
 pub counts-status : (old new : ℕ) (status : Status) → RisesIf old (has_failed (Some status)) new
     → Counts old status new
-counts-status old new Fault risen = record {
-  kept = λ other. absurd (other refl);
-  risen = omega (arith, risen);
-  once = omega (arith, risen);
-}
-counts-status old new status risen = record {
-  kept = λ _. omega (arith, risen);
-  risen = omega (arith, risen);
-  once = omega (arith, risen);
-}
+counts-status old new status risen = grind (arith, nat_tests)
 
 -- The next lines were printed, and more may follow. For `list`.
 pub front-more :
