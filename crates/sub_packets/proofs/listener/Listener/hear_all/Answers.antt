@@ -121,7 +121,8 @@ loop-k-preserved g c =
                 let parts : (c.loop-k.is_clean && c.in_ok-heard.heard.is_clean) ≡ true =
                 sym c.stays_clean-is_clean.ensures ∙ e in
                 let clean =
-                subst (λ v. rule_set (λ r. breaks r v (heard ++ take k ps) p) packet_rules ≡ 0) i.same
+                subst
+                (λ v. rule_set (λ r. breaks r v (heard ++ take k ps) p) packet_rules ≡ 0) i.same
                 (heard_one.clean (heard ++ take k ps) before.0 (grind (arith, nat_tests))) in
                 clean_one w c.args.frame c.args.from heard ps k p at
                 (before.2 (grind (arith, nat_tests))) clean,
