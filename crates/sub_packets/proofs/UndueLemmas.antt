@@ -4,13 +4,13 @@ use Rattle.std.proofs.lemmas.Bool.Decides.{nat_tests}
 use Rattle.std.proofs.lemmas.Bool.{cases_lt}
 use Rattle.std.proofs.lemmas.List.{get_or-replicate}
 use Rattle.std.proofs.Common.{◌≡◌, ℕ, zero, suc, ◌+◌, ◌-◌, ◌<◌, ◌≤◌}
-use Rattle.std.proofs.Common.{List, [], Option, Some, None, MatchOption, get_or}
+use Rattle.std.proofs.Common.{List, [], Option, Some, None, MatchOption}
 use Rattle.std.proofs.Common.{replicate, refl, sym, ap, ◌∙◌, subst, arith, inl, inr}
 use Rattle.stl_rows.specs.DuePage.{IsEdge}
 use Rattle.stl_rows.specs.Programme.{ProgrammeValue}
 use Rattle.stl_rows.proofs.DuePageLemmas.{due_back}
-use Rattle.ttx_page.proofs.DifferingLemmas.{cells_same}
-use Rattle.ttx_page.specs.Differing.{columns_differing, differing, row_differing}
+use Rattle.ttx_page.proofs.DifferingLemmas.{cells_same, columns_zero}
+use Rattle.ttx_page.specs.Differing.{differing, row_differing}
 use Rattle.ttx_page.specs.Page.{DiffersFirst, IsCell, Rows, blank, blank_row, cell, row_at}
 use Rattle.ttx_page.specs.Page.{space}
 use Rattle.sub_plan.specs.Schedule.{due_in}
@@ -163,16 +163,6 @@ undue_none heard s page first f n known same =
 
 -- ---- rows
 
--- Where no column differs the codes are equal.
-columns_same : (n : ℕ) (xs ys : List ℕ)
-    → columns_differing n xs ys ≡ 0
-    → (k : ℕ)
-    → k < n
-    → get_or xs k 0 ≡ get_or ys k 0
-unfolding columns_differing
-columns_same zero xs ys e k l = absurd (omega arith)
-columns_same (suc n) xs ys e k l = grind (arith, nat_tests, columns_same n xs ys)
-
 -- A row of spaces stays as it is. For `excuse_row`.
 pub blank_stays : (left : Rows) (row column due : ℕ)
     → row_differing (row_at left row) blank_row ≡ 0
@@ -180,6 +170,6 @@ pub blank_stays : (left : Rows) (row column due : ℕ)
     → cell left row column ≡ unless_due due (cell left row column)
 unfolding blank_row
 blank_stays left row column due same l =
-    let is = columns_same 40 (row_at left row) blank_row same column l in
+    let is = columns_zero 40 (row_at left row) blank_row same column l in
     let space_is = get_or-replicate 40 column space 0 l in
     grind (arith, nat_tests)

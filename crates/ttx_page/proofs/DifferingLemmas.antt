@@ -70,7 +70,7 @@ row_le zero xs ys i h = absurd (omega arith)
 row_le (suc n) xs ys i h = let before = row_le n xs ys i in grind arith
 
 -- Where the count is 0 the codes are equal.
-columns_zero : (n : ℕ) (xs ys : List ℕ)
+pub columns_zero : (n : ℕ) (xs ys : List ℕ)
     → columns_differing n xs ys ≡ 0
     → (k : ℕ)
     → k < n
