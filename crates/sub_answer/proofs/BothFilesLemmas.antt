@@ -82,74 +82,62 @@ memory-fault (Err f) fails read fine = cc
 
 -- ---- what is accepted
 
--- A programme with a good transmission; or with one that is good within the frames of the options.
-pub good-accepted :
-    (national : National) (options : OptionsValue) (file bytes : List ℕ)
+module _ (national : National) (options : OptionsValue) (file bytes : List ℕ)
     (programme : ProgrammeValue) (answer : Result Accepted CheckFault)
-    → loaded national file ≡ Ok programme
-    → IsChecked programme options bytes answer
-    → failed is_subtitle_fault answer ≡ false
-    → failed is_pes_read answer ≡ false
-    → IsOk answer
-    → IsAccepted national options file bytes
-good-accepted national options file bytes programme answer loads checked looked fine ok =
-    let good = (checked.accepted looked fine).0 ok in
-    record {
-      programme = programme;
-      frames = good.0;
-      loads = loads;
-      carries = good.1;
-      good = good.2;
-      complete = good.3;
-    }
+    (loads : loaded national file ≡ Ok programme) where
+  -- A programme with a good transmission is accepted.
+  pub good-accepted : IsChecked programme options bytes answer
+      → failed is_subtitle_fault answer ≡ false
+      → failed is_pes_read answer ≡ false
+      → IsOk answer
+      → IsAccepted national options file bytes
+  good-accepted checked looked fine ok =
+      let good = (checked.accepted looked fine).0 ok in
+      record {
+        programme = programme;
+        frames = good.0;
+        loads = loads;
+        carries = good.1;
+        good = good.2;
+        complete = good.3;
+      }
 
-pub good-accepted_within :
-    (national : National) (options : OptionsValue) (file bytes : List ℕ)
-    (programme : ProgrammeValue) (answer : Result Accepted CheckFault)
-    → loaded national file ≡ Ok programme
-    → IsCheckedWithin programme options bytes answer
-    → failed is_subtitle_fault answer ≡ false
-    → failed is_pes_read answer ≡ false
-    → IsOk answer
-    → IsAcceptedWithin national options file bytes
-good-accepted_within national options file bytes programme answer loads checked looked fine ok =
-    let good = (checked.accepted looked fine).0 ok in
-    record {
-      programme = programme;
-      frames = good.0;
-      loads = loads;
-      carries = good.1;
-      good = good.2;
-    }
+  -- One with a transmission that is good within the frames of the options is accepted too.
+  pub good-accepted_within : IsCheckedWithin programme options bytes answer
+      → failed is_subtitle_fault answer ≡ false
+      → failed is_pes_read answer ≡ false
+      → IsOk answer
+      → IsAcceptedWithin national options file bytes
+  good-accepted_within checked looked fine ok =
+      let good = (checked.accepted looked fine).0 ok in
+      record {
+        programme = programme;
+        frames = good.0;
+        loads = loads;
+        carries = good.1;
+        good = good.2;
+      }
 
--- No rule refuses it.
-pub accepted-ok :
-    (national : National) (options : OptionsValue) (file bytes : List ℕ)
-    (programme : ProgrammeValue) (answer : Result Accepted CheckFault)
-    → loaded national file ≡ Ok programme
-    → IsChecked programme options bytes answer
-    → failed is_subtitle_fault answer ≡ false
-    → failed is_pes_read answer ≡ false
-    → IsAccepted national options file bytes
-    → IsOk answer
-accepted-ok national options file bytes programme answer loads checked looked fine is =
-    let one : programme ≡ is.programme = let both = sym loads ∙ is.loads in cc in
-    ((subst (λ (p : ProgrammeValue). IsChecked p options bytes answer) one checked).accepted
-    looked fine).1 (is.frames, is.carries, is.good, is.complete)
+  -- No rule refuses what is accepted.
+  pub accepted-ok : IsChecked programme options bytes answer
+      → failed is_subtitle_fault answer ≡ false
+      → failed is_pes_read answer ≡ false
+      → IsAccepted national options file bytes
+      → IsOk answer
+  accepted-ok checked looked fine is =
+      let one : programme ≡ is.programme = let both = sym loads ∙ is.loads in cc in
+      ((subst (λ (p : ProgrammeValue). IsChecked p options bytes answer) one checked).accepted
+      looked fine).1 (is.frames, is.carries, is.good, is.complete)
 
-pub accepted-ok_within :
-    (national : National) (options : OptionsValue) (file bytes : List ℕ)
-    (programme : ProgrammeValue) (answer : Result Accepted CheckFault)
-    → loaded national file ≡ Ok programme
-    → IsCheckedWithin programme options bytes answer
-    → failed is_subtitle_fault answer ≡ false
-    → failed is_pes_read answer ≡ false
-    → IsAcceptedWithin national options file bytes
-    → IsOk answer
-accepted-ok_within national options file bytes programme answer loads checked looked fine is =
-    let one : programme ≡ is.programme = let both = sym loads ∙ is.loads in cc in
-    ((subst (λ (p : ProgrammeValue). IsCheckedWithin p options bytes answer) one checked).accepted
-    looked fine).1 (is.frames, is.carries, is.good)
+  pub accepted-ok_within : IsCheckedWithin programme options bytes answer
+      → failed is_subtitle_fault answer ≡ false
+      → failed is_pes_read answer ≡ false
+      → IsAcceptedWithin national options file bytes
+      → IsOk answer
+  accepted-ok_within checked looked fine is =
+      let one : programme ≡ is.programme = let both = sym loads ∙ is.loads in cc in
+      ((subst (λ (p : ProgrammeValue). IsCheckedWithin p options bytes answer) one
+      checked).accepted looked fine).1 (is.frames, is.carries, is.good)
 
 -- Where the subtitle file gives a programme, an answer that failed at no device is accepted exactly
 -- where the files are: in these words.
