@@ -342,7 +342,8 @@ impl Listener {
         })
     }
 
-    // The rules that a packet of this kind, with this page header, breaks which comes now.
+    // The rules that a packet of this kind, with this page header, breaks which comes now. They are
+    // put into the set from the last of their order to the first.
     #[inline(always)]
     fn broken_rules(
         &self,
