@@ -1,20 +1,21 @@
-//! 64 and 256 bytes compared at once, a byte in each lane of a vector.
-ghost use Rattle.std.specs.Prelude.{◌≡◌, ◌↔◌, true};
+//! Blocks of bytes compared at once, a byte in each lane of a vector.
+ghost use Rattle.std.specs.Prelude.{◌≡◌, ◌↔◌, ◌≤◌, true};
 
 use std::simd::prelude::*;
 
 // Whether two blocks hold the same bytes.
 #[inline(always)]
-pub(super) fn is_same_block(a: &[u8; 64], b: &[u8; 64]) -> bool
+pub(super) fn is_same_block<const N: usize>(a: &[u8; N], b: &[u8; N]) -> bool
+    requires { N ≤ 64 }
     ensures { (result ≡ true) ↔ (a.now ≡ b.now) }
 {
-    u8x64::from_array(*a)
-        .simd_ne(u8x64::from_array(*b))
+    Simd::<u8, N>::from_array(*a)
+        .simd_ne(Simd::<u8, N>::from_array(*b))
         .to_bitmask()
         == 0
 }
 
-// The same of four times as many bytes: no branch stands between its quarters.
+// The same of 256 bytes: no branch stands between its quarters.
 #[inline(always)]
 pub(super) fn is_same_long_block(a: &[u8; 256], b: &[u8; 256]) -> bool
     ensures { (result ≡ true) ↔ (a.now ≡ b.now) }

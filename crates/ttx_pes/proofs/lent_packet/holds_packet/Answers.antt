@@ -1,5 +1,5 @@
 -- What its first six bytes say is what their definition reads: holds_read.
-use Rattle.std.proofs.Common.{◌≡◌, ◌≤◌, ◌∙◌, Err, Ok, ap, length, rules, sym, take}
+use Rattle.std.proofs.Common.{◌≡◌, ◌≤◌, ◌∙◌, Err, Ok, ap, length, rules, take}
 use Rattle.ttx_pes.specs.Reading.{size_at}
 use Rattle.ttx_pes.proofs.LentPacketLemmas.{holds_read}
 use Rattle.ttx_pes.proofs.lent_packet.holds_packet.Goals as goal
