@@ -161,7 +161,7 @@ impl HeldPacket {
         let (packet, _) = bytes.split_at(size);
         let (_, body) = packet.split_at(6);
         let (_, field) = body.split_at(39);
-        if !is_kept(self.field(before), field) {
+        if !is_same(field, self.field(before)) {
             return None;
         }
         match pts_of(body) {

@@ -12,7 +12,7 @@ returns-in-Ok c =
     let fit : AreBytes bytes = λ i. let fits = c.type_inv.bytes i in omega (arith, fits) in
     let told : size_at (take 6 bytes) ≡ Ok size = c.begins_with_size.ensures (search rules) in
     let body = c.split_at-2.ensures.back ∙ ap (drop 6) c.split_at.ensures.front in
-    let kept = c.is_kept.ensures.0 (search rules) ∙ c.field.ensures in
+    let kept = c.is_same.ensures.0 (search rules) ∙ c.field.ensures in
     record {
       again = sent_again bytes _ c.split_at-2.result.1.now c.split_at-3.result.1.now
           c.args.self.now size c.in-Ok.pts fit c.requires.held c.size-size.ensures (omega arith)
