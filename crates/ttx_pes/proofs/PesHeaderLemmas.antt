@@ -2,7 +2,7 @@
 -- lemmas: body_sound, body_complete.
 use Rattle.std.proofs.Common.{rules, ◌≡◌, ℕ, ◌-◌, ◌*◌, ◌/◌, ◌%◌, ◌^◌, ◌<◌, ◌≤◌, List, [], ◌∷◌, ◌++◌}
 use Rattle.std.proofs.Common.{length, get_or, take, drop, Ok, refl, sym, ap, ◌∙◌, append_assoc}
-use Rattle.std.proofs.Common.{arith, subst, length-append, length-take, length-drop}
+use Rattle.std.proofs.Common.{◌+◌, arith, nat_eq, subst, length-append, length-take, length-drop}
 use Rattle.std.proofs.lemmas.Bool.Decides.{nat_tests}
 use Rattle.std.proofs.lemmas.List.{drop_at, take-append-drop, drop_more, drop-drop, get_or_at}
 use Rattle.std.proofs.lemmas.List.{nil_from_length}
@@ -10,7 +10,8 @@ use Rattle.std.specs.Int.{bytes_high_first}
 use Rattle.sub_io.specs.Reading.{AreBytes}
 use Rattle.ttx_pes.specs.DataUnit.{UnitValue}
 use Rattle.ttx_pes.specs.PesPacket.{IsPesPacket, PesValue, packet_length, packet_start, pts_bytes}
-use Rattle.ttx_pes.specs.Reading.{pts_bits, pts_at, units_at, value_at, size_at, told_size}
+use Rattle.ttx_pes.specs.Reading.{is_start, pts_bits, pts_at, units_at, value_at, size_at}
+use Rattle.ttx_pes.specs.Reading.{told_size}
 use Rattle.ttx_pes.proofs.DataUnitLemmas.{AreBytes-drop, list_of_bytes, units_sound, units_complete}
 use Rattle.sub_io.proofs.ReadingLemmas.{step_gave, Ok-injective, given_as}
 
@@ -39,6 +40,16 @@ pub head_complete : (n : ℕ)
     → size_at (0 ∷ 0 ∷ 1 ∷ 189 ∷ bytes_high_first 2 (184 * n - 6)) ≡ Ok (184 * n)
 unfolding size_at
 head_complete n lo hi = grind (arith, nat_tests)
+
+-- The start by its word. For `is_start`.
+pub start_word : (b : List ℕ)
+    → ((i : ℕ) → get_or b i 0 < 256)
+    → nat_eq (get_or b 0 0 + 256 * (get_or b 1 0 + 256 * (get_or b 2 0
+    + 256 * (get_or b 3 0 + 256 * 0)))) 0xBD010000
+    ≡ is_start b
+start_word b fit =
+    let f0 = fit 0 in let f1 = fit 1 in let f2 = fit 2 in let f3 = fit 3 in
+    grind (arith, nat_tests)
 
 -- ---- the bytes after them
 

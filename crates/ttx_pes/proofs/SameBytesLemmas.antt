@@ -1,5 +1,5 @@
--- Slices compared in blocks: same_block for one, four_same for one of four, same_more and
--- same_more_long for the next, same_whole at the end.
+-- Slices compared in blocks: same_block for one, four_same for one of four, same_more_long for the
+-- next, same_whole at the end; payload_same for the data field of one payload.
 use Rattle.std.proofs.Common.{◌≡◌, ◌↔◌, ℕ, ◌+◌, ◌*◌, ◌≤◌, ◌^◌, ◌%◌, ◌-◌, Bool, true, List, []}
 use Rattle.std.proofs.Common.{◌∷◌, ◌++◌, map, length, take, drop, cond, nat_eq, refl, sym, ap}
 use Rattle.std.proofs.Common.{ap₂, ◌∙◌, ◌/◌, ◌<◌, ◌&&◌, arith, not, w8, eqb-true, eq-eqb}
@@ -28,13 +28,14 @@ same_from_none [] (y ∷ b) l e = absurd (omega arith)
 same_from_none (x ∷ a) b l e = grind (arith, nat_tests, same_from_none a)
 
 -- A mask without a bit says that two blocks are the same. For `is_same_block`.
-pub same_block : (a b : List ℕ)
-    → length a ≡ 64
-    → length b ≡ 64
+pub same_block : (n : ℕ) (a b : List ℕ)
+    → n ≤ 64
+    → length a ≡ n
+    → length b ≡ n
     → (nat_eq
     (mask_l (map (top 7) (zip2 (λ x y. cond (differ x y) (2 ^ 8 - 1) 0) a b)) % 2 ^ 64) 0 ≡ true)
     ↔ (a ≡ b)
-same_block a b la lb =
+same_block n a b few la lb =
     let size : length (zip2 differ a b) ≤ 64 = grind (arith, nat_tests, length-zip2) in
     let plain : mask_l (map (top 7) (zip2 (λ x y. cond (differ x y) (2 ^ 8 - 1) 0) a b)) % 2 ^ 64
     ≡ mask_l (zip2 differ a b) =
@@ -48,15 +49,6 @@ more : (n at : ℕ) (a b : List ℕ)
     → take (at + n) a ≡ take (at + n) b
 more n at a b front block = grind (arith, nat_tests, take-add at n a, take-add at n b)
 
--- A block of 64 more. For `is_same_by_blocks`.
-pub same_more : (a b : List ℕ) (i : ℕ)
-    → take (64 * i) a ≡ take (64 * i) b
-    → chunk (64 * i) 64 a ≡ chunk (64 * i) 64 b
-    → take (64 * (i + 1)) a ≡ take (64 * (i + 1)) b
-same_more a b i front block =
-    let e : 64 * i + 64 ≡ 64 * (i + 1) = omega arith in
-    rw (← e) (more 64 (64 * i) a b front block)
-
 -- A block of 256 more. For `is_same_by_long_blocks`.
 pub same_more_long : (a b : List ℕ) (i : ℕ)
     → take (256 * i) a ≡ take (256 * i) b
@@ -65,6 +57,17 @@ pub same_more_long : (a b : List ℕ) (i : ℕ)
 same_more_long a b i front block =
     let e : 256 * i + 256 ≡ 256 * (i + 1) = omega arith in
     rw (← e) (more 256 (256 * i) a b front block)
+
+-- Blocks up to a place, and all from a place that is not after it.
+pub same_whole : (a b : List ℕ) (m n : ℕ)
+    → m ≤ n
+    → take n a ≡ take n b
+    → drop m a ≡ drop m b
+    → a ≡ b
+same_whole a b m n le front back =
+    let first : take m a ≡ take m b =
+    sym (take-take m n a le) ∙ ap (take m) front ∙ take-take m n b le in
+    sym (take-append-drop m a) ∙ ap₂ (λ (x y : List ℕ). x ++ y) first back ∙ take-append-drop m b
 
 -- Four blocks of 64 are a block of 256.
 same_four : (a b : List ℕ)
@@ -114,16 +117,23 @@ four_same a b xs ys p q r s la lb of_a of_b is_p is_q is_r is_s = (
       rw (is_p.1 (each 0), is_q.1 (each 1), is_r.1 (each 2), is_s.1 (each 3)) refl,
 )
 
--- Blocks up to a place, and all from a place that is not after it.
-pub same_whole : (a b : List ℕ) (m n : ℕ)
-    → m ≤ n
-    → take n a ≡ take n b
-    → drop m a ≡ drop m b
+-- The first two blocks of 64 and the last 16 bytes are those of 139. For `is_same_payload`.
+pub payload_same : (a b : List ℕ) (xs ys : List (List ℕ))
+    → length a ≡ 139
+    → length b ≡ 139
+    → xs ≡ first_chunks 64 (length a / 64) a
+    → ys ≡ first_chunks 64 (length b / 64) b
+    → get_or xs 0 [] ≡ get_or ys 0 []
+    → get_or xs 1 [] ≡ get_or ys 1 []
+    → drop 123 a ≡ drop 123 b
     → a ≡ b
-same_whole a b m n le front back =
-    let first : take m a ≡ take m b =
-    sym (take-take m n a le) ∙ ap (take m) front ∙ take-take m n b le in
-    sym (take-append-drop m a) ∙ ap₂ (λ (x y : List ℕ). x ++ y) first back ∙ take-append-drop m b
+payload_same a b xs ys la lb of_a of_b first second last =
+    let block : (i : ℕ) → i < 2 → get_or xs i [] ≡ get_or ys i []
+    → chunk (64 * i) 64 a ≡ chunk (64 * i) 64 b =
+    λ i l e. sym (block_of xs 64 a i of_a (rw la l)) ∙ e ∙ block_of ys 64 b i of_b (rw lb l) in
+    let front = more 64 64 a b (more 64 0 a b refl (block 0 (omega arith) first))
+    (block 1 (omega arith) second) in
+    same_whole a b 123 128 (omega arith) front last
 
 -- For the loops over blocks.
-pub ruleset same_blocks = (block_at, same_more, same_more_long, same_whole)
+pub ruleset same_blocks = (block_at, same_more_long, same_whole)

@@ -12,7 +12,7 @@ use Rattle.ttx_pes.specs.Comparing.{TakesDataField}
 use Rattle.ttx_pes.specs.PesPacket.{PesValue}
 use Rattle.ttx_pes.specs.Reader.{TellsPacket}
 use Rattle.ttx_pes.specs.Reading.{most_packets, pts_at, size_at, value_at}
-use Rattle.ttx_pes.specs.Taking.{HeldValue, IsHeld, IsSentAgain, held_frame}
+use Rattle.ttx_pes.specs.Taking.{HeldValue, IsFieldSize, IsHeld, IsSentAgain, held_frame}
 use Rattle.ttx_pes.proofs.DataUnitLemmas.{AreBytes-drop, AreBytes-take}
 use Rattle.ttx_pes.proofs.KeptFrameLemmas.{IsBody, held_again}
 use Rattle.ttx_pes.proofs.TakingLemmas.{settled_field, settles_as, tells_settled, whole_settles}
@@ -23,16 +23,17 @@ pub sent_again : (bytes before body field : List ℕ) (h : HeldValue) (size t : 
     → IsHeld before h
     → size ≡ h.count + 45
     → size ≤ length bytes
-    → 184 ≤ size
-    → size ≤ 1656
-    → size % 184 ≡ 0
+    → IsFieldSize h.count
     → size_at (take 6 bytes) ≡ Ok size
     → body ≡ drop 6 (take size bytes)
     → field ≡ drop 39 body
     → field ≡ before
     → pts_at body ≡ Ok t
     → IsSentAgain before h bytes t
-sent_again bytes before body field h size t fit held e le long short whole told is same kept time =
+sent_again bytes before body field h size t fit held e le field_size told is same kept time =
+    let long : 184 ≤ size = omega (arith, e, field_size.long) in
+    let short : size ≤ 1656 = rw e held.short in
+    let whole : size % 184 ≡ 0 = rw e field_size.whole in
     let len : length (take size bytes) ≡ size = length-take-le size bytes le in
     let six : length body + 6 ≡ size =
     omega (arith, len, ap length is, length-drop 6 (take size bytes), long) in

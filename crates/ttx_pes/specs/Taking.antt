@@ -1,13 +1,12 @@
 -- How the bytes of a packet are taken from a source, in few pulls: words of private clauses alone.
-use Rattle.std.specs.Prelude.{◌≡◌, ℕ, zero, suc, ◌+◌, ◌*◌, ◌/◌, ◌<◌, ◌≤◌, List, [], ◌∷◌, ◌++◌}
-use Rattle.std.specs.Prelude.{length, take, drop, slice_index, if◌then◌else◌, Bool, Option, Result}
-use Rattle.std.specs.Prelude.{MatchResult}
-use Rattle.std.specs.Prelude.{Ok}
+use Rattle.std.specs.Prelude.{◌≡◌, ℕ, zero, suc, ◌+◌, ◌*◌, ◌/◌, ◌%◌, ◌<◌, ◌≤◌, List, [], ◌∷◌}
+use Rattle.std.specs.Prelude.{◌++◌, length, take, drop, slice_index, if◌then◌else◌, Bool, Option}
+use Rattle.std.specs.Prelude.{MatchResult, Ok, Result}
 use Rattle.std.specs.Io.KnownBytes.{Consumes, IsAtEnd}
 use Rattle.sub_io.specs.Reading.{◌>>=◌, AreBytes}
 use Rattle.ttx_pes.specs.declared.fault.PesFault.{PesFault}
 use Rattle.ttx_pes.specs.DataUnit.{UnitValue, data_unit_size, is_teletext}
-use Rattle.ttx_pes.specs.PesPacket.{IsPesValue, PesValue, longest_packet}
+use Rattle.ttx_pes.specs.PesPacket.{IsPesValue, PesValue, longest_packet, payload_size}
 use Rattle.ttx_pes.specs.Reading.{packet_at, size_at, units_at, value_at}
 use Rattle.ttx_pes.specs.SentUnits.{AreWithin, sent_units}
 
@@ -73,6 +72,11 @@ abbrev pub AreSameHeads : List ℕ → List ℕ → Type 0
 AreSameHeads a b =
     (k : ℕ) → data_unit_size * k + 1 + data_unit_size ≤ length a
     → IsSameHead a b (data_unit_size * k + 1)
+
+-- The data field of a packet, bytes 45 to the end, may have so many bytes.
+pub record IsFieldSize (count : ℕ) : Type 0 where
+  pub long : 139 ≤ count
+  pub whole : (count + 45) % payload_size ≡ 0
 
 -- What is known of the packet at the front of a room: its PTS, how many bytes its data field has,
 -- and where the data units of its Teletext units begin in it.

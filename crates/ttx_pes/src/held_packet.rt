@@ -6,12 +6,12 @@ ghost use Rattle.ttx_pes.specs.DataUnit.{data_unit_size};
 ghost use Rattle.ttx_pes.specs.PesPacket.{IsPesValue, longest_packet, payload_size};
 ghost use Rattle.ttx_pes.specs.Reading.{size_at, units_at, value_at, is_format_fault};
 ghost use Rattle.ttx_pes.specs.SentUnits.{AreWithin, sent_units};
-ghost use Rattle.ttx_pes.specs.Taking.{AreAllPlaces, HasUnits, IsHeld, IsSentAgain, field_in};
-ghost use Rattle.ttx_pes.specs.Taking.{held_frame, no_packet};
+ghost use Rattle.ttx_pes.specs.Taking.{AreAllPlaces, HasUnits, IsFieldSize, IsHeld, IsSentAgain};
+ghost use Rattle.ttx_pes.specs.Taking.{field_in, held_frame, no_packet};
 
 use crate::fault::PesFault;
 use crate::packet_bytes::Room;
-use crate::pes_header::{pts_of, size_of};
+use crate::pes_header::{is_start, length_of, pts_of};
 use crate::same_bytes::{begin_alike, is_same};
 use crate::same_heads::are_same_heads;
 use crate::sent_units::SentUnits;
@@ -33,15 +33,19 @@ pub(crate) struct HeldPacket {
 }
 
 impl Model for HeldPacket {
-    ghost use Rattle.ttx_pes.specs.Taking.{HeldValue};
+    ghost use Rattle.std.specs.Prelude.{◌≡◌, true};
+    ghost use Rattle.ttx_pes.specs.Taking.{HeldValue, IsFieldSize};
 
     ghost Value = { HeldValue };
 
     ghost view = { λ h. record { pts = h.pts; count = h.count; places = h.places } };
+
+    ghost invariant = { λ h. h.repeats ≡ true → IsFieldSize h.count };
 }
 
 // Makes the places, which are those of the data field that is kept, those of another. Mostly its
 // data units begin as those that are kept, on the same lines of each frame: then they stand.
+#[inline(always)]
 fn find_places(places: &mut UnitPlaces, kept: &[u8], field: &[u8]) -> Result<(), PesFault>
     requires within { AreWithin (length kept.now) places.old }
     requires units { HasUnits kept.now (sent_units kept.now places.old) }
@@ -65,24 +69,23 @@ fn find_places(places: &mut UnitPlaces, kept: &[u8], field: &[u8]) -> Result<(),
 }
 
 // Whether bytes begin as a packet of that size does.
+#[tactic(auto, unfolding(crate::specs::Reading::size_at))]
 fn begins_with_size(bytes: &[u8], size: usize) -> bool
-    ensures { result ≡ true → (size_at (take 6 bytes.now) ≡ Ok size)
-        × (payload_size ≤ size) × (size ≤ longest_packet) × (size % payload_size ≡ 0) }
+    requires short { size ≤ longest_packet }
+    requires whole { size % payload_size ≡ 0 }
+    ensures { result ≡ true → size_at (take 6 bytes.now) ≡ Ok size }
 {
     let Some(head) = bytes.first_chunk() else {
         return false;
     };
-    match size_of(head) {
-        Ok(told) => told == size,
-        Err(_) => false,
-    }
+    is_start(head) && length_of(head) as usize + 6 == size
 }
 
 // Whether a data field is the one that is kept. One that is not is mostly another in its first
-// eight bytes, or in its last ones.
+// eight bytes, or in those that are compared next.
 #[inline(always)]
 fn is_kept(kept: &[u8], field: &[u8]) -> bool
-    requires { 139 ≤ length field.now }
+    requires { IsFieldSize (length field.now) }
     ensures { (result ≡ true) ↔ (field.now ≡ kept.now) }
 {
     kept.len() == field.len() && begin_alike(field, kept) && is_same(field, kept)
@@ -136,7 +139,9 @@ impl HeldPacket {
     // Whether the packet was the one before, sent again, so that the next one may be too. Nothing
     // but the way in which that is read depends on it.
     #[inline(always)]
-    pub(crate) fn repeats(&self) -> bool {
+    pub(crate) fn repeats(&self) -> bool
+        ensures { result ≡ true → IsFieldSize self.now.count }
+    {
         self.repeats
     }
 
@@ -145,6 +150,7 @@ impl HeldPacket {
     #[inline(always)]
     pub(crate) fn pts_again(&self, before: &Room, bytes: &[u8]) -> Option<u64>
         requires held { IsHeld (field_in self.now.count before.now) self.now }
+        requires size { IsFieldSize self.now.count }
         ensures again { IfSome result (λ pts.
             IsSentAgain (field_in self.now.count before.now) self.now bytes.now pts) }
     {
@@ -155,7 +161,7 @@ impl HeldPacket {
         let (packet, _) = bytes.split_at(size);
         let (_, body) = packet.split_at(6);
         let (_, field) = body.split_at(39);
-        if !is_kept(self.field(before), field) {
+        if !is_same(field, self.field(before)) {
             return None;
         }
         match pts_of(body) {
@@ -185,6 +191,7 @@ impl HeldPacket {
 
     // Makes it what is known of a packet by its bytes from byte 6 on, and answers whether their
     // data field is the one of the packet before, in that one's room.
+    #[inline(always)]
     #[tactic(auto, unfolding(crate::specs::Reading::value_at))]
     pub(crate) fn take(&mut self, before: &Room, body: &[u8]) -> Result<bool, PesFault>
         requires held { IsHeld (field_in self.old.count before.now) self.old }

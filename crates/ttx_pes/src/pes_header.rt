@@ -5,12 +5,12 @@ ghost use Rattle.std.specs.Prelude.{slice_index, IfOk, IfErr};
 ghost use Rattle.ttx_pes.specs.Fault.{is_of_piece};
 ghost use Rattle.ttx_pes.specs.PesPacket.{header_size, longest_packet, payload_size};
 ghost use Rattle.ttx_pes.specs.PesPacket.{pes_packet_header, pts_bytes};
-ghost use Rattle.ttx_pes.specs.Reading.{pts_at, size_at, is_format_fault};
+ghost use Rattle.ttx_pes.specs.Reading.{is_start, pts_at, size_at, is_format_fault};
 
 use crate::fault::PesFault;
 use crate::writer::{Bytes, add};
 use arrayvec::ArrayVec;
-use byteorder::{BigEndian, ByteOrder};
+use byteorder::{BigEndian, ByteOrder, LittleEndian};
 
 /// The bytes of a payload: a packet fills 1 to 9 of them.
 pub(crate) const PAYLOAD: usize = 184;
@@ -27,7 +27,7 @@ pub(crate) fn size_of(head: &[u8; 6]) -> Result<usize, PesFault>
     ensures range { IfOk result (λ size.
         (payload_size ≤ size) × (size ≤ longest_packet) × (size % payload_size ≡ 0)) }
 {
-    if head[0] != 0 || head[1] != 0 || head[2] != 1 || head[3] != 0xBD {
+    if !is_start(head) {
         return Err(PesFault::Start);
     }
     let size = length_of(head) as usize + 6;
@@ -37,8 +37,16 @@ pub(crate) fn size_of(head: &[u8; 6]) -> Result<usize, PesFault>
     Ok(size)
 }
 
+// Whether they are the start of a packet with private data, compared as one word.
+#[tactic(auto, using(crate::proofs::PesHeaderLemmas::start_word))]
+pub(crate) fn is_start(head: &[u8; 6]) -> bool
+    ensures { result ≡ is_start head.now }
+{
+    LittleEndian::read_u32(head) == 0xBD01_0000
+}
+
 // PES_packet_length.
-fn length_of(head: &[u8; 6]) -> u16
+pub(crate) fn length_of(head: &[u8; 6]) -> u16
     ensures { result ≡ 0x100 * slice_index head.now 4 + slice_index head.now 5 }
 {
     BigEndian::read_u16(&head[4..])

@@ -1,10 +1,14 @@
-//! Whether the bytes of two slices are the same, found by blocks of 256 or 64.
+//! Whether the bytes of two slices are the same, found by blocks.
 ghost use Rattle.std.specs.Prelude.{◌≡◌, ◌↔◌, ◌≤◌, length, true};
+ghost use Rattle.ttx_pes.specs.Taking.{IsFieldSize};
 
 mod lanes;
 
 use self::lanes::{is_same_block, is_same_long_block};
 use byteorder::{ByteOrder, LittleEndian};
+
+// The bytes of a data field in a packet of one payload.
+const ONE_PAYLOAD: usize = 139;
 
 // Whether two slices have the same first eight bytes.
 #[inline(always)]
@@ -16,42 +20,43 @@ pub(crate) fn begin_alike(a: &[u8], b: &[u8]) -> bool
     LittleEndian::read_u64(a) == LittleEndian::read_u64(b)
 }
 
-// Whether two slices of one length hold the same bytes.
+// Whether two data fields of one length hold the same bytes. (It is called from where the room is
+// chosen: inlined there it loads each byte of both rooms.)
+#[inline(never)]
 pub(crate) fn is_same(a: &[u8], b: &[u8]) -> bool
-    requires long { 64 ≤ length a.now }
+    requires size { IsFieldSize (length a.now) }
     requires length { length a.now ≡ length b.now }
     ensures { (result ≡ true) ↔ (a.now ≡ b.now) }
 {
-    if a.len() < 256 {
-        is_same_by_blocks(a, b)
+    if a.len() == ONE_PAYLOAD {
+        is_same_payload(a, b)
     } else {
         is_same_by_long_blocks(a, b)
     }
 }
 
-// Whether bytes are equal, by blocks of 64. The last one takes in bytes of the one before it, so
-// that none is left over; it is compared first, since of subtitles the last row is mostly another.
+// Whether the data fields of one payload are equal. Their second 64 bytes are compared first: of
+// subtitles the text of the row stands there.
 #[inline(always)]
-#[tactic(auto, using(crate::proofs::SameBytesLemmas::same_blocks))]
-fn is_same_by_blocks(a: &[u8], b: &[u8]) -> bool
-    requires long { 64 ≤ length a.now }
-    requires length { length a.now ≡ length b.now }
+#[tactic(auto, using(crate::proofs::SameBytesLemmas::payload_same))]
+fn is_same_payload(a: &[u8], b: &[u8]) -> bool
+    requires a { length a.now ≡ 139 }
+    requires b { length b.now ≡ 139 }
     ensures { (result ≡ true) ↔ (a.now ≡ b.now) }
 {
     let (a_blocks, _) = a.as_chunks::<64>();
     let (b_blocks, _) = b.as_chunks::<64>();
-    if !is_same_block(a.last_chunk().unwrap(), b.last_chunk().unwrap()) {
+    if !is_same_block(&a_blocks[1], &b_blocks[1]) {
         return false;
     }
-    for i in 0..a_blocks.len() {
-        if !is_same_block(&a_blocks[i], &b_blocks[i]) {
-            return false;
-        }
+    if !is_same_block(&a_blocks[0], &b_blocks[0]) {
+        return false;
     }
-    true
+    is_same_block::<16>(a.last_chunk().unwrap(), b.last_chunk().unwrap())
 }
 
-// Whether bytes are equal, by blocks of 256.
+// Whether bytes are equal, by blocks of 256. The last one takes in bytes of the one before it, so
+// that none is left over; it is compared first, since of subtitles the last row is mostly another.
 #[inline(always)]
 #[tactic(auto, using(crate::proofs::SameBytesLemmas::same_blocks))]
 fn is_same_by_long_blocks(a: &[u8], b: &[u8]) -> bool

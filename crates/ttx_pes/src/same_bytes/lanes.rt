@@ -1,15 +1,16 @@
-//! 64 and 256 bytes compared at once, a byte in each lane of a vector.
-ghost use Rattle.std.specs.Prelude.{◌≡◌, ◌↔◌, true};
+//! Blocks of bytes compared at once, a byte in each lane of a vector.
+ghost use Rattle.std.specs.Prelude.{◌≡◌, ◌↔◌, ◌≤◌, true};
 
 use std::simd::prelude::*;
 
 // Whether two blocks hold the same bytes.
 #[inline(always)]
-pub(super) fn is_same_block(a: &[u8; 64], b: &[u8; 64]) -> bool
+pub(super) fn is_same_block<const N: usize>(a: &[u8; N], b: &[u8; N]) -> bool
+    requires { N ≤ 64 }
     ensures { (result ≡ true) ↔ (a.now ≡ b.now) }
 {
-    u8x64::from_array(*a)
-        .simd_ne(u8x64::from_array(*b))
+    Simd::<u8, N>::from_array(*a)
+        .simd_ne(Simd::<u8, N>::from_array(*b))
         .to_bitmask()
         == 0
 }

@@ -1,5 +1,5 @@
 -- What is known of the packet that is sent again: sent_again.
-use Rattle.std.proofs.Common.{ap, ◌∙◌, ◌≡◌, ◌%◌, ◌≤◌, take, drop, Ok, arith, rules}
+use Rattle.std.proofs.Common.{ap, ◌∙◌, ◌≡◌, take, drop, Ok, arith, rules}
 use Rattle.sub_io.specs.Reading.{AreBytes}
 use Rattle.ttx_pes.specs.Reading.{size_at}
 use Rattle.ttx_pes.proofs.SentAgainLemmas.{sent_again}
@@ -10,12 +10,11 @@ returns-in-Ok c =
     let bytes = c.args.bytes.now in
     let size = c.size-size.result in
     let fit : AreBytes bytes = λ i. let fits = c.type_inv.bytes i in omega (arith, fits) in
-    let told : (size_at (take 6 bytes) ≡ Ok size) × (184 ≤ size) × (size ≤ 1656)
-    × (size % 184 ≡ 0) = c.begins_with_size.ensures (search rules) in
+    let told : size_at (take 6 bytes) ≡ Ok size = c.begins_with_size.ensures (search rules) in
     let body = c.split_at-2.ensures.back ∙ ap (drop 6) c.split_at.ensures.front in
-    let kept = c.is_kept.ensures.0 (search rules) ∙ c.field.ensures in
+    let kept = c.is_same.ensures.0 (search rules) ∙ c.field.ensures in
     record {
       again = sent_again bytes _ c.split_at-2.result.1.now c.split_at-3.result.1.now
           c.args.self.now size c.in-Ok.pts fit c.requires.held c.size-size.ensures (omega arith)
-          told.1 told.2 told.3 told.0 body c.split_at-3.ensures.back kept c.in-Ok.ensures.exact;
+          c.requires.size told body c.split_at-3.ensures.back kept c.in-Ok.ensures.exact;
     }

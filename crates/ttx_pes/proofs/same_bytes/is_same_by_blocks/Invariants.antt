@@ -1,6 +1,0 @@
--- The blocks before this one are the same.
-use Rattle.std.proofs.Common.{◌≡◌, ◌*◌, take}
-use Rattle.ttx_pes.proofs.same_bytes.is_same_by_blocks.Given as goal
-
-abbrev pub invariant-loop-i : goal.invariant-loop-i
-invariant-loop-i l = take (64 * l.i) l.a ≡ take (64 * l.i) l.b
