@@ -219,6 +219,28 @@ impl<'a> Checker<'a> {
         ensures ended { (heard : List (List ℕ)) → Knows heard self.old.listener
             → OnOk result (self.new ≡ after_end heard self.old) }
     {
+        // Most ends are quiet, and each costs something: so those at which the page has to be whole
+        // stand by themselves.
+        if self.within == 0 && self.is_quiet() {
+            self.end_quietly(stage);
+            return Ok(());
+        }
+        self.end_otherwise(stage)
+    }
+
+    // The same, wherever it is not that one.
+    #[inline(never)]
+    fn end_otherwise<A: Audience<Event>>(&mut self, stage: &mut Stage<'_, A>) -> Result<(), Stopped>
+        requires goes_on { A.has_stopped stage.old.device.now ≡ false }
+        ensures stopped { A.has_stopped stage.new.device.now ≡ is_err result }
+        ensures moves { Moves A.is_told A.has_stopped stage.old stage.new }
+        ensures counts { self.new.counts ≡ self.old.counts }
+        ensures latest { self.new.latest ≡ self.old.latest }
+        ensures told { (heard : List (List ℕ)) → Knows heard self.old.listener
+            → PassesOn A.is_told stage.old (end_marks heard self.old) stage.new result }
+        ensures ended { (heard : List (List ℕ)) → Knows heard self.old.listener
+            → OnOk result (self.new ≡ after_end heard self.old) }
+    {
         if self.is_quiet() {
             self.end_quietly(stage);
             return Ok(());
