@@ -40,7 +40,7 @@ impl StandingRules {
         ensures is_none { IsTrue result ↔ (self.now ≡ none_stands) }
         ensures none { result ≡ stands_none (as_standing self.now) }
     {
-        self.content.is_none() && !self.gap && !self.incomplete
+        self.content.is_none() & !self.gap & !self.incomplete
     }
 
     /// Tells what changes from an end of a frame `before`, where these stood, to one of another
