@@ -7,7 +7,7 @@ ghost use Rattle.sub_rules.specs.PieceEvents.{closing_of_pieces, marks_of_closin
 ghost use Rattle.sub_rules.specs.Transmission.{Transmission};
 ghost use Rattle.sub_rules.specs.Trusted.{tells_none};
 ghost use Rattle.sub_checker.specs.Following.{Follows, Keeps, last_marks};
-ghost use Rattle.sub_checker.specs.Passing.{Moves, PassesOn};
+ghost use Rattle.sub_checker.specs.Passing.{Moves, StagePasses};
 ghost use Rattle.sub_checker.specs.PieceTelling.{ending_at, finished};
 ghost use Rattle.sub_checker.specs.Steps.{FinishesTelling, ending_fault};
 ghost use Rattle.sub_checker.specs.Telling.{CountsRead};
@@ -85,7 +85,7 @@ fn end_and_close<A: Audience<Event>>(
     ensures told { (g : Task) (list : Transmission) (last : List (List ℕ))
         → Keeps g list last checker.old
         → fault ≡ ending_fault pes g.unread
-        → PassesOn A.is_told stage.old (last_marks g list pes) stage.new result }
+        → StagePasses A.is_told stage.old (last_marks g list pes) stage.new result }
 {
     checker.end_waiting(stage)?;
     close(checker, pes, fault, stage)
@@ -105,7 +105,7 @@ fn close<A: Audience<Event>>(
     ensures told { (g : Task) (list : Transmission) (last : List (List ℕ))
         → Follows g list (length list) last checker.now
         → fault ≡ ending_fault pes g.unread
-        → PassesOn A.is_told stage.old (marks_of_closing g list pes (length list)) stage.new
+        → StagePasses A.is_told stage.old (marks_of_closing g list pes (length list)) stage.new
         result }
 {
     stage.go_to(pes);

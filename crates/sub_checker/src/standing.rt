@@ -40,6 +40,7 @@ impl StandingRules {
         ensures is_none { IsTrue result ↔ (self.now ≡ none_stands) }
         ensures none { result ≡ stands_none (as_standing self.now) }
     {
+        // One test for all three, since it is asked at each end.
         self.content.is_none() & !self.gap & !self.incomplete
     }
 

@@ -12,7 +12,7 @@ ghost use Rattle.sub_rules.specs.Fault.{is_pes_read};
 ghost use Rattle.sub_rules.specs.FrameRules.{Unread, task_of};
 ghost use Rattle.sub_rules.specs.Pieces.{FailsAtPiece, Piece, ReadsPieces, frames_of};
 ghost use Rattle.sub_rules.specs.Trusted.Mark.{AtPes, Says};
-ghost use Rattle.sub_checker.specs.Passing.{PassesOn};
+ghost use Rattle.sub_checker.specs.Passing.{StagePasses};
 ghost use Rattle.sub_checker.specs.PieceTelling.{TellsPieces};
 
 use crate::checker::Checker;
@@ -99,8 +99,7 @@ pub fn tell_pieces<S: Source, A: LiveAudience<Event>>(
             },
             NextPiece::Sent(sending) => {
                 let units = units_of(&reader);
-                let sending = after_piece(passed, sending);
-                match checker.go_on(pes, sending, &units, &mut stage) {
+                match checker.go_on(pes, after_piece(passed, sending), &units, &mut stage) {
                     Err(_) => return Ok(None),
                     Ok(()) => passed = false,
                 }
@@ -131,7 +130,7 @@ fn tell_passed<A: Audience<Event>>(
     ensures same { stage.new.device.ghost_name ≡ stage.old.device.ghost_name }
     ensures stopped { A.has_stopped stage.new.device.now ≡ is_err result }
     ensures some { TellsSome A.is_told stage.old.device.now stage.new.device.now }
-    ensures told { PassesOn A.is_told stage.old (AtPes pes ∷ Says (Event.Told fault) ∷ [])
+    ensures told { StagePasses A.is_told stage.old (AtPes pes ∷ Says (Event.Told fault) ∷ [])
         stage.new result }
     ensures day { OnOk result (stage.new.passing.trust.last ≡ stage.old.passing.trust.last) }
 {

@@ -18,7 +18,7 @@ pub returns-clause-told : goal.returns-clause-told
 returns-clause-told g c = λ task list last keeps is.
     let first = c.in_ok-end_and_close.ensures.told task list last keeps is in
     TellsUntilStopped-after _ _ _ _ _ c.tell_some.result first.told
-    (subst (λ (es : List Event). TellsUntilStopped g.A.Audience.is_told c.end_and_close.new.stage.device.now
-    c.tell_some.new.audience es c.tell_some.result)
+    (subst (λ (es : List Event). TellsUntilStopped g.A.Audience.is_told
+    c.end_and_close.new.stage.device.now c.tell_some.new.audience es c.tell_some.result)
     (c.ended.ensures ∙ ap (λ (p : Passing). ended_run p.run) first.kept)
     c.tell_some.ensures.told)

@@ -184,10 +184,10 @@ returns-in-Err-go_on-clause-exact g c = λ pieces unread bytes told reads.
     let next : ReadsPiece (clock_of c.args.options.now) c.pieces.pes i.1.rest i.1.ahead unread
     (Sent s) = at.0 in
     let units = c.units_of-units.ensures.value in
-    let same : sent_as c.after_piece-sending.result c.units_of-units.result ≡ s =
-    rw (c.after_piece-sending.ensures.frame, units) refl in
+    let same : sent_as c.after_piece.result c.units_of-units.result ≡ s =
+    rw (c.after_piece.ensures.frame, units) refl in
     let go = c.in-Err-go_on.ensures.told task (frames_sent task i.0) i.2 i.3.keeps
-    (λ e. let both = c.after_piece-sending.ensures.again e in
+    (λ e. let both = c.after_piece.ensures.again e in
     i.4 both.1
     ∙ ap packets_of_units (sym (here.again c.in-Sent.sending given both.0) ∙ sym units)) in
     let device = c.in-Err-go_on.ensures.moves.same ∙ c.pieces.invariant.same in
@@ -277,11 +277,11 @@ pieces-preserved g c =
                 let next : ReadsPiece (clock_of c.args.options.now) c.pieces.pes i.1.rest i.1.ahead
                 unread (Sent s) = at.0 in
                 let units = w.units_of-units.ensures.value in
-                let same : sent_as w.after_piece-sending.result w.units_of-units.result ≡ s =
-                rw (w.after_piece-sending.ensures.frame, units) refl in
+                let same : sent_as w.after_piece.result w.units_of-units.result ≡ s =
+                rw (w.after_piece.ensures.frame, units) refl in
                 let go =
                 w.in-Ok-go_on.ensures.told task (frames_sent task i.0) i.2 i.3.keeps
-                (λ e. let both = w.after_piece-sending.ensures.again e in
+                (λ e. let both = w.after_piece.ensures.again e in
                 i.4 both.1
                 ∙ ap packets_of_units (sym (here.again w.in-Sent.sending given both.0)
                 ∙ sym units)) in
