@@ -10,7 +10,7 @@ use Rattle.std.specs.List.{list_any}
 use Rattle.sub_plan.specs.Schedule.{due_in}
 use Rattle.ttx_page.specs.PacketKind.{kind}
 use Rattle.ttx_page.specs.Span.{holds_header}
-use Rattle.sub_checker.specs.Checker.{CheckerValue, Hears, after_end, as_standing, counted}
+use Rattle.sub_checker.specs.Checker.{CheckerValue, HasHeard, after_end, as_standing, after_headers}
 use Rattle.sub_checker.specs.Checker.{end_marks, later_by, stands}
 use Rattle.sub_checker.specs.Following.{Arrives, Follows, Heard, Remembers}
 use Rattle.sub_rules.specs.Events.{covers, first_header_events, is_gap, packets_told}
@@ -50,7 +50,7 @@ late_core due before has late frame every f is = grind (arith, nat_tests)
 module _ (g : Task) (frames : Transmission) (n : ℕ) (last ps : List (List ℕ)) (c d : CheckerValue)
     (arrives : Arrives g frames n last c) (there : n < length frames)
     (are : packets_of_frame frames n ≡ ps)
-    (hears : Hears (packets_before frames n) ps c d)
+    (hears : HasHeard (packets_before frames n) ps c d)
   where
     -- The packets up to there.
     joined : packets_before frames n ++ ps ≡ packets_before frames (suc n)
@@ -68,7 +68,7 @@ module _ (g : Task) (frames : Transmission) (n : ℕ) (last ps : List (List ℕ)
         grind (arith, holds-count)
 
     abbrev here : CheckerValue
-    here = counted hears.headers (record c { listener = hears.listener })
+    here = after_headers hears.headers (record c { listener = hears.listener })
 
     known_then : Remembers g frames (suc n) ps here
     known_then =

@@ -8,8 +8,8 @@ use Rattle.std.proofs.lemmas.List.Folds.{list_any-append, list_any_more}
 use Rattle.std.specs.List.{list_any}
 use Rattle.ttx_page.specs.PacketKind.{is_this_page, kind}
 use Rattle.ttx_page.specs.Span.{holds_header}
-use Rattle.sub_checker.specs.Checker.{CheckerValue, Hears, counted}
-use Rattle.sub_checker.specs.Following.{Heard, Opens, Remembers, since_before}
+use Rattle.sub_checker.specs.Checker.{CheckerValue, HasHeard, after_headers}
+use Rattle.sub_checker.specs.Following.{Heard, StaysOpen, Remembers, since_before}
 use Rattle.sub_rules.specs.Events.{covers, end_before, is_gap, latest, packets_told}
 use Rattle.sub_rules.specs.Events.{standing_before}
 use Rattle.sub_rules.specs.FrameRules.{Task, frame_at, packets_before, packets_of_frame}
@@ -33,7 +33,7 @@ use Rattle.sub_checker.proofs.HearingLemmas.{late_core}
 -- What comes of them, by what is kept. For `take_more`.
 pub more_are :
     (g : Task) (sent : Transmission) (n : ℕ) (last ps : List (List ℕ)) (c : CheckerValue)
-    → Opens g sent n last c
+    → StaysOpen g sent n last c
     → length sent ≡ suc n
     → marks_of_more g sent ps
     ≡ map Says (packets_told c.listener.watched c.frame c.counts.packets
@@ -49,7 +49,7 @@ either a b h l = grind (arith, nat_tests)
 
 module _ (g : Task) (sent : Transmission) (n : ℕ) (last ps : List (List ℕ)) (c d : CheckerValue)
     (is : Heard g sent n last c) (all : length sent ≡ suc n)
-    (hears : Hears (packets_before sent (suc n)) ps c d)
+    (hears : HasHeard (packets_before sent (suc n)) ps c d)
   where
     abbrev longer : Transmission
     longer = with_packets ps sent
@@ -103,7 +103,7 @@ module _ (g : Task) (sent : Transmission) (n : ℕ) (last ps : List (List ℕ)) 
         ∙ ap (nat_lt 0) (sym hears.count))
 
     abbrev here : CheckerValue
-    here = counted hears.headers (record c { listener = hears.listener })
+    here = after_headers hears.headers (record c { listener = hears.listener })
 
     known_then : Remembers g longer (suc n) ps here
     known_then =
@@ -182,7 +182,7 @@ module _ (g : Task) (sent : Transmission) (n : ℕ) (last ps : List (List ℕ)) 
         → c.counts.headers_before ≡ header_count g.watched.page (packets_before sent n)
         → c.counts.packets ≡ length (packets_of_frame sent n)
         → k ≡ c.counts.packets + length ps
-        → Opens g longer n ps e
+        → StaysOpen g longer n ps e
     opens_more e k e_is before packets sum = record {
       heard = heard_more e k e_is;
       before =

@@ -2,7 +2,7 @@
 -- `waiting_some`; whether one goes on with the frame before, `goes_on_is`; what comes of one of
 -- another frame, `arrived`, `next_is`; and what is kept then, `more_keeps`, `next_keeps`.
 use Rattle.std.proofs.lemmas.Bool.Decides.{nat_tests}
-use Rattle.std.proofs.Common.{◌≡◌, ℕ, zero, suc, ◌+◌, ◌-◌, ◌<◌, ◌≤◌, ◌==◌, Bool, ◌&&◌, not, true}
+use Rattle.std.proofs.Common.{◌≡◌, ℕ, zero, suc, ◌+◌, ◌-◌, ◌<◌, ◌==◌, Bool, ◌&&◌, not, true}
 use Rattle.std.proofs.Common.{false, cond, List, [], ◌∷◌, ◌++◌, length, map, refl, sym, ap, ◌∙◌}
 use Rattle.std.proofs.Common.{subst, arith, append_assoc, length-append, Result}
 use Rattle.std.specs.Prelude.{OnOk}
@@ -10,10 +10,9 @@ use Rattle.std.proofs.lemmas.Bool.{true≢false}
 use Rattle.std.proofs.lemmas.List.{append-nil}
 use Rattle.ttx_page.specs.PacketKind.{kind}
 use Rattle.ttx_page.specs.Span.{holds_header}
-use Rattle.sub_rules.specs.Events.{first_header_events, latest, standing_at}
+use Rattle.sub_rules.specs.Events.{first_header_events, standing_at}
 use Rattle.sub_rules.specs.FrameRules.{Task, end_frame, frame_at, packets_before}
 use Rattle.sub_rules.specs.FrameRules.{packets_of_frame}
-use Rattle.sub_rules.specs.PacketRules.{header_count}
 use Rattle.sub_rules.specs.PieceEvents.{marks_at_end, marks_of_arrival, marks_of_ending}
 use Rattle.sub_rules.specs.PieceEvents.{marks_of_more}
 use Rattle.sub_rules.specs.PieceEvents.{marks_of_packets, marks_of_sent, marks_of_waiting}
@@ -24,13 +23,10 @@ use Rattle.sub_rules.specs.Transmission.{SentFrame, Transmission}
 use Rattle.sub_rules.specs.Trusted.{Mark, stands_none}
 use Rattle.sub_rules.specs.Trusted.Mark.{AtPes, Begins, Ends, Says}
 use Rattle.sub_rules.specs.declared.event.Event.{Event}
-use Rattle.sub_checker.specs.Checker.{AreFew, CheckerValue, Hears, counted}
-use Rattle.sub_checker.specs.Following.{Arrives, Follows, Heard, Keeps, Opens, next_marks}
+use Rattle.sub_checker.specs.Checker.{AreFew, CheckerValue, HasHeard, after_headers}
+use Rattle.sub_checker.specs.Following.{Arrives, Follows, Heard, Keeps, StaysOpen, next_marks}
 use Rattle.sub_checker.specs.Following.{reaching_marks}
 use Rattle.sub_checker.specs.Passing.{at_mark}
-use Rattle.sub_checker.specs.Steps.{AreCounted}
-use Rattle.sub_checker.specs.Telling.{CountsRead}
-use Rattle.sub_checker.specs.declared.telling.Accepted.{Accepted}
 use Rattle.sub_checker.specs.declared.counts.Counts.{Counts}
 use Rattle.sub_checker.specs.declared.passing.Stage.{Stage}
 use Rattle.sub_checker.specs.declared.passing.Passing.{Passing}
@@ -61,14 +57,14 @@ pub Keeps-open : (g : Task) (sent : Transmission) (n : ℕ) (last : List (List �
     → c.counts.is_open ≡ true
     → 0 < g.within
     → length sent ≡ suc n
-    → Opens g sent n last c
+    → StaysOpen g sent n last c
     → Keeps g sent last c
 Keeps-open g sent n last c opened within all opens = record {
   closed = λ e. absurd (true≢false (sym opened ∙ e));
   none = λ e _. absurd (true≢false (sym opened ∙ e));
   some = λ _. omega (arith, all);
   within = λ _. within;
-  opens = λ _. subst (λ (k : ℕ). Opens g sent k last c) (omega (arith, all)) opens;
+  opens = λ _. subst (λ (k : ℕ). StaysOpen g sent k last c) (omega (arith, all)) opens;
 }
 
 -- No end is still to come.
@@ -137,7 +133,7 @@ pub more_keeps : (g : Task) (sent : Transmission) (last ps : List (List ℕ))
     (c v e : CheckerValue) (k : ℕ)
     → Keeps g sent last c
     → c.counts.is_open ≡ true
-    → Hears (packets_before sent (suc (length sent - 1))) ps c v
+    → HasHeard (packets_before sent (suc (length sent - 1))) ps c v
     → e ≡ record v { counts = record v.counts { packets = k } }
     → k ≡ v.counts.packets + length ps
     → Keeps g (with_packets ps sent) ps e
@@ -256,20 +252,6 @@ few_later pes n few =
     let p = few.packets in
     record { frames = omega arith; headers = omega arith; packets = omega arith }
 
--- One PES packet more.
-pub few_more : (pes : ℕ) (old new : Counts) (headers frames packets : ℕ)
-    → AreFew pes old
-    → headers ≤ 255
-    → new.headers ≡ old.headers + headers
-    → new.frames ≤ old.frames + 1
-    → new.packets ≤ old.packets + 255
-    → AreFew (pes + 1) new
-few_more pes old new headers frames packets few small more one some =
-    let f = few.frames in
-    let h = few.headers in
-    let p = few.packets in
-    record { frames = omega arith; headers = omega arith; packets = omega arith }
-
 -- The way to its frame comes first, and then its packets.
 pub reached_part : (g : Task) (frames : Transmission) (n : ℕ)
     → next_marks g frames n
@@ -295,50 +277,11 @@ pub ending_part : (g : Task) (frames : Transmission) (n : ℕ)
     ≡ map Says (first_header_events g frames n) ++ ending_rest g frames n
 ending_part g frames n = append_assoc (map Says (first_header_events g frames n)) _ _
 
--- ---- what was read
-
--- What is counted of what is kept. For `finish`.
-pub counts_read : (g : Task) (sent : Transmission) (last : List (List ℕ)) (c : CheckerValue)
-    (a : Accepted)
-    → Keeps g sent last c
-    → AreCounted c a
-    → CountsRead g.watched.page sent a
-counts_read g sent last c a keeps counts = by c.counts.is_open refl
-  where
-    by : (b : Bool) → c.counts.is_open ≡ b → CountsRead g.watched.page sent a
-    by false shut =
-        let follows = keeps.closed shut in
-        record {
-          none = λ e. counts.none (follows.number ∙ e);
-          frames_are = λ l.
-              let some : 0 < c.counts.frames = omega (arith, l, follows.number) in
-              ap (λ (f : ℕ). a.frames + f) (sym (follows.begun l).first_is)
-              ∙ counts.frames_are some
-              ∙ ap (λ (f : ℕ). f + 1) (follows.latest_is l);
-          transmissions_are = counts.transmissions_are ∙ follows.known.count;
-        }
-    by true opened =
-        let some = keeps.some opened in
-        let heard = (keeps.opens opened).heard in
-        let all : suc (length sent - 1) ≡ length sent = omega (arith, some) in
-        let many : 0 < c.counts.frames = omega (arith, heard.number) in
-        record {
-          none = λ e. absurd (omega (arith, some, e));
-          frames_are = λ l.
-              ap (λ (f : ℕ). a.frames + f) (sym heard.begun.first_is)
-              ∙ counts.frames_are many
-              ∙ ap (λ (f : ℕ). f + 1) (heard.latest_is ∙ ap (latest sent) all);
-          transmissions_are =
-              counts.transmissions_are
-              ∙ heard.known.count
-              ∙ ap (λ (k : ℕ). header_count g.watched.page (packets_before sent k)) all;
-        }
-
 -- ---- the packets of another frame
 
 module _ (g : Task) (frames : Transmission) (n : ℕ) (last ps : List (List ℕ)) (c v : CheckerValue)
     (arrives : Arrives g frames n last c) (there : n < length frames)
-    (are : packets_of_frame frames n ≡ ps) (hears : Hears (packets_before frames n) ps c v)
+    (are : packets_of_frame frames n ≡ ps) (hears : HasHeard (packets_before frames n) ps c v)
   where
     -- What is kept after them. For `take_next`.
     pub next_heard : (e : CheckerValue)
@@ -351,7 +294,7 @@ module _ (g : Task) (frames : Transmission) (n : ℕ) (last ps : List (List ℕ)
           counts = record w.counts { frames = w.counts.frames + 1 };
         }) hears.new_is
         ∙ ap (λ (k : ℕ). let here : CheckerValue =
-        counted hears.headers (record c { listener = hears.listener }) in
+        after_headers hears.headers (record c { listener = hears.listener }) in
         record here { counts = record here.counts { frames = k } })
         (omega (arith, arrives.waits.number)))
 

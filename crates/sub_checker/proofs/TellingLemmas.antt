@@ -1,10 +1,10 @@
 -- Events that are told in parts, one part after another: `told_whole`, `told_same`, `told_then`,
--- `stopped_first`, `stopped_then`, `all_same`, `prefix_same`; `ok_map`, `on_ok`, `on_fine`.
-use Rattle.std.proofs.Common.{arith, ◌≡◌, Bool, false, List, ◌++◌, Result, Ok, Err, sym, subst}
+-- `stopped_first`, `stopped_then`, `all_same`; `ok_map`, `on_ok`.
+use Rattle.std.proofs.Common.{arith, ◌≡◌, List, ◌++◌, Result, Ok, Err, sym, subst}
 use Rattle.std.proofs.lemmas.Bool.Decides.{nat_tests}
 use Rattle.sub_io.proofs.TellingLemmas.{TellsPrefix-first, TellsPrefix-second}
 use Rattle.sub_io.proofs.TellingLemmas.{TellsPrefix-whole, TellsUntilStopped-after}
-use Rattle.std.specs.Prelude.{OnOk, is_err}
+use Rattle.std.specs.Prelude.{OnOk}
 use Rattle.sub_io.specs.Telling.{Tells, TellsPrefix, TellsUntilStopped}
 
 -- The same by another name.
@@ -42,10 +42,6 @@ module _ {A D : Type 0} {IsTold : D → A → D → Type 0} where
       → Tells IsTold a b xs → Tells IsTold a b whole
   all_same a b xs whole is p = subst (Tells IsTold a b) (sym is) p
 
-  pub prefix_same : (a b : D) (xs whole : List A) → whole ≡ xs
-      → TellsPrefix IsTold a b xs → TellsPrefix IsTold a b whole
-  prefix_same a b xs whole is p = subst (TellsPrefix IsTold a b) (sym is) p
-
 -- What follows of an `Ok`.
 pub ok_map : {X E : Type 0} (P Q : Type 0) (r : Result X E) → OnOk r P → (P → Q) → OnOk r Q
 ok_map P Q (Ok x) p f = f p
@@ -54,9 +50,3 @@ ok_map P Q (Err e) p f = tt
 pub on_ok : {X E : Type 0} (P : Type 0) (r : Result X E) → P → OnOk r P
 on_ok P (Ok x) p = p
 on_ok P (Err e) p = tt
-
--- What follows where a device did not say stop.
-pub on_fine : {X E : Type 0} (P : Type 0) (r : Result X E) (stopped : Bool)
-    → stopped ≡ is_err r → (stopped ≡ false → P) → OnOk r P
-on_fine P (Ok x) stopped is so = so is
-on_fine P (Err e) stopped is so = tt

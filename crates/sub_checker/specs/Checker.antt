@@ -98,17 +98,17 @@ abbrev pub later_by : Bool → ℕ → ℕ → ℕ → ℕ
 later_by found frame every before = if found then max before (frame + every + 1) else before
 
 -- The checker with more headers of the page in the frame that was reached.
-abbrev pub counted : ℕ → CheckerValue → CheckerValue
-counted headers c = record c {
+abbrev pub after_headers : ℕ → CheckerValue → CheckerValue
+after_headers headers c = record c {
   counts = with_headers headers c.counts;
   late_at = later_by (nat_lt 0 headers) c.frame c.every c.late_at;
 }
 
 -- After these packets more were heard.
-pub record Hears (heard packets : List (List ℕ)) (old new : CheckerValue) : Type 0 where
+pub record HasHeard (heard packets : List (List ℕ)) (old new : CheckerValue) : Type 0 where
   pub listener : Listener
   pub headers : ℕ
-  pub new_is : new ≡ counted headers (record old { listener = listener })
+  pub new_is : new ≡ after_headers headers (record old { listener = listener })
   pub watched : listener.watched ≡ old.listener.watched
   pub due : listener.comparison.due ≡ old.listener.comparison.due
   pub knows : KnowsLast (heard ++ packets) packets listener
@@ -128,10 +128,11 @@ is_unfinished_now heard c =
     is_some (wrong_after c.listener.watched.page heard c.listener.comparison.due)
     || (c.listener.watched.complete && is_open_after (kind c.listener.watched.page) heard)
 
--- Since which frame it is not, and whether that is late where it is not.
+-- Since which frame it is not.
 abbrev pub since_now : List (List ℕ) → CheckerValue → Option ℕ
 since_now heard c = unfinished_from c.since (is_unfinished_now heard c) c.frame
 
+-- Whether the page had to be whole by now: at once, or within frames that are over.
 abbrev pub late_now : List (List ℕ) → CheckerValue → Bool
 late_now heard c =
     c.within == 0 || is_overdue_at c.programme c.within c.first (since_now heard c) c.frame

@@ -87,7 +87,7 @@ pub record Heard
   pub latest_is : c.latest ≡ latest frames (suc n)
 
 -- And more of its packets may come.
-pub record Opens
+pub record StaysOpen
     (g : Task) (frames : Transmission) (n : ℕ) (last : List (List ℕ)) (c : CheckerValue)
     : Type 0 where
   pub heard : Heard g frames n last c
@@ -102,7 +102,7 @@ pub record Keeps (g : Task) (sent : Transmission) (last : List (List ℕ)) (c : 
     pub none : c.counts.is_open ≡ false → 0 < g.within → sent ≡ []
     pub some : c.counts.is_open ≡ true → 0 < length sent
     pub within : c.counts.is_open ≡ true → 0 < g.within
-    pub opens : c.counts.is_open ≡ true → Opens g sent (length sent - 1) last c
+    pub opens : c.counts.is_open ≡ true → StaysOpen g sent (length sent - 1) last c
 
 -- ---- what comes
 

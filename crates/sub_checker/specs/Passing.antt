@@ -15,10 +15,11 @@ use Rattle.sub_checker.specs.declared.passing.Stage.{Stage}
 abbrev pub nothing_passed : Passing
 nothing_passed = record { trust = no_trust; run = no_run }
 
--- What is told then, and what is kept.
+-- What is told with marks, one after another.
 unfoldable pub passed_on : Passing → List Mark → List Event
 passed_on p ms = all_announced p.run (told_by p.trust ms)
 
+-- What is kept after them.
 unfoldable pub passing_after : Passing → List Mark → Passing
 passing_after p ms = record {
   trust = trust_after p.trust ms;
@@ -39,9 +40,9 @@ pub record PassesMarks
   pub kept : OnOk result (then ≡ passing_after p marks)
 
 -- A stage passed these on to its device; or a part, where that said stop.
-abbrev pub PassesOn : {D X E : Type 0} → (D → Event → D → Type 0) → Stage D → List Mark → Stage D
+abbrev pub StagePasses : {D X E : Type 0} → (D → Event → D → Type 0) → Stage D → List Mark → Stage D
     → Result X E → Type 0
-PassesOn IsTold old marks new result =
+StagePasses IsTold old marks new result =
     PassesMarks IsTold old.device.now old.passing marks new.device.now new.passing result
 
 -- A stage passed some on to its device, which had not said stop.

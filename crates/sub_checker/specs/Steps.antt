@@ -19,6 +19,7 @@ last_fault_after (Some f) frames late frame = Some f
 last_fault_after None zero late frame = Some fault.Empty
 last_fault_after None (suc n) late frame = if late then Some (fault.Late frame) else None
 
+-- It, by what the checker keeps.
 abbrev pub last_fault : Option CheckFault → CheckerValue → Option CheckFault
 last_fault given c =
     last_fault_after given c.counts.frames

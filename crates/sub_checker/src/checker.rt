@@ -69,7 +69,7 @@ impl<'a> Model for Checker<'a> {
 }
 
 impl<'a> Checker<'a> {
-    ghost use Rattle.sub_checker.specs.Checker.{AreFew, at_first, at_frame, at_next, counted};
+    ghost use Rattle.sub_checker.specs.Checker.{AreFew, at_first, at_frame, at_next, after_headers};
     ghost use Rattle.sub_checker.specs.Following.{Keeps};
     ghost use Rattle.sub_checker.specs.Steps.{AreCounted};
 
@@ -152,7 +152,7 @@ impl<'a> Checker<'a> {
     /// Counts the headers of the page in a PES packet of the frame that was reached.
     pub fn count(&mut self, headers: u8)
         requires room { self.old.counts.headers < 0xFFFF_FFFF_FF00 }
-        ensures { self.new ≡ counted headers self.old }
+        ensures { self.new ≡ after_headers headers self.old }
     {
         self.counts.headers = self.counts.headers + u64::from(headers);
         if headers > 0 {

@@ -7,7 +7,7 @@ ghost use Rattle.sub_rules.specs.PieceEvents.{closing_of_pieces, marks_of_closin
 ghost use Rattle.sub_rules.specs.Transmission.{Transmission};
 ghost use Rattle.sub_rules.specs.Trusted.{tells_none};
 ghost use Rattle.sub_checker.specs.Following.{Follows, Keeps, last_marks};
-ghost use Rattle.sub_checker.specs.Passing.{Moves, PassesMarks, PassesOn};
+ghost use Rattle.sub_checker.specs.Passing.{Moves, StagePasses};
 ghost use Rattle.sub_checker.specs.PieceTelling.{ending_at, finished};
 ghost use Rattle.sub_checker.specs.Steps.{FinishesTelling, ending_fault};
 ghost use Rattle.sub_checker.specs.Telling.{CountsRead};
@@ -16,7 +16,6 @@ use crate::checker::Checker;
 use crate::closing::tell_fault;
 use crate::passing::{Stage, tell_some};
 use crate::telling::Accepted;
-use crate::telling_pieces::Kept;
 use sub_io::{Audience, Stopped};
 use sub_rules::{CheckFault, Event};
 
@@ -27,23 +26,23 @@ pub(crate) fn finish<A: Audience<Event>>(
     checker: &mut Checker<'_>,
     pes: u32,
     fault: Option<CheckFault>,
-    kept: &mut Kept,
-    audience: &mut A,
+    stage: &mut Stage<'_, A>,
 ) -> Option<Accepted>
-    requires goes_on { A.has_stopped audience.old ≡ false }
-    requires day { kept.old.passing.trust.last < day }
-    ensures stopped { A.has_stopped audience.new ≡ is_none result }
-    ensures some { TellsSome A.is_told audience.old audience.new }
+    requires goes_on { A.has_stopped stage.old.device.now ≡ false }
+    requires day { stage.old.passing.trust.last < day }
+    ensures same { stage.new.device.ghost_name ≡ stage.old.device.ghost_name }
+    ensures stopped { A.has_stopped stage.new.device.now ≡ is_none result }
+    ensures some { TellsSome A.is_told stage.old.device.now stage.new.device.now }
     ensures told { (g : Task) (list : Transmission) (last : List (List ℕ))
         → Keeps g list last checker.old
         → fault ≡ ending_fault pes g.unread
-        → FinishesTelling A.is_told audience.old audience.new
-        (finished kept.old.passing (last_marks g list pes)) result }
+        → FinishesTelling A.is_told stage.old.device.now stage.new.device.now
+        (finished stage.old.passing (last_marks g list pes)) result }
     ensures counts { (g : Task) (list : Transmission) (last : List (List ℕ))
         → Keeps g list last checker.old → IfSome result (CountsRead g.watched.page list) }
 {
     let read = checker.read();
-    match tell_end(checker, pes, fault, kept, audience) {
+    match tell_end(checker, pes, fault, stage) {
         Ok(()) => Some(read),
         Err(_) => None,
     }
@@ -55,51 +54,24 @@ fn tell_end<A: Audience<Event>>(
     checker: &mut Checker<'_>,
     pes: u32,
     fault: Option<CheckFault>,
-    kept: &mut Kept,
-    audience: &mut A,
+    stage: &mut Stage<'_, A>,
 ) -> Result<(), Stopped>
-    requires goes_on { A.has_stopped audience.old ≡ false }
-    requires day { kept.old.passing.trust.last < day }
-    ensures stopped { A.has_stopped audience.new ≡ is_err result }
-    ensures some { TellsSome A.is_told audience.old audience.new }
+    requires goes_on { A.has_stopped stage.old.device.now ≡ false }
+    requires day { stage.old.passing.trust.last < day }
+    ensures same { stage.new.device.ghost_name ≡ stage.old.device.ghost_name }
+    ensures stopped { A.has_stopped stage.new.device.now ≡ is_err result }
+    ensures some { TellsSome A.is_told stage.old.device.now stage.new.device.now }
     ensures told { (g : Task) (list : Transmission) (last : List (List ℕ))
         → Keeps g list last checker.old
         → fault ≡ ending_fault pes g.unread
-        → TellsUntilStopped A.is_told audience.old audience.new
-        (finished kept.old.passing (last_marks g list pes)) result }
+        → TellsUntilStopped A.is_told stage.old.device.now stage.new.device.now
+        (finished stage.old.passing (last_marks g list pes)) result }
 {
-    tell_closing(checker, pes, fault, kept, audience)?;
-    tell_some(kept.passing.run.ended(), audience)
+    end_and_close(checker, pes, fault, stage)?;
+    tell_some(stage.passing.run.ended(), stage.device)
 }
 
-// Tells what is told after so many pieces, where this fault ended reading, if one did.
-fn tell_closing<A: Audience<Event>>(
-    checker: &mut Checker<'_>,
-    pes: u32,
-    fault: Option<CheckFault>,
-    kept: &mut Kept,
-    audience: &mut A,
-) -> Result<(), Stopped>
-    requires goes_on { A.has_stopped audience.old ≡ false }
-    requires day { kept.old.passing.trust.last < day }
-    ensures stopped { A.has_stopped audience.new ≡ is_err result }
-    ensures some { TellsSome A.is_told audience.old audience.new }
-    ensures told { (g : Task) (list : Transmission) (last : List (List ℕ))
-        → Keeps g list last checker.old
-        → fault ≡ ending_fault pes g.unread
-        → PassesMarks A.is_told audience.old kept.old.passing
-        (last_marks g list pes) audience.new kept.new.passing result }
-{
-    let mut stage = Stage {
-        device: audience,
-        passing: kept.passing,
-    };
-    let told = end_and_close(checker, pes, fault, &mut stage);
-    kept.passing = stage.passing;
-    told
-}
-
-// Passes it on.
+// Passes on what is told after so many pieces, where this fault ended reading, if one did.
 fn end_and_close<A: Audience<Event>>(
     checker: &mut Checker<'_>,
     pes: u32,
@@ -113,7 +85,7 @@ fn end_and_close<A: Audience<Event>>(
     ensures told { (g : Task) (list : Transmission) (last : List (List ℕ))
         → Keeps g list last checker.old
         → fault ≡ ending_fault pes g.unread
-        → PassesOn A.is_told stage.old (last_marks g list pes) stage.new result }
+        → StagePasses A.is_told stage.old (last_marks g list pes) stage.new result }
 {
     checker.end_waiting(stage)?;
     close(checker, pes, fault, stage)
@@ -133,7 +105,7 @@ fn close<A: Audience<Event>>(
     ensures told { (g : Task) (list : Transmission) (last : List (List ℕ))
         → Follows g list (length list) last checker.now
         → fault ≡ ending_fault pes g.unread
-        → PassesOn A.is_told stage.old (marks_of_closing g list pes (length list)) stage.new
+        → StagePasses A.is_told stage.old (marks_of_closing g list pes (length list)) stage.new
         result }
 {
     stage.go_to(pes);

@@ -5,7 +5,7 @@ ghost use Rattle.stl_file.specs.TimeCode.{day};
 ghost use Rattle.sub_checker.specs.Checker.{after_end, end_marks, none_stands, quiet_end, stands};
 ghost use Rattle.sub_checker.specs.Checker.{AreFew, is_overdue_at, late_now, since_now};
 ghost use Rattle.sub_checker.specs.Following.{Follows, Heard, Keeps, quiet_stage};
-ghost use Rattle.sub_checker.specs.Passing.{Moves, PassesOn};
+ghost use Rattle.sub_checker.specs.Passing.{Moves, StagePasses};
 ghost use Rattle.sub_packets.specs.Listener.{Knows};
 ghost use Rattle.sub_rules.specs.Events.{undue_after, wrong_after};
 ghost use Rattle.sub_rules.specs.FrameRules.{Task, packets_before};
@@ -160,7 +160,7 @@ impl<'a> Checker<'a> {
         ensures counts { self.new.counts ≡ self.old.counts }
         ensures latest { self.new.latest ≡ self.old.latest }
         ensures told { (heard : List (List ℕ)) → Knows heard self.old.listener
-            → PassesOn A.is_told stage.old (end_marks heard self.old) stage.new result }
+            → StagePasses A.is_told stage.old (end_marks heard self.old) stage.new result }
         ensures ended { (heard : List (List ℕ)) → Knows heard self.old.listener
             → OnOk result (self.new ≡ after_end heard self.old) }
     {
@@ -183,7 +183,7 @@ impl<'a> Checker<'a> {
         ensures counts { self.new.counts ≡ self.old.counts }
         ensures latest { self.new.latest ≡ self.old.latest }
         ensures told { (heard : List (List ℕ)) → Knows heard self.old.listener
-            → PassesOn A.is_told stage.old (end_marks heard self.old) stage.new result }
+            → StagePasses A.is_told stage.old (end_marks heard self.old) stage.new result }
         ensures ended { (heard : List (List ℕ)) → Knows heard self.old.listener
             → OnOk result (self.new ≡ after_end heard self.old) }
     {
@@ -215,7 +215,29 @@ impl<'a> Checker<'a> {
         ensures latest { self.new.latest ≡ self.old.latest }
         ensures due { self.old.listener.comparison.due ≡ due_in self.old.programme self.old.frame }
         ensures told { (heard : List (List ℕ)) → Knows heard self.old.listener
-            → PassesOn A.is_told stage.old (end_marks heard self.old) stage.new result }
+            → StagePasses A.is_told stage.old (end_marks heard self.old) stage.new result }
+        ensures ended { (heard : List (List ℕ)) → Knows heard self.old.listener
+            → OnOk result (self.new ≡ after_end heard self.old) }
+    {
+        // Most ends are quiet: what else is asked within frames would cost each of them something.
+        if self.within == 0 && self.is_quiet() {
+            self.end_quietly(stage);
+            return Ok(());
+        }
+        self.end_otherwise(stage)
+    }
+
+    // The end of a frame at which something changes or stands broken, or any end within frames.
+    // Apart from `end_of_frame`, which stands in each loop over frames.
+    #[inline(never)]
+    fn end_otherwise<A: Audience<Event>>(&mut self, stage: &mut Stage<'_, A>) -> Result<(), Stopped>
+        requires goes_on { A.has_stopped stage.old.device.now ≡ false }
+        ensures stopped { A.has_stopped stage.new.device.now ≡ is_err result }
+        ensures moves { Moves A.is_told A.has_stopped stage.old stage.new }
+        ensures counts { self.new.counts ≡ self.old.counts }
+        ensures latest { self.new.latest ≡ self.old.latest }
+        ensures told { (heard : List (List ℕ)) → Knows heard self.old.listener
+            → StagePasses A.is_told stage.old (end_marks heard self.old) stage.new result }
         ensures ended { (heard : List (List ℕ)) → Knows heard self.old.listener
             → OnOk result (self.new ≡ after_end heard self.old) }
     {
@@ -249,7 +271,7 @@ impl<'a> Checker<'a> {
         ensures told { (g : Task) (frames : Transmission) (n : ℕ) (last : List (List ℕ))
             → Heard g frames n last self.old → n < length frames
             → headers_before ≡ header_count g.watched.page (packets_before frames n)
-            → PassesOn A.is_told stage.old (marks_of_ending g frames n) stage.new result
+            → StagePasses A.is_told stage.old (marks_of_ending g frames n) stage.new result
             × OnOk result (Follows g frames (suc n) last self.new) }
     {
         let has_header = headers_before < self.counts.headers;
@@ -278,7 +300,7 @@ impl<'a> Checker<'a> {
         ensures few { (pes : ℕ) → AreFew pes self.old.counts → AreFew pes self.new.counts }
         ensures told { (g : Task) (sent : Transmission) (last : List (List ℕ))
             → Keeps g sent last self.old
-            → PassesOn A.is_told stage.old (marks_of_waiting g sent) stage.new result
+            → StagePasses A.is_told stage.old (marks_of_waiting g sent) stage.new result
             × OnOk result (Follows g sent (length sent) last self.new) }
     {
         if !self.counts.is_open {
@@ -298,7 +320,7 @@ impl<'a> Checker<'a> {
         ensures few { (pes : ℕ) → AreFew pes self.old.counts → AreFew pes self.new.counts }
         ensures told { (g : Task) (sent : Transmission) (last : List (List ℕ))
             → Keeps g sent last self.old
-            → PassesOn A.is_told stage.old (marks_of_waiting g sent) stage.new result
+            → StagePasses A.is_told stage.old (marks_of_waiting g sent) stage.new result
             × OnOk result (Follows g sent (length sent) last self.new) }
     {
         self.counts.is_open = false;

@@ -40,7 +40,8 @@ impl StandingRules {
         ensures is_none { IsTrue result ↔ (self.now ≡ none_stands) }
         ensures none { result ≡ stands_none (as_standing self.now) }
     {
-        self.content.is_none() && !self.gap && !self.incomplete
+        // One test for all three, since it is asked at each end.
+        self.content.is_none() & !self.gap & !self.incomplete
     }
 
     /// Tells what changes from an end of a frame `before`, where these stood, to one of another

@@ -127,6 +127,7 @@ impl Listener {
     /// # Errors
     ///
     /// `Stopped` where the audience said stop. What is kept is then of no use.
+    #[inline(always)]
     #[tactic(auto, using(sub_io::proofs::TellingLemmas::some))]
     pub fn hear_sending<A: Audience<Event>>(
         &mut self,
@@ -164,6 +165,7 @@ impl Listener {
     }
 
     // Hears packets of a frame, and tells which rules they break.
+    #[inline(never)]
     #[tactic(auto, using(sub_io::proofs::TellingLemmas::some))]
     fn hear_all<A: Audience<Event>>(
         &mut self,

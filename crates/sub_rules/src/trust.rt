@@ -1,5 +1,5 @@
 //! What is kept of the frames that may stay on air as they are, from one mark to the next.
-ghost use Rattle.std.specs.Prelude.{◌≡◌, ◌<◌};
+ghost use Rattle.std.specs.Prelude.{◌≡◌, ◌<◌, ◌&&◌, is_some};
 ghost use Rattle.stl_file.specs.TimeCode.{day};
 ghost use Rattle.sub_io.specs.Telling.{first_alone};
 ghost use Rattle.sub_rules.specs.Trusted.{after_mark, at_pes, doubted, first_whole, is_order};
@@ -89,6 +89,28 @@ impl Trust {
     #[inline(always)]
     #[tactic(auto, unfolding(crate::specs::Trusted::after_mark))]
     pub fn end_frame(&mut self, frame: u32, has_header: bool, none_stands: bool)
+        ensures { self.new ≡ after_mark (Ends frame has_header none_stands) self.old }
+    {
+        if self.stays_whole() && none_stands {
+            return;
+        }
+        self.end_another(frame, has_header, none_stands);
+    }
+
+    // Whether a run goes on in which the page was whole, and no packet of this frame broke a rule
+    // on which a receiver depends.
+    #[inline(always)]
+    fn stays_whole(&self) -> bool
+        ensures { result
+            ≡ (is_some self.now.run && is_some self.now.whole && self.now.is_clean) }
+    {
+        self.run.is_some() && self.whole.is_some() && self.is_clean
+    }
+
+    // The end of a frame after which other than before may be kept.
+    #[inline(never)]
+    #[tactic(auto, unfolding(crate::specs::Trusted::after_mark))]
+    fn end_another(&mut self, frame: u32, has_header: bool, none_stands: bool)
         ensures { self.new ≡ after_mark (Ends frame has_header none_stands) self.old }
     {
         let before = if self.run.is_some() { self.whole } else { None };

@@ -1,5 +1,5 @@
 -- The fault, told of its PES packet.
-use Rattle.std.proofs.Common.{◌∙◌, ap, rules, [], ◌∷◌}
+use Rattle.std.proofs.Common.{◌∙◌, ap, [], ◌∷◌}
 use Rattle.sub_rules.specs.Trusted.Mark.{AtPes, Says}
 use Rattle.sub_rules.specs.declared.event.Event.TheVariants.{Told}
 use Rattle.sub_checker.specs.declared.passing.Passing.{Passing}
@@ -10,17 +10,15 @@ use Rattle.sub_checker.proofs.telling_pieces.tell_passed.Goals as goal
 
 pub returns-clause-told : goal.returns-clause-told
 returns-clause-told g c =
-    let t =
     pass_then g.A.Audience.is_told _ _ _ _ _ _ (AtPes c.args.pes ∷ [])
-    (Says (Told c.args.fault) ∷ []) c.pass-told.result
+    (Says (Told c.args.fault) ∷ []) c.pass.result
     (silent g.A.Audience.is_told _ c.go_to.new.self (AtPes c.args.pes) c.go_to.ensures
     (silent_pes c.args.pes _))
-    c.pass-told.ensures.passes in
-    search rules
+    c.pass.ensures.passes
 
 pub returns-clause-day : goal.returns-clause-day
 returns-clause-day g c =
-    ok_map _ _ c.pass-told.result c.pass-told.ensures.passes.kept
+    ok_map _ _ c.pass.result c.pass.ensures.passes.kept
     (λ is. ap (λ (p : Passing). p.trust.last) is ∙ says_last _ _
     ∙ ap (λ (s : Stage g.row.A.Denot). s.passing.trust.last) c.go_to.ensures
     ∙ pes_last c.args.pes _)

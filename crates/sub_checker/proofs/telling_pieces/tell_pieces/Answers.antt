@@ -1,5 +1,5 @@
 -- Each way out tells what the whole file is: by PieceWaysLemmas.
-use Rattle.std.proofs.Common.{◌≡◌, ◌∙◌, ◌∷◌, [], ap, refl, sym, subst, arith, List}
+use Rattle.std.proofs.Common.{◌≡◌, ◌∙◌, ◌∷◌, [], ap, refl, rules, sym, subst, arith, List}
 use Rattle.std.proofs.Common.{Ok, Option, Result, Some, ℕ, length, take}
 use Rattle.sub_checker.specs.Steps.{ending_fault}
 use Rattle.sub_rules.specs.declared.fault.CheckFault.{CheckFault}
@@ -21,7 +21,6 @@ use Rattle.std.proofs.lemmas.Bool.{true≢false}
 use Rattle.stl_file.specs.TimeCode.{day}
 use Rattle.sub_io.specs.Telling.{TellsPrefix}
 use Rattle.sub_io.proofs.TellingLemmas.{TellsSome-trans}
-use Rattle.ttx_pes.specs.DataUnit.{UnitValue}
 use Rattle.sub_rules.proofs.PieceFileLemmas.{takes_more_pieces}
 use Rattle.sub_rules.specs.Events.{unread_fault}
 use Rattle.sub_rules.specs.PacketRules.{packets_of_units}
@@ -39,7 +38,7 @@ use Rattle.sub_checker.specs.declared.passing.Passing.{Passing}
 use Rattle.sub_checker.proofs.ReadsOnLemmas.{named_pes, packets_taken, reads_on_none}
 use Rattle.sub_checker.proofs.telling_pieces.tell_pieces.Goals.{
   in-Passed+in-Ok-tell_passed,
-  in-Sent+in-Ok-tell_sent,
+  in-Sent+in-Ok-go_on,
 }
 use Rattle.sub_checker.proofs.TakingLemmas.{few_later}
 use Rattle.sub_checker.proofs.TellingLemmas.{all_same}
@@ -52,8 +51,9 @@ pieces-init g c = record {
   taken = takes_no_pieces _;
   failures = refl;
   goes_on = c.requires.goes_on;
+  same = refl;
   day =
-      let none = ap (λ (p : Passing). p.trust.last) c.new-kept.ensures.passing in
+      let none = ap (λ (p : Passing). p.trust.last) c.new.ensures in
       omega (arith, none);
   some = TellsSome-none c.args.audience.now;
   holds = λ none still. none;
@@ -63,7 +63,7 @@ pieces-init g c = record {
         [],
         reads_on_none c.args.options.now pieces unread _ bytes told reads,
         packets_of_units c.new-reader.result.frame.units,
-        tracks_none task _ _ _ (c.new-checker.ensures.keeps _ unread) c.new-kept.ensures.passing,
+        tracks_none task _ _ _ (c.new-checker.ensures.keeps _ unread) c.new.ensures,
         λ no. refl,
         all_same _ _ _ _ (none_of_pieces task) (Tells-none _),
       );
@@ -75,13 +75,16 @@ returns-then-is_source_failure-clause-exact g c = λ pieces unread bytes told re
     let here = rw c.in-Err.is at c.in-Some.ensures.reads in
     let so_far =
     c.next_followed.ensures.told.kept c.args.audience.now _ c.requires.still i.5 in
-    let at = front c.args.programme.now i.1 i.3 in (
+    let at = front c.args.programme.now i.1 i.3 in
+    let device = c.pieces.invariant.same in
+    let told =
+    subst (λ (l : List Piece). Tells g.A.Audience.is_told c.args.audience.now
+    c.next_followed.new.audience (events_of_pieces (task_of c.args.programme.now
+    c.args.options.now unread) l)) (sym at.1) so_far in (
       c.pieces.pes,
       at.0,
       here.place (sym c.is_source_failure.ensures ∙ c.if-is_source_failure.true),
-      subst (λ (l : List Piece). Tells g.A.Audience.is_told c.args.audience.now
-          c.next_followed.new.audience (events_of_pieces (task_of c.args.programme.now
-          c.args.options.now unread) l)) (sym at.1) so_far,
+      search rules,
     )
 
 pub returns-then-is_source_failure-clause-sent : goal.returns-then-is_source_failure-clause-sent
@@ -112,12 +115,15 @@ returns-in-Err-clause-exact g c = λ pieces unread bytes told reads.
     c.next_followed.ensures.told.kept c.args.audience.now _ c.requires.still i.5 in
     let end = here.exact i.1.ahead unread i.1.rest i.1.rest_is
     (sym c.is_source_failure.ensures ∙ c.if-is_source_failure.false) i.1.left in
+    let device = c.finish.ensures.same ∙ c.pieces.invariant.same in
+    let told =
     told_whole c.args.programme.now i.1 i.3 c.pieces.invariant.few end.0 _ _ _
     c.finish.result so_far
     (c.finish.ensures.told task (frames_sent task i.0) i.2 i.3.keeps
     (ap (λ (f : CheckFault). Some f) end.3
     ∙ ap (ending_fault c.pieces.pes) (sym end.2)))
-    (c.finish.ensures.counts task (frames_sent task i.0) i.2 i.3.keeps)
+    (c.finish.ensures.counts task (frames_sent task i.0) i.2 i.3.keeps) in
+    search rules
 
 pub returns-in_default-next-clause-exact : goal.returns-in_default-next-clause-exact
 returns-in_default-next-clause-exact g c = λ pieces unread bytes told reads.
@@ -128,11 +134,14 @@ returns-in_default-next-clause-exact g c = λ pieces unread bytes told reads.
     c.next_followed.ensures.told.kept c.args.audience.now _ c.requires.still i.5 in
     let end = rw c.in_default-next.is at
     (here.exact i.1.ahead unread i.1.rest i.1.rest_is refl i.1.left) in
+    let device = c.finish-in_default-next.ensures.same ∙ c.pieces.invariant.same in
+    let told =
     told_whole c.args.programme.now i.1 i.3 c.pieces.invariant.few end.0 _ _ _
     c.finish-in_default-next.result so_far
     (c.finish-in_default-next.ensures.told task (frames_sent task i.0) i.2 i.3.keeps
     (ap (ending_fault c.pieces.pes) (sym end.1)))
-    (c.finish-in_default-next.ensures.counts task (frames_sent task i.0) i.2 i.3.keeps)
+    (c.finish-in_default-next.ensures.counts task (frames_sent task i.0) i.2 i.3.keeps) in
+    search rules
 
 pub returns-in-Err-tell_passed-clause-exact : goal.returns-in-Err-tell_passed-clause-exact
 returns-in-Err-tell_passed-clause-exact g c = λ pieces unread bytes told reads.
@@ -147,15 +156,18 @@ returns-in-Err-tell_passed-clause-exact g c = λ pieces unread bytes told reads.
     let next : ReadsPiece (clock_of c.args.options.now) c.pieces.pes i.1.rest i.1.ahead unread
     (Passed at.0) = at.2 in
     let same = ap (λ (f : CheckFault). AtPes c.pieces.pes ∷ Says (Told f) ∷ []) is in
+    let device = c.in-Err-tell_passed.ensures.same ∙ c.pieces.invariant.same in
+    let told =
     told_stop c.args.programme.now i.1 i.3 (Passed at.0) next.more _ _ _ _ next.first
     (passed_marks task i.0 c.pieces.pes i.1.count at.0)
     so_far
     (subst (λ (l : List Mark). TellsPrefix g.A.Audience.is_told c.next_followed.new.audience
-    c.tell_passed.new.audience (passed_on c.pieces.kept.passing l)) same
-    c.in-Err-tell_passed.ensures.told.told)
+    c.tell_passed.new.stage.device.now (passed_on c.pieces.stage.passing l)) same
+    c.in-Err-tell_passed.ensures.told.told) in
+    search rules
 
-pub returns-in-Err-tell_sent-clause-exact : goal.returns-in-Err-tell_sent-clause-exact
-returns-in-Err-tell_sent-clause-exact g c = λ pieces unread bytes told reads.
+pub returns-in-Err-go_on-clause-exact : goal.returns-in-Err-go_on-clause-exact
+returns-in-Err-go_on-clause-exact g c = λ pieces unread bytes told reads.
     let i = c.pieces.invariant.told pieces unread bytes told reads in
     let task = task_of c.args.programme.now c.args.options.now unread in
     let here = rw c.in-Ok.is at c.in-Some.ensures.reads in
@@ -172,16 +184,22 @@ returns-in-Err-tell_sent-clause-exact g c = λ pieces unread bytes told reads.
     let next : ReadsPiece (clock_of c.args.options.now) c.pieces.pes i.1.rest i.1.ahead unread
     (Sent s) = at.0 in
     let units = c.units_of-units.ensures.value in
-    let go = c.in-Err-tell_sent.ensures.told task (frames_sent task i.0) i.2 i.3.keeps
-    (λ again no. i.4 no
-    ∙ ap packets_of_units (sym (here.again c.in-Sent.sending given again) ∙ sym units)) in
+    let same : sent_as c.after_piece.result c.units_of-units.result ≡ s =
+    rw (c.after_piece.ensures.frame, units) refl in
+    let go = c.in-Err-go_on.ensures.told task (frames_sent task i.0) i.2 i.3.keeps
+    (λ e. let both = c.after_piece.ensures.again e in
+    i.4 both.1
+    ∙ ap packets_of_units (sym (here.again c.in-Sent.sending given both.0) ∙ sym units)) in
+    let device = c.in-Err-go_on.ensures.moves.same ∙ c.pieces.invariant.same in
+    let told =
     told_stop c.args.programme.now i.1 i.3 (Sent s) next.more _ _ _ _ next.first
     (sent_marks task i.0 c.pieces.pes i.1.count s)
     so_far
-    (subst (λ (us : List UnitValue). TellsPrefix g.A.Audience.is_told c.next_followed.new.audience
-    c.tell_sent.new.audience (passed_on c.pieces.kept.passing
-    (marks_of_sent task (frames_sent task i.0) c.pieces.pes (sent_as c.in-Sent.sending us))))
-    units go.0.told)
+    (subst (λ (x : SentFrame). TellsPrefix g.A.Audience.is_told c.next_followed.new.audience
+    c.go_on.new.stage.device.now (passed_on c.pieces.stage.passing
+    (marks_of_sent task (frames_sent task i.0) c.pieces.pes x)))
+    same go.0.told) in
+    search rules
 
 pub pieces-preserved : goal.pieces-preserved
 pieces-preserved g c =
@@ -195,12 +213,13 @@ pieces-preserved g c =
     TellsSome-kept _ _ _ _ _ inv.some c.requires.still c.next_followed.ensures.told in
     elim c.match-piece.branch [
       | in-Passed+in-Ok-tell_passed w ↦
-          rw (w.audience-is, w.checker-is, w.kept-is) (record {
+          rw (w.stage-is, w.checker-is, w.passed-is) (record {
             few = omega (arith, below);
             reading = (rw c.in-Some-next.is at here.progress) refl;
             taken = takes_more_pieces c.pieces.pes _ _ _ inv.taken one;
             failures = omega (arith, counted, before);
             goes_on = w.in-Ok-tell_passed.ensures.stopped;
+            same = w.in-Ok-tell_passed.ensures.same ∙ inv.same;
             day =
                 subst (λ (n : ℕ). n < day) (sym w.in-Ok-tell_passed.ensures.day) inv.day;
             some = TellsSome-trans _ _ _ some w.in-Ok-tell_passed.ensures.some;
@@ -216,30 +235,31 @@ pieces-preserved g c =
                 (here.exact i.1.ahead unread i.1.rest i.1.rest_is refl i.1.left) in
                 let left = (rw c.in-Some-next.is at (here.left i.1.rest i.1.rest_is)) refl in
                 let s = step_passed c.args.programme.now i.1 i.3 g.A.Audience.is_told _ at.0
-                w.in-Passed.fault w.tell_passed.new.kept.passing _ _ _ left at.2 at.1
+                w.in-Passed.fault w.tell_passed.new.stage.passing _ _ _ left at.2 at.1
                 w.in-Ok-tell_passed.ensures.told.kept so_far
                 w.in-Ok-tell_passed.ensures.told.told in (
                   i.0 ++ Passed at.0 ∷ [],
                   s.reads,
                   i.2,
                   s.kept,
-                  λ no. absurd (true≢false (sym w.in-Ok-tell_passed.ensures.passed ∙ no)),
+                  λ no. absurd (true≢false no),
                   s.told,
                 );
           })
-      | in-Sent+in-Ok-tell_sent w ↦
-          rw (w.audience-is, w.checker-is, w.kept-is) (record {
+      | in-Sent+in-Ok-go_on w ↦
+          rw (w.stage-is, w.checker-is, w.passed-is) (record {
             few = omega (arith, below);
             reading = (rw c.in-Some-next.is at here.progress) refl;
             taken = takes_more_pieces c.pieces.pes _ _ _ inv.taken one;
             failures = omega (arith, counted, before);
-            goes_on = w.in-Ok-tell_sent.ensures.stopped;
-            day = w.in-Ok-tell_sent.ensures.day;
-            some = TellsSome-trans _ _ _ some w.in-Ok-tell_sent.ensures.some;
+            goes_on = w.in-Ok-go_on.ensures.stopped;
+            same = w.in-Ok-go_on.ensures.moves.same ∙ inv.same;
+            day = w.in-Ok-go_on.ensures.moves.in_day w.in-Ok-go_on.ensures.stopped inv.day;
+            some = TellsSome-trans _ _ _ some w.in-Ok-go_on.ensures.moves.some;
             holds = λ none.
                 holds-told _ _ _ _ _ g.met.A.LiveAudience.stays_told _ _
-                (c.in-Some.ensures.holds (inv.holds none)) w.in-Ok-tell_sent.ensures.some;
-            room = w.in-Ok-tell_sent.ensures.room;
+                (c.in-Some.ensures.holds (inv.holds none)) w.in-Ok-go_on.ensures.moves.some;
+            room = w.in-Ok-go_on.ensures.room;
             told = λ pieces unread bytes told reads.
                 let i = inv.told pieces unread bytes told reads in
                 let task = task_of c.args.programme.now c.args.options.now unread in
@@ -257,27 +277,29 @@ pieces-preserved g c =
                 let next : ReadsPiece (clock_of c.args.options.now) c.pieces.pes i.1.rest i.1.ahead
                 unread (Sent s) = at.0 in
                 let units = w.units_of-units.ensures.value in
+                let same : sent_as w.after_piece.result w.units_of-units.result ≡ s =
+                rw (w.after_piece.ensures.frame, units) refl in
                 let go =
-                w.in-Ok-tell_sent.ensures.told task (frames_sent task i.0) i.2 i.3.keeps
-                (λ again no. i.4 no
-                ∙ ap packets_of_units (sym (here.again w.in-Sent.sending given again)
+                w.in-Ok-go_on.ensures.told task (frames_sent task i.0) i.2 i.3.keeps
+                (λ e. let both = w.after_piece.ensures.again e in
+                i.4 both.1
+                ∙ ap packets_of_units (sym (here.again w.in-Sent.sending given both.0)
                 ∙ sym units)) in
                 let step = step_sent c.args.programme.now i.1 i.3 g.A.Audience.is_told _
                 c.next_followed.new.reader.frame w.in-Sent.sending.frame
                 (packets_of_units c.next_followed.new.reader.frame.units)
-                w.tell_sent.new.checker w.tell_sent.new.kept.passing _ _ _ left next at.1
+                w.go_on.new.self w.go_on.new.stage.passing _ _ _ left next at.1
                 (here.sent w.in-Sent.sending given) w.units_of-units.ensures.frame
-                (subst (λ (us : List UnitValue). Keeps task (sent_after task.within
-                (frames_sent task i.0) (sent_as w.in-Sent.sending us)) (packets_of_units us)
-                w.tell_sent.new.checker) units go.1)
-                (subst (λ (us : List UnitValue). w.tell_sent.new.kept.passing
-                ≡ passing_after c.pieces.kept.passing (marks_of_sent task (frames_sent task i.0)
-                c.pieces.pes (sent_as w.in-Sent.sending us))) units go.0.kept)
+                (subst (λ (x : SentFrame). Keeps task (sent_after task.within
+                (frames_sent task i.0) x) x.packets w.go_on.new.self) same go.1)
+                (subst (λ (x : SentFrame). w.go_on.new.stage.passing
+                ≡ passing_after c.pieces.stage.passing (marks_of_sent task (frames_sent task i.0)
+                c.pieces.pes x)) same go.0.kept)
                 so_far
-                (subst (λ (us : List UnitValue). Tells g.A.Audience.is_told
-                c.next_followed.new.audience w.tell_sent.new.audience
-                (passed_on c.pieces.kept.passing (marks_of_sent task (frames_sent task i.0)
-                c.pieces.pes (sent_as w.in-Sent.sending us)))) units go.0.told) in (
+                (subst (λ (x : SentFrame). Tells g.A.Audience.is_told
+                c.next_followed.new.audience w.go_on.new.stage.device.now
+                (passed_on c.pieces.stage.passing (marks_of_sent task (frames_sent task i.0)
+                c.pieces.pes x))) same go.0.told) in (
                   i.0 ++ Sent s ∷ [],
                   step.reads,
                   packets_of_units c.next_followed.new.reader.frame.units,
@@ -292,42 +314,60 @@ pieces-preserved g c =
 pub returns-in_default-clause-exact : goal.returns-in_default-clause-exact
 returns-in_default-clause-exact g c = λ pieces unread bytes told reads.
     let i = c.pieces.invariant.told pieces unread bytes told reads in
+    let device = c.pieces.invariant.same in
+    let told =
     told_before c.args.programme.now i.1 i.3 _ _
-    (c.next_followed.ensures.told.kept c.args.audience.now _ c.requires.still i.5)
+    (c.next_followed.ensures.told.kept c.args.audience.now _ c.requires.still i.5) in
+    search rules
 
 -- ---- some was told
 
 pub returns-in-Err-clause-some : goal.returns-in-Err-clause-some
 returns-in-Err-clause-some g c =
+    let device = c.finish.ensures.same ∙ c.pieces.invariant.same in
+    let told =
     TellsSome-trans _ _ _
     (TellsSome-kept _ _ _ _ _ c.pieces.invariant.some c.requires.still
     c.next_followed.ensures.told)
-    c.finish.ensures.some
+    c.finish.ensures.some in
+    search rules
 
 pub returns-in_default-next-clause-some : goal.returns-in_default-next-clause-some
 returns-in_default-next-clause-some g c =
+    let device = c.finish-in_default-next.ensures.same ∙ c.pieces.invariant.same in
+    let told =
     TellsSome-trans _ _ _
     (TellsSome-kept _ _ _ _ _ c.pieces.invariant.some c.requires.still
     c.next_followed.ensures.told)
-    c.finish-in_default-next.ensures.some
+    c.finish-in_default-next.ensures.some in
+    search rules
 
 pub returns-in-Err-tell_passed-clause-some : goal.returns-in-Err-tell_passed-clause-some
 returns-in-Err-tell_passed-clause-some g c =
+    let device = c.in-Err-tell_passed.ensures.same ∙ c.pieces.invariant.same in
+    let told =
     TellsSome-trans _ _ _
     (TellsSome-kept _ _ _ _ _ c.pieces.invariant.some c.requires.still
     c.next_followed.ensures.told)
-    c.in-Err-tell_passed.ensures.some
+    c.in-Err-tell_passed.ensures.some in
+    search rules
 
-pub returns-in-Err-tell_sent-clause-some : goal.returns-in-Err-tell_sent-clause-some
-returns-in-Err-tell_sent-clause-some g c =
+pub returns-in-Err-go_on-clause-some : goal.returns-in-Err-go_on-clause-some
+returns-in-Err-go_on-clause-some g c =
+    let device = c.in-Err-go_on.ensures.moves.same ∙ c.pieces.invariant.same in
+    let told =
     TellsSome-trans _ _ _
     (TellsSome-kept _ _ _ _ _ c.pieces.invariant.some c.requires.still
     c.next_followed.ensures.told)
-    c.in-Err-tell_sent.ensures.some
+    c.in-Err-go_on.ensures.moves.some in
+    search rules
 
 -- ---- what is held back where the source failed
 
 pub returns-then-is_source_failure-clause-asked : goal.returns-then-is_source_failure-clause-asked
 returns-then-is_source_failure-clause-asked g c = λ none.
+    let device = c.pieces.invariant.same in
+    let told =
     (rw c.in-Err.is at (c.in-Some.ensures.asked (c.pieces.invariant.holds none)))
-    (sym c.is_source_failure.ensures ∙ c.if-is_source_failure.true)
+    (sym c.is_source_failure.ensures ∙ c.if-is_source_failure.true) in
+    search rules

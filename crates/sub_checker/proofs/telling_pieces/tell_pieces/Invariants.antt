@@ -21,12 +21,13 @@ invariant-pieces g l = record {
   reading : l.reader.progress ≡ Reading l.pes;
   taken : TakesPieces l.pes (g.S.Source.remaining l.fn.source) (g.S.Source.remaining l.source);
   failures : g.S.Source.failure_count l.source ≡ g.S.Source.failure_count l.fn.source;
-  goes_on : g.A.Audience.has_stopped l.audience ≡ false;
-  day : l.kept.passing.trust.last < day;
-  some : TellsSome g.A.Audience.is_told l.fn.audience l.audience;
+  goes_on : g.A.Audience.has_stopped l.stage.device.now ≡ false;
+  same : l.stage.device.ghost_name ≡ l.initial.stage.device.ghost_name;
+  day : l.stage.passing.trust.last < day;
+  some : TellsSome g.A.Audience.is_told l.fn.audience l.stage.device.now;
   holds :
       g.A.Live.held l.fn.audience ≡ 0
-      → HoldsWhileWaiting g.A.Live.is_waiting g.A.Live.held l.audience;
+      → HoldsWhileWaiting g.A.Live.is_waiting g.A.Live.held l.stage.device.now;
   room : AreFew l.pes l.checker.counts;
   told :
       (pieces : List Piece) (unread : Option Unread) (bytes : List ℕ)
@@ -35,9 +36,9 @@ invariant-pieces g l = record {
       → (done : List Piece)
       × ReadsOn l.options bytes pieces unread (g.S.Source.remaining l.source) l.pes done
       × (last : List (List ℕ))
-      × Tracks (task_of l.programme l.options unread) done last l.checker l.kept.passing
-      × (l.kept.passed ≡ false → last ≡ packets_of_units l.reader.frame.units)
-      × Tells g.A.Audience.is_told l.fn.audience l.audience
+      × Tracks (task_of l.programme l.options unread) done last l.checker l.stage.passing
+      × (l.passed ≡ false → last ≡ packets_of_units l.reader.frame.units)
+      × Tells g.A.Audience.is_told l.fn.audience l.stage.device.now
       (events_of_pieces (task_of l.programme l.options unread) done);
 }
 

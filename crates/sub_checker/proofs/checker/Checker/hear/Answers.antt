@@ -5,7 +5,7 @@ use Rattle.sub_packets.specs.Listener.{KnowsLast}
 use Rattle.sub_rules.specs.Events.{packets_told}
 use Rattle.sub_rules.specs.PacketRules.{header_count, packets_of_units}
 use Rattle.sub_rules.specs.Trusted.Mark.{Says}
-use Rattle.sub_checker.specs.Checker.{CheckerValue, counted}
+use Rattle.sub_checker.specs.Checker.{CheckerValue, after_headers}
 use Rattle.sub_checker.proofs.StageLemmas.{Moves-told, ok_whole, told_err, told_ok}
 use Rattle.sub_checker.proofs.checker.Checker.hear.Goals as goal
 
@@ -50,7 +50,7 @@ returns-clause-told g c = λ heard last knows again.
         headers = c.in_ok-headers.headers;
         new_is =
             c.count.ensures
-            ∙ ap (λ (v : CheckerValue). counted c.in_ok-headers.headers (record v {
+            ∙ ap (λ (v : CheckerValue). after_headers c.in_ok-headers.headers (record v {
               listener = c.hear_sending.new.self;
             })) c.self.view_is;
         watched =
