@@ -1,35 +1,32 @@
--- What is read of any bytes: packets are whole, and no fault is a device's. Main lemma:
--- `file_sound`.
+-- What is read of any bytes: packets are whole, and no fault is a device's. Main lemmas:
+-- `file_pieces_sound`, `sent_whole`, `file_sound`.
 use Rattle.std.proofs.lemmas.Bool.Decides.{nat_tests}
-use Rattle.std.proofs.Common.{◌≡◌, ℕ, zero, suc, ◌+◌, ◌-◌, ◌*◌, ◌/◌, ◌<◌, ◌≤◌, Bool, true, false}
-use Rattle.std.proofs.Common.{List, [], ◌∷◌, length, map, take, drop, slice_index, Option, None}
+use Rattle.std.proofs.Common.{◌≡◌, ℕ, zero, suc, ◌+◌, ◌-◌, ◌*◌, ◌/◌, ◌<◌, ◌≤◌, false}
+use Rattle.std.proofs.Common.{List, [], ◌∷◌, length, map, take, drop, slice_index, Option}
 use Rattle.std.proofs.Common.{Some, Result, Ok, Err, MatchResult, IfSome}
-use Rattle.std.proofs.Common.{if◌then◌else◌, ◌∙◌, refl, sym, subst, arith, length-take, length-drop}
+use Rattle.std.proofs.Common.{◌∙◌, refl, arith, length-take, length-drop}
 use Rattle.std.proofs.lemmas.List.{length-map}
 use Rattle.std.specs.List.{AllByRecursion}
 use Rattle.std.specs.Prelude.{⊤}
 use Rattle.ttx_packet.specs.BitOrder.{mirror}
 use Rattle.ttx_packet.specs.PacketAddress.{IsPacket}
 use Rattle.ttx_pes.specs.DataUnit.{UnitValue}
-use Rattle.ttx_pes.specs.Fault.{is_of_piece, is_read, is_write}
+use Rattle.ttx_pes.specs.Fault.{is_read, is_write}
 use Rattle.ttx_pes.specs.PesPacket.{PesValue}
-use Rattle.ttx_pes.specs.Pieces.{PiecesValue, behind_piece, no_piece, piece_then, pieces_from}
-use Rattle.ttx_pes.specs.Pieces.{with_piece}
+use Rattle.ttx_pes.specs.Pieces.{PiecesValue, behind_piece, piece_then, pieces_from}
 use Rattle.ttx_pes.specs.Reading.{answer_at, most_packets, packet_at, pts_at, size_at}
 use Rattle.ttx_pes.specs.Reading.{teletext_at, unit_at, unit_of, units_at, value_at}
 use Rattle.ttx_pes.specs.declared.fault.PesFault.{PesFault}
-use Rattle.ttx_pes.specs.declared.fault.PesFault.TheVariants as fault
 use Rattle.sub_plan.specs.FrameTime.{Clock}
+use Rattle.sub_rules.specs.FrameRules.{Unread}
 use Rattle.sub_rules.specs.FrameRules.Unread.{BadPacket, NoFrame}
 use Rattle.sub_rules.specs.PacketRules.{packets_of_units}
 use Rattle.sub_rules.specs.PesReading.{file_at}
-use Rattle.sub_rules.specs.Pieces.{PesFileValue, Piece, PieceFileValue, file_of_pieces, frames_of}
-use Rattle.sub_rules.specs.Pieces.{piece_of, piece_with, pieces_at, read_until_passed}
-use Rattle.sub_rules.specs.Pieces.{until_passed_over}
+use Rattle.sub_rules.specs.Pieces.{Piece, PieceFileValue, file_of_pieces, frames_of, piece_of}
+use Rattle.sub_rules.specs.Pieces.{pieces_at, read_until_passed}
 use Rattle.sub_rules.specs.Pieces.Piece.{Passed, Sent}
 use Rattle.sub_rules.specs.Transmission.{SentFrame}
 use Rattle.sub_rules.proofs.PacketLists.{Each-push}
-use Rattle.sub_rules.proofs.PieceFileLemmas.{file_by, until_then}
 
 -- ---- answers
 
@@ -106,34 +103,10 @@ answer_sound given [] = record { is = tt }
 answer_sound given (x ∷ b) =
     let read = packet_sound (x ∷ b) in grind (arith, nat_tests)
 
--- Each packet of a file is whole, and what keeps it from being read to its end is no device.
-pub record IsSoundFile (file : PesFileValue) : Type 0 where
-  pub whole : AllByRecursion (λ (s : SentFrame). AllByRecursion IsPacket s.packets) file.frames
-  pub fault : (f : PesFault) → file.unread ≡ Some (BadPacket f) → IsOfBytes f
-
 packets_whole : (units : List UnitValue) → AreWholeUnits units
     → AllByRecursion IsPacket (packets_of_units units)
 packets_whole [] h = tt
 packets_whole (u ∷ units) h = (h.0, packets_whole units h.1)
-
-by_sound : (clock : Clock) (r : Result (Option PesValue) PesFault) (rest : PesFileValue)
-    → Sound IsWholeAnswer r → IsSoundFile rest → IsSoundFile (file_by clock r rest)
-by_sound clock r rest h sound = grind (arith, packets_whole)
-
--- What comes of bytes.
-pieces_sound : (clock : Clock) (room given : ℕ) (b : List ℕ)
-    → IsSoundFile (until_passed_over (file_of_pieces clock (pieces_from room given b)))
-unfolding pieces_from read_until_passed
-pieces_sound clock zero given [] = record { whole = tt; fault = λ g e. cc }
-pieces_sound clock zero given (x ∷ b) = grind (arith, nat_tests, by_sound)
-pieces_sound clock (suc room) given b =
-    subst IsSoundFile (sym (until_then clock (answer_at given b) _))
-    (by_sound clock (answer_at given b) _ (answer_sound given b)
-    (pieces_sound clock room (given + 1) (behind_piece b)))
-
-pub file_sound : (clock : Clock) (given : ℕ) (b : List ℕ) → IsSoundFile (file_at clock given b)
-unfolding file_at pieces_at
-file_sound clock given b = pieces_sound clock (most_packets - given) given b
 
 -- ---- pieces
 
@@ -147,45 +120,18 @@ pub record ArePiecesSound (file : PieceFileValue) : Type 0 where
   pub each : AllByRecursion IsSoundPiece file.pieces
   pub fault : (f : PesFault) → file.unread ≡ Some (BadPacket f) → IsOfBytes f
 
-piece_sound : (o : Option ℕ) (packets : List (List ℕ)) → AllByRecursion IsPacket packets
-    → IsSoundPiece (piece_with o packets)
-piece_sound None packets whole = tt
-piece_sound (Some frame) packets whole = whole
-
 by_piece : (clock : Clock) (r : Result (Option PesValue) PesFault) (more : PiecesValue)
     → Sound IsWholeAnswer r
     → ArePiecesSound (file_of_pieces clock more)
     → ArePiecesSound (file_of_pieces clock (piece_then r more))
 unfolding piece_of
-by_piece clock (Ok None) more h sound = record { each = tt; fault = λ f e. cc }
-by_piece clock (Ok (Some v)) more h sound = record {
-  each = (
-    piece_sound (clock v.pts) (packets_of_units v.units) (packets_whole v.units h.is),
-    sound.each,
-  );
-  fault = sound.fault;
-}
-by_piece clock (Err f) more h sound = go (is_of_piece f)
-  where
-    go : (b : Bool)
-        → ArePiecesSound (file_of_pieces clock
-        (if b then with_piece (Err f) more else no_piece (Some f)))
-    go true = record { each = (h.is, sound.each); fault = sound.fault }
-    go false = record {
-      each = tt;
-      fault = λ x e. let same : f ≡ x = cc in subst IsOfBytes same h.is;
-    }
+by_piece clock r more h sound = grind (arith, nat_tests, packets_whole)
 
 from_sound : (clock : Clock) (room given : ℕ) (b : List ℕ)
     → ArePiecesSound (file_of_pieces clock (pieces_from room given b))
 unfolding pieces_from
-from_sound clock zero given [] = record { each = tt; fault = λ f e. cc }
-from_sound clock zero given (x ∷ b) = record {
-  each = tt;
-  fault = λ f e.
-      let same : fault.TooMany ≡ f = cc in
-      subst IsOfBytes same (record { no_source = refl; no_sink = refl });
-}
+from_sound clock zero given [] = grind (arith, nat_tests)
+from_sound clock zero given (x ∷ b) = grind (arith, nat_tests)
 from_sound clock (suc room) given b =
     by_piece clock (answer_at given b) _ (answer_sound given b)
     (from_sound clock room (given + 1) (behind_piece b))
@@ -203,3 +149,20 @@ unfolding frames_of
 sent_whole [] sound = tt
 sent_whole (Sent s ∷ pieces) sound = (sound.0, sent_whole pieces sound.1)
 sent_whole (Passed u ∷ pieces) sound = sent_whole pieces sound.1
+
+-- So have those up to the first piece that is passed over.
+read_whole : (pieces : List Piece) (unread : Option Unread) → AllByRecursion IsSoundPiece pieces
+    → AllByRecursion (λ (s : SentFrame). AllByRecursion IsPacket s.packets)
+    (read_until_passed pieces unread).frames
+unfolding read_until_passed
+read_whole [] unread sound = tt
+read_whole (Sent s ∷ pieces) unread sound = (sound.0, read_whole pieces unread sound.1)
+read_whole (Passed u ∷ pieces) unread sound = tt
+
+pub file_sound : (clock : Clock) (given : ℕ) (b : List ℕ)
+    → AllByRecursion (λ (s : SentFrame). AllByRecursion IsPacket s.packets)
+    (file_at clock given b).frames
+unfolding file_at
+file_sound clock given b =
+    let file = pieces_at clock given b in
+    read_whole file.pieces file.unread (file_pieces_sound clock given b).each

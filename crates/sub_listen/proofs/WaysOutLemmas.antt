@@ -131,8 +131,8 @@ module _
             → HearsFile leaves l frames unread told left w old now (Err (fault.File f))
         ends_unread v answer f is of =
             let at =
-            reads_unread (clock_of l.options) n reached.rest frames unread v answer f reached.left is
-            of in
+            reads_unread (clock_of l.options) n reached.rest frames unread v answer f
+            reached.left is of in
             let within = reached.within in
             let all : n ≡ length frames = omega (arith, at.0) in
             ends_so (Err (fault.File f)) (grind arith) (λ more. absurd (omega (arith, more, all)))
