@@ -137,7 +137,7 @@ module _ (programme : ProgrammeValue) (options : OptionsValue) (bytes : List ℕ
       (joined options.within file.frames)
       (each_whole (joined options.within file.frames)
       (joined_after-read IsPacket options.within [] file.frames tt
-      (file_sound (clock_of options) 0 bytes).whole))
+      (file_sound (clock_of options) 0 bytes)))
 
   -- Where the page is refused at a cell. For `check`.
   pub undue_of_first : (frame row column : ℕ)

@@ -140,7 +140,7 @@ reads_of :
     → AllZip (IsReadAs clock) values frames
     → ReadsAs clock given (concat packets) frames None
 reads_of clock given [] [] [] each few sent =
-    reads_ended clock given [] None (omega arith) (nothing given [] refl)
+    reads_ended clock given [] (omega arith) (nothing given [] refl)
 reads_of clock given [] [] (s ∷ frames) each few sent = elim sent [ ]
 reads_of clock given [] (p ∷ packets) frames each few sent = elim each [ ]
 reads_of clock given (v ∷ values) [] frames each few sent = elim each [ ]

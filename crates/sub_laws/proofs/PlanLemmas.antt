@@ -338,7 +338,7 @@ module _
         → ReadsAs (clock_of o) given (sendings_at due o national serial frames)
         (map (planned_at due o national serial) frames) None
     sendings_read given [] few in_day =
-        reads_ended (clock_of o) given [] None (omega arith) (nothing given [] refl)
+        reads_ended (clock_of o) given [] (omega arith) (nothing given [] refl)
     sendings_read given (f ∷ fs) few in_day =
         let v : PesValue = pes_value o.origin (sending o.page national serial (due f)) f in
         let back =

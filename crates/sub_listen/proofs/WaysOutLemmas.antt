@@ -13,8 +13,7 @@ use Rattle.ttx_page.proofs.RunLemmas.{RunsBy-append}
 use Rattle.ttx_pes.specs.DataUnit.{UnitValue}
 use Rattle.ttx_pes.specs.PesPacket.{PesValue}
 use Rattle.ttx_pes.specs.Reader.{FailsWithin, TakesPackets}
-use Rattle.ttx_pes.specs.Reading.{most_packets, rest_after}
-use Rattle.sub_rules.specs.Sendings.{TellsFrame}
+use Rattle.ttx_pes.specs.Pieces.{behind_piece}
 use Rattle.sub_rules.specs.Fault.{is_pes_read}
 use Rattle.sub_rules.specs.Events.{unread_fault}
 use Rattle.sub_plan.specs.FrameTime.{clock_of}
@@ -23,8 +22,11 @@ use Rattle.sub_rules.specs.PacketRules.{packets_of_units}
 use Rattle.sub_rules.specs.PesReading.{ReadsAs}
 use Rattle.sub_rules.specs.Transmission.{Transmission}
 use Rattle.sub_rules.specs.declared.fault.CheckFault.{CheckFault}
-use Rattle.sub_rules.proofs.PesReadingLemmas.{ReadsNext, reads_end, reads_next}
-use Rattle.sub_rules.proofs.PieceFileLemmas.{reads-below}
+use Rattle.sub_rules.specs.declared.piece.NextPiece.{NextPiece}
+use Rattle.sub_rules.specs.declared.piece.NextPiece.TheVariants.{Sent}
+use Rattle.sub_rules.specs.declared.sending.Sending.{Sending}
+use Rattle.sub_rules.proofs.PesReadingLemmas.{ReadsNext, TellsNext, reads_end, reads_next}
+use Rattle.sub_rules.proofs.PesReadingLemmas.{reads_unread, told_fault}
 use Rattle.sub_rules.proofs.FrameLists.{joined_more}
 use Rattle.sub_listen.specs.Run.{AreHeard, EndsAfter, FailsListening, HearsFile, IsHeard}
 use Rattle.sub_listen.specs.Run.{RefusesAfter, first_in_frame, least_after, least_frame}
@@ -43,7 +45,6 @@ pub record Reaches
     (w : PageIdValue) (old : Display) (remaining : Option (List ℕ)) (n number sent least : ℕ)
     (now : Display)
     : Type 0 where
-  pub few : n ≤ most_packets
   pub within : n ≤ length frames
   pub rest : List ℕ
   pub rest_is : remaining ≡ Some rest
@@ -113,25 +114,25 @@ module _
         -- The file ends.
         pub ends_at_end :
             (v : PesValue)
-            → TellsFrame (clock_of l.options) n reached.rest v (Ok None)
+            → TellsNext (clock_of l.options) n reached.rest v (Ok None)
             → HearsFile leaves l frames unread told left w old now (Ok tt)
         ends_at_end v is =
             let at =
-            reads_end (clock_of l.options) n reached.rest frames unread None reached.few
-            reached.left is in
+            reads_end (clock_of l.options) n reached.rest frames unread v reached.left is in
             let within = reached.within in
             ends_so (Ok tt) (inl (omega (arith, at.0), at.1))
             (λ more. absurd (omega (arith, more, at.0)))
 
         -- It is not read on.
         pub ends_unread :
-            (v : PesValue) (f : CheckFault)
-            → TellsFrame (clock_of l.options) n reached.rest v (Err f)
+            (v : PesValue) (answer : Result (Option NextPiece) CheckFault) (f : CheckFault)
+            → TellsNext (clock_of l.options) n reached.rest v answer
+            → told_fault answer ≡ Some f
             → HearsFile leaves l frames unread told left w old now (Err (fault.File f))
-        ends_unread v f (u, is, ends) =
+        ends_unread v answer f is of =
             let at =
-            reads_end (clock_of l.options) n reached.rest frames unread (Some u) reached.few
-            reached.left ends in
+            reads_unread (clock_of l.options) n reached.rest frames unread v answer f
+            reached.left is of in
             let within = reached.within in
             let all : n ≡ length frames = omega (arith, at.0) in
             ends_so (Err (fault.File f)) (grind arith) (λ more. absurd (omega (arith, more, all)))
@@ -144,14 +145,17 @@ module _
             refuses x all is = grind (arith, nat_tests)
 
         module _
-            (v : PesValue) (frame : ℕ)
-            (is : TellsFrame (clock_of l.options) n reached.rest v (Ok (Some frame)))
+            (v : PesValue) (sending : Sending)
+            (is : TellsNext (clock_of l.options) n reached.rest v (Ok (Some (Sent sending))))
             (taken : TakesPackets (n + 1) told left)
           where
+            abbrev frame : ℕ
+            frame = sending.frame
+
             next : ReadsNext (clock_of l.options) n reached.rest frames unread v frame
             next =
-                reads_next (clock_of l.options) n reached.rest frames unread v frame reached.few
-                reached.left is.0 is.1
+                reads_next (clock_of l.options) n reached.rest frames unread v sending
+                reached.left is
 
             -- Its frame is not after the one before.
             pub ends_order :
@@ -208,7 +212,7 @@ module _
                 → least ≤ frame
                 → frame ≤ l.at
                 → first_lost_header (reception_of l) number (packets_of_units v.units) ≡ None
-                → left ≡ Some (rest_after reached.rest)
+                → left ≡ Some (behind_piece reached.rest)
                 → RunsThrough l.options.asks_complete leaves w now
                 (as_heard l number (packets_of_units v.units)) after
                 → Reaches leaves l frames unread w old left (n + 1) (number + length v.units)
@@ -218,8 +222,6 @@ module _
                 let frame_is = next.sent.frame_is in
                 let least_is = reached.least_is in
                 let there = next.sent.there in
-                let below = reads-below n reached.rest v is.0 in
-                let few = reached.few in
                 let more = joined_more frames n there
                 ∙ ap (λ ps. packets_before frames n ++ ps) next.sent.packets_are in
                 let r = reception_of l in
@@ -235,9 +237,8 @@ module _
                 let number_is = reached.number_is in
                 let place : 0 + length (packets_before frames n) ≡ number = omega arith in
                 record {
-                  few = omega (arith, below);
                   within = omega arith;
-                  rest = rest_after reached.rest;
+                  rest = behind_piece reached.rest;
                   rest_is = left_is;
                   left = next.left;
                   heard = λ i below_next.

@@ -16,7 +16,7 @@ ghost use Rattle.sub_listen.specs.declared.listening.ListenFault.TheVariants.{Fi
 use crate::reception::{first_lost_header, hear_units};
 use sub_io::{FaultCode, Source};
 use sub_request::Listening;
-use sub_rules::{CheckFault, next_sending};
+use sub_rules::{CheckFault, NextPiece, next_piece};
 use ttx_page::{Page, Receiver};
 use ttx_pes::ComparingReader;
 
@@ -97,11 +97,14 @@ pub fn listen<R: Receiver, S: Source>(
     let mut sent = 0;
     let mut index = 0;
     'packets: loop {
-        let next = next_sending(&mut reader, pes, &listening.options, index)?;
-        let Some(sending) = next else {
+        let next = next_piece(&mut reader, pes, &listening.options, index)?;
+        let Some(piece) = next else {
             return Ok(());
         };
-        let frame = sending.frame;
+        let frame = match piece {
+            NextPiece::Passed(fault) => return Err(ListenFault::File(fault)),
+            NextPiece::Sent(sending) => sending.frame,
+        };
         if frame < least {
             let fault = CheckFault::Order { pes: index };
             return Err(ListenFault::File(fault));

@@ -1,25 +1,27 @@
--- One PES packet read, in terms of the value of the whole file: `reads_next`, `reads_end`; and put
--- together, `reads_more`, `reads_ended`.
+-- One piece read, in terms of the file up to the first piece that is passed over: `reads_next`,
+-- `reads_unread`, `reads_end`; and put together, `reads_more`, `reads_ended`.
 use Rattle.std.proofs.lemmas.Bool.Decides.{nat_tests}
 use Rattle.std.proofs.Common.{◌≡◌, ℕ, suc, ◌+◌, ◌<◌, ◌≤◌, List, [], ◌∷◌, length, drop, get_or}
-use Rattle.std.proofs.Common.{Option, Some, Result, Ok, sym, ap, ◌∙◌, arith}
-use Rattle.std.specs.Prelude.{OnOk}
+use Rattle.std.proofs.Common.{Option, Some, None, Result, Ok, Err, refl, ap, arith}
 use Rattle.std.proofs.lemmas.List.{get_or-map, get_or-drop, length-drop, drop-drop}
 use Rattle.ttx_pes.specs.PesPacket.{PesValue}
+use Rattle.ttx_pes.specs.Pieces.{behind_piece}
 use Rattle.ttx_pes.specs.Reading.{answer_at, rest_after, most_packets}
 use Rattle.ttx_pes.specs.SentUnits.{packets_of_units}
 use Rattle.sub_plan.specs.FrameTime.{Clock}
+use Rattle.sub_rules.specs.Events.{unread_fault}
 use Rattle.sub_rules.specs.FrameRules.{Unread}
 use Rattle.sub_rules.specs.PesFrames.{IsReadAs}
 use Rattle.sub_rules.specs.PesReading.{ReadsAs, file_at}
-use Rattle.sub_rules.specs.Pieces.{PesFileValue}
-use Rattle.sub_rules.specs.Sendings.{EndsReading, IsSentFrame}
+use Rattle.sub_rules.specs.Pieces.{Piece, ReadsPieces, TellsPiece, pieces_at}
+use Rattle.sub_rules.specs.Pieces.{read_until_passed}
+use Rattle.sub_rules.specs.Sendings.{IsSentFrame}
 use Rattle.sub_rules.specs.Transmission.{SentFrame, Transmission}
-use Rattle.sub_rules.proofs.PieceFileLemmas.{file_at-next, file_by, file_with}
-
--- What holds in any case holds where there is a value. For `next_sending`.
-pub where_ok : {X E P : Type 0} (r : Result X E) → P → OnOk r P
-where_ok r h1 = grind (arith, nat_tests)
+use Rattle.sub_rules.specs.declared.fault.CheckFault.{CheckFault}
+use Rattle.sub_rules.specs.declared.piece.NextPiece.{NextPiece}
+use Rattle.sub_rules.specs.declared.piece.NextPiece.TheVariants as next
+use Rattle.sub_rules.specs.declared.sending.Sending.{Sending}
+use Rattle.sub_rules.proofs.PieceFileLemmas.{file_at-next}
 
 -- A frame of the list, from what stands after those before it.
 is_sent :
@@ -34,32 +36,13 @@ is_sent frames n s others e =
 
 -- ---- the value of a file, one PES packet on
 
--- What a file is of which no frame is read.
-ended :
-    (clock : Clock) (given : ℕ) (bytes : List ℕ) (u : Option Unread) (rest : PesFileValue)
-    → EndsReading clock given bytes u
-    → file_by clock (answer_at given bytes) rest ≡ record { frames = []; unread = u }
-ended clock given bytes u rest e = grind (arith, nat_tests)
-
--- Where no frame is read of the bytes, the file is read up to that.
+-- At the end of the bytes no frame is read.
 pub reads_ended :
-    (clock : Clock) (given : ℕ) (bytes : List ℕ) (u : Option Unread)
+    (clock : Clock) (given : ℕ) (bytes : List ℕ)
     → given ≤ most_packets
-    → EndsReading clock given bytes u
-    → ReadsAs clock given bytes [] u
-reads_ended clock given bytes u few ends = grind (arith, nat_tests, file_at-next, ended)
-
--- A file that begins with a PES packet of a frame: that frame, and then the others.
-begins :
-    (clock : Clock) (given : ℕ) (bytes : List ℕ) (v : PesValue) (frame : ℕ)
-    → given ≤ most_packets
-    → answer_at given bytes ≡ Ok (Some v)
-    → clock v.pts ≡ Some frame
-    → file_at clock given bytes
-    ≡ file_with (Some frame) (packets_of_units v.units)
-    (file_at clock (given + 1) (rest_after bytes))
-begins clock given bytes v frame few is of =
-    grind (arith, nat_tests, file_at-next)
+    → answer_at given bytes ≡ Ok None
+    → ReadsAs clock given bytes [] None
+reads_ended clock given bytes few ends = grind (arith, nat_tests, file_at-next)
 
 -- A PES packet that is sent as a frame comes before the others.
 pub reads_more :
@@ -71,37 +54,72 @@ pub reads_more :
     → ReadsAs clock (given + 1) (rest_after bytes) frames unread
     → ReadsAs clock given bytes (s ∷ frames) unread
 reads_more clock given bytes v s frames unread few is sent reads =
-    grind (arith, nat_tests, begins clock given bytes v s.frame few is sent.frame)
+    grind (arith, nat_tests, file_at-next)
 
--- What is read of one PES packet.
+-- ---- what is read of one piece
+
+-- What is read of the bytes that are left after n pieces, by an answer, with the value v of the PES
+-- packet that is sent.
+abbrev pub TellsNext :
+    Clock → ℕ → List ℕ → PesValue → Result (Option NextPiece) CheckFault → Type 0
+TellsNext clock n bytes v answer =
+    (pieces : List Piece) (unread : Option Unread)
+    → ReadsPieces clock n bytes pieces unread
+    → TellsPiece clock n bytes pieces unread v answer
+
+-- The fault by which no frame is read.
+abbrev pub told_fault : Result (Option NextPiece) CheckFault → Option CheckFault
+told_fault (Ok (Some (next.Passed f))) = Some f
+told_fault (Err f) = Some f
+told_fault _ = None
+
+-- A piece that is sent is the next frame of the list.
 pub record ReadsNext
     (clock : Clock) (n : ℕ) (bytes : List ℕ) (frames : Transmission) (unread : Option Unread)
     (v : PesValue) (frame : ℕ)
     : Type 0 where
   pub sent : IsSentFrame frames n frame (packets_of_units v.units)
-  pub left : ReadsAs clock (n + 1) (rest_after bytes) (drop (n + 1) frames) unread
+  pub left : ReadsAs clock (n + 1) (behind_piece bytes) (drop (n + 1) frames) unread
 
--- A PES packet with a frame is the next frame of the list.
 pub reads_next :
     (clock : Clock) (n : ℕ) (bytes : List ℕ) (frames : Transmission) (unread : Option Unread)
-    (v : PesValue) (frame : ℕ)
-    → n ≤ most_packets
+    (v : PesValue) (sending : Sending)
     → ReadsAs clock n bytes (drop n frames) unread
-    → answer_at n bytes ≡ Ok (Some v)
-    → clock v.pts ≡ Some frame
-    → ReadsNext clock n bytes frames unread v frame
-reads_next clock n bytes frames unread v frame few reads is of =
-    let rest = file_at clock (n + 1) (rest_after bytes) in
-    let s : SentFrame = record { frame = frame; packets = packets_of_units v.units } in
-    let whole = sym reads ∙ begins clock n bytes v frame few is of in
+    → TellsNext clock n bytes v (Ok (Some (next.Sent sending)))
+    → ReadsNext clock n bytes frames unread v sending.frame
+unfolding file_at read_until_passed
+reads_next clock n bytes frames unread v sending reads tells =
+    let file = pieces_at clock n bytes in
+    let rest = file_at clock (n + 1) (behind_piece bytes) in
+    let s : SentFrame = record { frame = sending.frame; packets = packets_of_units v.units } in
+    let is = (tells file.pieces file.unread refl).0 in
+    let first = is.first in
+    let left = is.left in
     grind (arith, nat_tests, drop-drop 1 n frames, is_sent frames n s rest.frames)
 
--- Where no frame is read of the bytes, the list is at its end.
+-- Where none is left, the list is at its end.
 pub reads_end :
-    (clock : Clock) (n : ℕ) (bytes : List ℕ) (frames : Transmission) (unread u : Option Unread)
-    → n ≤ most_packets
+    (clock : Clock) (n : ℕ) (bytes : List ℕ) (frames : Transmission) (unread : Option Unread)
+    (v : PesValue)
     → ReadsAs clock n bytes (drop n frames) unread
-    → EndsReading clock n bytes u
-    → (length frames ≤ n) × (unread ≡ u)
-reads_end clock n bytes frames unread u few reads ends =
-    grind (arith, nat_tests, reads_ended clock n bytes u few ends, length-drop n frames)
+    → TellsNext clock n bytes v (Ok None)
+    → (length frames ≤ n) × (unread ≡ None)
+unfolding file_at read_until_passed
+reads_end clock n bytes frames unread v reads tells =
+    let file = pieces_at clock n bytes in
+    let is = tells file.pieces file.unread refl in
+    grind (arith, nat_tests, length-drop n frames)
+
+-- So it is where a fault is told, which keeps the bytes from being read on.
+pub reads_unread :
+    (clock : Clock) (n : ℕ) (bytes : List ℕ) (frames : Transmission) (unread : Option Unread)
+    (v : PesValue) (answer : Result (Option NextPiece) CheckFault) (f : CheckFault)
+    → ReadsAs clock n bytes (drop n frames) unread
+    → TellsNext clock n bytes v answer
+    → told_fault answer ≡ Some f
+    → (length frames ≤ n) × (u : Unread) × (unread ≡ Some u) × (f ≡ unread_fault n (Some u))
+unfolding file_at read_until_passed
+reads_unread clock n bytes frames unread v answer f reads tells of =
+    let file = pieces_at clock n bytes in
+    let is = tells file.pieces file.unread refl in
+    grind (arith, nat_tests, length-drop n frames)

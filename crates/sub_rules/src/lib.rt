@@ -7,7 +7,7 @@
 //! stand on it.
 //!
 //! ```text
-//! next_sending(&mut reader, &mut source, &options, 0)?; // Some(Sending { frame: 250, .. })
+//! next_piece(&mut reader, &mut source, &options, 0)?; // Some(Sent(Sending { frame: 250, .. }))
 //! CheckFault::Gap { frame: 250 }.code(); // 73 Gap
 //! ```
 #![tactic(auto)]
@@ -31,5 +31,5 @@ pub use fault_row::FaultRow;
 pub use packet_rule::{PacketRule, Watched};
 pub use passed_run::PassedRun;
 pub use piece::{NextPiece, next_piece};
-pub use sending::{Sending, next_sending, units_of};
+pub use sending::{Sending, units_of};
 pub use trust::Trust;

@@ -1,6 +1,6 @@
 //! Pieces of a PES file, one after another: those that are sent, and those that are passed over.
-ghost use Rattle.std.specs.Prelude.{◌≡◌, ℕ, ◌+◌, ◌<◌, ◌≤◌, List, IfErr, IfOk, IsSome, Option, Ok};
-ghost use Rattle.std.specs.Prelude.{Some, false, true};
+ghost use Rattle.std.specs.Prelude.{◌≡◌, ◌≢◌, ℕ, ◌+◌, ◌<◌, ◌≤◌, List, IfErr, IfOk, IsSome, Option};
+ghost use Rattle.std.specs.Prelude.{Ok, Some, false, true};
 ghost use Rattle.sub_io.specs.Device.{CanFail, CountsIf, failed};
 ghost use Rattle.sub_io.specs.Reading.{IfTold};
 ghost use Rattle.ttx_pes.specs.LentPacket.{holds_packet};
@@ -11,7 +11,7 @@ ghost use Rattle.ttx_pes.specs.Reading.{answer_at, most_packets};
 ghost use Rattle.ttx_pes.specs.declared.progress.Progress.TheVariants.{Reading};
 ghost use Rattle.stl_file.specs.TimeCode.{day};
 ghost use Rattle.sub_plan.specs.FrameTime.{clock_of};
-ghost use Rattle.sub_rules.specs.Fault.{is_pes_read};
+ghost use Rattle.sub_rules.specs.Fault.{is_pes_read, is_subtitle_fault};
 ghost use Rattle.sub_rules.specs.FrameRules.{Unread};
 ghost use Rattle.sub_rules.specs.Pieces.{Piece, ReadsPieces, TakesOnePiece, TellsPiece};
 
@@ -25,14 +25,14 @@ use ttx_pes::{Compared, ComparingReader, PesFault};
 /// (EN 300 472, PES_packet_length).
 #[derive(Clone, Copy, Debug, PartialEq, Eq)]
 pub enum NextPiece {
-    /// It is a PES packet, and its PTS is that of a frame of the day.
+    /// It is a PES packet, and its PTS is that of a frame of the day (EN 300 472, PTS).
     Sent(Sending),
     /// It is none, or its PTS is not: its fault, `Pes` or `OffFrame`.
     Passed(CheckFault),
 }
 
-/// Reads the next piece, the one of this number from 0, as `next_sending` does, and goes on after
-/// one that is passed over: `None` at the end of the source.
+/// Reads the next piece, the one of this number from 0, and goes on after one that is passed over:
+/// `None` at the end of the source.
 ///
 /// The reader lends what was read. After a piece that is passed over `again` says nothing of what
 /// was sent before it.
@@ -70,8 +70,15 @@ pub fn next_piece<S: Source>(
     // What is sent again is what was sent before.
     ensures again { (sending : Sending) → result ≡ Ok (Some (NextPiece.Sent sending))
         → sending.again ≡ true → reader.new.frame.units ≡ reader.old.frame.units }
+    // What is not has another data field than what was sent before.
+    ensures other { (sending : Sending) → result ≡ Ok (Some (NextPiece.Sent sending))
+        → sending.again ≡ false → reader.new.data_field ≢ reader.old.data_field }
     ensures day { (sending : Sending) → result ≡ Ok (Some (NextPiece.Sent sending))
         → sending.frame < day }
+    ensures own { failed is_subtitle_fault result ≡ false }
+    // None is passed over where the source failed.
+    ensures passed { (fault : CheckFault) → result ≡ Ok (Some (NextPiece.Passed fault))
+        → (is_pes_read fault ≡ false) × (is_subtitle_fault fault ≡ false) }
     // That the source failed is told at this piece, within which it failed.
     ensures place { IfErr result (λ f. is_pes_read f ≡ true
         → f ≡ CheckFault.Pes pes PesFault.Read) }
@@ -104,6 +111,8 @@ fn piece_of(pts: u64, options: &Options, pes: u32, again: bool) -> NextPiece
     ensures again { (sending : Sending) → result ≡ NextPiece.Sent sending
         → sending.again ≡ again }
     ensures day { (sending : Sending) → result ≡ NextPiece.Sent sending → sending.frame < day }
+    ensures passed { (fault : CheckFault) → result ≡ NextPiece.Passed fault
+        → (is_pes_read fault ≡ false) × (is_subtitle_fault fault ≡ false) }
 {
     match options.frame_of(pts) {
         Some(frame) => NextPiece::Sent(Sending { frame, again }),

@@ -1,5 +1,5 @@
 -- Each way out of the loop tells what the file is; by WaysOutLemmas.
-use Rattle.std.proofs.Common.{◌+◌, ◌≤◌, ◌∙◌, List, Option, Result, Ok, ap, arith, length}
+use Rattle.std.proofs.Common.{◌+◌, ◌≤◌, ◌∙◌, Err, List, Ok, Option, Result, Some, ap, arith, length}
 use Rattle.std.proofs.Common.{refl, subst, sym}
 use Rattle.std.proofs.lemmas.Result.{err_from_is_err_and}
 use Rattle.ttx_packet.specs.PageId.{PageIdValue}
@@ -9,7 +9,8 @@ use Rattle.ttx_pes.specs.PesPacket.{most_units}
 use Rattle.ttx_pes.proofs.TakenPackets.{takes-more}
 use Rattle.sub_rules.specs.PacketRules.{packets_of_units}
 use Rattle.sub_rules.specs.declared.fault.CheckFault.{CheckFault}
-use Rattle.sub_rules.specs.declared.sending.Sending.{Sending}
+use Rattle.sub_rules.specs.declared.piece.NextPiece.{NextPiece}
+use Rattle.sub_rules.specs.declared.piece.NextPiece.TheVariants.{Passed}
 use Rattle.sub_listen.specs.Run.{least_after}
 use Rattle.sub_listen.specs.Reception.{RunsThrough, as_heard, first_lost_header, reception_of}
 use Rattle.sub_listen.proofs.WaysOutLemmas.{Reaches, ends_at_end, ends_late, ends_lost, ends_order}
@@ -23,7 +24,17 @@ returns-in_err-next-clause-exact g c = λ frames unread bytes told reads fine.
     let i = c.packets.invariant.told frames unread bytes told reads in
     rw (p.1, p.2)
     (ends_unread _ c.args.listening.now frames unread _ _ _ c.packets.index _ _ _ _ _ i _
-    c.next_sending.new.reader.frame _ (c.in_err-next.ensures.exact i.rest i.rest_is known))
+    c.next_piece.new.reader.frame (Err _) _
+    (λ pieces left reads.
+    c.in_err-next.ensures.exact pieces left i.rest i.rest_is known reads) refl)
+
+pub returns-in-Passed-clause-exact : goal.returns-in-Passed-clause-exact
+returns-in-Passed-clause-exact g c = λ frames unread bytes told reads fine.
+    let i = c.packets.invariant.told frames unread bytes told reads in
+    ends_unread _ c.args.listening.now frames unread _ _ _ c.packets.index _ _ _ _ _ i _
+    c.next_piece.new.reader.frame (Ok (Some (Passed c.in-Passed.fault))) c.in-Passed.fault
+    (λ pieces left reads. rw (c.in-Some.is, c.in-Passed.is) at
+    (c.in_ok-next.ensures.exact pieces left i.rest i.rest_is refl reads)) refl
 
 pub returns-in_err-next-clause-failed : goal.returns-in_err-next-clause-failed
 returns-in_err-next-clause-failed g c =
@@ -38,17 +49,19 @@ pub returns-in_default-clause-exact : goal.returns-in_default-clause-exact
 returns-in_default-clause-exact g c = λ frames unread bytes told reads fine.
     let i = c.packets.invariant.told frames unread bytes told reads in
     ends_at_end _ c.args.listening.now frames unread _ _ _ c.packets.index _ _ _ _ _ i _
-    c.next_sending.new.reader.frame
-    (rw c.in_default.is at (c.in_ok-next.ensures.exact i.rest i.rest_is refl))
+    c.next_piece.new.reader.frame
+    (λ pieces left reads. rw c.in_default.is at
+    (c.in_ok-next.ensures.exact pieces left i.rest i.rest_is refl reads))
 
 pub returns-then-frame-least-clause-exact : goal.returns-then-frame-least-clause-exact
 returns-then-frame-least-clause-exact g c = λ frames unread bytes told reads fine.
     let i = c.packets.invariant.told frames unread bytes told reads in
     ends_order _ c.args.listening.now frames unread _ _ _ c.packets.index _ _ _ _ _ i _
-    c.next_sending.new.reader.frame c.in-Some.sending.frame
-    (rw c.in-Some.is at (c.in_ok-next.ensures.exact i.rest i.rest_is refl))
+    c.next_piece.new.reader.frame c.in-Sent.sending
+    (λ pieces left reads. rw (c.in-Some.is, c.in-Sent.is) at
+    (c.in_ok-next.ensures.exact pieces left i.rest i.rest_is refl reads))
     (takes-more c.packets.index _ _ _ _ c.packets.invariant.taken
-    (c.in_ok-next.ensures.taken c.in-Some.sending (cc)))
+    (c.in_ok-next.ensures.sent c.in-Sent.sending (cc)))
     c.if-frame-least.true
 
 pub returns-then-frame-listening-clause-exact : goal.returns-then-frame-listening-clause-exact
@@ -57,10 +70,11 @@ returns-then-frame-listening-clause-exact g c = λ frames unread bytes told read
     let rises = c.if-frame-least.false in
     let late = c.if-frame-listening.true in
     ends_late _ c.args.listening.now frames unread _ _ _ c.packets.index _ _ _ _ _ i _
-    c.next_sending.new.reader.frame c.in-Some.sending.frame
-    (rw c.in-Some.is at (c.in_ok-next.ensures.exact i.rest i.rest_is refl))
+    c.next_piece.new.reader.frame c.in-Sent.sending
+    (λ pieces left reads. rw (c.in-Some.is, c.in-Sent.is) at
+    (c.in_ok-next.ensures.exact pieces left i.rest i.rest_is refl reads))
     (takes-more c.packets.index _ _ _ _ c.packets.invariant.taken
-    (c.in_ok-next.ensures.taken c.in-Some.sending (cc)))
+    (c.in_ok-next.ensures.sent c.in-Sent.sending (cc)))
     (omega (arith, rises)) (omega (arith, late))
 
 pub returns-in-Some-first_lost_header-clause-exact :
@@ -72,10 +86,11 @@ returns-in-Some-first_lost_header-clause-exact g c = λ frames unread bytes told
     let place = c.in-Some-first_lost_header.place in
     let l = c.args.listening.now in
     ends_lost _ l frames unread _ _ _ c.packets.index _ _ _ _ _ i _
-    c.next_sending.new.reader.frame c.in-Some.sending.frame
-    (rw c.in-Some.is at (c.in_ok-next.ensures.exact i.rest i.rest_is refl))
+    c.next_piece.new.reader.frame c.in-Sent.sending
+    (λ pieces left reads. rw (c.in-Some.is, c.in-Sent.is) at
+    (c.in_ok-next.ensures.exact pieces left i.rest i.rest_is refl reads))
     (takes-more c.packets.index _ _ _ _ c.packets.invariant.taken
-    (c.in_ok-next.ensures.taken c.in-Some.sending (cc))) c.first_in_frame-before.result place
+    (c.in_ok-next.ensures.sent c.in-Sent.sending (cc))) c.first_in_frame-before.result place
     (rw (← c.within-within.ensures.value) c.first_in_frame-before.ensures.value)
     (omega (arith, rises)) (omega (arith, in_time))
     (ap (λ (us : List UnitValue). first_lost_header (reception_of l) c.packets.number
@@ -95,15 +110,16 @@ packets-preserved g c =
     let units =
     subst (λ (us : List UnitValue). length us ≤ most_units) (sym c.units-units.ensures.value)
     c.units-units.ensures.frame.few in
-    let given = ap (λ x. let r : Result (Option Sending) CheckFault = Ok x in r) c.in-Some.is in
-    let day = c.in_ok-next.ensures.day c.in-Some.sending given in
-    let packets = c.in_ok-next.ensures.few c.in-Some.sending given in
+    let given = ap (λ x. let r : Result (Option NextPiece) CheckFault = Ok x in r)
+    (c.in-Some.is ∙ ap (λ (p : NextPiece). Some p) c.in-Sent.is) in
+    let day = c.in_ok-next.ensures.day c.in-Sent.sending given in
+    let packets = (rw c.in-Some.is at c.in_ok-next.ensures.below) refl in
     let rises = c.if-frame-least.false in
     let in_time = c.if-frame-listening.false in
     let l = c.args.listening.now in
     let taken =
     takes-more c.packets.index _ _ _ _ c.packets.invariant.taken
-    (c.in_ok-next.ensures.taken c.in-Some.sending given) in
+    (c.in_ok-next.ensures.sent c.in-Sent.sending given) in
     let whole = ap (λ (us : List UnitValue). first_lost_header (reception_of l)
     c.packets.number (packets_of_units us)) (sym value)
     ∙ sym c.first_lost_header.ensures.value
@@ -117,7 +133,7 @@ packets-preserved g c =
     c.hear_units.new.screen)) value
     c.hear_units.ensures.run in
     record {
-      reading = c.in_ok-next.ensures.progress c.in-Some.sending given;
+      reading = (rw c.in-Some.is at c.in_ok-next.ensures.progress) refl;
       few_packets = omega (arith, packets);
       taken = taken;
       failures = omega (arith, counted, before);
@@ -132,23 +148,24 @@ packets-preserved g c =
           (subst (λ (us : List UnitValue). Reaches g.R.Receiver.leaves l frames unread
           (g.R.Receiver.tuned_to c.args.receiver.now)
           (display (g.R.Receiver.state c.args.receiver.now) c.args.screen.now)
-          (g.S.Source.remaining c.next_sending.new.source) (c.packets.index + 1)
+          (g.S.Source.remaining c.next_piece.new.source) (c.packets.index + 1)
           (c.packets.number + length us) (c.first_in_frame-before.result + length us)
-          (least_after l.options.within c.in-Some.sending.frame)
+          (least_after l.options.within c.in-Sent.sending.frame)
           (display (g.R.Receiver.state c.hear_units.new.receiver)
           c.hear_units.new.screen))
           (sym value)
           (reaches_next _ l frames unread (g.S.Source.remaining c.args.pes.now) _ _
           c.packets.index _ _ _ _ _ i _
-          c.next_sending.new.reader.frame c.in-Some.sending.frame
-          (rw c.in-Some.is at (c.in_ok-next.ensures.exact i.rest i.rest_is refl)) taken
+          c.next_piece.new.reader.frame c.in-Sent.sending
+          (λ pieces left reads. rw (c.in-Some.is, c.in-Sent.is) at
+          (c.in_ok-next.ensures.exact pieces left i.rest i.rest_is refl reads)) taken
           c.first_in_frame-before.result _
           (rw (← c.within-within.ensures.value) c.first_in_frame-before.ensures.value)
           (omega (arith, rises)) (omega (arith, in_time)) whole
-          (c.in_ok-next.ensures.left i.rest i.rest_is)
+          ((rw c.in-Some.is at (c.in_ok-next.ensures.left i.rest i.rest_is)) refl)
           (subst (λ (w : PageIdValue). RunsThrough l.options.asks_complete g.R.Receiver.leaves w
           (display (g.R.Receiver.state c.packets.receiver) c.packets.screen)
-          (as_heard l c.packets.number (packets_of_units c.next_sending.new.reader.frame.units))
+          (as_heard l c.packets.number (packets_of_units c.next_piece.new.reader.frame.units))
           (display (g.R.Receiver.state c.hear_units.new.receiver)
           c.hear_units.new.screen))
           c.packets.invariant.tuned run)));
