@@ -116,7 +116,7 @@ law_of_trusted_with_delay programme options unread pieces from to is within told
       header = header_there g frames from to may.stays;
       trusted =
           law_of_stretch_with_delay programme part options from to
-          (enough_with_delay programme options unread part from to is within
-          (untold g frames from to may.stays) (closed g frames from to may.stays));
+          (enough_with_delay programme options unread part from to
+          (untold g frames from to may.stays) (closed g frames from to may.stays) is);
       finished = finished_there programme options unread frames from to may;
     }
