@@ -5,7 +5,7 @@ use Rattle.std.proofs.lemmas.Bool.Decides.{nat_tests}
 use Rattle.std.proofs.Common.{◌≡◌, ℕ, zero, suc, ◌+◌, ◌-◌, ◌<◌, ◌≤◌, Bool, true, false, cond, List}
 use Rattle.std.proofs.Common.{[], ◌∷◌, ◌++◌, map, take, get_or, length, max, Option, Some, None}
 use Rattle.std.proofs.Common.{refl, sym, subst, arith, append_assoc, length-append, le_refl, inl}
-use Rattle.std.proofs.Common.{inr, unwrap_or, if◌then◌else◌}
+use Rattle.std.proofs.Common.{inr, unwrap_or, if◌then◌else◌, ◌==◌}
 use Rattle.std.proofs.Math.Seq.{take-append-add}
 use Rattle.std.proofs.lemmas.Bool.{cases_lt}
 use Rattle.std.proofs.lemmas.List.{get_or-append-add, get_or_append_left, take-append-le}
@@ -213,9 +213,24 @@ module _ (g : Task) (frames : Transmission) where
       omega arith)
 
   -- The first of the unfinished ends up to one is not after it.
-  pub since_low : (n f r : ℕ) → unfinished_since g frames n f ≡ Some r → latest frames n ≤ f
-      → r ≤ f
+  since_low : (n f r : ℕ) → unfinished_since g frames n f ≡ Some r → latest frames n ≤ f → r ≤ f
   unfolding unfinished_since
   since_low n f r e l =
       let low = in_gap n (since_frames g frames n) (f - latest frames n) r e (in_frames n) in
       omega arith
+
+  -- It, where ends are looked at: within some frames.
+  abbrev pub seen_since : ℕ → ℕ → Option ℕ
+  seen_since n f = if g.within == 0 then None else unfinished_since g frames n f
+
+  -- If there is one, it is that one.
+  pub seen_is : (n f r : ℕ) → seen_since n f ≡ Some r → unfinished_since g frames n f ≡ Some r
+  seen_is n f r e = of_seen (g.within == 0) (unfinished_since g frames n f) e
+    where
+      of_seen : (at_once : Bool) (since : Option ℕ) → (if at_once then None else since) ≡ Some r
+          → since ≡ Some r
+      of_seen true since e = absurd (none-some r e)
+      of_seen false since e = e
+
+  pub seen_low : (n f r : ℕ) → seen_since n f ≡ Some r → latest frames n ≤ f → r ≤ f
+  seen_low n f r e l = since_low n f r (seen_is n f r e) l

@@ -1,10 +1,10 @@
 -- What comes at the end of a frame while the frames of a stretch that can stay go by:
 -- `ending_leads`; and of the file, `closing_told`.
 use Rattle.std.proofs.lemmas.Bool.Decides.{nat_tests}
-use Rattle.std.proofs.Common.{◌≡◌, ℕ, suc, ◌+◌, ◌-◌, ◌<◌, ◌≤◌, inl, inr, Bool, true, false, ◌==◌}
-use Rattle.std.proofs.Common.{◌&&◌, ◌||◌, List, [], ◌∷◌, ◌++◌, length, map, Option, Some, None}
-use Rattle.std.proofs.Common.{is_some, nat_lt, not, refl, sym, ap, ◌∙◌, subst, arith, le_refl}
-use Rattle.std.proofs.Common.{Contains, if◌then◌else◌, unwrap_or}
+use Rattle.std.proofs.Common.{◌≡◌, ℕ, suc, ◌+◌, ◌-◌, ◌<◌, ◌≤◌, inl, inr, Bool, true, false, ◌&&◌}
+use Rattle.std.proofs.Common.{◌||◌, List, [], ◌∷◌, ◌++◌, length, map, Option, Some, None, is_some}
+use Rattle.std.proofs.Common.{nat_lt, not, refl, sym, ap, ◌∙◌, subst, arith, le_refl, Contains}
+use Rattle.std.proofs.Common.{if◌then◌else◌, unwrap_or}
 use Rattle.std.proofs.lemmas.Bool.{cases_lt, true≢false}
 use Rattle.std.proofs.lemmas.Option.{none-some}
 use Rattle.std.specs.List.{list_any}
@@ -28,14 +28,14 @@ use Rattle.sub_laws.specs.CleanStretch.{IsEnd}
 use Rattle.sub_laws.proofs.DelayEndingLemmas.{ending}
 use Rattle.sub_laws.proofs.DelayRunLemmas.{Closed, Opens, Up, gap_end, opens_said, run_low, up_of}
 use Rattle.sub_laws.proofs.DelayRunLemmas.{whole_ended}
-use Rattle.sub_laws.proofs.DelayStepLemmas.{at_end}
+use Rattle.sub_laws.proofs.DelayStepLemmas.{at_end, with_end}
 use Rattle.sub_laws.proofs.FollowedLemmas.{Fits, own_in}
 use Rattle.sub_laws.proofs.LateDoubtLemmas.{end_doubt, header_none}
 use Rattle.sub_laws.proofs.LeadMarkLemmas.{IsTold, Leads, Leads-append, Leads-both, Leads-cons}
 use Rattle.sub_laws.proofs.LeadMarkLemmas.{Leads-nil, put_told, told_left}
 use Rattle.sub_laws.proofs.SayMarkLemmas.{IsSaid, doubt_of, kept_some, said}
-use Rattle.sub_laws.proofs.StretchMarkLemmas.{Follows, doubt_told, end_follows, end_marks_are}
-use Rattle.sub_laws.proofs.StretchMarkLemmas.{end_orders, end_past, follows_said, top}
+use Rattle.sub_laws.proofs.StretchMarkLemmas.{Follows, doubt_told, end_follows, end_orders}
+use Rattle.sub_laws.proofs.StretchMarkLemmas.{end_past, follows_said, top}
 use Rattle.sub_laws.proofs.StretchStepLemmas.{Open, Past, Sending, clean_still, later_in}
 use Rattle.sub_laws.proofs.StretchStepLemmas.{sending_says}
 use Rattle.sub_laws.proofs.TrustedFrameLemmas.{count_most, risen, risen_low}
@@ -101,16 +101,16 @@ closing_past (Some r) left last b h low unread = h r refl
 closing_past None true last b h low unread = unread refl
 closing_past None false last b h low unread = omega arith
 
-module _ (g : Task) (frames : Transmission) (some : (g.within == 0) ≡ false) (a b i : ℕ)
+module _ (g : Task) (frames : Transmission) (a b i : ℕ)
     (fits : Fits g frames a b i) where
   abbrev Follow : ℕ → ℕ → Trust → Type 0
-  Follow n p t = Follows g frames some a b i fits n p t
+  Follow n p t = Follows g frames a b i fits n p t
 
   abbrev Lead : (Trust → Type 0) → Trust → List Mark → Type 0
-  Lead S t ms = Leads (top g frames some a b i fits) b S t ms
+  Lead S t ms = Leads (top g frames a b i fits) b S t ms
 
   abbrev OpenHere : ℕ → Trust → Type 0
-  OpenHere n t = Open g frames some a b i fits n (packets_of_frame frames n) t
+  OpenHere n t = Open g frames a b i fits n (packets_of_frame frames n) t
 
   -- The end of frame n was looked at.
   record Finishing (n : ℕ) (t : Trust) : Type 0 where
@@ -133,7 +133,7 @@ module _ (g : Task) (frames : Transmission) (some : (g.within == 0) ≡ false) (
 
   -- With its end.
   abbrev now_at : ℕ → Trust → Trust
-  now_at n t = after_mark (at_end g frames some (suc n) (frame_at frames n)) t
+  now_at n t = after_mark (at_end g frames (suc n) (frame_at frames n)) t
 
   -- Nothing stood before it where a run is there.
   stood_own : (n from : ℕ) (t : Trust) → n < length frames
@@ -185,9 +185,9 @@ module _ (g : Task) (frames : Transmission) (some : (g.within == 0) ≡ false) (
       let es : List Event = events_at_end g frames n (suc n) f in
       record {
         follows =
-            follows_said g frames some a b i fits n (f + 1) (now_at n t) v es
-            (end_follows g frames some a b i fits n (suc n) f (f + 1) t refl sending.follows
-            (λ l. own_in frames n (later_in g frames some a b i fits n
+            follows_said g frames a b i fits n (f + 1) (now_at n t) v es
+            (end_follows g frames a b i fits n (suc n) f (f + 1) t refl sending.follows
+            (λ l. own_in frames n (later_in g frames a b i fits n
             (packets_of_frame frames n) t there (opens, sending) l).0)) so
             (λ l. end_orders (standing_before g frames n f) (end_before frames n f)
             (standing_at g frames (suc n) f) f)
@@ -226,22 +226,20 @@ module _ (g : Task) (frames : Transmission) (some : (g.within == 0) ≡ false) (
       → Lead (Finishing n) t (marks_at_end g frames n (suc n) (frame_at frames n))
   unfolding after_mark
   end_leads_to n t there (opens, sending) =
-      subst (Lead (Finishing n) t)
-      (sym (end_marks_are g frames some a b i fits n (suc n) (frame_at frames n)))
-      (Leads-cons (top g frames some a b i fits) b (Finishing n) t
-      (at_end g frames some (suc n) (frame_at frames n)) (map Says es)
-      (go (doubt_of (now_at n t) es) refl))
+      with_end g frames (Lead (Finishing n)) n (suc n) (frame_at frames n) t opens.keeps.at_once
+      (λ mark ms silent. Leads-cons (top g frames a b i fits) b (Finishing n) t mark ms)
+      (go (doubt_of (now_at n t) es) refl)
     where
       es : List Event
       es = events_at_end g frames n (suc n) (frame_at frames n)
 
       in_part_low : i < n → (n < risen frames) × (a ≤ frame_at frames n)
       in_part_low l =
-          later_in g frames some a b i fits n (packets_of_frame frames n) t there (opens, sending) l
+          later_in g frames a b i fits n (packets_of_frame frames n) t there (opens, sending) l
 
       follows_now : i < n → Follow n (frame_at frames n + 1) (now_at n t)
       follows_now l =
-          end_follows g frames some a b i fits n (suc n) (frame_at frames n)
+          end_follows g frames a b i fits n (suc n) (frame_at frames n)
           (frame_at frames n + 1) t refl sending.follows
           (λ below. own_in frames n (in_part_low below).0)
 
@@ -254,9 +252,9 @@ module _ (g : Task) (frames : Transmission) (some : (g.within == 0) ≡ false) (
       go (Some x) is = elim (cases_lt i n) [
         | inl l ↦
             let both = in_part_low l in
-            doubt_told g frames some a b i fits n (frame_at frames n + 1) (now_at n t) es x
+            doubt_told g frames a b i fits n (frame_at frames n + 1) (now_at n t) es x
             (follows_now l) l is
-            (end_past g frames some a b i fits n (suc n) (frame_at frames n) x t
+            (end_past g frames a b i fits n (suc n) (frame_at frames n) x t
             (own_in frames n both.0) both.1 is) (Finishing n)
         | inr not_below ↦
             inr
@@ -331,7 +329,7 @@ module _ (g : Task) (frames : Transmission) (some : (g.within == 0) ≡ false) (
       back = ap (frame_at frames) (omega arith)
 
       begins : i ≡ n
-          → (from : ℕ) × (from ≤ top g frames some a b i fits)
+          → (from : ℕ) × (from ≤ top g frames a b i fits)
           × ((if t.is_clean && quiet_at n then begun t.run (has n) (frame_at frames n) else None)
           ≡ Some from)
       begins same =
@@ -352,21 +350,21 @@ module _ (g : Task) (frames : Transmission) (some : (g.within == 0) ≡ false) (
           )
 
   pub ending_leads : (n : ℕ) (t : Trust) → n < length frames → OpenHere n t
-      → Lead (Past g frames some a b i fits (suc n)) t (marks_of_ending g frames n)
+      → Lead (Past g frames a b i fits (suc n)) t (marks_of_ending g frames n)
   ending_leads n t there (opens, sending) =
       let f : ℕ = frame_at frames n in
       let last : Mark = Ends f (has n) (quiet_at n) in
       let q : ℕ = frame_at frames (suc n - 1) + 1 in
-      Leads-both (top g frames some a b i fits) b (Closed g frames (suc n)) (Follow (suc n) q) t
-      (marks_of_ending g frames n) (ending g frames some n t there opens).after
-      (Leads-append (top g frames some a b i fits) b (Finishing n) (Follow (suc n) q) t
+      Leads-both (top g frames a b i fits) b (Closed g frames (suc n)) (Follow (suc n) q) t
+      (marks_of_ending g frames n) (ending g frames n t there opens).after
+      (Leads-append (top g frames a b i fits) b (Finishing n) (Follow (suc n) q) t
       (map Says (first_header_events g frames n) ++ marks_at_end g frames n (suc n) f) (last ∷ [])
-      (Leads-append (top g frames some a b i fits) b (OpenHere n) (Finishing n) t
+      (Leads-append (top g frames a b i fits) b (OpenHere n) (Finishing n) t
       (map Says (first_header_events g frames n)) (marks_at_end g frames n (suc n) f) header
       (λ u so. end_leads_to n u there so))
       (λ v so.
-      Leads-cons (top g frames some a b i fits) b (Follow (suc n) q) v last []
-      (Leads-nil (top g frames some a b i fits) b (Follow (suc n) q) (after_mark last v)
+      Leads-cons (top g frames a b i fits) b (Follow (suc n) q) v last []
+      (Leads-nil (top g frames a b i fits) b (Follow (suc n) q) (after_mark last v)
       (ended_now n v so))))
     where
       header : Lead (OpenHere n) t (map Says (first_header_events g frames n))
@@ -374,19 +372,19 @@ module _ (g : Task) (frames : Transmission) (some : (g.within == 0) ≡ false) (
           let es : List Event = first_header_events g frames n in
           let none : doubt_of t es ≡ None = header_none t.last (late_since t) g frames n in
           let packets : List (List ℕ) = packets_of_frame frames n in
-          Leads-both (top g frames some a b i fits) b (Opens g frames n packets)
-          (Sending g frames some a b i fits n) t (map Says es)
+          Leads-both (top g frames a b i fits) b (Opens g frames n packets)
+          (Sending g frames a b i fits n) t (map Says es)
           (opens_said g frames n packets packets t (trust_after t (map Says es)) es opens
           (said t es) (λ quiet kept. kept))
-          (sending_says g frames some a b i fits n t es sending (header_orders g frames n)
+          (sending_says g frames a b i fits n t es sending (header_orders g frames n)
           (λ same. none) (λ l x doubt. absurd (none-some x (sym none ∙ doubt))))
 
   -- ---- the end of the file
 
   pub closing_told : (pes : ℕ) (t : Trust)
-      → Past g frames some a b i fits (length frames) t
+      → Past g frames a b i fits (length frames) t
       → (t.told || not (tells_none (closing_of_pieces g frames pes (length frames)))) ≡ true
-      → IsTold (top g frames some a b i fits) b
+      → IsTold (top g frames a b i fits) b
       (told_by t (marks_of_closing g frames pes (length frames)))
   unfolding told_by told_with after_mark
   closing_told pes t (closed, follows) told =
@@ -414,7 +412,7 @@ module _ (g : Task) (frames : Transmission) (some : (g.within == 0) ≡ false) (
       let (u, unread) = unread_is g.unread left in
       let l = fits.unread u unread in
       omega arith) in
-      told_left (top g frames some a b i fits) b (told_with (Closes (is_some g.unread) more) t0)
+      told_left (top g frames a b i fits) b (told_with (Closes (is_some g.unread) more) t0)
       (told_by t1 (map Says es)) (
         from,
         x - 1,

@@ -3,9 +3,8 @@
 use Rattle.std.proofs.lemmas.Bool.Decides.{nat_tests}
 use Rattle.std.proofs.Common.{◌≡◌, ℕ, ◌+◌, ◌-◌, ◌<◌, ◌≤◌, ◌⊎◌, inl, inr, Bool, true, false, ◌&&◌}
 use Rattle.std.proofs.Common.{◌||◌, ◌==◌, nat_le, nat_lt, Option, Some, None, is_some, length}
-use Rattle.std.proofs.Common.{get_or, refl, sym, ap, ◌∙◌, subst, arith, le_refl, IsFalse, Contains}
-use Rattle.std.proofs.lemmas.Bool.{cases_eq, cases_lt, or_parts, true≢false}
-use Rattle.std.proofs.lemmas.List.Elements.{Contains-get_or}
+use Rattle.std.proofs.Common.{get_or, refl, sym, ◌∙◌, subst, arith, le_refl, IsFalse}
+use Rattle.std.proofs.lemmas.Bool.{cases_eq, cases_lt, or_parts}
 use Rattle.ttx_packet.specs.PacketAddress.{IsPacket}
 use Rattle.ttx_page.specs.Shown.{shown}
 use Rattle.stl_file.specs.Subtitle.{SubtitleValue}
@@ -16,26 +15,23 @@ use Rattle.sub_rules.specs.Events.{is_pending, is_unfinished, undue_after, unfin
 use Rattle.sub_rules.specs.Events.{wrong_cell}
 use Rattle.sub_rules.specs.FrameRules.{Task, Unread, end_frame, frame_at, packets_before, task_of}
 use Rattle.sub_rules.specs.Good.{KeepsRules}
-use Rattle.sub_rules.specs.GoodWithin.{FinishesAgain, GoodWithin, IsDueWithin, IsFinished}
-use Rattle.sub_rules.specs.GoodWithin.{ShowsDueCodes, SomeFinished}
+use Rattle.sub_rules.specs.GoodWithin.{GoodWithin, IsDueWithin, IsFinished, SomeFinished}
 use Rattle.sub_rules.specs.Transmission.{EachPacket, Transmission, first_frame, last_frame}
-use Rattle.sub_rules.specs.Transmission.{on_air_until}
 use Rattle.sub_laws.specs.BrokenPlaces.{LawOfNothingToldWithin}
 use Rattle.sub_laws.specs.CleanStretch.{IsEnd}
-use Rattle.sub_laws.proofs.DueCodeLemmas.{MayShow, ending_at, ending_is, none_undue, undue_none}
+use Rattle.sub_laws.proofs.DueCodeLemmas.{MayShow, ending_at, none_undue}
 use Rattle.sub_laws.proofs.EventLemmas.{nothing_told, sizes_of}
 use Rattle.sub_laws.proofs.FrameByFrame.{AllOk}
 use Rattle.sub_laws.proofs.GoodLemmas.{rises_each}
-use Rattle.sub_laws.proofs.GoodWithinLemmas.{begins_in, ends_in, has_frame}
+use Rattle.sub_laws.proofs.GoodWithinLemmas.{begins_in, ends_in}
 use Rattle.sub_laws.proofs.PlaceLemmas.{Rules-from_holds, holds-from_rules, quiet_at, rising}
 use Rattle.sub_laws.proofs.PrefixLemmas.{RiseTo, end_high, end_is_on_air, end_low, first-same}
 use Rattle.sub_laws.proofs.PrefixLemmas.{last-same}
 use Rattle.sub_laws.proofs.StandingLemmas.{quiet_parts}
 use Rattle.sub_laws.proofs.SufficientDelayLemmas.{HoldsAtEnds, again, calm, codes, subtitle}
-use Rattle.sub_laws.proofs.UnfinishedLemmas.{finished_from, since_after, since_some, unfinished_at}
-use Rattle.sub_laws.proofs.FinishedLemmas.{at_finished, finished_at, finished_of, frame_end}
-use Rattle.sub_laws.proofs.FinishedLemmas.{late_is, no_since, none_is, of_finished, since_is}
-use Rattle.sub_laws.proofs.FinishedLemmas.{since_no}
+use Rattle.sub_laws.proofs.UnfinishedLemmas.{since_after, since_some, unfinished_at}
+use Rattle.sub_laws.proofs.FinishedLemmas.{at_finished, finished_of, late_is, no_since, none_is}
+use Rattle.sub_laws.proofs.FinishedLemmas.{of_finished, since_is, since_no}
 
 -- ---- the law, one way
 
