@@ -30,7 +30,8 @@ use Rattle.sub_rules.specs.declared.event.Event.TheVariants.{Told}
 use Rattle.sub_rules.specs.declared.fault.CheckFault.{CheckFault}
 use Rattle.sub_rules.specs.declared.packet_rule.PacketRule.{PacketRule}
 use Rattle.sub_rules.specs.declared.passed_run.PassedRun.{PassedRun}
-use Rattle.sub_rules.proofs.PieceEventLemmas.{announced_first, first_of_two, or_else}
+use Rattle.sub_rules.proofs.MarkEventLemmas.{first_of_two, or_else}
+use Rattle.sub_rules.proofs.PieceEventLemmas.{announced_first}
 use Rattle.sub_laws.proofs.MarkTestLemmas.{FramesPass, PassedPass, Passes, before_passes, both_pass}
 use Rattle.sub_laws.proofs.MarkTestLemmas.{each_passes, first_fine, says_bad, says_pass, tells_bad}
 use Rattle.sub_laws.proofs.MarkTestLemmas.{told_fine}

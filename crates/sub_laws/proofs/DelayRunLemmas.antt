@@ -263,22 +263,18 @@ module _ (g : Task) (frames : Transmission) where
         ),
       )
 
-  -- Nothing stands at the end before.
-  pub stood : (n k from x : ℕ) (t : Trust) → n < length frames → k < gap_length frames n
-      → Keeps n (latest frames n + suc k) t
-      → t.run ≡ Some from
+  -- Nothing stands at the end before one of these ends, or before the frame's own.
+  pub stood : (n f from : ℕ) (t : Trust) → n < length frames → Keeps n f t → t.run ≡ Some from
       → Up n
-      → stands_none (standing_before g frames n (latest frames n + suc k)) ≡ true
-  stood n k from x t there l keeps is h =
-      let f : ℕ = latest frames n + suc k in
-      let low = run_low n from (keeps.run from is) in
-      let last = h.last in
+      → latest frames n < f
+      → f ≤ frame_at frames n
+      → stands_none (standing_before g frames n f) ≡ true
+  stood n f from t there keeps is h after high =
       let some = h.some in
       rw (standing_before_is g frames n f some) (go (nat_lt (latest frames n + 1) f) refl)
     where
-      go : (b : Bool) → nat_lt (latest frames n + 1) (latest frames n + suc k) ≡ b
-          → stands_none (standing_at g frames n
-          (if b then latest frames n + suc k - 1 else frame_at frames (n - 1)))
+      go : (b : Bool) → nat_lt (latest frames n + 1) f ≡ b
+          → stands_none (standing_at g frames n (if b then f - 1 else frame_at frames (n - 1)))
           ≡ true
       go false e =
           let low = run_low n from (keeps.run from is) in
@@ -288,10 +284,12 @@ module _ (g : Task) (frames : Transmission) where
       go true e =
           let low = run_low n from (keeps.run from is) in
           let last = h.last in
-          let later : 0 < k = grind (arith, nat_tests) in
-          let at : latest frames n + suc (k - 1) ≡ latest frames n + suc k - 1 = omega arith in
-          keeps.ends from is n (latest frames n + suc k - 1)
-          (subst (IsEnd frames n) at (gap_end n (k - 1) there (omega arith) h)) (le_refl n)
+          let long = h.long in
+          let later : latest frames n + 1 < f = grind (arith, nat_tests) in
+          let k : ℕ = f - 1 - suc (latest frames n) in
+          let at : latest frames n + suc k ≡ f - 1 = omega arith in
+          keeps.ends from is n (f - 1)
+          (subst (IsEnd frames n) at (gap_end n k there (omega arith) h)) (le_refl n)
           (omega arith) (omega arith)
 
   -- ---- frames that have ended, and one that is sent

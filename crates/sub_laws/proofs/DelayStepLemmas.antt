@@ -206,7 +206,9 @@ module _ (g : Task) (frames : Transmission) where
                       absurd (omega arith)
                   | inr all ↦ omega arith
                 ] in
-                let before = stood g frames n k from f t there l arrives.keeps was h in
+                let long = h.long in
+                let before =
+                stood g frames n f from t there arrives.keeps was h (omega arith) (omega arith) in
                 subst (λ (z : ℕ). stands_none (standing_at g frames z e) ≡ true) own
                 (subst (λ (z : ℕ). stands_none (standing_at g frames n z) ≡ true) here
                 ((end_doubt t.last (end_before frames n f) f (late_since u)

@@ -25,7 +25,8 @@ use Rattle.sub_rules.specs.declared.fault.CheckFault.{CheckFault}
 use Rattle.sub_rules.specs.declared.fault.CheckFault.TheVariants as fault
 use Rattle.sub_rules.specs.declared.passed_run.PassedRun.{PassedRun}
 use Rattle.sub_rules.specs.declared.trust.Trust.{Trust}
-use Rattle.sub_rules.proofs.PieceEventLemmas.{announced_first, first_of_two, or_else}
+use Rattle.sub_rules.proofs.MarkEventLemmas.{first_of_two, or_else}
+use Rattle.sub_rules.proofs.PieceEventLemmas.{announced_first}
 use Rattle.sub_laws.proofs.SaidLemmas.{pieces_said, said, said-append}
 
 -- ---- pieces

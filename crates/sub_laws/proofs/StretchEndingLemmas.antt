@@ -3,7 +3,7 @@
 use Rattle.std.proofs.lemmas.Bool.Decides.{nat_tests}
 use Rattle.std.proofs.Common.{◌≡◌, ℕ, suc, ◌+◌, ◌-◌, ◌<◌, ◌≤◌, inl, inr, Bool, true, false, ◌&&◌}
 use Rattle.std.proofs.Common.{◌||◌, List, [], ◌∷◌, ◌++◌, length, map, Option, Some, None, is_some}
-use Rattle.std.proofs.Common.{nat_lt, not, refl, sym, ap, ◌∙◌, subst, arith, le_refl, Contains}
+use Rattle.std.proofs.Common.{not, refl, sym, ap, ◌∙◌, subst, arith, le_refl, Contains}
 use Rattle.std.proofs.Common.{if◌then◌else◌, unwrap_or}
 use Rattle.std.proofs.lemmas.Bool.{cases_lt, true≢false}
 use Rattle.std.proofs.lemmas.Option.{none-some}
@@ -11,7 +11,7 @@ use Rattle.std.specs.List.{list_any}
 use Rattle.ttx_page.specs.PacketKind.{kind}
 use Rattle.ttx_page.specs.Span.{holds_header}
 use Rattle.sub_rules.specs.Events.{end_before, events_at_end, first_header_events, standing_at}
-use Rattle.sub_rules.specs.Events.{latest, standing_before}
+use Rattle.sub_rules.specs.Events.{standing_before}
 use Rattle.sub_rules.specs.FrameRules.{Task, Unread, frame_at, packets_of_frame}
 use Rattle.sub_rules.specs.PieceEvents.{closing_of_pieces, marks_at_end, marks_of_closing}
 use Rattle.sub_rules.specs.PieceEvents.{marks_of_ending}
@@ -23,10 +23,8 @@ use Rattle.sub_rules.specs.Trusted.Mark.{AtPes, Closes, Ends, Says}
 use Rattle.sub_rules.specs.declared.event.Event.{Event}
 use Rattle.sub_rules.specs.declared.event.Event.TheVariants.{Trusted}
 use Rattle.sub_rules.specs.declared.trust.Trust.{Trust}
-use Rattle.sub_rules.proofs.EndLemmas.{standing_before_is}
-use Rattle.sub_laws.specs.CleanStretch.{IsEnd}
 use Rattle.sub_laws.proofs.DelayEndingLemmas.{ending}
-use Rattle.sub_laws.proofs.DelayRunLemmas.{Closed, Opens, Up, gap_end, opens_said, run_low, up_of}
+use Rattle.sub_laws.proofs.DelayRunLemmas.{Closed, Opens, opens_said, run_low, stood, up_of}
 use Rattle.sub_laws.proofs.DelayRunLemmas.{whole_ended}
 use Rattle.sub_laws.proofs.DelayStepLemmas.{at_end, with_end}
 use Rattle.sub_laws.proofs.FollowedLemmas.{Fits, own_in}
@@ -142,35 +140,9 @@ module _ (g : Task) (frames : Transmission) (a b i : ℕ)
       → stands_none (standing_before g frames n (frame_at frames n)) ≡ true
   stood_own n from t there opens is =
       let h = up_of g frames n (frame_at frames n) from t opens.keeps opens.rises is in
-      let some_n = h.some in
-      rw (standing_before_is g frames n (frame_at frames n) some_n)
-      (go (nat_lt (latest frames n + 1) (frame_at frames n)) refl)
-    where
-      up : Up g frames n
-      up = up_of g frames n (frame_at frames n) from t opens.keeps opens.rises is
-
-      first : from ≤ frame_at frames (n - 1)
-      first = run_low g frames n from (opens.keeps.run from is)
-
-      go : (c : Bool) → nat_lt (latest frames n + 1) (frame_at frames n) ≡ c
-          → stands_none (standing_at g frames n
-          (if c then frame_at frames n - 1 else frame_at frames (n - 1)))
-          ≡ true
-      go false e =
-          let low = first in
-          let rise = up.up in
-          opens.keeps.ends from is n (frame_at frames (n - 1)) (up.some, omega arith, inl refl)
-          (le_refl n) low rise
-      go true e =
-          let low = first in
-          let last = up.last in
-          let long = up.long in
-          let later : latest frames n + 1 < frame_at frames n = grind (arith, nat_tests) in
-          let k : ℕ = frame_at frames n - 1 - suc (latest frames n) in
-          let at : latest frames n + suc k ≡ frame_at frames n - 1 = omega arith in
-          opens.keeps.ends from is n (frame_at frames n - 1)
-          (subst (IsEnd frames n) at (gap_end g frames n k there (omega arith) up)) (le_refl n)
-          (omega arith) (omega arith)
+      let last = h.last in
+      let up = h.up in
+      stood g frames n (frame_at frames n) from t there opens.keeps is h (omega arith) (omega arith)
 
   -- What is kept after what is told there, where it doubts no frame; before the header's frame
   -- whatever it does.
