@@ -22,11 +22,10 @@ use Rattle.sub_rules.specs.Trusted.Mark.{AtEnd, AtPes, Begins, Closes, Ends, Say
 use Rattle.sub_rules.specs.declared.event.Event.{Event}
 use Rattle.sub_rules.specs.declared.event.Event.TheVariants.{Ended, PassedUntil, Told, Trusted}
 use Rattle.sub_rules.specs.declared.fault.CheckFault.{CheckFault}
-use Rattle.sub_rules.specs.declared.passed_run.PassedRun.{PassedRun}
 use Rattle.sub_rules.specs.declared.trust.Trust.{Trust}
 use Rattle.sub_laws.proofs.MarkTestLemmas.{PassedPass, Passes, before_passes}
 use Rattle.sub_rules.proofs.MarkEventLemmas.{marks_first, said_by, first_of_two, or_else}
-use Rattle.sub_rules.proofs.PieceEventLemmas.{announced_first}
+use Rattle.sub_rules.proofs.PieceEventLemmas.{all_first}
 use Rattle.sub_rules.proofs.TrustedLemmas.{told_by-append}
 use Rattle.sub_laws.proofs.SaidLemmas.{pieces_said, said, said-append, said-says}
 
@@ -224,9 +223,6 @@ announced_empty (e ∷ es) = (
   λ none. cc,
 )
 
-ended_none : (run : PassedRun) → first_told (ended_run run) ≡ None
-ended_none run = grind (arith, nat_tests)
-
 module _ (g : Task) where
   -- A piece that is passed over is told.
   pub each_sent : (sent : Transmission) (pes : ℕ) (pieces : List Piece)
@@ -278,19 +274,11 @@ module _ (g : Task) where
       × (first_told (events g (sent_by_pieces g pieces)) ≡ None))
   unfolding all_of_pieces told_of_pieces
   pieces_unrefused pieces =
-      let marks = marks_of_pieces g pieces in
-      let told = told_of_pieces g pieces in
-      let said_first = first_none no_trust marks in
-      let announced = announced_first told in
-      let ended = ended_none (passed_after_all no_run told) in
-      let two = two_none (all_announced no_run told) (ended_run (passed_after_all no_run told)) in (
+      let all = all_first (told_by no_trust (marks_of_pieces g pieces)) in
+      let said_first = first_none no_trust (marks_of_pieces g pieces) in (
         λ none.
-            let quiet = said_first.0 (sym announced ∙ (two.0 none).0) in
+            let quiet = said_first.0 (sym all ∙ none) in
             let sent = said_sent pieces quiet in
             (sent, ap first_told (sym (pieces_said g pieces sent)) ∙ quiet),
-        λ parts.
-            two.1 (
-              announced ∙ said_first.1 (ap first_told (pieces_said g pieces parts.0) ∙ parts.1),
-              ended,
-            ),
+        λ parts. all ∙ said_first.1 (ap first_told (pieces_said g pieces parts.0) ∙ parts.1),
       )

@@ -44,6 +44,16 @@ announced_first (PassedUntil f ∷ es) = announced_first es
 ended_first : (run : PassedRun) → first_told (ended_run run) ≡ None
 ended_first run = grind (arith, nat_tests)
 
+-- So it is of all that is told, up to which piece the last run goes among it.
+pub all_first : (told : List Event)
+    → first_told (all_announced no_run told ++ ended_run (passed_after_all no_run told))
+    ≡ first_told told
+all_first told =
+    first_of_two (all_announced no_run told) _
+    ∙ ap (or_else (first_told (all_announced no_run told))) (ended_first _)
+    ∙ or_else_none _
+    ∙ announced_first told
+
 -- ---- the whole
 
 -- Bytes that can't be read on are told first after the last frame: what stood broken has ended.
@@ -148,10 +158,7 @@ first_told_is g pieces at_once =
     let h : Task = until_passed g pieces in
     let told : List Event = told_by no_trust (marks_of_pieces g pieces) in
     let each : List Mark = marks_of_each g [] 0 pieces in
-    first_of_two (all_announced no_run told) _
-    ∙ ap (or_else (first_told (all_announced no_run told))) (ended_first _)
-    ∙ or_else_none _
-    ∙ announced_first told
+    all_first told
     ∙ marks_first no_trust (marks_of_pieces g pieces)
     ∙ ap (λ (fs : Transmission). first_told (said_by 0
     (each ++ marks_of_waiting g fs ++ marks_of_closing g fs (length pieces) (length fs))))
