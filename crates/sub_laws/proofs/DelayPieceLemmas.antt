@@ -2,8 +2,8 @@
 -- `all_stay_within`.
 use Rattle.std.proofs.lemmas.Bool.Decides.{nat_tests}
 use Rattle.std.proofs.Common.{◌≡◌, ℕ, suc, ◌+◌, ◌-◌, ◌≤◌, inl, inr, Bool, true, false, not, ◌||◌}
-use Rattle.std.proofs.Common.{List, [], ◌∷◌, ◌++◌, length, map, Option, Some, None, is_some, refl}
-use Rattle.std.proofs.Common.{sym, subst, arith, append-nil, unwrap_or, if◌then◌else◌}
+use Rattle.std.proofs.Common.{List, [], ◌∷◌, ◌++◌, length, map, Option, Some, is_some, refl, sym}
+use Rattle.std.proofs.Common.{subst, arith, append-nil, unwrap_or, if◌then◌else◌}
 use Rattle.std.proofs.lemmas.List.Elements.{All-append, All-cons, All-nil}
 use Rattle.std.proofs.lemmas.Bool.{true≢false}
 use Rattle.std.proofs.lemmas.Option.{none-some}
@@ -71,9 +71,7 @@ module _ (g : Task) (frames : Transmission) where
   end_low : (since : Option ℕ) (left : Bool) (last : ℕ)
       → ((r : ℕ) → since ≡ Some r → r ≤ last)
       → unwrap_or since (if left then last else suc last) ≤ last + 1
-  end_low None true last h = omega arith
-  end_low None false last h = omega arith
-  end_low (Some r) left last h = let low = h r refl in omega arith
+  end_low since left last h = grind (arith, nat_tests)
 
   closing : (pes : ℕ) (t : Trust) → Closed g frames (length frames) t
       → EachTrusted P (told_by t (marks_of_closing g frames pes (length frames)))

@@ -7,7 +7,6 @@ use Rattle.std.proofs.Common.{◌≡◌, ℕ, suc, ◌+◌, ◌-◌, ◌<◌, �
 use Rattle.std.proofs.Common.{◌&&◌, ◌==◌, nat_lt, List, length, Option, Some, None, is_some, refl}
 use Rattle.std.proofs.Common.{sym, ap, ◌∙◌, subst, arith, if◌then◌else◌, le_refl}
 use Rattle.std.proofs.lemmas.Bool.{cases_lt}
-use Rattle.std.proofs.lemmas.Option.{none-some, same_Some}
 use Rattle.ttx_page.specs.PacketKind.{kind}
 use Rattle.ttx_page.specs.Span.{holds_header}
 use Rattle.sub_rules.specs.Events.{gap_length, latest, standing_at, standing_before}
@@ -33,37 +32,25 @@ use Rattle.sub_laws.proofs.TrustedRunLemmas.{EndsQuiet, Run, Stays, StaysTo}
 -- Where the one excludes the run, and there is one, the other holds.
 pub run_rises : (b : Bool) (run : Option ℕ) (from : ℕ) → (b ≡ false → run ≡ None) → run ≡ Some from
     → b ≡ true
-run_rises true run from h is = refl
-run_rises false run from h is = absurd (none-some from (sym (h refl) ∙ is))
+run_rises b run from h is = grind (arith, nat_tests)
 
 -- The first frame of the run at whose end the page was whole: an earlier one, or this one.
 pub whole_of : (run whole since : Option ℕ) (f from w : ℕ) → run ≡ Some from
     → (if is_some run then first_whole whole since f else whole) ≡ Some w
     → (whole ≡ Some w) ⊎ ((since ≡ None) × (f ≡ w))
-whole_of None whole since f from w is e = absurd (none-some from is)
-whole_of (Some x) (Some y) since f from w is e = inl e
-whole_of (Some x) None None f from w is e = inr (refl, same_Some f w e)
-whole_of (Some x) None (Some r) f from w is e = absurd (none-some w e)
+whole_of run whole since f from w is e = grind (arith, nat_tests)
 
 -- The run that is left at the end of a frame: it was there, or it begins here.
 pub run_of : (clean none : Bool) (run : Option ℕ) (has : Bool) (f from : ℕ)
     → (if clean && none then begun run has f else None) ≡ Some from
     → (clean ≡ true) × (none ≡ true)
     × ((run ≡ Some from) ⊎ ((run ≡ None) × (has ≡ true) × (f ≡ from)))
-run_of false none run has f from e = absurd (none-some from e)
-run_of true false run has f from e = absurd (none-some from e)
-run_of true true (Some x) has f from e = (refl, refl, inl e)
-run_of true true None true f from e = (refl, refl, inr (refl, refl, same_Some f from e))
-run_of true true None false f from e = absurd (none-some from e)
+run_of clean none run has f from e = grind (arith, nat_tests)
 
 -- And where the page was whole in it.
 pub whole_ended : (run whole since : Option ℕ) (f w : ℕ) → whole_in run whole since f ≡ Some w
     → ((since ≡ None) × (f ≡ w)) ⊎ ((whole ≡ Some w) × (is_some run ≡ true))
-whole_ended None whole None f w e = inl (refl, same_Some f w e)
-whole_ended None whole (Some r) f w e = absurd (none-some w e)
-whole_ended (Some x) (Some y) since f w e = inr (e, refl)
-whole_ended (Some x) None None f w e = inl (refl, same_Some f w e)
-whole_ended (Some x) None (Some r) f w e = absurd (none-some w e)
+whole_ended run whole since f w e = grind (arith, nat_tests)
 
 -- ---- where each end is told at once
 

@@ -1,5 +1,6 @@
 -- What is so of a stretch of the rising part that can stay, of the frames that are sent: `Fits`,
 -- `fits`.
+use Rattle.std.proofs.lemmas.Bool.Decides.{nat_tests}
 use Rattle.std.proofs.Common.{◌≡◌, ℕ, suc, ◌+◌, ◌-◌, ◌<◌, ◌≤◌, true, false, List, [], ◌++◌, drop}
 use Rattle.std.proofs.Common.{length, take, get_or, Some, None, refl, sym, ap, ◌∙◌, subst, arith}
 use Rattle.std.proofs.Common.{inl, inr, Bool, Option, ◌==◌, if◌then◌else◌}
@@ -95,8 +96,7 @@ pub record Fits (g : Task) (frames : Transmission) (a b i : ℕ) : Type 0 where
 
 unseen : (at_once : Bool) {since : Option ℕ} → since ≡ None
     → (if at_once then None else since) ≡ None
-unseen true none = refl
-unseen false none = none
+unseen at_once none = grind (arith, nat_tests)
 
 none_three : (s : Standing) → s.content ≡ None → s.gap ≡ false → s.incomplete ≡ false
     → stands_none s ≡ true

@@ -10,7 +10,7 @@ use Rattle.std.proofs.Math.Seq.{take-append-add}
 use Rattle.std.proofs.lemmas.Bool.{cases_lt}
 use Rattle.std.proofs.lemmas.List.{get_or-append-add, get_or_append_left, take-append-le}
 use Rattle.std.proofs.lemmas.List.Elements.{All-append, All-cons, All-nil}
-use Rattle.std.proofs.lemmas.Option.{none-some, same_Some}
+use Rattle.std.proofs.lemmas.Option.{none-some}
 use Rattle.std.specs.List.{list_any}
 use Rattle.sub_rules.specs.Events.{Standing, end_events, first_header_events, gap_length}
 use Rattle.sub_rules.specs.Events.{is_unfinished, latest, order_events, packet_fault, packets_told}
@@ -168,19 +168,14 @@ end_doubt last before f late old new = grind (arith, nat_tests)
 pub late_low : (late : Bool) (since : Option ℕ) (f : ℕ)
     → ((r : ℕ) → since ≡ Some r → r ≤ f)
     → unwrap_or (if late then since else None) f ≤ f
-late_low false since f h = le_refl f
-late_low true None f h = le_refl f
-late_low true (Some r) f h = h r refl
+late_low late since f h = grind (arith, nat_tests)
 
 module _ (g : Task) (frames : Transmission) where
   bound : (b : ℕ) (since : Option ℕ) (un : Bool) (f r : ℕ) → unfinished_from since un f ≡ Some r
       → f ≤ b
       → ((s : ℕ) → since ≡ Some s → s ≤ b)
       → r ≤ b
-  bound b since false f r e l h = absurd (none-some r e)
-  bound b None true f r e l h = let at : f ≡ r = same_Some f r e in omega arith
-  bound b (Some s) true f r e l h =
-      let at : s ≡ r = same_Some s r e in let low = h s refl in omega arith
+  bound b since un f r e l h = grind (arith, nat_tests)
 
   in_gap : (n : ℕ) (since : Option ℕ) (k r : ℕ) → since_in_gap g frames n since k ≡ Some r
       → ((s : ℕ) → since ≡ Some s → s ≤ latest frames n)
@@ -225,12 +220,7 @@ module _ (g : Task) (frames : Transmission) where
 
   -- If there is one, it is that one.
   pub seen_is : (n f r : ℕ) → seen_since n f ≡ Some r → unfinished_since g frames n f ≡ Some r
-  seen_is n f r e = of_seen (g.within == 0) (unfinished_since g frames n f) e
-    where
-      of_seen : (at_once : Bool) (since : Option ℕ) → (if at_once then None else since) ≡ Some r
-          → since ≡ Some r
-      of_seen true since e = absurd (none-some r e)
-      of_seen false since e = e
+  seen_is n f r e = grind (arith, nat_tests)
 
   pub seen_low : (n f r : ℕ) → seen_since n f ≡ Some r → latest frames n ≤ f → r ≤ f
   seen_low n f r e l = since_low n f r (seen_is n f r e) l

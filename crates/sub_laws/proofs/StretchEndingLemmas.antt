@@ -69,8 +69,7 @@ run_goes clean none run has f from is_clean is_none e = rw (is_clean, is_none) e
 
 begun_on : (run : Option ℕ) (has : Bool) (f from : ℕ) → run ≡ Some from
     → begun run has f ≡ Some from
-begun_on None has f from is = absurd (none-some from is)
-begun_on (Some x) has f from is = is
+begun_on run has f from is = grind (arith, nat_tests)
 
 whole_on : (run whole since : Option ℕ) (f from w : ℕ) → run ≡ Some from → whole ≡ Some w
     → whole_in run whole since f ≡ Some w
@@ -95,9 +94,7 @@ closing_past : (since : Option ℕ) (left : Bool) (last b : ℕ)
     → b ≤ last
     → (left ≡ true → b < last)
     → b < unwrap_or since (if left then last else suc last)
-closing_past (Some r) left last b h low unread = h r refl
-closing_past None true last b h low unread = unread refl
-closing_past None false last b h low unread = omega arith
+closing_past since left last b h low unread = grind (arith, nat_tests)
 
 module _ (g : Task) (frames : Transmission) (a b i : ℕ)
     (fits : Fits g frames a b i) where

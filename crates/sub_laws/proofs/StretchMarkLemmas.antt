@@ -31,9 +31,7 @@ use Rattle.sub_laws.proofs.SayMarkLemmas.{IsSaid, doubt_of, kept_some, said}
 -- The page was whole in a run already.
 whole_kept : (run whole since : Option ℕ) (f w : ℕ) → whole ≡ Some w
     → (if is_some run then first_whole whole since f else whole) ≡ Some w
-whole_kept None whole since f w e = e
-whole_kept (Some x) (Some y) since f w e = e
-whole_kept (Some x) None since f w e = absurd (none-some w e)
+whole_kept run whole since f w e = grind (arith, nat_tests)
 
 -- Or it is now.
 whole_now : (run whole since : Option ℕ) (f from : ℕ) → run ≡ Some from → since ≡ None
@@ -53,9 +51,7 @@ still b c is none = rw (is, none) refl
 late_past : (late : Bool) (since : Option ℕ) (f b : ℕ) → b < f
     → ((r : ℕ) → since ≡ Some r → b < r)
     → b < unwrap_or (if late then since else None) f
-late_past false since f b past h = past
-late_past true None f b past h = past
-late_past true (Some r) f b past h = h r refl
+late_past late since f b past h = grind (arith, nat_tests)
 
 -- Nothing of what is told at an end is told of the order.
 pub end_orders : (old : Standing) (before : ℕ) (new : Standing) (f : ℕ)
