@@ -1,7 +1,7 @@
 -- Each stretch that can stay is told as trusted from a header of the page in it on:
 -- `law_of_all_trusted_with_delay`, and where each end is told at once `law_of_all_trusted`.
 use Rattle.std.proofs.lemmas.Bool.Decides.{nat_tests}
-use Rattle.std.proofs.Common.{◌≡◌, ◌≢◌, Some, ◌-◌, ℕ, ◌+◌, ◌<◌, ◌≤◌, ◌⊎◌, inl, inr, Bool, true}
+use Rattle.std.proofs.Common.{◌≡◌, ◌≢◌, Some, ℕ, ◌<◌, ◌≤◌, ◌⊎◌, inl, inr, Bool, true}
 use Rattle.std.proofs.Common.{false, IsFalse, None, ◌||◌, not, List, [], ◌∷◌, ◌++◌, Contains}
 use Rattle.std.proofs.Common.{length, map, is_some, refl, sym, ap, ◌∙◌, subst, arith, if◌then◌else◌}
 use Rattle.std.proofs.lemmas.Bool.{or_parts, true≢false}

@@ -1,7 +1,7 @@
 -- What is kept of quiet frames, within however many frames the page has to be whole: of the frames
 -- that have ended, `Keeps`, before the next one, `Arrives`, while it is sent, `Opens`, and at its
--- end, `Closed`. What is told as trusted then is those of a run, `stays_before`; and how a run goes on
--- with a frame, `run_more`, or begins, `run_new`.
+-- end, `Closed`. What is told as trusted then is those of a run, `stays_before`; and how a run goes
+-- on with a frame, `run_more`, or begins, `run_new`.
 use Rattle.std.proofs.lemmas.Bool.Decides.{nat_tests}
 use Rattle.std.proofs.Common.{◌≡◌, ℕ, suc, ◌+◌, ◌-◌, ◌<◌, ◌≤◌, ◌⊎◌, inl, inr, Bool, true, false}
 use Rattle.std.proofs.Common.{◌&&◌, ◌==◌, nat_lt, List, length, Option, Some, None, is_some, refl}

@@ -1,6 +1,6 @@
 -- What comes of a frame, mark after mark: before its packets, `arrival`, of its packets,
--- `more_sent`, of a piece that is passed over, `passed`, and at an end, `end_tells`. What is told as
--- trusted with them is so.
+-- `more_sent`, of a piece that is passed over, `passed`, and at an end, `end_tells`. What is told
+-- as trusted with them is so.
 use Rattle.std.proofs.lemmas.Bool.Decides.{nat_tests}
 use Rattle.std.proofs.Common.{◌≡◌, ℕ, zero, suc, ◌+◌, ◌-◌, ◌<◌, ◌≤◌, inl, inr, true, false, not}
 use Rattle.std.proofs.Common.{◌==◌, ◌&&◌, Bool, None, ap, if◌then◌else◌, List, [], ◌∷◌, ◌++◌}

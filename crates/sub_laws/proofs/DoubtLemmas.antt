@@ -1,7 +1,7 @@
 -- A fact of the frames that are told as trusted by events, `EachTrusted`: it is kept where up to
 -- which piece is passed over is told among them, `each-announced`.
 use Rattle.std.proofs.lemmas.Bool.Decides.{nat_tests}
-use Rattle.std.proofs.Common.{◌≡◌, ℕ, ◌-◌, Bool, true, false, List, [], ◌∷◌, ◌++◌, All, Contains}
+use Rattle.std.proofs.Common.{◌≡◌, ℕ, Bool, true, false, List, [], ◌∷◌, ◌++◌, All, Contains}
 use Rattle.std.proofs.Common.{zero, suc, arith, cond}
 use Rattle.std.proofs.lemmas.List.Elements.{All-append, All-cons, All-from_recursion, All-head}
 use Rattle.std.proofs.lemmas.List.Elements.{All-nil, All-push, All-tail, Contains-append_left}

@@ -1,6 +1,6 @@
 -- Which frame is trusted no more by what is told of a frame's packets, `packets_doubt`, of its
 -- number, `order_at`, and at an end, which may be late, `end_doubt`; and since which frame an end
--- is unfinished: none after it, `since_low`.
+-- is unfinished: none after it, `seen_low`.
 use Rattle.std.proofs.lemmas.Bool.Decides.{nat_tests}
 use Rattle.std.proofs.Common.{◌≡◌, ℕ, zero, suc, ◌+◌, ◌-◌, ◌<◌, ◌≤◌, Bool, true, false, cond, List}
 use Rattle.std.proofs.Common.{[], ◌∷◌, ◌++◌, map, take, get_or, length, max, Option, Some, None}

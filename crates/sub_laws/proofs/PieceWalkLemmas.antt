@@ -1,7 +1,7 @@
 -- What comes of pieces, followed mark after mark: with the frames that they send, each of which
 -- ends, and with those that are passed over. Main lemmas: `each_piece`, and `waits`, of the last
 -- frame.
-use Rattle.std.proofs.Common.{◌≡◌, ℕ, suc, ◌+◌, ◌-◌, ◌<◌, ◌⊎◌, inl, inr, Bool, true, false, ◌==◌}
+use Rattle.std.proofs.Common.{◌≡◌, ℕ, suc, ◌-◌, ◌<◌, ◌⊎◌, inl, inr, Bool, true, false, ◌==◌}
 use Rattle.std.proofs.Common.{List, [], ◌∷◌, ◌++◌, length, map, Some, refl, sym, ap, ◌∙◌, subst}
 use Rattle.std.proofs.Common.{arith, append-nil, cond, length-append, if◌then◌else◌}
 use Rattle.std.proofs.lemmas.Bool.{true≢false}
@@ -55,9 +55,9 @@ module _ (g : Task) (frames : Transmission)
     abbrev pub passed_marks : ℕ → Unread → List Mark
     passed_marks pes u = map Says (Told (unread_fault pes (Some u)) ∷ [])
 
-    -- It goes on, T, with what comes of a frame: from where so many frames have ended, C, over where
-    -- the next one is sent, O, and these packets in it, to its end; and with a piece that is passed
-    -- over where frames were sent as asked, Q.
+    -- It goes on, T, with what comes of a frame: from where so many frames have ended, C, over
+    -- where the next one is sent, O, and these packets in it, to its end; and with a piece that is
+    -- passed over where frames were sent as asked, Q.
     pub record Steps : Type 0 where
       pub at_ended : (n pes : ℕ) (t : Trust) → C n t → C n (after_mark (AtPes pes) t)
       pub at_open :
@@ -97,8 +97,8 @@ module _ (g : Task) (frames : Transmission)
           → O n (packets_of_frame sent n) t
           → T (O n (packets_of_frame sent n)) t (passed_marks pes u)
 
-    -- What is kept while these frames are sent so far: all have ended, as each does at once, or none
-    -- was sent; or the last one may go on.
+    -- What is kept while these frames are sent so far: all have ended, as each does at once, or
+    -- none was sent; or the last one may go on.
     abbrev pub Sends : Transmission → Trust → Type 0
     Sends sent t =
         ((((g.within == 0) ≡ true) ⊎ (length sent ≡ 0)) × C (length sent) t)

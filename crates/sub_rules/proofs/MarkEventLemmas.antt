@@ -1,6 +1,6 @@
--- What is said with marks, each event of the PES packet of which it is told: `said_by`. That is told
--- first of them, `marks_first`; and where each PES packet is a frame, what is told of the frame,
--- `said_sent`.
+-- What is said with marks, each event of the PES packet of which it is told: `said_by`. That is
+-- told first of them, `marks_first`; and where each PES packet is a frame, it is what is told of
+-- the frame, `said_sent`.
 use Rattle.std.proofs.lemmas.Bool.Decides.{nat_tests}
 use Rattle.std.proofs.Common.{◌≡◌, ℕ, zero, suc, ◌+◌, ◌||◌, ◌==◌, Bool, true, false, List, [], ◌∷◌}
 use Rattle.std.proofs.Common.{◌++◌, length, map, Option, Some, None, refl, sym, ap, ◌∙◌, subst}

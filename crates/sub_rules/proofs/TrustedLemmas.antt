@@ -5,7 +5,6 @@ use Rattle.std.proofs.Common.{◌≡◌, ◌&&◌, List, [], ◌∷◌, ◌++◌
 use Rattle.std.proofs.Common.{arith}
 use Rattle.sub_rules.specs.Trusted.{Mark, after_mark, tells_none, told_by, told_with, trust_after}
 use Rattle.sub_rules.specs.declared.event.Event.{Event}
-use Rattle.sub_rules.specs.declared.fault.CheckFault.TheVariants as fault
 use Rattle.sub_rules.specs.declared.trust.Trust.{Trust}
 
 -- Nothing is told by two lists exactly where nothing is by either.
