@@ -16,7 +16,8 @@ use Rattle.sub_rules.specs.Transmission.{Transmission}
 use Rattle.sub_rules.specs.Trusted.{no_trust, told_by}
 use Rattle.sub_rules.specs.declared.event.Event.{Event}
 use Rattle.sub_rules.specs.declared.fault.CheckFault.{CheckFault}
-use Rattle.sub_rules.proofs.PieceEventLemmas.{announced_first, first_of_two}
+use Rattle.sub_rules.proofs.MarkEventLemmas.{first_of_two}
+use Rattle.sub_rules.proofs.PieceEventLemmas.{announced_first}
 use Rattle.sub_laws.proofs.UntoldLemmas.{each_sent, first_none}
 use Rattle.sub_check.specs.CheckedFiles.{events_of_first_pieces}
 

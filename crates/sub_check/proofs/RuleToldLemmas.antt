@@ -1,9 +1,8 @@
 -- Each refusal that is told of a PES file is of a rule: of all its pieces, `first_of_rule`, and of
 -- the first ones, `front_of_rule`.
 use Rattle.std.proofs.lemmas.Bool.Decides.{nat_tests}
-use Rattle.std.proofs.Common.{◌≡◌, ℕ, zero, suc, Bool, true, false, not, List, [], ◌∷◌, ◌++◌}
-use Rattle.std.proofs.Common.{length, subst, take, map, Option, Some, None, refl, sym, ap, ◌∙◌}
-use Rattle.std.proofs.Common.{arith}
+use Rattle.std.proofs.Common.{◌≡◌, ℕ, zero, suc, Bool, true, false, not, List, [], ◌∷◌, length}
+use Rattle.std.proofs.Common.{subst, take, map, Option, Some, None, refl, sym, ap, ◌∙◌, arith}
 use Rattle.std.proofs.lemmas.List.Folds.{list_any-append}
 use Rattle.std.specs.List.{AllByRecursion, list_any}
 use Rattle.ttx_pes.specs.declared.fault.PesFault.{PesFault}
@@ -16,10 +15,9 @@ use Rattle.sub_rules.specs.Events.{packet_fault, rest_events, standing_at, unrea
 use Rattle.sub_rules.specs.Fault.{fault_at_pes}
 use Rattle.sub_rules.specs.FrameRules.{Task, Unread, end_frame, task_of}
 use Rattle.sub_rules.specs.FrameRules.Unread.{BadPacket, NoFrame}
-use Rattle.sub_rules.specs.PieceEvents.{all_announced, all_of_pieces, closing_of_pieces, ended_run}
-use Rattle.sub_rules.specs.PieceEvents.{events_of_pieces, marks_of_each, marks_of_pieces, no_run}
-use Rattle.sub_rules.specs.PieceEvents.{passed_after_all, sent_by_pieces, told_of_pieces}
-use Rattle.sub_rules.specs.PieceEvents.{told_of_unread}
+use Rattle.sub_rules.specs.PieceEvents.{all_of_pieces, closing_of_pieces, events_of_pieces}
+use Rattle.sub_rules.specs.PieceEvents.{marks_of_each, marks_of_pieces, sent_by_pieces}
+use Rattle.sub_rules.specs.PieceEvents.{told_of_pieces, told_of_unread}
 use Rattle.sub_rules.specs.Pieces.{Piece, PieceFileValue, piece_file_of}
 use Rattle.sub_rules.specs.Pieces.Piece.{Passed, Sent}
 use Rattle.sub_rules.specs.Transmission.{Transmission}
@@ -29,9 +27,7 @@ use Rattle.sub_rules.specs.declared.event.Event.{Event}
 use Rattle.sub_rules.specs.declared.event.Event.TheVariants.{Told}
 use Rattle.sub_rules.specs.declared.fault.CheckFault.{CheckFault}
 use Rattle.sub_rules.specs.declared.packet_rule.PacketRule.{PacketRule}
-use Rattle.sub_rules.specs.declared.passed_run.PassedRun.{PassedRun}
-use Rattle.sub_rules.proofs.PacketLists.{or-none}
-use Rattle.sub_rules.proofs.PieceEventLemmas.{announced_first, first_of_two}
+use Rattle.sub_rules.proofs.PieceEventLemmas.{all_first, announced_first}
 use Rattle.sub_laws.proofs.MarkTestLemmas.{FramesPass, PassedPass, Passes, before_passes, both_pass}
 use Rattle.sub_laws.proofs.MarkTestLemmas.{each_passes, first_fine, says_bad, says_pass, tells_bad}
 use Rattle.sub_laws.proofs.MarkTestLemmas.{told_fine}
@@ -169,16 +165,6 @@ module _ (g : Task) (left : (f : PesFault) → g.unread ≡ Some (BadPacket f) �
 
 -- ---- what is told first
 
-first_all : (told : List Event)
-    → first_told (all_announced no_run told ++ ended_run (passed_after_all no_run told))
-    ≡ first_told told
-first_all told =
-    first_of_two (all_announced no_run told) _
-    ∙ rw (announced_first told, ended (passed_after_all no_run told)) (or-none (first_told told))
-  where
-    ended : (run : PassedRun) → first_told (ended_run run) ≡ None
-    ended run = grind (arith, nat_tests)
-
 not_foreign : (f : CheckFault) → is_foreign f ≡ false → is_of_rule f ≡ true
 not_foreign f e = grind (arith, nat_tests)
 
@@ -199,7 +185,7 @@ module _ (programme : ProgrammeValue) (options : OptionsValue) (bytes : List ℕ
       not_foreign f
       (first_fine is_foreign at_any (told_of_pieces g file.pieces) f
       (pieces_own g sound.fault file.pieces sound.each)
-      (sym (first_all (told_of_pieces g file.pieces)) ∙ is))
+      (sym (all_first (told_of_pieces g file.pieces)) ∙ is))
 
   -- Of the first n.
   pub front_of_rule : (n : ℕ) (f : CheckFault)

@@ -1,179 +1,42 @@
--- Within some frames each stretch that can stay is told as trusted from a header of the page in it
--- on: `law_of_all_trusted_with_delay`.
+-- Each stretch that can stay is told as trusted from a header of the page in it on:
+-- `law_of_all_trusted_with_delay`, and where each end is told at once `law_of_all_trusted`.
 use Rattle.std.proofs.lemmas.Bool.Decides.{nat_tests}
-use Rattle.std.proofs.Common.{◌≡◌, ◌≢◌, Some, ◌-◌, ℕ, zero, suc, ◌+◌, ◌<◌, ◌≤◌, ◌⊎◌, inl}
-use Rattle.std.proofs.Common.{inr, Bool, true, false}
-use Rattle.std.proofs.Common.{◌==◌, ◌||◌, not, List, [], ◌∷◌, ◌++◌, Contains, length, map, is_some}
-use Rattle.std.proofs.Common.{refl, sym, ap, ◌∙◌, subst, arith, append-nil, cond, if◌then◌else◌}
+use Rattle.std.proofs.Common.{◌≡◌, ◌≢◌, Some, ℕ, ◌<◌, ◌≤◌, ◌⊎◌, inl, inr, Bool, true}
+use Rattle.std.proofs.Common.{false, IsFalse, None, ◌||◌, not, List, [], ◌∷◌, ◌++◌, Contains}
+use Rattle.std.proofs.Common.{length, map, is_some, refl, sym, ap, ◌∙◌, subst, arith, if◌then◌else◌}
 use Rattle.std.proofs.lemmas.Bool.{or_parts, true≢false}
 use Rattle.std.proofs.lemmas.List.Elements.{Contains-append_left}
 use Rattle.ttx_page.specs.PacketKind.{kind}
 use Rattle.ttx_page.specs.Span.{holds_header}
-use Rattle.sub_rules.specs.Events.{events_at_end, first_header_events, gap_length, is_late, latest}
-use Rattle.sub_rules.specs.Events.{order_events, packet_events, packets_told, standing_at}
-use Rattle.sub_rules.specs.Events.{unfinished_since, unread_fault}
-use Rattle.sub_rules.specs.FrameRules.{Task, Unread, end_frame, frame_at, packets_before}
-use Rattle.sub_rules.specs.FrameRules.{packets_of_frame}
+use Rattle.sub_rules.specs.Events.{is_late, is_incomplete, is_unfinished, wrong_cell, standing_at}
+use Rattle.sub_rules.specs.FrameRules.{HasHeader, Task, Unread, end_frame, frame_at}
 use Rattle.sub_rules.specs.PieceEvents.{all_announced, all_of_pieces, closing_of_pieces, ended_run}
-use Rattle.sub_rules.specs.PieceEvents.{marks_at_end, marks_of_arrival, marks_of_closing}
-use Rattle.sub_rules.specs.PieceEvents.{marks_of_each, marks_of_ending, marks_of_gap, marks_of_more}
-use Rattle.sub_rules.specs.PieceEvents.{marks_of_next, marks_of_packets, marks_of_sent}
-use Rattle.sub_rules.specs.PieceEvents.{marks_of_waiting, no_run, passed_after_all, sent_by_pieces}
-use Rattle.sub_rules.specs.PieceEvents.{told_of_pieces}
-use Rattle.sub_rules.specs.Pieces.{Piece, frames_of, goes_on_with, joined_after, sent_after}
+use Rattle.sub_rules.specs.PieceEvents.{marks_of_closing, marks_of_each, marks_of_waiting, no_run}
+use Rattle.sub_rules.specs.PieceEvents.{passed_after_all, sent_by_pieces, told_of_pieces}
+use Rattle.sub_rules.specs.Pieces.{Piece, frames_of, joined_after, sent_after}
 use Rattle.sub_rules.specs.Pieces.Piece.{Passed, Sent}
-use Rattle.sub_rules.specs.Transmission.{SentFrame, Transmission}
-use Rattle.sub_rules.specs.Trusted.{Mark, after_mark, closing_frame, no_trust, stands_none}
-use Rattle.sub_rules.specs.Trusted.{tells_none, told_by, told_with, trust_after, trusted}
-use Rattle.sub_rules.specs.Trusted.Mark.{AtEnd, AtPes, Begins, Closes, Ends, Says}
+use Rattle.sub_rules.specs.Transmission.{Transmission, last_frame}
+use Rattle.sub_rules.specs.Trusted.{Mark, after_mark, closing_frame, no_trust, tells_none, told_by}
+use Rattle.sub_rules.specs.Trusted.{told_with, trust_after, trusted}
+use Rattle.sub_rules.specs.Trusted.Mark.{AtPes, Closes, Says}
 use Rattle.sub_rules.specs.declared.event.Event.{Event}
-use Rattle.sub_rules.specs.declared.event.Event.TheVariants.{Told, Trusted}
+use Rattle.sub_rules.specs.declared.event.Event.TheVariants.{Trusted}
 use Rattle.sub_rules.specs.declared.trust.Trust.{Trust}
-use Rattle.sub_rules.proofs.TrustedLemmas.{told_by-append, trust_after-append}
+use Rattle.sub_rules.proofs.JoinedLemmas.{joined-within}
+use Rattle.sub_rules.proofs.TrustedLemmas.{told_by-append}
 use Rattle.sub_laws.specs.AllTrustedWithDelay.{CanStayWithDelay, LawOfAllTrustedWithDelay}
+use Rattle.sub_laws.specs.CleanStretch.{AtEnds, IsUntold}
+use Rattle.sub_laws.specs.TrustedFrames.{CanStay, LawOfAllTrusted, rising_part}
 use Rattle.sub_laws.proofs.DoubtLemmas.{contains-announced}
 use Rattle.sub_laws.proofs.FollowedLemmas.{Fits, fits}
-use Rattle.sub_laws.proofs.LeadMarkLemmas.{IsTold, Leads, Leads-append, told_left, told_right}
+use Rattle.sub_laws.proofs.LeadMarkLemmas.{IsTold, Leads, told_left, told_right}
 use Rattle.sub_laws.proofs.PrefixLemmas.{frame_at-take, last-same, packets-take}
 use Rattle.sub_laws.proofs.StretchEndingLemmas.{closing_told}
 use Rattle.sub_laws.proofs.StretchMarkLemmas.{top}
-use Rattle.sub_laws.proofs.StretchPieceLemmas.{Goes-on, Outside, PastAt, pieces_lead, starts}
-use Rattle.sub_laws.proofs.StretchPieceLemmas.{waits_lead}
+use Rattle.sub_laws.proofs.StretchPieceLemmas.{Outside, PastAt, pieces_lead}
+use Rattle.sub_laws.proofs.PieceWalkLemmas.{EachPassed}
 use Rattle.sub_laws.proofs.TrustedFrameLemmas.{part_length, risen}
-
--- ---- marks with which nothing is told
-
--- Where it is not kept that anything was told nothing was.
-abbrev IsSilent : List Mark → Type 0
-IsSilent ms =
-    (t : Trust) → (trust_after t ms).told ≡ false → (t.told ≡ false) × (told_by t ms ≡ [])
-
-silent_none : IsSilent []
-unfolding trust_after told_by
-silent_none t e = (e, refl)
-
-silent_more : (m : Mark) (ms : List Mark)
-    → ((t : Trust) → ((after_mark m t).told ≡ t.told) × (told_with m t ≡ []))
-    → IsSilent ms
-    → IsSilent (m ∷ ms)
-unfolding trust_after told_by
-silent_more m ms one rest t e =
-    let (before, none) = rest (after_mark m t) e in
-    let (same, nothing) = one t in
-    (sym same ∙ before, rw nothing none)
-
-silent_says : (es : List Event) → IsSilent (map Says es)
-unfolding trust_after told_by after_mark
-silent_says [] t e = (e, refl)
-silent_says (x ∷ es) t e =
-    let (before, none) = silent_says es (after_mark (Says x) t) e in
-    absurd (true≢false before)
-
-silent_two : (xs ys : List Mark) → IsSilent xs → IsSilent ys → IsSilent (xs ++ ys)
-silent_two xs ys one two t e =
-    let (before, none) = two (trust_after t xs) (rw (trust_after-append t xs ys) at e) in
-    let (first, nothing) = one t before in
-    (first, told_by-append t xs ys ∙ rw (nothing, none) refl)
-
-silent_at : (pes : ℕ) (ms : List Mark) → IsSilent ms → IsSilent (AtPes pes ∷ ms)
-unfolding after_mark told_with
-silent_at pes ms rest = silent_more (AtPes pes) ms (λ t. (refl, refl)) rest
-
-module _ (g : Task) (some : (g.within == 0) ≡ false) where
-  later : (marks : List Mark) → (if g.within == 0 then [] else marks) ≡ marks
-  later marks = rw some refl
-
-  no_more : (marks : List Mark) → (if g.within == 0 then marks else []) ≡ []
-  no_more marks = rw some refl
-
-  silent_end : (frames : Transmission) (i n f : ℕ) → IsSilent (marks_at_end g frames i n f)
-  unfolding after_mark told_with
-  silent_end frames i n f =
-      let at : Mark = AtEnd f (unfinished_since g frames n f) (is_late g frames n f) in
-      silent_two (if g.within == 0 then [] else at ∷ []) (map Says (events_at_end g frames i n f))
-      (subst IsSilent (sym (later (at ∷ []))) (silent_more at [] (λ t. (refl, refl)) silent_none))
-      (silent_says (events_at_end g frames i n f))
-
-  silent_gap : (frames : Transmission) (i n : ℕ) → IsSilent (marks_of_gap g frames i n)
-  unfolding marks_of_gap
-  silent_gap frames i zero = silent_none
-  silent_gap frames i (suc n) =
-      silent_two (marks_of_gap g frames i n)
-      (marks_at_end g frames i i (latest frames i + suc n)) (silent_gap frames i n)
-      (silent_end frames i i (latest frames i + suc n))
-
-  silent_arrival : (frames : Transmission) (i : ℕ) → IsSilent (marks_of_arrival g frames i)
-  unfolding after_mark told_with
-  silent_arrival frames i =
-      let gap : List Mark = marks_of_gap g frames i (gap_length frames i) in
-      silent_two (map Says (order_events g frames i) ++ gap) (Begins (frame_at frames i) ∷ [])
-      (silent_two (map Says (order_events g frames i)) gap (silent_says (order_events g frames i))
-      (silent_gap frames i (gap_length frames i)))
-      (silent_more (Begins (frame_at frames i)) [] (λ t. (refl, refl)) silent_none)
-
-  silent_ending : (frames : Transmission) (i : ℕ) → IsSilent (marks_of_ending g frames i)
-  unfolding after_mark told_with
-  silent_ending frames i =
-      let last : Mark =
-      Ends (frame_at frames i) (holds_header (kind g.watched.page) (packets_of_frame frames i))
-      (stands_none (standing_at g frames (suc i) (frame_at frames i))) in
-      let at : List Mark = marks_at_end g frames i (suc i) (frame_at frames i) in
-      silent_two (map Says (first_header_events g frames i) ++ at) (last ∷ [])
-      (silent_two (map Says (first_header_events g frames i)) at
-      (silent_says (first_header_events g frames i))
-      (silent_end frames i (suc i) (frame_at frames i)))
-      (silent_more last [] (λ t. (refl, refl)) silent_none)
-
-  silent_waiting : (sent : Transmission) → IsSilent (marks_of_waiting g sent)
-  unfolding marks_of_waiting
-  silent_waiting [] = silent_none
-  silent_waiting (s ∷ sent) =
-      subst IsSilent (sym (later (marks_of_ending g (s ∷ sent) (length sent))))
-      (silent_ending (s ∷ sent) (length sent))
-
-  silent_next : (sent : Transmission) (s : SentFrame) → IsSilent (marks_of_next g sent s)
-  silent_next sent s =
-      let all : Transmission = sent ++ s ∷ [] in
-      let n : ℕ = length sent in
-      silent_two (marks_of_arrival g all n ++ marks_of_packets g all n)
-      (if g.within == 0 then marks_of_ending g all n else [])
-      (silent_two (marks_of_arrival g all n) (marks_of_packets g all n) (silent_arrival all n)
-      (silent_says
-      (packet_events g.watched (frame_at all n) (packets_before all n) (packets_of_frame all n)
-      (length (packets_of_frame all n)))))
-      (subst IsSilent (sym (no_more (marks_of_ending g all n))) silent_none)
-
-  silent_sent : (sent : Transmission) (pes : ℕ) (s : SentFrame)
-      → IsSilent (marks_of_sent g sent pes s)
-  unfolding marks_of_sent
-  silent_sent sent pes s = go (goes_on_with g.within sent s)
-    where
-      go : (same : Bool)
-          → IsSilent (cond same (AtPes pes ∷ marks_of_more g sent s.packets)
-          (marks_of_waiting g sent ++ AtPes pes ∷ marks_of_next g sent s))
-      go true =
-          silent_at pes (marks_of_more g sent s.packets)
-          (silent_says
-          (packets_told g.watched (end_frame sent)
-          (length (packets_of_frame sent (length sent - 1)))
-          (packets_before sent (length sent)) s.packets (length s.packets)))
-      go false =
-          silent_two (marks_of_waiting g sent) (AtPes pes ∷ marks_of_next g sent s)
-          (silent_waiting sent) (silent_at pes (marks_of_next g sent s) (silent_next sent s))
-
-  silent_each : (sent : Transmission) (pes : ℕ) (pieces : List Piece)
-      → IsSilent (marks_of_each g sent pes pieces)
-  unfolding marks_of_each
-  silent_each sent pes [] = silent_none
-  silent_each sent pes (Sent s ∷ pieces) =
-      silent_two (marks_of_sent g sent pes s)
-      (marks_of_each g (sent_after g.within sent s) (suc pes) pieces) (silent_sent sent pes s)
-      (silent_each (sent_after g.within sent s) (suc pes) pieces)
-  silent_each sent pes (Passed u ∷ pieces) =
-      let es : List Event = Told (unread_fault pes (Some u)) ∷ [] in
-      let rest : List Mark = marks_of_each g sent (suc pes) pieces in
-      silent_at pes (map Says es ++ rest)
-      (silent_two (map Says es) rest (silent_says es) (silent_each sent (suc pes) pieces))
+use Rattle.sub_laws.proofs.UntoldLemmas.{before_open, silent}
 
 -- ---- anything is told
 
@@ -210,7 +73,7 @@ closing_silent g frames pes n t e =
     of_none : (a b : Bool) → (a || not b) ≡ false → b ≡ true
     of_none a b e = grind (arith, nat_tests)
 
-module _ (g : Task) (pieces : List Piece) (a b i : ℕ) (some : (g.within == 0) ≡ false)
+module _ (g : Task) (pieces : List Piece) (a b i : ℕ)
     (can : CanStayWithDelay g pieces a b) (fit : Fits g (sent_by_pieces g pieces) a b i) where
   abbrev frames : Transmission
   frames = sent_by_pieces g pieces
@@ -223,7 +86,7 @@ module _ (g : Task) (pieces : List Piece) (a b i : ℕ) (some : (g.within == 0) 
       → length (joined_after g.within sent (frames_of earlier)) ≤ risen frames
       → (end_frame (joined_after g.within sent (frames_of earlier)) < a)
       ⊎ (b < end_frame (joined_after g.within sent (frames_of earlier))))
-      → Outside g frames some a b i fit sent ahead
+      → EachPassed g.within (Outside g frames a b i fit) sent ahead
   unfolding frames_of joined_after
   outside_of sent [] h = tt
   outside_of sent (Sent s ∷ ahead) h =
@@ -237,7 +100,7 @@ module _ (g : Task) (pieces : List Piece) (a b i : ℕ) (some : (g.within == 0) 
         h (Passed u ∷ earlier) later v (ap (λ (l : List Piece). Passed u ∷ l) e)),
   )
 
-  outside : Outside g frames some a b i fit [] pieces
+  outside : EachPassed g.within (Outside g frames a b i fit) [] pieces
   outside =
       outside_of [] pieces
       (λ earlier later u e more few.
@@ -247,7 +110,7 @@ module _ (g : Task) (pieces : List Piece) (a b i : ℕ) (some : (g.within == 0) 
       (can.passed earlier later u e more (omega arith)))
 
   abbrev Among : List Event → Type 0
-  Among es = IsTold (top g frames some a b i fit) b es
+  Among es = IsTold (top g frames a b i fit) b es
 
   abbrev marks : List Mark
   marks = marks_of_each g [] 0 pieces ++ marks_of_waiting g frames
@@ -256,20 +119,9 @@ module _ (g : Task) (pieces : List Piece) (a b i : ℕ) (some : (g.within == 0) 
   close = marks_of_closing g frames (length pieces) (length frames)
 
   -- What comes of the pieces.
-  goes : Leads (top g frames some a b i fit) b (PastAt g frames some a b i fit (length frames))
+  goes : Leads (top g frames a b i fit) b (PastAt g frames a b i fit (length frames))
       no_trust marks
-  goes =
-      Leads-append (top g frames some a b i fit) b (Goes-on g frames some a b i fit frames)
-      (PastAt g frames some a b i fit (length frames)) no_trust (marks_of_each g [] 0 pieces)
-      (marks_of_waiting g frames)
-      (pieces_lead g frames some a b i fit [] 0 no_trust pieces refl outside
-      (starts g frames some a b i fit))
-      (λ u so. waits_lead g frames some a b i fit frames [] u (sym (append-nil frames)) so)
-
-  silent : IsSilent marks
-  silent =
-      silent_two (marks_of_each g [] 0 pieces) (marks_of_waiting g frames)
-      (silent_each g some [] 0 pieces) (silent_waiting g some frames)
+  goes = pieces_lead g frames a b i fit pieces refl outside
 
   -- Something is told, or was.
   any_told : (t : Trust) → trust_after no_trust marks ≡ t → told_by no_trust (marks ++ close) ≢ []
@@ -287,7 +139,8 @@ module _ (g : Task) (pieces : List Piece) (a b i : ℕ) (some : (g.within == 0) 
           closing_silent g frames (length pieces) (length frames) t e in
           let before : t.told ≡ false = (or_parts t.told (not (tells_none es)) e).0 in
           let first : told_by no_trust marks ≡ [] =
-          (silent no_trust (ap (λ (u : Trust). u.told) after ∙ before)).1 in
+          (silent no_trust marks (before_open g pieces).none
+          (ap (λ (u : Trust). u.told) after ∙ before)).1 in
           let rest : told_by (trust_after no_trust marks) close ≡ [] =
           ap (λ (u : Trust). told_by u close) after ∙ none in
           absurd (something (told_by-append no_trust marks close ∙ rw (first, rest) refl))
@@ -296,16 +149,16 @@ module _ (g : Task) (pieces : List Piece) (a b i : ℕ) (some : (g.within == 0) 
   all_marks something =
       subst Among (sym (told_by-append no_trust marks close)) (of_goes goes)
     where
-      of_goes : Leads (top g frames some a b i fit) b
-          (PastAt g frames some a b i fit (length frames)) no_trust marks
+      of_goes : Leads (top g frames a b i fit) b
+          (PastAt g frames a b i fit (length frames)) no_trust marks
           → Among (told_by no_trust marks ++ told_by (trust_after no_trust marks) close)
       of_goes (inl told) =
-          told_left (top g frames some a b i fit) b (told_by no_trust marks)
+          told_left (top g frames a b i fit) b (told_by no_trust marks)
           (told_by (trust_after no_trust marks) close) told
       of_goes (inr past) =
-          told_right (top g frames some a b i fit) b (told_by no_trust marks)
+          told_right (top g frames a b i fit) b (told_by no_trust marks)
           (told_by (trust_after no_trust marks) close)
-          (closing_told g frames some a b i fit (length pieces) (trust_after no_trust marks) past
+          (closing_told g frames a b i fit (length pieces) (trust_after no_trust marks) past
           (any_told (trust_after no_trust marks) refl something))
 
   pub all_told : all_of_pieces g pieces ≢ [] → Among (all_of_pieces g pieces)
@@ -324,10 +177,20 @@ module _ (g : Task) (pieces : List Piece) (a b i : ℕ) (some : (g.within == 0) 
 
 -- ---- the law
 
-pub law_of_all_trusted_with_delay : LawOfAllTrustedWithDelay
-law_of_all_trusted_with_delay g pieces a b i within can there low high header something =
+-- Within however many frames.
+all_trusted : (g : Task) (pieces : List Piece) (a b i : ℕ) → CanStayWithDelay g pieces a b
+    → i < length (rising_part (sent_by_pieces g pieces))
+    → a ≤ frame_at (rising_part (sent_by_pieces g pieces)) i
+    → frame_at (rising_part (sent_by_pieces g pieces)) i ≤ b
+    → HasHeader g (rising_part (sent_by_pieces g pieces)) i
+    → all_of_pieces g pieces ≢ []
+    → (from : ℕ)
+    × (to : ℕ)
+    × (from ≤ frame_at (rising_part (sent_by_pieces g pieces)) i)
+    × (b ≤ to)
+    × Contains (all_of_pieces g pieces) (Trusted from to)
+all_trusted g pieces a b i can there low high header something =
     let frames : Transmission = sent_by_pieces g pieces in
-    let some : (g.within == 0) ≡ false = grind (arith, nat_tests) in
     let inside : i < risen frames =
     let all = part_length (sent_by_pieces g pieces) in omega arith in
     let at = frame_at-take frames (risen frames) i inside in
@@ -340,4 +203,65 @@ law_of_all_trusted_with_delay g pieces a b i within can there low high header so
     × (from ≤ f)
     × (b ≤ to)
     × Contains (all_of_pieces g pieces) (Trusted from to)) (sym at)
-    (all_told g pieces a b i some can fit something)
+    (all_told g pieces a b i can fit something)
+
+pub law_of_all_trusted_with_delay : LawOfAllTrustedWithDelay
+law_of_all_trusted_with_delay g pieces a b i within = all_trusted g pieces a b i
+
+-- ---- where each end is told at once
+
+-- What can stay there can.
+can_stay : (g : Task) (pieces : List Piece) (a b : ℕ) → g.within ≡ 0 → CanStay g pieces a b
+    → CanStayWithDelay g pieces a b
+unfolding standing_at is_late
+can_stay g pieces a b at_once can =
+    let same : frames_of pieces ≡ sent_by_pieces g pieces =
+    sym (joined-within g.within (frames_of pieces) at_once) in
+    let untold : IsUntold g (rising_part (sent_by_pieces g pieces)) a b =
+    subst (λ (fs : Transmission). IsUntold g (rising_part fs) a b) same can.untold in
+    let closed :
+    AtEnds
+    (λ n f. IsFalse (standing_at g (rising_part (sent_by_pieces g pieces)) n f).incomplete)
+    (rising_part (sent_by_pieces g pieces)) a b =
+    subst
+    (λ (fs : Transmission). AtEnds
+    (λ n f. IsFalse (standing_at g (rising_part fs) n f).incomplete) (rising_part fs) a b) same
+    can.closed in
+    record {
+      untold = untold;
+      closed = closed;
+      finished = λ n f end low high.
+          let order = untold.stretch.in_order in
+          at_once_finished (rising_part (sent_by_pieces g pieces)) n f
+          (untold.content n f end (omega arith) high) (closed n f end (omega arith) high);
+      passed = λ earlier later u e.
+          rw (joined-within g.within (frames_of earlier) at_once, sym same)
+          (can.passed earlier later u e);
+      before_fall = subst
+          (λ (fs : Transmission). length (rising_part fs) < length fs
+          → b < last_frame (rising_part fs)) same can.before_fall;
+      before_unread = subst
+          (λ (fs : Transmission). (u : Unread)
+          → g.unread ≡ Some u
+          → b < last_frame (rising_part fs)) same can.before_unread;
+    }
+  where
+    late_at_once : (part : Transmission) (n f : ℕ) → is_late g part n f ≡ true
+    late_at_once part n f = grind (arith, nat_tests)
+
+    at_once_finished : (part : Transmission) (n f : ℕ)
+        → (standing_at g part n f).content ≡ None
+        → (standing_at g part n f).incomplete ≡ false
+        → is_unfinished g part n f ≡ false
+    at_once_finished part n f content closed =
+        let wrong : wrong_cell g part n f ≡ None = rw (late_at_once part n f) at content in
+        let shut : is_incomplete g part n ≡ false = rw (late_at_once part n f) at closed in
+        rw (wrong, shut) refl
+
+pub law_of_all_trusted : LawOfAllTrusted
+law_of_all_trusted g pieces a b i at_once can there low high header something =
+    let same : sent_by_pieces g pieces ≡ frames_of pieces =
+    joined-within g.within (frames_of pieces) at_once in
+    rw same at
+    (all_trusted g pieces a b i (can_stay g pieces a b at_once can) (rw same there) (rw same low)
+    (rw same high) (rw same header) something)

@@ -1,42 +1,36 @@
--- What comes at the end of a frame, where the page may be whole some frames late: `ending`. What is
--- told as trusted with it is so.
+-- What comes at the end of a frame: `ending`. What is told as trusted with it is so.
 use Rattle.std.proofs.lemmas.Bool.Decides.{nat_tests}
-use Rattle.std.proofs.Common.{◌≡◌, ℕ, suc, ◌-◌, ◌<◌, ◌≤◌, ◌⊎◌, inl, inr, Bool, true}
-use Rattle.std.proofs.Common.{false, ◌&&◌, ◌==◌, List, [], ◌∷◌, ◌++◌, length, map, Option, Some}
-use Rattle.std.proofs.Common.{None, is_some, refl, sym, ap, ◌∙◌, subst, arith}
-use Rattle.std.proofs.Common.{if◌then◌else◌}
+use Rattle.std.proofs.Common.{◌≡◌, ℕ, suc, ◌-◌, ◌<◌, ◌≤◌, ◌⊎◌, inl, inr, Bool, true, false, ◌&&◌}
+use Rattle.std.proofs.Common.{List, [], ◌∷◌, ◌++◌, length, map, Option, Some, None, is_some, refl}
+use Rattle.std.proofs.Common.{sym, ap, ◌∙◌, subst, arith, if◌then◌else◌}
 use Rattle.std.proofs.lemmas.Bool.{true≢false}
 use Rattle.std.proofs.lemmas.Option.{none-some}
 use Rattle.ttx_page.specs.PacketKind.{kind}
 use Rattle.ttx_page.specs.Span.{holds_header}
-use Rattle.sub_rules.specs.Events.{events_at_end, first_header_events}
-use Rattle.sub_rules.specs.Events.{latest, standing_at}
-use Rattle.sub_rules.specs.Events.{unfinished_since}
+use Rattle.sub_rules.specs.Events.{events_at_end, first_header_events, latest, standing_at}
 use Rattle.sub_rules.specs.FrameRules.{Task, frame_at, packets_of_frame}
 use Rattle.sub_rules.specs.PieceEvents.{marks_at_end, marks_of_ending}
 use Rattle.sub_rules.specs.Transmission.{Transmission}
-use Rattle.sub_rules.specs.Trusted.{Mark, after_mark, begun, late_since, stands_none}
-use Rattle.sub_rules.specs.Trusted.{told_with, whole_in}
+use Rattle.sub_rules.specs.Trusted.{Mark, after_mark, begun, late_since, stands_none, told_with}
+use Rattle.sub_rules.specs.Trusted.{whole_in}
 use Rattle.sub_rules.specs.Trusted.Mark.{Ends, Says}
 use Rattle.sub_rules.specs.declared.event.Event.{Event}
 use Rattle.sub_rules.specs.declared.trust.Trust.{Trust}
-use Rattle.sub_laws.proofs.DelayRunLemmas.{Closed, IsWhole, MayStand, Opens}
-use Rattle.sub_laws.proofs.DelayRunLemmas.{Quiet, may_before, opens_said}
-use Rattle.sub_laws.proofs.DelayRunLemmas.{run_more, run_new, run_low, run_of}
-use Rattle.sub_laws.proofs.DelayRunLemmas.{run_rises, up_of, whole_ended}
-use Rattle.sub_laws.proofs.LateDoubtLemmas.{header_none, header_own}
-use Rattle.sub_laws.proofs.LateDoubtLemmas.{since_low}
+use Rattle.sub_laws.proofs.DelayRunLemmas.{Closed, IsWhole, MayStand, Opens, Quiet, may_before}
+use Rattle.sub_laws.proofs.DelayRunLemmas.{opens_said, run_more, run_new, run_low, run_of}
+use Rattle.sub_laws.proofs.DelayRunLemmas.{run_rises, up_of, whole_ended, whole_some}
+use Rattle.sub_laws.proofs.LateDoubtLemmas.{header_none, header_own, seen_low, seen_since}
 use Rattle.sub_laws.proofs.PrefixLemmas.{before}
 use Rattle.sub_laws.proofs.RisingEndLemmas.{latest_at}
 use Rattle.sub_laws.proofs.SayMarkLemmas.{Goes-append, Goes-cons, Goes-nil, Goes-says}
 use Rattle.sub_laws.proofs.TrustedRunLemmas.{Run}
 use Rattle.sub_laws.proofs.DelayStepLemmas.{HasEnd, Tells, at_end, end_tells, keeps_end}
 
-module _ (g : Task) (frames : Transmission) (some : (g.within == 0) ≡ false) where
+module _ (g : Task) (frames : Transmission) where
   -- All packets of frame n were sent, and its end was looked at.
   record Ending (n : ℕ) (t : Trust) : Type 0 where
     opens : Opens g frames n (packets_of_frame frames n) t
-    since_is : t.since ≡ unfinished_since g frames (suc n) (frame_at frames n)
+    since_is : t.since ≡ seen_since g frames (suc n) (frame_at frames n)
     since : t.rises ≡ true → (r : ℕ) → t.since ≡ Some r → r ≤ frame_at frames n
 
   -- It has a header, and nothing stands at its end.
@@ -59,6 +53,13 @@ module _ (g : Task) (frames : Transmission) (some : (g.within == 0) ≡ false) w
       ends = λ from is m e end few low high. (run_then from is).ends m e end few low high;
       whole = whole_then;
       falls = λ e. falls_then e t.is_clean refl;
+      at_once = λ e.
+          let none = ending.opens.keeps.at_once e in
+          record {
+            since = none.since;
+            late = none.late;
+            whole = λ there. whole_some t.run t.whole t.since (frame_at frames n) none.since;
+          };
     };
     last = λ some. ending.opens.last ∙ ap (frame_at frames) (omega arith);
     rises = ending.opens.rises;
@@ -133,7 +134,7 @@ module _ (g : Task) (frames : Transmission) (some : (g.within == 0) ≡ false) w
 
   pub ending : (n : ℕ) (t : Trust) → n < length frames
       → Opens g frames n (packets_of_frame frames n) t
-      → Tells g frames some (Closed g frames (suc n)) t (marks_of_ending g frames n)
+      → Tells g frames (Closed g frames (suc n)) t (marks_of_ending g frames n)
   unfolding told_with after_mark
   ending n t there opens =
       let f : ℕ = frame_at frames n in
@@ -152,7 +153,7 @@ module _ (g : Task) (frames : Transmission) (some : (g.within == 0) ≡ false) w
       (ended n v there so)))
     where
       header : Opens g frames n (packets_of_frame frames n) t
-          → Tells g frames some (Opens g frames n (packets_of_frame frames n)) t
+          → Tells g frames (Opens g frames n (packets_of_frame frames n)) t
           (map Says (first_header_events g frames n))
       header opens =
           let es : List Event = first_header_events g frames n in
@@ -173,11 +174,11 @@ module _ (g : Task) (frames : Transmission) (some : (g.within == 0) ≡ false) w
           omega arith
 
       at_its_end : (u : Trust) → Opens g frames n (packets_of_frame frames n) u
-          → Tells g frames some (Ending n) u (marks_at_end g frames n (suc n) (frame_at frames n))
+          → Tells g frames (Ending n) u (marks_at_end g frames n (suc n) (frame_at frames n))
       at_its_end u so =
           let f : ℕ = frame_at frames n in
           let es : List Event = events_at_end g frames n (suc n) f in
-          let low : (from : ℕ) → u.run ≡ Some from → HasEnd g frames some (suc n) f from =
+          let low : (from : ℕ) → u.run ≡ Some from → HasEnd g frames (suc n) f from =
           (λ from is.
           let h = up_of g frames n f from u so.keeps so.rises is in
           let first = run_low g frames n from (so.keeps.run from is) in
@@ -185,14 +186,14 @@ module _ (g : Task) (frames : Transmission) (some : (g.within == 0) ≡ false) w
           let back : frame_at frames n ≡ frame_at frames (suc n - 1) =
           ap (frame_at frames) (omega arith) in
           (omega arith, (omega arith, omega arith, inl back), h.rises)) in
-          let now : Trust = after_mark (at_end g frames some (suc n) f) u in
-          end_tells g frames some n (suc n) f u now (Ending n) refl
+          let now : Trust = after_mark (at_end g frames (suc n) f) u in
+          end_tells g frames n (suc n) f u now (Ending n) refl
           (λ from is. top u so (run_rises u.rises u.run from so.keeps.falls is)) so.keeps low
           (λ from is. may_before g frames n (packets_of_frame frames n) u there so from is)
           (λ v said.
           let so_now : Opens g frames n (packets_of_frame frames n) now =
           record {
-            keeps = keeps_end g frames some n f (suc n) f u so.keeps low;
+            keeps = keeps_end g frames n f (suc n) f u so.keeps low;
             last = so.last;
             rises = so.rises;
             clean = so.clean;
@@ -205,5 +206,5 @@ module _ (g : Task) (frames : Transmission) (some : (g.within == 0) ≡ false) w
             since = λ rises r is.
                 let rises_is = said.rises_is in
                 let was : u.rises ≡ true = grind (arith, nat_tests) in
-                since_low g frames (suc n) f r (sym said.since_is ∙ is) (top u so was);
+                seen_low g frames (suc n) f r (sym said.since_is ∙ is) (top u so was);
           })

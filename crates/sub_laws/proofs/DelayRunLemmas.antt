@@ -1,82 +1,92 @@
--- What is kept of quiet frames, where the page may be whole some frames late: of the frames that
--- have ended, `Keeps`, before the next one, `Arrives`, while it is sent, `Opens`, and at its end,
--- `Closed`. What is told as trusted then is those of a run, `stays_before`; and how a run goes on
--- with a frame, `run_more`, or begins, `run_new`.
+-- What is kept of quiet frames, within however many frames the page has to be whole: of the frames
+-- that have ended, `Keeps`, before the next one, `Arrives`, while it is sent, `Opens`, and at its
+-- end, `Closed`. What is told as trusted then is those of a run, `stays_before`; and how a run goes
+-- on with a frame, `run_more`, or begins, `run_new`.
 use Rattle.std.proofs.lemmas.Bool.Decides.{nat_tests}
 use Rattle.std.proofs.Common.{◌≡◌, ℕ, suc, ◌+◌, ◌-◌, ◌<◌, ◌≤◌, ◌⊎◌, inl, inr, Bool, true, false}
-use Rattle.std.proofs.Common.{◌&&◌, nat_lt, List, length, Option, Some, None, is_some, refl, sym}
-use Rattle.std.proofs.Common.{ap, ◌∙◌, subst, arith, if◌then◌else◌, le_refl}
+use Rattle.std.proofs.Common.{◌&&◌, ◌==◌, nat_lt, List, length, Option, Some, None, is_some, refl}
+use Rattle.std.proofs.Common.{sym, ap, ◌∙◌, subst, arith, if◌then◌else◌, le_refl}
 use Rattle.std.proofs.lemmas.Bool.{cases_lt}
-use Rattle.std.proofs.lemmas.Option.{none-some, same_Some}
 use Rattle.ttx_page.specs.PacketKind.{kind}
 use Rattle.ttx_page.specs.Span.{holds_header}
 use Rattle.sub_rules.specs.Events.{gap_length, latest, standing_at, standing_before}
-use Rattle.sub_rules.specs.Events.{unfinished_since}
 use Rattle.sub_rules.specs.FrameRules.{Task, end_frame, frame_at, packets_before, packets_of_frame}
 use Rattle.sub_rules.specs.PacketTests.{breaks}
 use Rattle.sub_rules.specs.Transmission.{Transmission}
 use Rattle.sub_rules.specs.Trusted.{after_mark, begun, first_whole, late_since, stands_none}
 use Rattle.sub_rules.specs.Trusted.{whole_in}
-use Rattle.sub_rules.specs.Trusted.Mark.{AtPes}
+use Rattle.sub_rules.specs.Trusted.Mark.{AtEnd, AtPes}
 use Rattle.sub_rules.specs.declared.event.Event.{Event}
 use Rattle.sub_rules.specs.declared.packet_rule.PacketRule.{PacketRule}
 use Rattle.sub_rules.specs.declared.trust.Trust.{Trust}
 use Rattle.sub_rules.proofs.EndLemmas.{gap_length-is, standing_before_is}
 use Rattle.sub_laws.specs.CleanStretch.{IsEnd, is_needed}
-use Rattle.sub_laws.proofs.LateDoubtLemmas.{KeepsAll}
+use Rattle.sub_laws.proofs.LateDoubtLemmas.{KeepsAll, seen_since}
 use Rattle.sub_laws.proofs.PrefixLemmas.{RiseTo, before, packet_at, rises_to}
 use Rattle.sub_laws.proofs.RisingEndLemmas.{latest_at}
 use Rattle.sub_laws.proofs.SayMarkLemmas.{IsSaid, doubt_of, kept_some, orders_doubted}
-use Rattle.sub_laws.proofs.TrustedPieceLemmas.{Stays, StaysTo}
-use Rattle.sub_laws.proofs.TrustedRunLemmas.{EndsQuiet, Run}
+use Rattle.sub_laws.proofs.TrustedRunLemmas.{EndsQuiet, Run, Stays, StaysTo}
 
 -- ---- tests
 
 -- Where the one excludes the run, and there is one, the other holds.
 pub run_rises : (b : Bool) (run : Option ℕ) (from : ℕ) → (b ≡ false → run ≡ None) → run ≡ Some from
     → b ≡ true
-run_rises true run from h is = refl
-run_rises false run from h is = absurd (none-some from (sym (h refl) ∙ is))
+run_rises b run from h is = grind (arith, nat_tests)
 
 -- The first frame of the run at whose end the page was whole: an earlier one, or this one.
 pub whole_of : (run whole since : Option ℕ) (f from w : ℕ) → run ≡ Some from
     → (if is_some run then first_whole whole since f else whole) ≡ Some w
     → (whole ≡ Some w) ⊎ ((since ≡ None) × (f ≡ w))
-whole_of None whole since f from w is e = absurd (none-some from is)
-whole_of (Some x) (Some y) since f from w is e = inl e
-whole_of (Some x) None None f from w is e = inr (refl, same_Some f w e)
-whole_of (Some x) None (Some r) f from w is e = absurd (none-some w e)
+whole_of run whole since f from w is e = grind (arith, nat_tests)
 
 -- The run that is left at the end of a frame: it was there, or it begins here.
 pub run_of : (clean none : Bool) (run : Option ℕ) (has : Bool) (f from : ℕ)
     → (if clean && none then begun run has f else None) ≡ Some from
     → (clean ≡ true) × (none ≡ true)
     × ((run ≡ Some from) ⊎ ((run ≡ None) × (has ≡ true) × (f ≡ from)))
-run_of false none run has f from e = absurd (none-some from e)
-run_of true false run has f from e = absurd (none-some from e)
-run_of true true (Some x) has f from e = (refl, refl, inl e)
-run_of true true None true f from e = (refl, refl, inr (refl, refl, same_Some f from e))
-run_of true true None false f from e = absurd (none-some from e)
+run_of clean none run has f from e = grind (arith, nat_tests)
 
 -- And where the page was whole in it.
 pub whole_ended : (run whole since : Option ℕ) (f w : ℕ) → whole_in run whole since f ≡ Some w
     → ((since ≡ None) × (f ≡ w)) ⊎ ((whole ≡ Some w) × (is_some run ≡ true))
-whole_ended None whole None f w e = inl (refl, same_Some f w e)
-whole_ended None whole (Some r) f w e = absurd (none-some w e)
-whole_ended (Some x) (Some y) since f w e = inr (e, refl)
-whole_ended (Some x) None None f w e = inl (refl, same_Some f w e)
-whole_ended (Some x) None (Some r) f w e = absurd (none-some w e)
+whole_ended run whole since f w e = grind (arith, nat_tests)
+
+-- ---- where each end is told at once
+
+-- No end is looked at: there is no frame since which the page is not whole, and it was whole in a
+-- run that is there.
+pub record SeesNone (t : Trust) : Type 0 where
+  pub since : t.since ≡ None
+  pub late : t.is_late ≡ false
+  pub whole : is_some t.run ≡ true → is_some t.whole ≡ true
+
+-- So the mark of an end changes nothing.
+pub same_at : (t : Trust) (f : ℕ) → SeesNone t → after_mark (AtEnd f None false) t ≡ t
+unfolding after_mark
+same_at t f none =
+    rw (whole_still t.run t.whole none.whole, sym none.since, sym none.late) refl
+  where
+    whole_still : (run whole : Option ℕ) → (is_some run ≡ true → is_some whole ≡ true)
+        → (if is_some run then first_whole whole None f else whole) ≡ whole
+    whole_still run whole there = grind (arith, nat_tests)
+
+-- It was whole in one that goes on or begins.
+pub whole_some : (run whole since : Option ℕ) (f : ℕ) → since ≡ None
+    → is_some (whole_in run whole since f) ≡ true
+whole_some run whole since f none = grind (arith, nat_tests)
 
 module _ (g : Task) (frames : Transmission) where
   -- ---- what is kept
 
-  -- The page was whole at the end of frame w, which is not before the first one of the run.
+  -- The page was whole at the end of frame w, which is not before the first one of the run, where
+  -- that is looked at.
   pub record IsWhole (from w : ℕ) : Type 0 where
     pub low : from ≤ w
     pub n : ℕ
     pub end : IsEnd frames n w
     pub rises : RiseTo frames n
-    pub finished : unfinished_since g frames n w ≡ None
+    pub finished : seen_since g frames n w ≡ None
 
   -- The frames from one to another may stay, and at the end of one of them the page was whole.
   pub record MayStand (from to : ℕ) : Type 0 where
@@ -92,6 +102,7 @@ module _ (g : Task) (frames : Transmission) where
     pub ends : (from : ℕ) → t.run ≡ Some from → EndsQuiet g frames n from x
     pub whole : (from w : ℕ) → t.run ≡ Some from → t.whole ≡ Some w → IsWhole from w
     pub falls : t.rises ≡ false → t.run ≡ None
+    pub at_once : (g.within == 0) ≡ true → SeesNone t
 
   -- These frames may be trusted up to the one before frame y.
   pub record MayEnd (n x y : ℕ) : Type 0 where
@@ -137,8 +148,21 @@ module _ (g : Task) (frames : Transmission) where
     ends = λ from is. keeps.ends from (was from is);
     whole = λ from w is whole. keeps.whole from w (was from is) (sym said.whole_is ∙ whole);
     falls = falls;
+    at_once = λ e.
+        let none = keeps.at_once e in
+        record {
+          since = said.since_is ∙ none.since;
+          late = said.late_is ∙ none.late;
+          whole = λ there. still_some (none.whole (was_some there));
+        };
   }
     where
+      was_some : is_some u.run ≡ true → is_some t.run ≡ true
+      was_some there = let run_is = said.run_is in grind (arith, nat_tests)
+
+      still_some : is_some t.whole ≡ true → is_some u.whole ≡ true
+      still_some whole = let whole_is = said.whole_is in grind (arith, nat_tests)
+
       was : (from : ℕ) → u.run ≡ Some from → t.run ≡ Some from
       was from is = (kept_some t.run (doubt_of t es) from (sym said.run_is ∙ is)).0
 
@@ -226,22 +250,18 @@ module _ (g : Task) (frames : Transmission) where
         ),
       )
 
-  -- Nothing stands at the end before.
-  pub stood : (n k from x : ℕ) (t : Trust) → n < length frames → k < gap_length frames n
-      → Keeps n (latest frames n + suc k) t
-      → t.run ≡ Some from
+  -- Nothing stands at the end before one of these ends, or before the frame's own.
+  pub stood : (n f from : ℕ) (t : Trust) → n < length frames → Keeps n f t → t.run ≡ Some from
       → Up n
-      → stands_none (standing_before g frames n (latest frames n + suc k)) ≡ true
-  stood n k from x t there l keeps is h =
-      let f : ℕ = latest frames n + suc k in
-      let low = run_low n from (keeps.run from is) in
-      let last = h.last in
+      → latest frames n < f
+      → f ≤ frame_at frames n
+      → stands_none (standing_before g frames n f) ≡ true
+  stood n f from t there keeps is h after high =
       let some = h.some in
       rw (standing_before_is g frames n f some) (go (nat_lt (latest frames n + 1) f) refl)
     where
-      go : (b : Bool) → nat_lt (latest frames n + 1) (latest frames n + suc k) ≡ b
-          → stands_none (standing_at g frames n
-          (if b then latest frames n + suc k - 1 else frame_at frames (n - 1)))
+      go : (b : Bool) → nat_lt (latest frames n + 1) f ≡ b
+          → stands_none (standing_at g frames n (if b then f - 1 else frame_at frames (n - 1)))
           ≡ true
       go false e =
           let low = run_low n from (keeps.run from is) in
@@ -251,10 +271,12 @@ module _ (g : Task) (frames : Transmission) where
       go true e =
           let low = run_low n from (keeps.run from is) in
           let last = h.last in
-          let later : 0 < k = grind (arith, nat_tests) in
-          let at : latest frames n + suc (k - 1) ≡ latest frames n + suc k - 1 = omega arith in
-          keeps.ends from is n (latest frames n + suc k - 1)
-          (subst (IsEnd frames n) at (gap_end n (k - 1) there (omega arith) h)) (le_refl n)
+          let long = h.long in
+          let later : latest frames n + 1 < f = grind (arith, nat_tests) in
+          let k : ℕ = f - 1 - suc (latest frames n) in
+          let at : latest frames n + suc k ≡ f - 1 = omega arith in
+          keeps.ends from is n (f - 1)
+          (subst (IsEnd frames n) at (gap_end n k there (omega arith) h)) (le_refl n)
           (omega arith) (omega arith)
 
   -- ---- frames that have ended, and one that is sent
@@ -287,6 +309,9 @@ module _ (g : Task) (frames : Transmission) where
           ends = keeps.ends;
           whole = keeps.whole;
           falls = keeps.falls;
+          at_once = λ e.
+              let none = keeps.at_once e in
+              record { since = none.since; late = none.late; whole = none.whole };
         };
         last = closed.last;
         rises = closed.rises;
@@ -318,6 +343,9 @@ module _ (g : Task) (frames : Transmission) where
           ends = keeps.ends;
           whole = keeps.whole;
           falls = keeps.falls;
+          at_once = λ e.
+              let none = keeps.at_once e in
+              record { since = none.since; late = none.late; whole = none.whole };
         };
         last = opens.last;
         rises = opens.rises;

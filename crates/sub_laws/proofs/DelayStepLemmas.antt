@@ -1,56 +1,72 @@
--- What comes of a frame, mark after mark, where the page may be whole some frames late: before its
--- packets, `arrival`, of its packets, `more_sent`, of a piece that is passed over, `passed`, and at
--- an end, `end_tells`. What is told as trusted with them is so.
+-- What comes of a frame, mark after mark: before its packets, `arrival`, of its packets,
+-- `more_sent`, of a piece that is passed over, `passed`, and at an end, `end_tells`. What is told
+-- as trusted with them is so.
 use Rattle.std.proofs.lemmas.Bool.Decides.{nat_tests}
-use Rattle.std.proofs.Common.{◌≡◌, ℕ, zero, suc, ◌+◌, ◌-◌, ◌<◌, ◌≤◌, inl, inr, true}
-use Rattle.std.proofs.Common.{false, ◌==◌, List, [], ◌∷◌, ◌++◌, length, map, Option, Some}
-use Rattle.std.proofs.Common.{refl, sym, ◌∙◌, subst, arith, le_refl, unwrap_or}
+use Rattle.std.proofs.Common.{◌≡◌, ℕ, zero, suc, ◌+◌, ◌-◌, ◌<◌, ◌≤◌, inl, inr, true, false, not}
+use Rattle.std.proofs.Common.{◌==◌, ◌&&◌, Bool, None, ap, if◌then◌else◌, List, [], ◌∷◌, ◌++◌}
+use Rattle.std.proofs.Common.{length, map, Option, Some, refl, sym, ◌∙◌, subst, arith, le_refl}
+use Rattle.std.proofs.Common.{unwrap_or}
 use Rattle.std.proofs.lemmas.Bool.{cases_lt}
 use Rattle.std.proofs.lemmas.List.Elements.{All-cons, All-nil}
 use Rattle.std.proofs.lemmas.Option.{same_Some}
 use Rattle.std.specs.List.{list_any}
-use Rattle.sub_rules.specs.Events.{end_before, events_at_end, gap_length}
-use Rattle.sub_rules.specs.Events.{is_late, latest, order_events, packets_told, standing_at}
-use Rattle.sub_rules.specs.Events.{standing_before, unfinished_since, unread_fault}
+use Rattle.sub_rules.specs.Events.{end_before, events_at_end, gap_length, is_late, latest}
+use Rattle.sub_rules.specs.Events.{order_events, packets_told, standing_at, standing_before}
+use Rattle.sub_rules.specs.Events.{unfinished_since, unread_fault}
 use Rattle.sub_rules.specs.FrameRules.{Task, Unread, frame_at, packets_before}
-use Rattle.sub_rules.specs.PieceEvents.{marks_at_end, marks_of_arrival}
-use Rattle.sub_rules.specs.PieceEvents.{marks_of_gap}
+use Rattle.sub_rules.specs.PieceEvents.{marks_at_end, marks_of_arrival, marks_of_gap}
 use Rattle.sub_rules.specs.Transmission.{Transmission}
-use Rattle.sub_rules.specs.Trusted.{Mark, after_mark, is_order, late_since, stands_none}
-use Rattle.sub_rules.specs.Trusted.{told_with}
+use Rattle.sub_rules.specs.Trusted.{Mark, after_mark, is_order, late_since, stands_none, told_with}
 use Rattle.sub_rules.specs.Trusted.Mark.{AtEnd, Begins, Says}
 use Rattle.sub_rules.specs.declared.event.Event.{Event}
 use Rattle.sub_rules.specs.declared.event.Event.TheVariants.{Told}
 use Rattle.sub_rules.specs.declared.trust.Trust.{Trust}
 use Rattle.sub_laws.specs.CleanStretch.{IsEnd}
 use Rattle.sub_laws.proofs.DelayRunLemmas.{Arrives, Closed, IsWhole, Keeps, MayEnd, MayStand, Opens}
-use Rattle.sub_laws.proofs.DelayRunLemmas.{Up, calm, end_few, may_before, opens_said}
-use Rattle.sub_laws.proofs.DelayRunLemmas.{gap_end, keeps_said, run_low}
-use Rattle.sub_laws.proofs.DelayRunLemmas.{stays_before, stood, up_of}
-use Rattle.sub_laws.proofs.DelayRunLemmas.{whole_of}
+use Rattle.sub_laws.proofs.DelayRunLemmas.{SeesNone, closed_said, same_at, Up, calm, end_few}
+use Rattle.sub_laws.proofs.DelayRunLemmas.{may_before, opens_said, gap_end, keeps_said, run_low}
+use Rattle.sub_laws.proofs.DelayRunLemmas.{stays_before, stood, up_of, whole_of}
 use Rattle.sub_laws.proofs.DoubtLemmas.{OnTrusted}
-use Rattle.sub_laws.proofs.LateDoubtLemmas.{end_doubt, end_own}
-use Rattle.sub_laws.proofs.LateDoubtLemmas.{keeps_joined, late_low, order_at, order_own}
-use Rattle.sub_laws.proofs.LateDoubtLemmas.{order_rises, packets_doubt, packets_own, passed_at}
-use Rattle.sub_laws.proofs.LateDoubtLemmas.{since_low}
+use Rattle.sub_laws.proofs.LateDoubtLemmas.{end_doubt, end_own, keeps_joined, late_low, order_at}
+use Rattle.sub_laws.proofs.LateDoubtLemmas.{order_own, order_rises, packets_doubt, packets_own}
+use Rattle.sub_laws.proofs.LateDoubtLemmas.{passed_at, seen_low, seen_since}
 use Rattle.sub_laws.proofs.PrefixLemmas.{RiseTo, before}
 use Rattle.sub_laws.proofs.RisingEndLemmas.{latest_at}
 use Rattle.sub_laws.proofs.SayMarkLemmas.{Goes, Goes-append, Goes-cons, Goes-nil, Goes-says, IsSaid}
 use Rattle.sub_laws.proofs.TrustedRunLemmas.{EndsQuiet}
 
-module _ (g : Task) (frames : Transmission) (some : (g.within == 0) ≡ false) where
+module _ (g : Task) (frames : Transmission) where
   -- What is told as trusted may stay.
   abbrev pub Tells : (Trust → Type 0) → Trust → List Mark → Type 0
   Tells S t ms = Goes (MayStand g frames) S t ms
 
   -- ---- an end
 
+  -- Its mark, within some frames; one that changes nothing, where each end is told at once.
   abbrev pub at_end : ℕ → ℕ → Mark
-  at_end n f = AtEnd f (unfinished_since g frames n f) (is_late g frames n f)
+  at_end n f = AtEnd f (seen_since g frames n f) (not (g.within == 0) && is_late g frames n f)
 
-  end_marks : (i n f : ℕ)
-      → marks_at_end g frames i n f ≡ at_end n f ∷ map Says (events_at_end g frames i n f)
-  end_marks i n f = rw some refl
+  -- So what comes there may be taken as this mark and what is told.
+  pub with_end : (T : Trust → List Mark → Type 0) (i n f : ℕ) (t : Trust)
+      → ((g.within == 0) ≡ true → SeesNone t)
+      → ((m : Mark) (ms : List Mark) → told_with m t ≡ [] → T (after_mark m t) ms → T t (m ∷ ms))
+      → T (after_mark (at_end n f) t) (map Says (events_at_end g frames i n f))
+      → T t (marks_at_end g frames i n f)
+  unfolding told_with
+  with_end T i n f t none cons = go (g.within == 0) refl
+    where
+      es : List Event
+      es = events_at_end g frames i n f
+
+      since : Option ℕ
+      since = unfinished_since g frames n f
+
+      go : (c : Bool) → (g.within == 0) ≡ c
+          → T (after_mark (AtEnd f (if c then None else since) (not c && is_late g frames n f)) t)
+          (map Says es)
+          → T t ((if c then [] else AtEnd f since (is_late g frames n f) ∷ []) ++ map Says es)
+      go true e so = subst (λ (u : Trust). T u (map Says es)) (same_at t f (none e)) so
+      go false e so = cons (AtEnd f since (is_late g frames n f)) (map Says es) refl so
 
   -- Frame f, which is not before this one, has an end, up to which m frames count, and these rise.
   abbrev pub HasEnd : ℕ → ℕ → ℕ → Type 0
@@ -65,7 +81,7 @@ module _ (g : Task) (frames : Transmission) (some : (g.within == 0) ≡ false) w
     run = keeps.run;
     ends = keeps.ends;
     whole = λ from w is whole.
-        elim (whole_of t.run t.whole (unfinished_since g frames m f) f from w is whole) [
+        elim (whole_of t.run t.whole (seen_since g frames m f) f from w is whole) [
           | inl before ↦ keeps.whole from w is before
           | inr (none, here) ↦
               let (l, end, rises) = low from is in
@@ -73,7 +89,12 @@ module _ (g : Task) (frames : Transmission) (some : (g.within == 0) ≡ false) w
               (record { low = l; n = m; end = end; rises = rises; finished = none })
         ];
     falls = keeps.falls;
+    at_once = λ e. unseen e (keeps.at_once e);
   }
+    where
+      unseen : (g.within == 0) ≡ true → SeesNone t → SeesNone (after_mark (at_end m f) t)
+      unseen e none =
+          rw e (subst SeesNone (sym (same_at t f none)) none)
 
   -- What is told at the end of frame f, up to which n frames counted before and now m, doubts no
   -- later one.
@@ -87,8 +108,7 @@ module _ (g : Task) (frames : Transmission) (some : (g.within == 0) ≡ false) w
       → Tells S t (marks_at_end g frames n m f)
   unfolding after_mark told_with
   end_tells n m f t u S is high keeps low may after =
-      subst (Tells S t) (sym (end_marks n m f))
-      (Goes-cons (MayStand g frames) S t (at_end m f) (map Says (events_at_end g frames n m f)) refl
+      with_end (Tells S) n m f t keeps.at_once (Goes-cons (MayStand g frames) S t)
       (Goes-says (MayStand g frames) S (after_mark (at_end m f) t) (events_at_end g frames n m f)
       (end_own (MayStand g frames) (standing_before g frames n f) (end_before frames n f)
       (standing_at g frames m f) f)
@@ -98,12 +118,12 @@ module _ (g : Task) (frames : Transmission) (some : (g.within == 0) ≡ false) w
       (end_doubt t.last (end_before frames n f) f late (standing_before g frames n f)
       (standing_at g frames m f)).at x doubt in
       let top : unwrap_or late f ≤ f =
-      late_low (is_late g frames m f) (unfinished_since g frames m f) f
-      (λ r since. since_low g frames m f r since (high from run)) in
+      late_low (not (g.within == 0) && is_late g frames m f) (seen_since g frames m f) f
+      (λ r since. seen_low g frames m f r since (high from run)) in
       stays_before g frames n f x (after_mark (at_end m f) t) (keeps_end n f m f t keeps low)
       (may from run x (omega arith)) from w run whole l)
       (λ v said. after v (subst (λ (z : Trust). IsSaid z v (events_at_end g frames n m f)) (sym is)
-      said))))
+      said)))
 
   -- ---- the ends of frames of the day before a frame
 
@@ -128,6 +148,7 @@ module _ (g : Task) (frames : Transmission) (some : (g.within == 0) ≡ false) w
                   quiet v said from is (kept.ends from is) m e end few after high;
               whole = kept.whole;
               falls = kept.falls;
+              at_once = kept.at_once;
             };
         rises = λ e.
             let was : t.rises ≡ true =
@@ -185,7 +206,9 @@ module _ (g : Task) (frames : Transmission) (some : (g.within == 0) ≡ false) w
                       absurd (omega arith)
                   | inr all ↦ omega arith
                 ] in
-                let before = stood g frames n k from f t there l arrives.keeps was h in
+                let long = h.long in
+                let before =
+                stood g frames n f from t there arrives.keeps was h (omega arith) (omega arith) in
                 subst (λ (z : ℕ). stands_none (standing_at g frames z e) ≡ true) own
                 (subst (λ (z : ℕ). stands_none (standing_at g frames n z) ≡ true) here
                 ((end_doubt t.last (end_before frames n f) f (late_since u)
@@ -205,6 +228,17 @@ module _ (g : Task) (frames : Transmission) (some : (g.within == 0) ≡ false) w
 
   -- ---- before the packets of a frame
 
+  -- What has ended may be trusted up to the frame before the last one.
+  may_ended : (n x : ℕ) → n ≤ length frames → x ≤ frame_at frames (n - 1)
+      → MayEnd g frames n (frame_at frames (n - 1) + 1) x
+  may_ended n x within low = record {
+    within = within;
+    low = omega arith;
+    next = λ more. inr low;
+    last = λ all.
+        let here = ap (λ (k : ℕ). frame_at frames (k - 1)) all in omega arith;
+  }
+
   pub order_step : (n : ℕ) (t : Trust) → n < length frames → Closed g frames n t
       → Tells (Arrives g frames n 0) t (map Says (order_events g frames n))
   order_step n t there closed =
@@ -214,12 +248,8 @@ module _ (g : Task) (frames : Transmission) (some : (g.within == 0) ≡ false) w
       let at : x ≡ t.last = order_at t.last (late_since t) g frames n x doubt in
       let below = (closed.keeps.run from run).below in
       let last = closed.last (omega arith) in
-      stays_before g frames n (frame_at frames (n - 1) + 1) x t closed.keeps (record {
-        within = omega arith;
-        low = omega arith;
-        next = λ more. inr (omega arith);
-        last = λ all. absurd (omega arith);
-      }) from w run whole l)
+      stays_before g frames n (frame_at frames (n - 1) + 1) x t closed.keeps
+      (may_ended n x (omega arith) (omega arith)) from w run whole l)
       (λ u said.
       let kept =
       keeps_said g frames n (frame_at frames (n - 1) + 1) t u (order_events g frames n)
@@ -234,6 +264,7 @@ module _ (g : Task) (frames : Transmission) (some : (g.within == 0) ≡ false) w
               kept.ends from is m e end few after (omega arith);
           whole = kept.whole;
           falls = kept.falls;
+          at_once = kept.at_once;
         };
         rises = λ e. up u said e;
       })
@@ -268,6 +299,9 @@ module _ (g : Task) (frames : Transmission) (some : (g.within == 0) ≡ false) w
               keeps.ends from is m e end few after (omega arith);
           whole = keeps.whole;
           falls = keeps.falls;
+          at_once = λ e.
+              let none = keeps.at_once e in
+              record { since = none.since; late = none.late; whole = none.whole };
         };
         last = refl;
         rises = arrives.rises;
@@ -318,6 +352,25 @@ module _ (g : Task) (frames : Transmission) (some : (g.within == 0) ≡ false) w
       (λ none kept.
       keeps_joined g.watched (packets_before frames n) packets more kept (finds.quiet none)))
 
+  -- A piece that is passed over before the next frame comes.
+  pub passed_ended : (n pes : ℕ) (u : Unread) (t : Trust) → n ≤ length frames → Closed g frames n t
+      → Tells (Closed g frames n) t (map Says (Told (unread_fault pes (Some u)) ∷ []))
+  passed_ended n pes u t within closed =
+      let es : List Event = Told (unread_fault pes (Some u)) ∷ [] in
+      Goes-says (MayStand g frames) (Closed g frames n) t es
+      (All-cons (OnTrusted (MayStand g frames)) (Told (unread_fault pes (Some u))) [] tt
+      (All-nil (OnTrusted (MayStand g frames))))
+      (λ x from w doubt run whole l.
+      let is : Some t.last ≡ Some x =
+      sym (passed_at t.last (late_since t) pes u) ∙ doubt in
+      let same : t.last ≡ x = same_Some t.last x is in
+      let below = (closed.keeps.run from run).below in
+      let last = closed.last (omega arith) in
+      stays_before g frames n (frame_at frames (n - 1) + 1) x t closed.keeps
+      (may_ended n x within (omega arith)) from w run whole l)
+      (λ v said. closed_said g frames n t v es closed said)
+
+  -- Or while it is sent.
   pub passed : (n pes : ℕ) (packets : List (List ℕ)) (u : Unread) (t : Trust)
       → n < length frames
       → Opens g frames n packets t

@@ -2,31 +2,27 @@
 -- are sent by those before the first one that is passed over. Main lemma: `content_first`.
 use Rattle.std.proofs.lemmas.Bool.Decides.{nat_tests}
 use Rattle.std.proofs.Common.{◌≡◌, ℕ, suc, ◌⊎◌, inl, inr, List, [], ◌∷◌, ◌++◌, length, Option, Some}
-use Rattle.std.proofs.Common.{None, refl, sym, ap, ◌∙◌, arith, append_assoc, Bool, ◌||◌}
-use Rattle.std.proofs.Common.{if◌then◌else◌}
-use Rattle.std.proofs.lemmas.Option.{none-some, same_Some}
+use Rattle.std.proofs.Common.{None, refl, sym, ap, ◌∙◌, arith, append_assoc}
+use Rattle.std.proofs.lemmas.Option.{same_Some}
 use Rattle.std.specs.Option.{option_or}
 use Rattle.sub_rules.specs.Events.{events, first_told}
 use Rattle.sub_rules.specs.Fault.{fault_at_pes}
 use Rattle.sub_rules.specs.FrameRules.{Task, Unread}
 use Rattle.sub_rules.specs.FrameRules.Unread.{BadPacket, NoFrame}
-use Rattle.sub_rules.specs.PieceEvents.{all_announced, all_of_pieces, ended_run, marks_of_closing}
-use Rattle.sub_rules.specs.PieceEvents.{marks_of_each, marks_of_pieces, marks_of_sent}
-use Rattle.sub_rules.specs.PieceEvents.{marks_of_waiting, no_run, passed_after_all, sent_by_pieces}
-use Rattle.sub_rules.specs.PieceEvents.{told_of_pieces}
+use Rattle.sub_rules.specs.PieceEvents.{all_of_pieces, marks_of_closing, marks_of_each}
+use Rattle.sub_rules.specs.PieceEvents.{marks_of_pieces, marks_of_sent, marks_of_waiting}
+use Rattle.sub_rules.specs.PieceEvents.{sent_by_pieces, told_of_pieces}
 use Rattle.sub_rules.specs.Pieces.{Piece, frames_of, joined, read_until_passed, sent_after}
 use Rattle.sub_rules.specs.Pieces.Piece.{Passed, Sent}
 use Rattle.sub_rules.specs.Transmission.{SentFrame, Transmission}
-use Rattle.sub_rules.specs.Trusted.{Mark, after_mark, at_pes, closing_frame, doubted, late_since}
-use Rattle.sub_rules.specs.Trusted.{no_trust, told_by, told_with, trusted, trusted_before}
+use Rattle.sub_rules.specs.Trusted.{Mark, at_pes, no_trust, told_by}
 use Rattle.sub_rules.specs.Trusted.Mark.{AtEnd, AtPes, Begins, Closes, Ends, Says}
 use Rattle.sub_rules.specs.declared.event.Event.{Event}
 use Rattle.sub_rules.specs.declared.event.Event.TheVariants.{Ended, PassedUntil, Told, Trusted}
 use Rattle.sub_rules.specs.declared.fault.CheckFault.{CheckFault}
 use Rattle.sub_rules.specs.declared.fault.CheckFault.TheVariants as fault
-use Rattle.sub_rules.specs.declared.passed_run.PassedRun.{PassedRun}
-use Rattle.sub_rules.specs.declared.trust.Trust.{Trust}
-use Rattle.sub_rules.proofs.PieceEventLemmas.{announced_first, first_of_two}
+use Rattle.sub_rules.proofs.MarkEventLemmas.{first_of_two, marks_first, said_by}
+use Rattle.sub_rules.proofs.PieceEventLemmas.{all_first}
 use Rattle.sub_laws.proofs.SaidLemmas.{pieces_said, said, said-append}
 
 -- ---- pieces
@@ -77,10 +73,6 @@ module _ (frame row column : ℕ) where
   rest_first : (xs ys : List Event) → first_told xs ≡ None → IsFirst ys → IsFirst (xs ++ ys)
   rest_first xs ys none e = first_of_two xs ys ∙ rw (none, e) refl
 
-  -- The other, where nothing is told of the first.
-  behind_first : (xs ys : List Event) → first_told xs ≡ None → IsFirst (xs ++ ys) → IsFirst ys
-  behind_first xs ys none e = rw (first_of_two xs ys, none) at e
-
   -- ---- marks
 
   -- What is told of PES packet `pes` is a wrong cell exactly where what is said is.
@@ -89,79 +81,20 @@ module _ (frame row column : ℕ) where
       → f ≡ fault.Content frame row column
   cell_told pes f e = grind (arith, nat_tests)
 
-  trusted_none : (run whole d : Option ℕ) → first_told (trusted_before run whole d) ≡ None
-  trusted_none run whole d = grind (arith, nat_tests)
-
-  closed_none : (b : Bool) (run whole : Option ℕ) (f : ℕ)
-      → first_told (if b then trusted run whole f else []) ≡ None
-  closed_none b run whole f = grind (arith, nat_tests)
-
-  -- What is trusted where an event is told.
-  abbrev trusted_with : Trust → Event → List Event
-  trusted_with t e = trusted_before t.run t.whole (doubted t.last (late_since t) e)
-
-  silent : (t : Trust) (e : Event) → first_told (trusted_with t e) ≡ None
-  silent t e = trusted_none t.run t.whole (doubted t.last (late_since t) e)
-
-  -- One event, with what is trusted before it.
-  one_said : (trusts rest : List Event) (e : Event) → first_told trusts ≡ None
-      → IsFirst (trusts ++ e ∷ [] ++ rest)
-      → IsFirst (e ∷ rest)
-  one_said trusts rest e none first =
-      behind_first trusts (e ∷ rest) none
-      (ap first_told (sym (append_assoc trusts (e ∷ []) rest)) ∙ first)
-
-  -- Told with marks it is among what they say.
-  said_first : (t : Trust) (ms : List Mark) → IsFirst (told_by t ms) → IsFirst (said ms)
-  unfolding told_by told_with at_pes
-  said_first t [] e = e
-  said_first t (Says (Told f) ∷ ms) e =
-      let first =
-      one_said (trusted_with t (Told f)) (told_by (after_mark (Says (Told f)) t) ms)
-      (Told (fault_at_pes t.pes f)) (silent t (Told f)) e in
-      ap (λ (x : CheckFault). Some x) (cell_told t.pes f (same_Some _ _ first))
-  said_first t (Says (Ended rule f) ∷ ms) e =
-      said_first (after_mark (Says (Ended rule f)) t) ms
-      (one_said (trusted_with t (Ended rule f)) (told_by (after_mark (Says (Ended rule f)) t) ms)
-      (Ended rule f) (silent t (Ended rule f)) e)
-  said_first t (Says (Trusted from to) ∷ ms) e =
-      said_first (after_mark (Says (Trusted from to)) t) ms
-      (one_said (trusted_with t (Trusted from to))
-      (told_by (after_mark (Says (Trusted from to)) t) ms) (Trusted from to)
-      (silent t (Trusted from to)) e)
-  said_first t (Says (PassedUntil f) ∷ ms) e =
-      said_first (after_mark (Says (PassedUntil f)) t) ms
-      (one_said (trusted_with t (PassedUntil f)) (told_by (after_mark (Says (PassedUntil f)) t) ms)
-      (PassedUntil f) (silent t (PassedUntil f)) e)
-  said_first t (Closes are_left more ∷ ms) e =
-      said_first (after_mark (Closes are_left more) t) ms
-      (behind_first (told_with (Closes are_left more) t)
-      (told_by (after_mark (Closes are_left more) t) ms)
-      (closed_none (t.told || more) t.run t.whole (closing_frame t are_left)) e)
-  said_first t (AtPes pes ∷ ms) e = said_first (after_mark (AtPes pes) t) ms e
-  said_first t (Begins f ∷ ms) e = said_first (after_mark (Begins f) t) ms e
-  said_first t (AtEnd f since late ∷ ms) e = said_first (after_mark (AtEnd f since late) t) ms e
-  said_first t (Ends f has_header none ∷ ms) e =
-      said_first (after_mark (Ends f has_header none) t) ms e
-
-  -- Up to which piece a run goes is no refusal.
-  announced_said : (es : List Event)
-      → IsFirst (all_announced no_run es ++ ended_run (passed_after_all no_run es))
-      → IsFirst es
-  announced_said es e =
-      sym (announced_first es)
-      ∙ go (parts_first (all_announced no_run es) (ended_run (passed_after_all no_run es)) e)
-    where
-      ended_none : (run : PassedRun) → first_told (ended_run run) ≡ None
-      ended_none run = grind (arith, nat_tests)
-
-      go : IsFirst (all_announced no_run es)
-          ⊎ ((first_told (all_announced no_run es) ≡ None)
-          × IsFirst (ended_run (passed_after_all no_run es)))
-          → IsFirst (all_announced no_run es)
-      go (inl first) = first
-      go (inr (none, first)) =
-          absurd (none-some _ (sym (ended_none (passed_after_all no_run es)) ∙ first))
+  -- So it is said first of no PES packet.
+  said_first : (pes : ℕ) (ms : List Mark) → IsFirst (said_by pes ms) → IsFirst (said ms)
+  unfolding at_pes
+  said_first pes [] e = e
+  said_first pes (Says (Told f) ∷ ms) e =
+      ap (λ (x : CheckFault). Some x) (cell_told pes f (same_Some _ _ e))
+  said_first pes (Says (Ended rule f) ∷ ms) e = said_first pes ms e
+  said_first pes (Says (Trusted from to) ∷ ms) e = said_first pes ms e
+  said_first pes (Says (PassedUntil f) ∷ ms) e = said_first pes ms e
+  said_first pes (Closes are_left more ∷ ms) e = said_first pes ms e
+  said_first pes (AtPes next ∷ ms) e = said_first next ms e
+  said_first pes (Begins f ∷ ms) e = said_first pes ms e
+  said_first pes (AtEnd f since late ∷ ms) e = said_first pes ms e
+  said_first pes (Ends f has_header none ∷ ms) e = said_first pes ms e
 
   -- ---- all pieces
 
@@ -263,8 +196,9 @@ module _ (frame row column : ℕ) where
       where
         told : IsFirst (said (marks_of_pieces g pieces))
         told =
-            said_first no_trust (marks_of_pieces g pieces)
-            (announced_said (told_of_pieces g pieces) e)
+            let marks = marks_of_pieces g pieces in
+            said_first 0 marks
+            (sym (all_first (told_by no_trust marks) ∙ marks_first no_trust marks) ∙ e)
 
         of_front : (front pieces ≡ pieces) ⊎ IsFirst (said (marks_of_each g [] 0 (front pieces)))
             → IsFirst (said (marks_of_pieces g (front pieces)))

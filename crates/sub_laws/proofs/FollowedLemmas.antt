@@ -1,8 +1,9 @@
 -- What is so of a stretch of the rising part that can stay, of the frames that are sent: `Fits`,
 -- `fits`.
+use Rattle.std.proofs.lemmas.Bool.Decides.{nat_tests}
 use Rattle.std.proofs.Common.{◌≡◌, ℕ, suc, ◌+◌, ◌-◌, ◌<◌, ◌≤◌, true, false, List, [], ◌++◌, drop}
-use Rattle.std.proofs.Common.{length, take, get_or}
-use Rattle.std.proofs.Common.{Some, None, refl, sym, ap, ◌∙◌, subst, arith, inl, inr}
+use Rattle.std.proofs.Common.{length, take, get_or, Some, None, refl, sym, ap, ◌∙◌, subst, arith}
+use Rattle.std.proofs.Common.{inl, inr, Bool, Option, ◌==◌, if◌then◌else◌}
 use Rattle.std.proofs.lemmas.List.{take-append-drop}
 use Rattle.ttx_page.specs.PacketKind.{kind}
 use Rattle.ttx_page.specs.Span.{holds_header}
@@ -17,7 +18,7 @@ use Rattle.sub_rules.proofs.PrefixEventLemmas.{packets_before-prefix, unfinished
 use Rattle.sub_laws.specs.AllTrustedWithDelay.{CanStayWithDelay}
 use Rattle.sub_laws.specs.CleanStretch.{IsEnd}
 use Rattle.sub_laws.specs.TrustedFrames.{rising_part}
-use Rattle.sub_laws.proofs.LateDoubtLemmas.{KeepsAll}
+use Rattle.sub_laws.proofs.LateDoubtLemmas.{KeepsAll, seen_is, seen_since}
 use Rattle.sub_laws.proofs.PrefixLemmas.{RiseTo, end_at, first-same, frame_at-take, last-same}
 use Rattle.sub_laws.proofs.PrefixLemmas.{packets-take, rises_to, take_rises}
 use Rattle.sub_laws.proofs.TrustedFrameLemmas.{part_last, part_length, part_rises, risen, risen_low}
@@ -82,16 +83,20 @@ pub record Fits (g : Task) (frames : Transmission) (a b i : ℕ) : Type 0 where
       (n f : ℕ)
       → IsEnd (rising_part frames) n f
       → b ≡ f
-      → unfinished_since g frames n f ≡ None
+      → seen_since g frames n f ≡ None
   pub since :
       (n f r : ℕ)
       → IsEnd (rising_part frames) n f
       → b ≤ f
-      → unfinished_since g frames n f ≡ Some r
+      → seen_since g frames n f ≡ Some r
       → b < r
   pub last : b ≤ frame_at frames (risen frames - 1)
   pub fall : risen frames < length frames → b < frame_at frames (risen frames - 1)
   pub unread : (u : Unread) → g.unread ≡ Some u → b < frame_at frames (risen frames - 1)
+
+unseen : (at_once : Bool) {since : Option ℕ} → since ≡ None
+    → (if at_once then None else since) ≡ None
+unseen at_once none = grind (arith, nat_tests)
 
 none_three : (s : Standing) → s.content ≡ None → s.gap ≡ false → s.incomplete ≡ false
     → stands_none s ≡ true
@@ -202,8 +207,8 @@ module _ (g : Task) (pieces : List Piece) (a b : ℕ) (can : CanStayWithDelay g 
         header = header;
         packets = packets;
         ends = ends;
-        finished = finished;
-        since = since;
+        finished = λ n f end here. unseen (g.within == 0) (finished n f end here);
+        since = λ n f r end past is. since n f r end past (seen_is g frames n f r is);
         last = let to = can.untold.stretch.to in omega arith;
         fall = λ more. let past = can.before_fall (omega arith) in omega arith;
         unread = λ u is. let past = can.before_unread u is in omega arith;

@@ -3,16 +3,18 @@
 -- frames.
 use Rattle.std.proofs.Common.{◌≡◌, ℕ, suc, ◌+◌, ◌-◌, ◌<◌, Bool, true, false, List, [], ◌∷◌, ◌++◌}
 use Rattle.std.proofs.Common.{length, refl, sym, ap, ◌∙◌, arith, append_assoc, append-nil}
-use Rattle.std.proofs.Common.{length-append, le_refl, cond}
+use Rattle.std.proofs.Common.{length-append, le_refl, cond, not, ◌&&◌, ◌==◌, ◌≤◌}
+use Rattle.std.proofs.lemmas.Bool.{true≢false}
+use Rattle.std.proofs.lemmas.Bool.Decides.{nat_tests}
 use Rattle.sub_rules.specs.FrameRules.{Task, end_frame, frame_at, packets_before, packets_of_frame}
 use Rattle.sub_rules.specs.PieceEvents.{marks_of_arrival, marks_of_ending}
 use Rattle.sub_rules.specs.Pieces.{goes_on_with, joined_after, sent_after, with_packets}
 use Rattle.sub_rules.specs.Transmission.{SentFrame, Transmission}
 use Rattle.sub_rules.proofs.FirstFrameLemmas.{marks_of_arrival-same}
 use Rattle.sub_rules.proofs.FrameLists.{joined_more}
-use Rattle.sub_rules.proofs.JoinedLemmas.{with_more, with_packets-before, with_packets-frame_at}
-use Rattle.sub_rules.proofs.JoinedLemmas.{with_packets-frames, with_packets-length}
-use Rattle.sub_rules.proofs.JoinedLemmas.{with_packets-push, with_packets-take}
+use Rattle.sub_rules.proofs.JoinedLemmas.{joined_after-none, with_more, with_packets-before}
+use Rattle.sub_rules.proofs.JoinedLemmas.{with_packets-frame_at, with_packets-frames}
+use Rattle.sub_rules.proofs.JoinedLemmas.{with_packets-length, with_packets-push, with_packets-take}
 use Rattle.sub_rules.proofs.PrefixEventLemmas.{frame_at-prefix, marks_of_arrival-prefix}
 use Rattle.sub_rules.proofs.PrefixEventLemmas.{marks_of_ending-prefix, packets_before-prefix}
 use Rattle.sub_rules.proofs.PrefixEventLemmas.{packets_of_frame-prefix}
@@ -98,6 +100,38 @@ grows within sent [] = record {
 grows within sent (s ∷ more) =
     grows_before within sent s (joined_after within (sent_after within sent s) more)
     (grows within (sent_after within sent s) more)
+
+-- Where each frame is sent at once these are as they are.
+pub whole_at_once : (within : ℕ) (sent more frames : Transmission) → (within == 0) ≡ true
+    → joined_after within sent more ≡ frames
+    → frames ≡ sent ++ more
+whole_at_once within sent more frames none all =
+    let zero : within ≡ 0 = grind (arith, nat_tests) in
+    sym all
+    ∙ ap (λ (w : ℕ). joined_after w sent more) zero
+    ∙ joined_after-none sent more
+
+-- A frame that a PES packet goes on with was sent, within some frames.
+pub goes_on_some : (within : ℕ) (sent : Transmission) (s : SentFrame)
+    → goes_on_with within sent s ≡ true
+    → ((within == 0) ≡ false) × (0 < length sent)
+goes_on_some within [] s e = absurd (true≢false (sym e))
+goes_on_some within (x ∷ sent) s e = (not_zero (within == 0) _ e, omega arith)
+  where
+    not_zero : (b c : Bool) → (not b && c) ≡ true → b ≡ false
+    not_zero b c e = grind (arith, nat_tests)
+
+-- No more were sent so far than are sent.
+pub so_many : (sent frames : Transmission) → Grows sent frames
+    → length sent ≤ length frames
+so_many sent frames is =
+    let whole = ap (λ (l : Transmission). length l) is.whole in
+    omega (
+      arith,
+      whole,
+      length-append (with_packets is.rest sent) is.more,
+      with_packets-length is.rest sent,
+    )
 
 -- ---- what comes of them
 

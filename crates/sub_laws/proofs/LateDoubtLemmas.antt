@@ -1,16 +1,16 @@
 -- Which frame is trusted no more by what is told of a frame's packets, `packets_doubt`, of its
 -- number, `order_at`, and at an end, which may be late, `end_doubt`; and since which frame an end
--- is unfinished: none after it, `since_low`.
+-- is unfinished: none after it, `seen_low`.
 use Rattle.std.proofs.lemmas.Bool.Decides.{nat_tests}
 use Rattle.std.proofs.Common.{◌≡◌, ℕ, zero, suc, ◌+◌, ◌-◌, ◌<◌, ◌≤◌, Bool, true, false, cond, List}
 use Rattle.std.proofs.Common.{[], ◌∷◌, ◌++◌, map, take, get_or, length, max, Option, Some, None}
 use Rattle.std.proofs.Common.{refl, sym, subst, arith, append_assoc, length-append, le_refl, inl}
-use Rattle.std.proofs.Common.{inr, unwrap_or, if◌then◌else◌}
+use Rattle.std.proofs.Common.{inr, unwrap_or, if◌then◌else◌, ◌==◌}
 use Rattle.std.proofs.Math.Seq.{take-append-add}
 use Rattle.std.proofs.lemmas.Bool.{cases_lt}
 use Rattle.std.proofs.lemmas.List.{get_or-append-add, get_or_append_left, take-append-le}
 use Rattle.std.proofs.lemmas.List.Elements.{All-append, All-cons, All-nil}
-use Rattle.std.proofs.lemmas.Option.{none-some, same_Some}
+use Rattle.std.proofs.lemmas.Option.{none-some}
 use Rattle.std.specs.List.{list_any}
 use Rattle.sub_rules.specs.Events.{Standing, end_events, first_header_events, gap_length}
 use Rattle.sub_rules.specs.Events.{is_unfinished, latest, order_events, packet_fault, packets_told}
@@ -168,19 +168,14 @@ end_doubt last before f late old new = grind (arith, nat_tests)
 pub late_low : (late : Bool) (since : Option ℕ) (f : ℕ)
     → ((r : ℕ) → since ≡ Some r → r ≤ f)
     → unwrap_or (if late then since else None) f ≤ f
-late_low false since f h = le_refl f
-late_low true None f h = le_refl f
-late_low true (Some r) f h = h r refl
+late_low late since f h = grind (arith, nat_tests)
 
 module _ (g : Task) (frames : Transmission) where
   bound : (b : ℕ) (since : Option ℕ) (un : Bool) (f r : ℕ) → unfinished_from since un f ≡ Some r
       → f ≤ b
       → ((s : ℕ) → since ≡ Some s → s ≤ b)
       → r ≤ b
-  bound b since false f r e l h = absurd (none-some r e)
-  bound b None true f r e l h = let at : f ≡ r = same_Some f r e in omega arith
-  bound b (Some s) true f r e l h =
-      let at : s ≡ r = same_Some s r e in let low = h s refl in omega arith
+  bound b since un f r e l h = grind (arith, nat_tests)
 
   in_gap : (n : ℕ) (since : Option ℕ) (k r : ℕ) → since_in_gap g frames n since k ≡ Some r
       → ((s : ℕ) → since ≡ Some s → s ≤ latest frames n)
@@ -213,9 +208,19 @@ module _ (g : Task) (frames : Transmission) where
       omega arith)
 
   -- The first of the unfinished ends up to one is not after it.
-  pub since_low : (n f r : ℕ) → unfinished_since g frames n f ≡ Some r → latest frames n ≤ f
-      → r ≤ f
+  since_low : (n f r : ℕ) → unfinished_since g frames n f ≡ Some r → latest frames n ≤ f → r ≤ f
   unfolding unfinished_since
   since_low n f r e l =
       let low = in_gap n (since_frames g frames n) (f - latest frames n) r e (in_frames n) in
       omega arith
+
+  -- It, where ends are looked at: within some frames.
+  abbrev pub seen_since : ℕ → ℕ → Option ℕ
+  seen_since n f = if g.within == 0 then None else unfinished_since g frames n f
+
+  -- If there is one, it is that one.
+  pub seen_is : (n f r : ℕ) → seen_since n f ≡ Some r → unfinished_since g frames n f ≡ Some r
+  seen_is n f r e = grind (arith, nat_tests)
+
+  pub seen_low : (n f r : ℕ) → seen_since n f ≡ Some r → latest frames n ≤ f → r ≤ f
+  seen_low n f r e l = since_low n f r (seen_is n f r e) l

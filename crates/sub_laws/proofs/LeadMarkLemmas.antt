@@ -1,5 +1,6 @@
 -- Marks one after another with which a stretch is told as trusted, or after which what is kept goes
 -- on to that: `Leads`; and that a run is told where a frame is doubted, `said_told`.
+use Rattle.std.proofs.lemmas.Bool.Decides.{nat_tests}
 use Rattle.std.proofs.Common.{◌≡◌, ℕ, ◌-◌, ◌<◌, ◌≤◌, ◌⊎◌, inl, inr, List, [], ◌∷◌, ◌++◌, map}
 use Rattle.std.proofs.Common.{Contains, Option, Some, None, refl, sym, subst, arith}
 use Rattle.std.proofs.lemmas.Bool.{lt-ltb}
@@ -27,16 +28,13 @@ put_told run whole d x from w is run_is whole_is l =
     rw (is, run_is, whole_is, lt-ltb w x l) (0, omega arith, refl)
 
 or_none : (d rest : Option ℕ) (x : ℕ) → d ≡ None → option_or d rest ≡ Some x → rest ≡ Some x
-or_none None rest x none e = e
-or_none (Some y) rest x none e = absurd (none-some y (sym none))
+or_none d rest x none e = grind (arith, nat_tests)
 
 or_some : (d rest : Option ℕ) (x y : ℕ) → d ≡ Some y → option_or d rest ≡ Some x → d ≡ Some x
-or_some None rest x y some e = absurd (none-some y some)
-or_some (Some z) rest x y some e = e
+or_some d rest x y some e = grind (arith, nat_tests)
 
 pub kept_on : (run d : Option ℕ) (from : ℕ) → d ≡ None → run ≡ Some from → kept run d ≡ Some from
-kept_on run None from none is = is
-kept_on run (Some y) from none is = absurd (none-some y (sym none))
+kept_on run d from none is = grind (arith, nat_tests)
 
 -- It is told with the first event that doubts a frame.
 pub said_told : (t : Trust) (es : List Event) (x from w : ℕ) → doubt_of t es ≡ Some x

@@ -1,5 +1,4 @@
 pub mod AllTrustedDelayLemmas
-pub mod AllTrustedLemmas
 pub mod BrokenRuleLemmas
 pub mod CleanSpanLemmas
 pub mod CleanStretchLemmas
@@ -17,7 +16,6 @@ pub mod FirstContentLemmas
 pub mod FirstFoundLemmas
 pub mod FollowedLemmas
 pub mod FrameByFrame
-pub mod FrameDoubtLemmas
 pub mod GoodLemmas
 pub mod GoodWithinLemmas
 pub mod GrowingFrameLemmas
@@ -25,9 +23,8 @@ pub mod JoinedRisingLemmas
 pub mod LateDoubtLemmas
 pub mod LeadMarkLemmas
 pub mod MarkTestLemmas
-pub mod OrderToldLemmas
-pub mod PassedOutsideLemmas
 pub mod PesFileLemmas
+pub mod PieceWalkLemmas
 pub mod PlaceLemmas
 pub mod PlanLemmas
 pub mod PrefixLemmas
@@ -49,7 +46,6 @@ pub mod ToldWithinLemmas
 pub mod TransmissionLemmas
 pub mod TrustedDelayLemmas
 pub mod TrustedFrameLemmas
-pub mod TrustedPieceLemmas
 pub mod TrustedRunLemmas
 pub mod UnfinishedLemmas
 pub mod UntoldLemmas

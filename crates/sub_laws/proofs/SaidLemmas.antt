@@ -1,25 +1,19 @@
 -- What is said by the marks of pieces: where each is sent it is what is told of the frames that
 -- they send. Main lemma: `pieces_said`.
-use Rattle.std.proofs.lemmas.Bool.Decides.{nat_tests}
-use Rattle.std.proofs.Common.{◌≡◌, ℕ, zero, suc, ◌+◌, ◌-◌, ◌<◌, ◌≤◌, ◌==◌, Bool, true}
-use Rattle.std.proofs.Common.{false, not, List, [], ◌∷◌, ◌++◌, length, map, take}
-use Rattle.std.proofs.Common.{refl, sym, ap, ◌∙◌, arith, append_assoc, ◌&&◌}
-use Rattle.std.proofs.Common.{if◌then◌else◌, length-append}
+use Rattle.std.proofs.Common.{◌≡◌, ℕ, zero, suc, ◌+◌, ◌-◌, ◌<◌, ◌≤◌, ◌==◌, Bool, true, false, List}
+use Rattle.std.proofs.Common.{[], ◌∷◌, ◌++◌, length, map, take, refl, sym, ap, ◌∙◌, arith}
+use Rattle.std.proofs.Common.{append_assoc, if◌then◌else◌, length-append}
 use Rattle.std.proofs.lemmas.List.{append-nil}
-use Rattle.sub_rules.specs.Events.{closing_events, events, events_at_end}
-use Rattle.sub_rules.specs.Events.{events_of_first}
-use Rattle.sub_rules.specs.Events.{first_header_events, frame_events, gap_events}
-use Rattle.sub_rules.specs.Events.{gap_length, is_late, latest, order_events, packet_events}
-use Rattle.sub_rules.specs.Events.{packets_told, unfinished_since}
+use Rattle.sub_rules.specs.Events.{closing_events, events, events_at_end, events_of_first}
+use Rattle.sub_rules.specs.Events.{first_header_events, frame_events, gap_events, gap_length}
+use Rattle.sub_rules.specs.Events.{is_late, latest, order_events, packet_events, packets_told}
+use Rattle.sub_rules.specs.Events.{unfinished_since}
 use Rattle.sub_rules.specs.FrameRules.{Task, frame_at, packets_before, packets_of_frame}
-use Rattle.sub_rules.specs.PieceEvents.{closing_of_pieces}
-use Rattle.sub_rules.specs.PieceEvents.{marks_at_end}
-use Rattle.sub_rules.specs.PieceEvents.{marks_of_arrival, marks_of_closing, marks_of_each}
-use Rattle.sub_rules.specs.PieceEvents.{marks_of_ending}
+use Rattle.sub_rules.specs.PieceEvents.{closing_of_pieces, marks_at_end, marks_of_arrival}
+use Rattle.sub_rules.specs.PieceEvents.{marks_of_closing, marks_of_each, marks_of_ending}
 use Rattle.sub_rules.specs.PieceEvents.{marks_of_gap, marks_of_more, marks_of_next}
 use Rattle.sub_rules.specs.PieceEvents.{marks_of_packets, marks_of_pieces, marks_of_sent}
-use Rattle.sub_rules.specs.PieceEvents.{marks_of_waiting}
-use Rattle.sub_rules.specs.PieceEvents.{sent_by_pieces}
+use Rattle.sub_rules.specs.PieceEvents.{marks_of_waiting, sent_by_pieces}
 use Rattle.sub_rules.specs.Pieces.{Piece, frames_of, goes_on_with, joined_after, sent_after}
 use Rattle.sub_rules.specs.Pieces.{with_packets}
 use Rattle.sub_rules.specs.Pieces.Piece.{Passed, Sent}
@@ -31,11 +25,11 @@ use Rattle.sub_rules.proofs.FirstFrameLemmas.{events_at_end-same, frame_at-same,
 use Rattle.sub_rules.proofs.FirstFrameLemmas.{gap_length-same, order_events-same}
 use Rattle.sub_rules.proofs.FirstFrameLemmas.{packets_before-same}
 use Rattle.sub_rules.proofs.FrameLists.{joined_more}
-use Rattle.sub_rules.proofs.JoinedLemmas.{packets_told-append}
-use Rattle.sub_rules.proofs.JoinedLemmas.{with_packets-frames, with_packets-last}
-use Rattle.sub_rules.proofs.JoinedLemmas.{with_packets-length, with_packets-packets}
-use Rattle.sub_rules.proofs.JoinedLemmas.{with_packets-take}
+use Rattle.sub_rules.proofs.JoinedLemmas.{packets_told-append, with_packets-frames}
+use Rattle.sub_rules.proofs.JoinedLemmas.{with_packets-last, with_packets-length}
+use Rattle.sub_rules.proofs.JoinedLemmas.{with_packets-packets, with_packets-take}
 use Rattle.sub_rules.proofs.PrefixEventLemmas.{frame_events-prefix}
+use Rattle.sub_laws.proofs.GrowingFrameLemmas.{goes_on_some}
 
 -- ---- what marks say
 
@@ -318,14 +312,6 @@ module _ (g : Task) where
 
   -- ---- one PES packet
 
-  goes_on_parts : (sent : Transmission) (s : SentFrame) → goes_on_with g.within sent s ≡ true
-      → ((g.within == 0) ≡ false) × (0 < length sent)
-  goes_on_parts [] s e = cc
-  goes_on_parts (x ∷ sent) s e = (not_zero (g.within == 0) _ e, omega arith)
-    where
-      not_zero : (b c : Bool) → (not b && c) ≡ true → b ≡ false
-      not_zero b c e = grind (arith, nat_tests)
-
   so_far-sent : (sent : Transmission) (pes : ℕ) (s : SentFrame)
       → so_far sent ++ said (marks_of_sent g sent pes s) ≡ so_far (sent_after g.within sent s)
   unfolding marks_of_sent
@@ -338,7 +324,7 @@ module _ (g : Task) where
           else marks_of_waiting g sent ++ AtPes pes ∷ marks_of_next g sent s)
           ≡ so_far (if b then with_packets s.packets sent else sent ++ s ∷ [])
       go true is =
-          let parts = goes_on_parts sent s is in
+          let parts = goes_on_some g.within sent s is in
           so_far-more sent s.packets (length sent - 1) (omega (arith, parts.1)) parts.0
       go false is =
           let waiting = marks_of_waiting g sent in
@@ -380,7 +366,7 @@ module _ (g : Task) where
       go : (b : Bool) → goes_on_with g.within sent s ≡ b
           → 0 < length (if b then with_packets s.packets sent else sent ++ s ∷ [])
       go true is =
-          let parts = goes_on_parts sent s is in
+          let parts = goes_on_some g.within sent s is in
           omega (arith, parts.1, with_packets-length s.packets sent)
       go false is = omega (arith, length-append sent (s ∷ []))
 

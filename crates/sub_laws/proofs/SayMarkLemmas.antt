@@ -27,6 +27,7 @@ pub record IsSaid (t u : Trust) (es : List Event) : Type 0 where
   pub whole_is : u.whole ≡ t.whole
   pub last_is : u.last ≡ t.last
   pub since_is : u.since ≡ t.since
+  pub late_is : u.is_late ≡ t.is_late
   pub rises_is : u.rises ≡ (t.rises && not (list_any is_order es))
   pub clean_is : u.is_clean ≡ (t.is_clean && is_none (doubt_of t es))
 

@@ -1,17 +1,17 @@
 -- What comes at the end of a frame while the frames of a stretch that can stay go by:
 -- `ending_leads`; and of the file, `closing_told`.
 use Rattle.std.proofs.lemmas.Bool.Decides.{nat_tests}
-use Rattle.std.proofs.Common.{◌≡◌, ℕ, suc, ◌+◌, ◌-◌, ◌<◌, ◌≤◌, inl, inr, Bool, true, false, ◌==◌}
-use Rattle.std.proofs.Common.{◌&&◌, ◌||◌, List, [], ◌∷◌, ◌++◌, length, map, Option, Some, None}
-use Rattle.std.proofs.Common.{is_some, nat_lt, not, refl, sym, ap, ◌∙◌, subst, arith, le_refl}
-use Rattle.std.proofs.Common.{Contains, if◌then◌else◌, unwrap_or}
+use Rattle.std.proofs.Common.{◌≡◌, ℕ, suc, ◌+◌, ◌-◌, ◌<◌, ◌≤◌, inl, inr, Bool, true, false, ◌&&◌}
+use Rattle.std.proofs.Common.{◌||◌, List, [], ◌∷◌, ◌++◌, length, map, Option, Some, None, is_some}
+use Rattle.std.proofs.Common.{not, refl, sym, ap, ◌∙◌, subst, arith, le_refl, Contains}
+use Rattle.std.proofs.Common.{if◌then◌else◌, unwrap_or}
 use Rattle.std.proofs.lemmas.Bool.{cases_lt, true≢false}
 use Rattle.std.proofs.lemmas.Option.{none-some}
 use Rattle.std.specs.List.{list_any}
 use Rattle.ttx_page.specs.PacketKind.{kind}
 use Rattle.ttx_page.specs.Span.{holds_header}
 use Rattle.sub_rules.specs.Events.{end_before, events_at_end, first_header_events, standing_at}
-use Rattle.sub_rules.specs.Events.{latest, standing_before}
+use Rattle.sub_rules.specs.Events.{standing_before}
 use Rattle.sub_rules.specs.FrameRules.{Task, Unread, frame_at, packets_of_frame}
 use Rattle.sub_rules.specs.PieceEvents.{closing_of_pieces, marks_at_end, marks_of_closing}
 use Rattle.sub_rules.specs.PieceEvents.{marks_of_ending}
@@ -23,19 +23,17 @@ use Rattle.sub_rules.specs.Trusted.Mark.{AtPes, Closes, Ends, Says}
 use Rattle.sub_rules.specs.declared.event.Event.{Event}
 use Rattle.sub_rules.specs.declared.event.Event.TheVariants.{Trusted}
 use Rattle.sub_rules.specs.declared.trust.Trust.{Trust}
-use Rattle.sub_rules.proofs.EndLemmas.{standing_before_is}
-use Rattle.sub_laws.specs.CleanStretch.{IsEnd}
 use Rattle.sub_laws.proofs.DelayEndingLemmas.{ending}
-use Rattle.sub_laws.proofs.DelayRunLemmas.{Closed, Opens, Up, gap_end, opens_said, run_low, up_of}
+use Rattle.sub_laws.proofs.DelayRunLemmas.{Closed, Opens, opens_said, run_low, stood, up_of}
 use Rattle.sub_laws.proofs.DelayRunLemmas.{whole_ended}
-use Rattle.sub_laws.proofs.DelayStepLemmas.{at_end}
+use Rattle.sub_laws.proofs.DelayStepLemmas.{at_end, with_end}
 use Rattle.sub_laws.proofs.FollowedLemmas.{Fits, own_in}
 use Rattle.sub_laws.proofs.LateDoubtLemmas.{end_doubt, header_none}
 use Rattle.sub_laws.proofs.LeadMarkLemmas.{IsTold, Leads, Leads-append, Leads-both, Leads-cons}
 use Rattle.sub_laws.proofs.LeadMarkLemmas.{Leads-nil, put_told, told_left}
 use Rattle.sub_laws.proofs.SayMarkLemmas.{IsSaid, doubt_of, kept_some, said}
-use Rattle.sub_laws.proofs.StretchMarkLemmas.{Follows, doubt_told, end_follows, end_marks_are}
-use Rattle.sub_laws.proofs.StretchMarkLemmas.{end_orders, end_past, follows_said, top}
+use Rattle.sub_laws.proofs.StretchMarkLemmas.{Follows, doubt_told, end_follows, end_orders}
+use Rattle.sub_laws.proofs.StretchMarkLemmas.{end_past, follows_said, top}
 use Rattle.sub_laws.proofs.StretchStepLemmas.{Open, Past, Sending, clean_still, later_in}
 use Rattle.sub_laws.proofs.StretchStepLemmas.{sending_says}
 use Rattle.sub_laws.proofs.TrustedFrameLemmas.{count_most, risen, risen_low}
@@ -71,8 +69,7 @@ run_goes clean none run has f from is_clean is_none e = rw (is_clean, is_none) e
 
 begun_on : (run : Option ℕ) (has : Bool) (f from : ℕ) → run ≡ Some from
     → begun run has f ≡ Some from
-begun_on None has f from is = absurd (none-some from is)
-begun_on (Some x) has f from is = is
+begun_on run has f from is = grind (arith, nat_tests)
 
 whole_on : (run whole since : Option ℕ) (f from w : ℕ) → run ≡ Some from → whole ≡ Some w
     → whole_in run whole since f ≡ Some w
@@ -97,20 +94,18 @@ closing_past : (since : Option ℕ) (left : Bool) (last b : ℕ)
     → b ≤ last
     → (left ≡ true → b < last)
     → b < unwrap_or since (if left then last else suc last)
-closing_past (Some r) left last b h low unread = h r refl
-closing_past None true last b h low unread = unread refl
-closing_past None false last b h low unread = omega arith
+closing_past since left last b h low unread = grind (arith, nat_tests)
 
-module _ (g : Task) (frames : Transmission) (some : (g.within == 0) ≡ false) (a b i : ℕ)
+module _ (g : Task) (frames : Transmission) (a b i : ℕ)
     (fits : Fits g frames a b i) where
   abbrev Follow : ℕ → ℕ → Trust → Type 0
-  Follow n p t = Follows g frames some a b i fits n p t
+  Follow n p t = Follows g frames a b i fits n p t
 
   abbrev Lead : (Trust → Type 0) → Trust → List Mark → Type 0
-  Lead S t ms = Leads (top g frames some a b i fits) b S t ms
+  Lead S t ms = Leads (top g frames a b i fits) b S t ms
 
   abbrev OpenHere : ℕ → Trust → Type 0
-  OpenHere n t = Open g frames some a b i fits n (packets_of_frame frames n) t
+  OpenHere n t = Open g frames a b i fits n (packets_of_frame frames n) t
 
   -- The end of frame n was looked at.
   record Finishing (n : ℕ) (t : Trust) : Type 0 where
@@ -133,7 +128,7 @@ module _ (g : Task) (frames : Transmission) (some : (g.within == 0) ≡ false) (
 
   -- With its end.
   abbrev now_at : ℕ → Trust → Trust
-  now_at n t = after_mark (at_end g frames some (suc n) (frame_at frames n)) t
+  now_at n t = after_mark (at_end g frames (suc n) (frame_at frames n)) t
 
   -- Nothing stood before it where a run is there.
   stood_own : (n from : ℕ) (t : Trust) → n < length frames
@@ -142,35 +137,9 @@ module _ (g : Task) (frames : Transmission) (some : (g.within == 0) ≡ false) (
       → stands_none (standing_before g frames n (frame_at frames n)) ≡ true
   stood_own n from t there opens is =
       let h = up_of g frames n (frame_at frames n) from t opens.keeps opens.rises is in
-      let some_n = h.some in
-      rw (standing_before_is g frames n (frame_at frames n) some_n)
-      (go (nat_lt (latest frames n + 1) (frame_at frames n)) refl)
-    where
-      up : Up g frames n
-      up = up_of g frames n (frame_at frames n) from t opens.keeps opens.rises is
-
-      first : from ≤ frame_at frames (n - 1)
-      first = run_low g frames n from (opens.keeps.run from is)
-
-      go : (c : Bool) → nat_lt (latest frames n + 1) (frame_at frames n) ≡ c
-          → stands_none (standing_at g frames n
-          (if c then frame_at frames n - 1 else frame_at frames (n - 1)))
-          ≡ true
-      go false e =
-          let low = first in
-          let rise = up.up in
-          opens.keeps.ends from is n (frame_at frames (n - 1)) (up.some, omega arith, inl refl)
-          (le_refl n) low rise
-      go true e =
-          let low = first in
-          let last = up.last in
-          let long = up.long in
-          let later : latest frames n + 1 < frame_at frames n = grind (arith, nat_tests) in
-          let k : ℕ = frame_at frames n - 1 - suc (latest frames n) in
-          let at : latest frames n + suc k ≡ frame_at frames n - 1 = omega arith in
-          opens.keeps.ends from is n (frame_at frames n - 1)
-          (subst (IsEnd frames n) at (gap_end g frames n k there (omega arith) up)) (le_refl n)
-          (omega arith) (omega arith)
+      let last = h.last in
+      let up = h.up in
+      stood g frames n (frame_at frames n) from t there opens.keeps is h (omega arith) (omega arith)
 
   -- What is kept after what is told there, where it doubts no frame; before the header's frame
   -- whatever it does.
@@ -185,9 +154,9 @@ module _ (g : Task) (frames : Transmission) (some : (g.within == 0) ≡ false) (
       let es : List Event = events_at_end g frames n (suc n) f in
       record {
         follows =
-            follows_said g frames some a b i fits n (f + 1) (now_at n t) v es
-            (end_follows g frames some a b i fits n (suc n) f (f + 1) t refl sending.follows
-            (λ l. own_in frames n (later_in g frames some a b i fits n
+            follows_said g frames a b i fits n (f + 1) (now_at n t) v es
+            (end_follows g frames a b i fits n (suc n) f (f + 1) t refl sending.follows
+            (λ l. own_in frames n (later_in g frames a b i fits n
             (packets_of_frame frames n) t there (opens, sending) l).0)) so
             (λ l. end_orders (standing_before g frames n f) (end_before frames n f)
             (standing_at g frames (suc n) f) f)
@@ -226,22 +195,20 @@ module _ (g : Task) (frames : Transmission) (some : (g.within == 0) ≡ false) (
       → Lead (Finishing n) t (marks_at_end g frames n (suc n) (frame_at frames n))
   unfolding after_mark
   end_leads_to n t there (opens, sending) =
-      subst (Lead (Finishing n) t)
-      (sym (end_marks_are g frames some a b i fits n (suc n) (frame_at frames n)))
-      (Leads-cons (top g frames some a b i fits) b (Finishing n) t
-      (at_end g frames some (suc n) (frame_at frames n)) (map Says es)
-      (go (doubt_of (now_at n t) es) refl))
+      with_end g frames (Lead (Finishing n)) n (suc n) (frame_at frames n) t opens.keeps.at_once
+      (λ mark ms silent. Leads-cons (top g frames a b i fits) b (Finishing n) t mark ms)
+      (go (doubt_of (now_at n t) es) refl)
     where
       es : List Event
       es = events_at_end g frames n (suc n) (frame_at frames n)
 
       in_part_low : i < n → (n < risen frames) × (a ≤ frame_at frames n)
       in_part_low l =
-          later_in g frames some a b i fits n (packets_of_frame frames n) t there (opens, sending) l
+          later_in g frames a b i fits n (packets_of_frame frames n) t there (opens, sending) l
 
       follows_now : i < n → Follow n (frame_at frames n + 1) (now_at n t)
       follows_now l =
-          end_follows g frames some a b i fits n (suc n) (frame_at frames n)
+          end_follows g frames a b i fits n (suc n) (frame_at frames n)
           (frame_at frames n + 1) t refl sending.follows
           (λ below. own_in frames n (in_part_low below).0)
 
@@ -254,9 +221,9 @@ module _ (g : Task) (frames : Transmission) (some : (g.within == 0) ≡ false) (
       go (Some x) is = elim (cases_lt i n) [
         | inl l ↦
             let both = in_part_low l in
-            doubt_told g frames some a b i fits n (frame_at frames n + 1) (now_at n t) es x
+            doubt_told g frames a b i fits n (frame_at frames n + 1) (now_at n t) es x
             (follows_now l) l is
-            (end_past g frames some a b i fits n (suc n) (frame_at frames n) x t
+            (end_past g frames a b i fits n (suc n) (frame_at frames n) x t
             (own_in frames n both.0) both.1 is) (Finishing n)
         | inr not_below ↦
             inr
@@ -331,7 +298,7 @@ module _ (g : Task) (frames : Transmission) (some : (g.within == 0) ≡ false) (
       back = ap (frame_at frames) (omega arith)
 
       begins : i ≡ n
-          → (from : ℕ) × (from ≤ top g frames some a b i fits)
+          → (from : ℕ) × (from ≤ top g frames a b i fits)
           × ((if t.is_clean && quiet_at n then begun t.run (has n) (frame_at frames n) else None)
           ≡ Some from)
       begins same =
@@ -352,21 +319,21 @@ module _ (g : Task) (frames : Transmission) (some : (g.within == 0) ≡ false) (
           )
 
   pub ending_leads : (n : ℕ) (t : Trust) → n < length frames → OpenHere n t
-      → Lead (Past g frames some a b i fits (suc n)) t (marks_of_ending g frames n)
+      → Lead (Past g frames a b i fits (suc n)) t (marks_of_ending g frames n)
   ending_leads n t there (opens, sending) =
       let f : ℕ = frame_at frames n in
       let last : Mark = Ends f (has n) (quiet_at n) in
       let q : ℕ = frame_at frames (suc n - 1) + 1 in
-      Leads-both (top g frames some a b i fits) b (Closed g frames (suc n)) (Follow (suc n) q) t
-      (marks_of_ending g frames n) (ending g frames some n t there opens).after
-      (Leads-append (top g frames some a b i fits) b (Finishing n) (Follow (suc n) q) t
+      Leads-both (top g frames a b i fits) b (Closed g frames (suc n)) (Follow (suc n) q) t
+      (marks_of_ending g frames n) (ending g frames n t there opens).after
+      (Leads-append (top g frames a b i fits) b (Finishing n) (Follow (suc n) q) t
       (map Says (first_header_events g frames n) ++ marks_at_end g frames n (suc n) f) (last ∷ [])
-      (Leads-append (top g frames some a b i fits) b (OpenHere n) (Finishing n) t
+      (Leads-append (top g frames a b i fits) b (OpenHere n) (Finishing n) t
       (map Says (first_header_events g frames n)) (marks_at_end g frames n (suc n) f) header
       (λ u so. end_leads_to n u there so))
       (λ v so.
-      Leads-cons (top g frames some a b i fits) b (Follow (suc n) q) v last []
-      (Leads-nil (top g frames some a b i fits) b (Follow (suc n) q) (after_mark last v)
+      Leads-cons (top g frames a b i fits) b (Follow (suc n) q) v last []
+      (Leads-nil (top g frames a b i fits) b (Follow (suc n) q) (after_mark last v)
       (ended_now n v so))))
     where
       header : Lead (OpenHere n) t (map Says (first_header_events g frames n))
@@ -374,19 +341,19 @@ module _ (g : Task) (frames : Transmission) (some : (g.within == 0) ≡ false) (
           let es : List Event = first_header_events g frames n in
           let none : doubt_of t es ≡ None = header_none t.last (late_since t) g frames n in
           let packets : List (List ℕ) = packets_of_frame frames n in
-          Leads-both (top g frames some a b i fits) b (Opens g frames n packets)
-          (Sending g frames some a b i fits n) t (map Says es)
+          Leads-both (top g frames a b i fits) b (Opens g frames n packets)
+          (Sending g frames a b i fits n) t (map Says es)
           (opens_said g frames n packets packets t (trust_after t (map Says es)) es opens
           (said t es) (λ quiet kept. kept))
-          (sending_says g frames some a b i fits n t es sending (header_orders g frames n)
+          (sending_says g frames a b i fits n t es sending (header_orders g frames n)
           (λ same. none) (λ l x doubt. absurd (none-some x (sym none ∙ doubt))))
 
   -- ---- the end of the file
 
   pub closing_told : (pes : ℕ) (t : Trust)
-      → Past g frames some a b i fits (length frames) t
+      → Past g frames a b i fits (length frames) t
       → (t.told || not (tells_none (closing_of_pieces g frames pes (length frames)))) ≡ true
-      → IsTold (top g frames some a b i fits) b
+      → IsTold (top g frames a b i fits) b
       (told_by t (marks_of_closing g frames pes (length frames)))
   unfolding told_by told_with after_mark
   closing_told pes t (closed, follows) told =
@@ -414,7 +381,7 @@ module _ (g : Task) (frames : Transmission) (some : (g.within == 0) ≡ false) (
       let (u, unread) = unread_is g.unread left in
       let l = fits.unread u unread in
       omega arith) in
-      told_left (top g frames some a b i fits) b (told_with (Closes (is_some g.unread) more) t0)
+      told_left (top g frames a b i fits) b (told_with (Closes (is_some g.unread) more) t0)
       (told_by t1 (map Says es)) (
         from,
         x - 1,

@@ -2,29 +2,27 @@
 -- its frames with a header on a run, which is told once a frame is doubted, `follows_says`; and at
 -- an end, `end_leads`.
 use Rattle.std.proofs.lemmas.Bool.Decides.{nat_tests}
-use Rattle.std.proofs.Common.{◌≡◌, ℕ, ◌+◌, ◌-◌, ◌<◌, ◌≤◌, inl, inr, Bool, true, false}
-use Rattle.std.proofs.Common.{◌==◌, ◌&&◌, not, List, ◌∷◌, map, Option, Some, None}
-use Rattle.std.proofs.Common.{is_some, refl, sym, ◌∙◌, subst, arith, le_refl, unwrap_or}
-use Rattle.std.proofs.Common.{if◌then◌else◌}
+use Rattle.std.proofs.Common.{◌≡◌, ℕ, ◌+◌, ◌-◌, ◌<◌, ◌≤◌, inl, inr, Bool, true, false, ◌==◌, ◌&&◌}
+use Rattle.std.proofs.Common.{not, List, map, Option, Some, None, is_some, refl, sym, ◌∙◌, arith}
+use Rattle.std.proofs.Common.{le_refl, unwrap_or, if◌then◌else◌}
 use Rattle.std.proofs.lemmas.Bool.{cases_lt}
 use Rattle.std.proofs.lemmas.Option.{none-some}
 use Rattle.std.specs.List.{list_any}
 use Rattle.sub_rules.specs.Events.{Standing, end_before, end_events, events_at_end, is_late}
-use Rattle.sub_rules.specs.Events.{standing_at, standing_before, unfinished_since}
+use Rattle.sub_rules.specs.Events.{standing_at, standing_before}
 use Rattle.sub_rules.specs.FrameRules.{Task, frame_at}
 use Rattle.sub_rules.specs.PieceEvents.{marks_at_end}
 use Rattle.sub_rules.specs.Transmission.{Transmission}
-use Rattle.sub_rules.specs.Trusted.{after_mark, first_whole, is_order, late_since}
-use Rattle.sub_rules.specs.Trusted.{trust_after}
+use Rattle.sub_rules.specs.Trusted.{after_mark, first_whole, is_order, late_since, trust_after}
 use Rattle.sub_rules.specs.Trusted.Mark.{Says}
 use Rattle.sub_rules.specs.declared.event.Event.{Event}
 use Rattle.sub_rules.specs.declared.trust.Trust.{Trust}
 use Rattle.sub_laws.specs.CleanStretch.{IsEnd}
 use Rattle.sub_laws.specs.TrustedFrames.{rising_part}
-use Rattle.sub_laws.proofs.DelayRunLemmas.{whole_of}
-use Rattle.sub_laws.proofs.DelayStepLemmas.{at_end}
+use Rattle.sub_laws.proofs.DelayRunLemmas.{SeesNone, whole_of}
+use Rattle.sub_laws.proofs.DelayStepLemmas.{at_end, with_end}
 use Rattle.sub_laws.proofs.FollowedLemmas.{Fits}
-use Rattle.sub_laws.proofs.LateDoubtLemmas.{end_doubt}
+use Rattle.sub_laws.proofs.LateDoubtLemmas.{end_doubt, seen_since}
 use Rattle.sub_laws.proofs.LeadMarkLemmas.{Leads, Leads-cons, kept_on, said_told}
 use Rattle.sub_laws.proofs.SayMarkLemmas.{IsSaid, doubt_of, kept_some, said}
 
@@ -33,9 +31,7 @@ use Rattle.sub_laws.proofs.SayMarkLemmas.{IsSaid, doubt_of, kept_some, said}
 -- The page was whole in a run already.
 whole_kept : (run whole since : Option ℕ) (f w : ℕ) → whole ≡ Some w
     → (if is_some run then first_whole whole since f else whole) ≡ Some w
-whole_kept None whole since f w e = e
-whole_kept (Some x) (Some y) since f w e = e
-whole_kept (Some x) None since f w e = absurd (none-some w e)
+whole_kept run whole since f w e = grind (arith, nat_tests)
 
 -- Or it is now.
 whole_now : (run whole since : Option ℕ) (f from : ℕ) → run ≡ Some from → since ≡ None
@@ -55,9 +51,7 @@ still b c is none = rw (is, none) refl
 late_past : (late : Bool) (since : Option ℕ) (f b : ℕ) → b < f
     → ((r : ℕ) → since ≡ Some r → b < r)
     → b < unwrap_or (if late then since else None) f
-late_past false since f b past h = past
-late_past true None f b past h = past
-late_past true (Some r) f b past h = h r refl
+late_past late since f b past h = grind (arith, nat_tests)
 
 -- Nothing of what is told at an end is told of the order.
 pub end_orders : (old : Standing) (before : ℕ) (new : Standing) (f : ℕ)
@@ -65,7 +59,7 @@ pub end_orders : (old : Standing) (before : ℕ) (new : Standing) (f : ℕ)
 unfolding end_events is_order
 end_orders old before new f = grind (arith, nat_tests)
 
-module _ (g : Task) (frames : Transmission) (some : (g.within == 0) ≡ false) (a b i : ℕ)
+module _ (g : Task) (frames : Transmission) (a b i : ℕ)
     (fits : Fits g frames a b i) where
   -- The frame of the header.
   abbrev pub top : ℕ
@@ -151,7 +145,7 @@ module _ (g : Task) (frames : Transmission) (some : (g.within == 0) ≡ false) (
   -- With the mark of the end of frame f, up to which m frames count.
   pub end_follows : (n m f q : ℕ) (t : Trust) → f + 1 ≡ q → Follows n f t
       → (i < n → IsEnd (rising_part frames) m f)
-      → Follows n q (after_mark (at_end g frames some m f) t)
+      → Follows n q (after_mark (at_end g frames m f) t)
   unfolding after_mark
   end_follows n m f q t next follows end = record {
     rises = follows.rises;
@@ -160,12 +154,12 @@ module _ (g : Task) (frames : Transmission) (some : (g.within == 0) ≡ false) (
     whole = λ l past. elim (cases_lt b f) [
       | inl earlier ↦
           let (w, high, is) = follows.whole l earlier in
-          (w, high, whole_kept t.run t.whole (unfinished_since g frames m f) f w is)
+          (w, high, whole_kept t.run t.whole (seen_since g frames m f) f w is)
       | inr not_before ↦
           let here : b ≡ f = omega arith in
           let (from, from_low, run) = follows.run l in
           let (w, high, is) =
-          whole_now t.run t.whole (unfinished_since g frames m f) f from run
+          whole_now t.run t.whole (seen_since g frames m f) f from run
           (fits.finished m f (end l) here)
           (λ w whole. let under = follows.low from w run whole in omega arith) in
           (w, omega arith, is)
@@ -174,23 +168,23 @@ module _ (g : Task) (frames : Transmission) (some : (g.within == 0) ≡ false) (
   }
     where
       low : (from w : ℕ) → t.run ≡ Some from
-          → (if is_some t.run then first_whole t.whole (unfinished_since g frames m f) f
+          → (if is_some t.run then first_whole t.whole (seen_since g frames m f) f
           else t.whole)
           ≡ Some w
           → w < q
       low from w run whole =
-          elim (whole_of t.run t.whole (unfinished_since g frames m f) f from w run whole) [
+          elim (whole_of t.run t.whole (seen_since g frames m f) f from w run whole) [
             | inl before ↦ let under = follows.low from w run before in omega arith
             | inr (none, here) ↦ omega arith
           ]
 
   -- What is told there doubts a frame after the stretch, if one.
   pub end_past : (n m f x : ℕ) (t : Trust) → IsEnd (rising_part frames) m f → a ≤ f
-      → doubt_of (after_mark (at_end g frames some m f) t) (events_at_end g frames n m f) ≡ Some x
+      → doubt_of (after_mark (at_end g frames m f) t) (events_at_end g frames n m f) ≡ Some x
       → (b < x) × (b < f + 1)
   unfolding after_mark
   end_past n m f x t end low doubt =
-      let late : Option ℕ = late_since (after_mark (at_end g frames some m f) t) in
+      let late : Option ℕ = late_since (after_mark (at_end g frames m f) t) in
       let finds =
       end_doubt t.last (end_before frames n f) f late (standing_before g frames n f)
       (standing_at g frames m f) in
@@ -198,33 +192,29 @@ module _ (g : Task) (frames : Transmission) (some : (g.within == 0) ≡ false) (
         | inl past ↦
             let at : x ≡ unwrap_or late f = finds.at x doubt in
             let after : b < unwrap_or late f =
-            late_past (is_late g frames m f) (unfinished_since g frames m f) f b past
-            (λ r is. fits.since m f r end (omega arith) is) in
+            late_past (not (g.within == 0) && is_late g frames m f) (seen_since g frames m f) f b
+            past (λ r is. fits.since m f r end (omega arith) is) in
             (omega arith, omega arith)
         | inr not_past ↦
             let none = finds.calm (fits.ends m f end low (omega arith)) in
             absurd (none-some x (sym none ∙ doubt))
       ]
 
-  pub end_marks_are : (n m f : ℕ)
-      → marks_at_end g frames n m f
-      ≡ at_end g frames some m f ∷ map Says (events_at_end g frames n m f)
-  end_marks_are n m f = rw some refl
-
-  pub end_leads : (n m f q : ℕ) (t : Trust) → f + 1 ≡ q → Follows n f t
+  pub end_leads : (n m f q : ℕ) (t : Trust) → ((g.within == 0) ≡ true → SeesNone t) → f + 1 ≡ q
+      → Follows n f t
       → (i < n → IsEnd (rising_part frames) m f)
       → (i < n → a ≤ f)
       → Leads top b (Follows n q) t (marks_at_end g frames n m f)
   unfolding after_mark
-  end_leads n m f q t next follows end low =
-      let u : Trust = after_mark (at_end g frames some m f) t in
+  end_leads n m f q t none next follows end low =
+      let u : Trust = after_mark (at_end g frames m f) t in
       let es : List Event = events_at_end g frames n m f in
-      subst (Leads top b (Follows n q) t) (sym (end_marks_are n m f))
-      (Leads-cons top b (Follows n q) t (at_end g frames some m f) (map Says es)
+      with_end g frames (Leads top b (Follows n q)) n m f t none
+      (λ mark ms silent. Leads-cons top b (Follows n q) t mark ms)
       (follows_says n q u es (end_follows n m f q t next follows end)
       (λ l. end_orders (standing_before g frames n f) (end_before frames n f)
       (standing_at g frames m f) f)
       (λ l x doubt.
       let past = end_past n m f x t (end l) (low l) doubt in
       let high = past.1 in
-      (past.0, omega arith))))
+      (past.0, omega arith)))

@@ -3,9 +3,9 @@
 -- `passed_leads`.
 use Rattle.std.proofs.lemmas.Bool.Decides.{nat_tests}
 use Rattle.std.proofs.Common.{◌≡◌, ℕ, zero, suc, ◌+◌, ◌-◌, ◌<◌, ◌≤◌, ◌⊎◌, inl, inr, Bool, true}
-use Rattle.std.proofs.Common.{false, ◌==◌, List, [], ◌∷◌, ◌++◌, length, map, take, get_or, Option}
-use Rattle.std.proofs.Common.{Some, None, refl, sym, ap, ◌∙◌, subst, arith, le_refl}
-use Rattle.std.proofs.Common.{append_assoc, length-append, ◌&&◌, is_none}
+use Rattle.std.proofs.Common.{false, List, [], ◌∷◌, ◌++◌, length, map, take, get_or, Option, Some}
+use Rattle.std.proofs.Common.{None, refl, sym, ap, ◌∙◌, subst, arith, le_refl, append_assoc}
+use Rattle.std.proofs.Common.{length-append, ◌&&◌, is_none}
 use Rattle.std.proofs.Math.Seq.{take-append-add}
 use Rattle.std.proofs.lemmas.Bool.{cases_lt}
 use Rattle.std.proofs.lemmas.List.{get_or-append-add, get_or_append_left, take-append-le}
@@ -26,6 +26,7 @@ use Rattle.sub_rules.specs.declared.packet_rule.Watched.{Watched}
 use Rattle.sub_rules.specs.declared.trust.Trust.{Trust}
 use Rattle.sub_laws.proofs.DelayRunLemmas.{Arrives, Closed, Keeps, Opens, Up, run_rises, up_of}
 use Rattle.sub_laws.proofs.DelayStepLemmas.{begins, gap_step, more_sent, order_step, passed}
+use Rattle.sub_laws.proofs.DelayStepLemmas.{passed_ended}
 use Rattle.sub_laws.proofs.FollowedLemmas.{Fits, gap_in}
 use Rattle.sub_laws.proofs.LateDoubtLemmas.{KeepsAll, order_at, packets_doubt, passed_at}
 use Rattle.sub_laws.proofs.LeadMarkLemmas.{Leads, Leads-append, Leads-both, Leads-cons, Leads-nil}
@@ -101,13 +102,13 @@ keeps_part w before xs ys zs all k l r needed =
     rw (append_assoc before xs (take k ys), sym at, sym front)
     (all (length xs + k) few r needed)
 
-module _ (g : Task) (frames : Transmission) (some : (g.within == 0) ≡ false) (a b i : ℕ)
+module _ (g : Task) (frames : Transmission) (a b i : ℕ)
     (fits : Fits g frames a b i) where
   abbrev Follow : ℕ → ℕ → Trust → Type 0
-  Follow n p t = Follows g frames some a b i fits n p t
+  Follow n p t = Follows g frames a b i fits n p t
 
   abbrev Lead : (Trust → Type 0) → Trust → List Mark → Type 0
-  Lead S t ms = Leads (top g frames some a b i fits) b S t ms
+  Lead S t ms = Leads (top g frames a b i fits) b S t ms
 
   -- ---- the ends of frames of the day before a frame
 
@@ -138,9 +139,9 @@ module _ (g : Task) (frames : Transmission) (some : (g.within == 0) ≡ false) (
   gap_leads n k t there l arrives follows =
       let f : ℕ = latest frames n + suc k in
       let q : ℕ = latest frames n + suc (suc k) in
-      Leads-both (top g frames some a b i fits) b (Arrives g frames n (suc k)) (Follow n q) t
-      (marks_at_end g frames n n f) (gap_step g frames some n k t there l arrives).after
-      (end_leads g frames some a b i fits n n f q t (omega arith) follows
+      Leads-both (top g frames a b i fits) b (Arrives g frames n (suc k)) (Follow n q) t
+      (marks_at_end g frames n n f) (gap_step g frames n k t there l arrives).after
+      (end_leads g frames a b i fits n n f q t arrives.keeps.at_once (omega arith) follows
       (λ below.
       let h = up below in
       let first = h.some in
@@ -167,9 +168,9 @@ module _ (g : Task) (frames : Transmission) (some : (g.within == 0) ≡ false) (
       → Lead (Arriving n k) t (marks_of_gap g frames n k)
   unfolding marks_of_gap
   gaps_lead n zero t there l arriving =
-      Leads-nil (top g frames some a b i fits) b (Arriving n 0) t arriving
+      Leads-nil (top g frames a b i fits) b (Arriving n 0) t arriving
   gaps_lead n (suc k) t there l arriving =
-      Leads-append (top g frames some a b i fits) b (Arriving n k) (Arriving n (suc k)) t
+      Leads-append (top g frames a b i fits) b (Arriving n k) (Arriving n (suc k)) t
       (marks_of_gap g frames n k) (marks_at_end g frames n n (latest frames n + suc k))
       (gaps_lead n k t there (omega arith) arriving)
       (λ u so. gap_leads n k u there (omega arith) so.0 so.1)
@@ -183,11 +184,11 @@ module _ (g : Task) (frames : Transmission) (some : (g.within == 0) ≡ false) (
   order_leads : (n : ℕ) (t : Trust) → n < length frames → Past n t
       → Lead (Arriving n 0) t (map Says (order_events g frames n))
   order_leads n t there (closed, follows) =
-      Leads-both (top g frames some a b i fits) b (Arrives g frames n 0)
+      Leads-both (top g frames a b i fits) b (Arrives g frames n 0)
       (Follow n (latest frames n + suc 0)) t (map Says (order_events g frames n))
-      (order_step g frames some n t there closed).after
-      (follows_says g frames some a b i fits n (latest frames n + suc 0) t
-      (order_events g frames n) (follows_to g frames some a b i fits n
+      (order_step g frames n t there closed).after
+      (follows_says g frames a b i fits n (latest frames n + suc 0) t
+      (order_events g frames n) (follows_to g frames a b i fits n
       (frame_at frames (n - 1) + 1) (latest frames n + suc 0) t follows (λ from is.
       let run = closed.keeps.run from is in
       let below = run.below in
@@ -236,11 +237,11 @@ module _ (g : Task) (frames : Transmission) (some : (g.within == 0) ≡ false) (
   unfolding after_mark
   begins_open n t there (arrives, follows) =
       let now : Follow n (frame_at frames n) t =
-      follows_to g frames some a b i fits n (latest frames n + suc (gap_length frames n))
+      follows_to g frames a b i fits n (latest frames n + suc (gap_length frames n))
       (frame_at frames n) t follows (λ from is.
       (up_of g frames n (latest frames n + suc (gap_length frames n)) from t arrives.keeps
       arrives.rises is).long) in (
-        begins g frames some n t there arrives,
+        begins g frames n t there arrives,
         record {
           follows = record {
             rises = now.rises;
@@ -261,16 +262,16 @@ module _ (g : Task) (frames : Transmission) (some : (g.within == 0) ≡ false) (
   pub arrival_leads : (n : ℕ) (t : Trust) → n < length frames → Past n t
       → Lead (Open n []) t (marks_of_arrival g frames n)
   arrival_leads n t there past =
-      Leads-append (top g frames some a b i fits) b (Arriving n (gap_length frames n)) (Open n []) t
+      Leads-append (top g frames a b i fits) b (Arriving n (gap_length frames n)) (Open n []) t
       (map Says (order_events g frames n) ++ marks_of_gap g frames n (gap_length frames n))
       (Begins (frame_at frames n) ∷ [])
-      (Leads-append (top g frames some a b i fits) b (Arriving n 0)
+      (Leads-append (top g frames a b i fits) b (Arriving n 0)
       (Arriving n (gap_length frames n)) t (map Says (order_events g frames n))
       (marks_of_gap g frames n (gap_length frames n)) (order_leads n t there past)
       (λ u so. gaps_lead n (gap_length frames n) u there (le_refl (gap_length frames n)) so))
       (λ v here.
-      Leads-cons (top g frames some a b i fits) b (Open n []) v (Begins (frame_at frames n)) []
-      (Leads-nil (top g frames some a b i fits) b (Open n [])
+      Leads-cons (top g frames a b i fits) b (Open n []) v (Begins (frame_at frames n)) []
+      (Leads-nil (top g frames a b i fits) b (Open n [])
       (after_mark (Begins (frame_at frames n)) v) (begins_open n v there here)))
 
   -- ---- while it is sent
@@ -285,7 +286,7 @@ module _ (g : Task) (frames : Transmission) (some : (g.within == 0) ≡ false) (
       follow : (i < n → doubt_of t es ≡ None)
           → Follow n (frame_at frames n) (trust_after t (map Says es))
       follow none =
-          follows_said g frames some a b i fits n (frame_at frames n) t
+          follows_said g frames a b i fits n (frame_at frames n) t
           (trust_after t (map Says es)) es sending.follows (said t es) (λ l. orders) none
 
       go : (o : Option ℕ) → doubt_of t es ≡ o → Lead (Sending n) t (map Says es)
@@ -298,7 +299,7 @@ module _ (g : Task) (frames : Transmission) (some : (g.within == 0) ≡ false) (
           })
       go (Some x) is = elim (cases_lt i n) [
         | inl l ↦
-            doubt_told g frames some a b i fits n (frame_at frames n) t es x sending.follows l is
+            doubt_told g frames a b i fits n (frame_at frames n) t es x sending.follows l is
             (past l x is) (Sending n)
         | inr not_yet ↦
             inr
@@ -336,8 +337,8 @@ module _ (g : Task) (frames : Transmission) (some : (g.within == 0) ≡ false) (
       let finds =
       packets_doubt t.last (late_since t) g.watched (frame_at frames n) (length packets) so_far
       more in
-      Leads-both (top g frames some a b i fits) b (Opens g frames n (packets ++ more)) (Sending n) t
-      (map Says es) (more_sent g frames some n packets more t there opens).after
+      Leads-both (top g frames a b i fits) b (Opens g frames n (packets ++ more)) (Sending n) t
+      (map Says es) (more_sent g frames n packets more t there opens).after
       (sending_says n t es sending
       (packets_orders g.watched (frame_at frames n) (length packets) so_far more (length more))
       (λ same.
@@ -363,6 +364,32 @@ module _ (g : Task) (frames : Transmission) (some : (g.within == 0) ≡ false) (
           (subst (λ (ps : List (List ℕ)). KeepsAll g.watched (packets_before frames n) ps) whole
           (fits.packets n in_it low high))
 
+  -- A piece is passed over before the next frame comes.
+  pub passed_past : (n pes : ℕ) (u : Unread) (t : Trust) → n ≤ length frames
+      → (0 < n → n ≤ risen frames → (frame_at frames (n - 1) < a) ⊎ (b < frame_at frames (n - 1)))
+      → Past n t
+      → Lead (Past n) t (map Says (Told (unread_fault pes (Some u)) ∷ []))
+  passed_past n pes u t within outside (closed, follows) =
+      let es : List Event = Told (unread_fault pes (Some u)) ∷ [] in
+      let p : ℕ = frame_at frames (n - 1) + 1 in
+      Leads-both (top g frames a b i fits) b (Closed g frames n) (Follow n p) t (map Says es)
+      (passed_ended g frames n pes u t within closed).after
+      (follows_says g frames a b i fits n p t es follows (λ early. passed_orders pes u)
+      (λ l x doubt.
+      let (from, low, run) = follows.run l in
+      let most = count_most frames (length frames) n within (closed.keeps.run from run).rises in
+      let up = rises_to frames n (closed.keeps.run from run).rises i (n - 1) (omega arith)
+      (omega arith) in
+      let from_low = fits.low in
+      let is : Some t.last ≡ Some x = sym (passed_at t.last (late_since t) pes u) ∙ doubt in
+      let same : t.last ≡ x = same_Some t.last x is in
+      let last = closed.last (omega arith) in
+      elim (outside (omega arith) most) [
+        | inl before ↦ absurd (omega arith)
+        | inr after ↦ (omega arith, omega arith)
+      ]))
+
+  -- Or while one is sent.
   pub passed_leads : (n pes : ℕ) (packets : List (List ℕ)) (u : Unread) (t : Trust)
       → n < length frames
       → (n < risen frames → (frame_at frames n < a) ⊎ (b < frame_at frames n))
@@ -370,8 +397,8 @@ module _ (g : Task) (frames : Transmission) (some : (g.within == 0) ≡ false) (
       → Lead (Open n packets) t (map Says (Told (unread_fault pes (Some u)) ∷ []))
   passed_leads n pes packets u t there outside (opens, sending) =
       let es : List Event = Told (unread_fault pes (Some u)) ∷ [] in
-      Leads-both (top g frames some a b i fits) b (Opens g frames n packets) (Sending n) t
-      (map Says es) (passed g frames some n pes packets u t there opens).after
+      Leads-both (top g frames a b i fits) b (Opens g frames n packets) (Sending n) t
+      (map Says es) (passed g frames n pes packets u t there opens).after
       (sending_says n t es sending (passed_orders pes u)
       (λ same.
       let here : frame_at frames i ≡ frame_at frames n = ap (frame_at frames) same in

@@ -1,10 +1,11 @@
--- A stretch that may be late, of which nothing is told that a receiver depends on, has what
+-- What frames that may be late show and finish, where what is asked of their ends holds: `codes`,
+-- `again`, `subtitle`. So a stretch of which nothing is told that a receiver depends on has what
 -- suffices: `enough_with_delay`.
 use Rattle.std.proofs.lemmas.Bool.Decides.{nat_tests}
-use Rattle.std.proofs.Common.{◌≡◌, ℕ, ◌+◌, ◌-◌, ◌<◌, ◌≤◌, inl, inr, Bool, true, false, ◌&&◌, ◌||◌}
-use Rattle.std.proofs.Common.{◌==◌, nat_le, nat_lt, None, Option, Some, get_or, length, refl, sym}
-use Rattle.std.proofs.Common.{ap, ◌∙◌, subst, arith, IsFalse, Contains}
-use Rattle.std.proofs.lemmas.Bool.{or_parts, true≢false}
+use Rattle.std.proofs.Common.{◌≡◌, ℕ, ◌+◌, ◌-◌, ◌<◌, ◌≤◌, ◌⊎◌, inl, inr, Bool, true, false, ◌&&◌}
+use Rattle.std.proofs.Common.{◌||◌, ◌==◌, nat_le, nat_lt, None, Option, Some, get_or, length, refl}
+use Rattle.std.proofs.Common.{sym, ap, ◌∙◌, subst, arith, le_refl, IsFalse, Contains}
+use Rattle.std.proofs.lemmas.Bool.{cases_eq, or_parts, true≢false}
 use Rattle.std.proofs.lemmas.List.Elements.{Contains-get_or}
 use Rattle.ttx_page.specs.Shown.{shown}
 use Rattle.stl_file.specs.Subtitle.{SubtitleValue}
@@ -15,22 +16,33 @@ use Rattle.sub_rules.specs.Events.{is_unfinished, standing_at, undue_after, unfi
 use Rattle.sub_rules.specs.Events.{wrong_cell}
 use Rattle.sub_rules.specs.FrameRules.{Task, Unread, end_frame, frame_at, packets_before, task_of}
 use Rattle.sub_rules.specs.GoodWithin.{FinishesAgain, IsDueWithin, ShowsDueCodes, SomeFinished}
-use Rattle.sub_rules.specs.Transmission.{Transmission}
+use Rattle.sub_rules.specs.Transmission.{Transmission, on_air_until}
 use Rattle.sub_laws.specs.CleanStretch.{AtEnds, IsEnd, IsUntold}
 use Rattle.sub_laws.specs.Delay.{FinishesInTime}
 use Rattle.sub_laws.specs.DelayLaws.{IsSufficientWithDelay}
 use Rattle.sub_laws.proofs.DueCodeLemmas.{MayShow, ending_is, undue_none}
-use Rattle.sub_laws.proofs.FinishedLemmas.{finished_at, frame_end, late_is, no_since, since_is}
+use Rattle.sub_laws.proofs.FinishedLemmas.{finished_at, finished_of, frame_end, late_is, no_since}
+use Rattle.sub_laws.proofs.FinishedLemmas.{since_is}
 use Rattle.sub_laws.proofs.PrefixLemmas.{RiseTo, end_is_on_air, first-same, last-same}
 use Rattle.sub_laws.proofs.SoundUntoldLemmas.{rising, sound_untold}
 use Rattle.sub_laws.proofs.UnfinishedLemmas.{finished_from, since_some, unfinished_at}
 
+-- In a transmission in which frames rise what is asked of content and of the page's end holds at
+-- each end of a frame from one to another.
+pub record HoldsAtEnds (g : Task) (t : Transmission) (a b : ℕ) : Type 0 where
+  pub up : RiseTo t (length t)
+  pub some : 0 < length t
+  pub from : frame_at t 0 ≤ a
+  pub to : b ≤ end_frame t
+  pub parts :
+      (n f : ℕ)
+      → IsEnd t n f
+      → a ≤ f
+      → f ≤ b
+      → (broken_cell g t n f ≡ None) × ((is_late g t n f && is_incomplete g t n) ≡ false)
+
 module _ (programme : ProgrammeValue) (options : OptionsValue) (unread : Option Unread)
-    (t : Transmission) (a b : ℕ) (is : IsProgramme programme.national programme.records)
-    (some_within : 0 < options.within)
-    (untold : IsUntold (task_of programme options unread) t a b)
-    (closed : AtEnds
-    (λ n f. IsFalse (standing_at (task_of programme options unread) t n f).incomplete) t a b)
+    (t : Transmission) (a b : ℕ) (holds : HoldsAtEnds (task_of programme options unread) t a b)
   where
     abbrev task : Task
     task = task_of programme options unread
@@ -39,28 +51,13 @@ module _ (programme : ProgrammeValue) (options : OptionsValue) (unread : Option 
     start = frame_at t 0
 
     abbrev up : RiseTo t (length t)
-    up = rising programme t options unread a b untold
-
-    some : 0 < length t
-    some = untold.stretch.not_empty
-
-    first_low : start ≤ a
-    first_low = let first = first-same t in omega (arith, untold.stretch.from)
-
-    last_high : b ≤ end_frame t
-    last_high = let last = last-same t in omega (arith, untold.stretch.to)
-
-    parts : (n f : ℕ) → IsEnd t n f → a ≤ f → f ≤ b
-        → (broken_cell task t n f ≡ None)
-        × ((is_late task t n f && is_incomplete task t n) ≡ false)
-    unfolding standing_at
-    parts n f end low high = (untold.content n f end low high, closed n f end low high)
+    up = holds.up
 
     -- A late end is finished.
-    calm : (n f : ℕ) → IsEnd t n f → a ≤ f → f ≤ b → is_late task t n f ≡ true
+    pub calm : (n f : ℕ) → IsEnd t n f → a ≤ f → f ≤ b → is_late task t n f ≡ true
         → is_unfinished task t n f ≡ false
     calm n f end low high late =
-        let both = parts n f end low high in
+        let both = holds.parts n f end low high in
         let wrong : wrong_cell task t n f ≡ None = rw late at both.0 in
         let shut : is_incomplete task t n ≡ false = rw late at both.1 in
         rw (wrong, shut) refl
@@ -110,10 +107,10 @@ module _ (programme : ProgrammeValue) (options : OptionsValue) (unread : Option 
         → ⊥)
         → SomeFinished programme t options from f
     some_finished from f low below high late =
-        let first = first_low in
-        let last = last_high in
+        let first = holds.from in
+        let last = holds.to in
         let (n, end) =
-        frame_end programme options unread t up f some (omega arith) (omega arith) in
+        frame_end programme options unread t up f holds.some (omega arith) (omega arith) in
         let k : ℕ = f - start in
         let at : start + k ≡ f = omega arith in
         let since = since_is programme options unread t up n f end in
@@ -124,98 +121,25 @@ module _ (programme : ProgrammeValue) (options : OptionsValue) (unread : Option 
           e,
           after,
           omega arith,
-          finished_at programme options unread t up e some (omega arith) (omega arith) finished,
+          finished_at programme options unread t up e holds.some (omega arith) (omega arith)
+              finished,
         )
 
-    again : FinishesAgain programme t options a b
+    pub again : FinishesAgain programme t options a b
     again from low high =
         some_finished from (from + options.within) low (omega arith) high
         (λ n r end is begins l.
         let soon = (early n (from + options.within) r end (omega arith) high is).0 in
         omega arith)
 
-    -- The TCO of a subtitle of the programme, and its TCI.
-    ends_at : (k : ℕ) (d : SubtitleValue) → k < length programme.records
-        → (s : SubtitleValue)
-        → s ≡ get_or programme.records k d
-        → (s.tci < s.tco) × (task.ending (s.tco - 1 + 1) ≡ Some s.tci)
-    ends_at k d l s same =
-        let times : s.tci < s.tco =
-        subst (λ (x : SubtitleValue). x.tci < x.tco) (sym same) (is.each k d l).times in
-        let member : Contains programme.records s =
-        subst (Contains programme.records) (sym same) (Contains-get_or programme.records k d l) in
-        let next : s.tco ≡ s.tco - 1 + 1 = omega arith in (
-          times,
-          ap task.ending (sym next)
-              ∙ ending_is programme.national programme.records is s member,
-        )
-
-    subtitle : (k : ℕ) (d : SubtitleValue) → k < length programme.records
-        → (s : SubtitleValue)
-        → s ≡ get_or programme.records k d
-        → a ≤ s.tci
-        → s.tco ≤ b + 1
-        → SomeFinished programme t options s.tci (s.tco - 1)
-    subtitle k d l s same low high =
-        let (times, found) = ends_at k d l s same in
-        some_finished s.tci (s.tco - 1) low (omega arith) (omega arith)
-        (λ n r end since begins l.
-        let not_missed = (early n (s.tco - 1) r end (omega arith) (omega arith) since).1 in
-        not_late r s.tci l (rw found at not_missed))
-      where
-        not_late : (r tci : ℕ) → r ≤ tci
-            → (nat_le r tci || ((r == start) && nat_lt tci start)) ≡ false
-            → ⊥
-        not_late r tci l e = grind (arith, nat_tests)
-
-    begun : (k : ℕ) (d : SubtitleValue) → k < length programme.records
-        → (s : SubtitleValue)
-        → s ≡ get_or programme.records k d
-        → a ≡ start
-        → s.tci < a
-        → a < s.tco
-        → s.tco ≤ b + 1
-        → SomeFinished programme t options a (s.tco - 1)
-    begun k d l s same at before after high =
-        let (times, found) = ends_at k d l s same in
-        some_finished a (s.tco - 1) (omega arith) (omega arith) (omega arith)
-        (λ n r end since begins l.
-        let not_missed = (early n (s.tco - 1) r end (omega arith) (omega arith) since).1 in
-        not_late r s.tci (omega arith) (omega arith) (rw found at not_missed))
-      where
-        not_late : (r tci : ℕ) → r ≡ start → tci < start
-            → (nat_le r tci || ((r == start) && nat_lt tci start)) ≡ false
-            → ⊥
-        not_late r tci same l e = grind (arith, nat_tests)
-
-    finishes : FinishesInTime programme t options a b
-    finishes = record {
-      again = again;
-      subtitles = λ k d l. subtitle k d l (get_or programme.records k d) refl;
-      begun = λ at k d l.
-          begun k d l (get_or programme.records k d) refl (at ∙ first-same t);
-    }
-
     -- At a frame's end each cell shows what it may hold.
-    codes : ShowsDueCodes programme t options a b
+    pub codes : ShowsDueCodes programme t options a b
     codes f row column low high named =
-        let first = first_low in
-        let last = last_high in
+        let first = holds.from in
+        let last = holds.to in
         let (n, end) =
-        frame_end programme options unread t up f some (omega arith) (omega arith) in
-        let zero : (options.within == 0) ≡ false = grind (arith, nat_tests) in
-        let not_late : is_late task t n f ≡ false =
-        late_is programme options unread t up n f (not_overdue n f end low high) ∙ zero in
-        let none : undue_after options.page (packets_before t n) task.due start f options.within
-        ≡ None =
-        rw not_late at (parts n f end low high).0 in
-        let on = end_is_on_air t up n f end in
-        subst
-        (λ ps. IsDueWithin programme t options f row column (shown options.page ps row column))
-        (sym on)
-        (due_of n
-        (undue_none options.page (packets_before t n) task.due start f options.within none row
-        column named))
+        frame_end programme options unread t up f holds.some (omega arith) (omega arith) in
+        by_within n end (cases_eq options.within 0)
       where
         due_of : (n : ℕ)
             → MayShow options.page (packets_before t n) task.due start f options.within row column
@@ -225,12 +149,124 @@ module _ (programme : ProgrammeValue) (options : OptionsValue) (unread : Option 
         due_of n (inr (e, inl from, to, near, same)) =
             inr (e, omega (arith, from, first-same t), to, near, same)
         due_of n (inr (e, inr own, to, near, same)) =
-            inr (e, omega (arith, own, low, untold.stretch.from), to, near, same)
+            inr (e, omega (arith, own, low, holds.from, first-same t), to, near, same)
+
+        by_within : (n : ℕ) → IsEnd t n f → (options.within ≡ 0) ⊎ (options.within ≡ 0 → ⊥)
+            → IsDueWithin programme t options f row column
+            (shown options.page (on_air_until t f) row column)
+        by_within n end (inl none) =
+            let late = late_is programme options unread t up n f (not_overdue n f end low high) in
+            let is_zero : (options.within == 0) ≡ true = grind (arith, nat_tests) in
+            let whole =
+            finished_of programme options unread t up n f end
+            (calm n f end low high (late ∙ is_zero)) in
+            inr (
+              f,
+              omega (arith, low, holds.from, first-same t),
+              le_refl f,
+              omega arith,
+              whole.shows row column named,
+            )
+        by_within n end (inr some) =
+            let late = late_is programme options unread t up n f (not_overdue n f end low high) in
+            let is_zero : (options.within == 0) ≡ false = grind (arith, nat_tests) in
+            let not_late : is_late task t n f ≡ false = late ∙ is_zero in
+            let none :
+            undue_after options.page (packets_before t n) task.due start f options.within ≡ None =
+            rw not_late at (holds.parts n f end low high).0 in
+            let on = end_is_on_air t up n f end in
+            subst
+            (λ ps. IsDueWithin programme t options f row column (shown options.page ps row column))
+            (sym on)
+            (due_of n
+            (undue_none options.page (packets_before t n) task.due start f options.within none row
+            column named))
+
+    module _ (is : IsProgramme programme.national programme.records) where
+      -- The TCO of a subtitle of the programme, and its TCI.
+      ends_at : (k : ℕ) (d : SubtitleValue) → k < length programme.records
+          → (s : SubtitleValue)
+          → s ≡ get_or programme.records k d
+          → (s.tci < s.tco) × (task.ending (s.tco - 1 + 1) ≡ Some s.tci)
+      ends_at k d l s same =
+          let times : s.tci < s.tco =
+          subst (λ (x : SubtitleValue). x.tci < x.tco) (sym same) (is.each k d l).times in
+          let member : Contains programme.records s =
+          subst (Contains programme.records) (sym same) (Contains-get_or programme.records k d l) in
+          let next : s.tco ≡ s.tco - 1 + 1 = omega arith in (
+            times,
+            ap task.ending (sym next)
+                ∙ ending_is programme.national programme.records is s member,
+          )
+
+      pub subtitle : (k : ℕ) (d : SubtitleValue) → k < length programme.records
+          → (s : SubtitleValue)
+          → s ≡ get_or programme.records k d
+          → a ≤ s.tci
+          → s.tco ≤ b + 1
+          → SomeFinished programme t options s.tci (s.tco - 1)
+      subtitle k d l s same low high =
+          let (times, found) = ends_at k d l s same in
+          some_finished s.tci (s.tco - 1) low (omega arith) (omega arith)
+          (λ n r end since begins l.
+          let not_missed = (early n (s.tco - 1) r end (omega arith) (omega arith) since).1 in
+          not_late r s.tci l (rw found at not_missed))
+        where
+          not_late : (r tci : ℕ) → r ≤ tci
+              → (nat_le r tci || ((r == start) && nat_lt tci start)) ≡ false
+              → ⊥
+          not_late r tci l e = grind (arith, nat_tests)
+
+      begun : (k : ℕ) (d : SubtitleValue) → k < length programme.records
+          → (s : SubtitleValue)
+          → s ≡ get_or programme.records k d
+          → a ≡ start
+          → s.tci < a
+          → a < s.tco
+          → s.tco ≤ b + 1
+          → SomeFinished programme t options a (s.tco - 1)
+      begun k d l s same at before after high =
+          let (times, found) = ends_at k d l s same in
+          some_finished a (s.tco - 1) (omega arith) (omega arith) (omega arith)
+          (λ n r end since begins l.
+          let not_missed = (early n (s.tco - 1) r end (omega arith) (omega arith) since).1 in
+          not_late r s.tci (omega arith) (omega arith) (rw found at not_missed))
+        where
+          not_late : (r tci : ℕ) → r ≡ start → tci < start
+              → (nat_le r tci || ((r == start) && nat_lt tci start)) ≡ false
+              → ⊥
+          not_late r tci same l e = grind (arith, nat_tests)
+
+      finishes : FinishesInTime programme t options a b
+      finishes = record {
+        again = again;
+        subtitles = λ k d l. subtitle k d l (get_or programme.records k d) refl;
+        begun = λ at k d l.
+            begun k d l (get_or programme.records k d) refl (at ∙ first-same t);
+      }
+
+-- ---- a stretch of which nothing is told
+
+module _ (programme : ProgrammeValue) (options : OptionsValue) (unread : Option Unread)
+    (t : Transmission) (a b : ℕ) (untold : IsUntold (task_of programme options unread) t a b)
+    (closed : AtEnds
+    (λ n f. IsFalse (standing_at (task_of programme options unread) t n f).incomplete) t a b)
+  where
+    holds_untold : HoldsAtEnds (task_of programme options unread) t a b
+    unfolding standing_at
+    holds_untold = record {
+      up = rising programme t options unread a b untold;
+      some = untold.stretch.not_empty;
+      from = let first = first-same t in omega (arith, untold.stretch.from);
+      to = let last = last-same t in omega (arith, untold.stretch.to);
+      parts = λ n f end low high. (untold.content n f end low high, closed n f end low high);
+    }
 
     -- It has what suffices.
-    pub enough_with_delay : IsSufficientWithDelay programme t options a b
-    enough_with_delay = record {
+    pub enough_with_delay : IsProgramme programme.national programme.records
+        → IsSufficientWithDelay programme t options a b
+    enough_with_delay is = record {
       stretch = sound_untold programme t options unread a b untold;
-      codes = codes;
-      finishes = finishes;
+      codes = codes programme options unread t a b holds_untold;
+      finishes = finishes programme options unread t a b holds_untold is;
     }

@@ -3,9 +3,8 @@
 use Rattle.std.proofs.lemmas.Bool.Decides.{nat_tests}
 use Rattle.std.proofs.Common.{◌≡◌, ℕ, ◌+◌, ◌-◌, ◌<◌, ◌≤◌, ◌⊎◌, inl, inr, Bool, true, false, ◌&&◌}
 use Rattle.std.proofs.Common.{◌||◌, ◌==◌, nat_le, nat_lt, Option, Some, None, is_some, length}
-use Rattle.std.proofs.Common.{get_or, refl, sym, ap, ◌∙◌, subst, arith, le_refl, IsFalse, Contains}
-use Rattle.std.proofs.lemmas.Bool.{cases_eq, cases_lt, or_parts, true≢false}
-use Rattle.std.proofs.lemmas.List.Elements.{Contains-get_or}
+use Rattle.std.proofs.Common.{get_or, refl, sym, ◌∙◌, subst, arith, le_refl, IsFalse}
+use Rattle.std.proofs.lemmas.Bool.{cases_eq, cases_lt, or_parts}
 use Rattle.ttx_packet.specs.PacketAddress.{IsPacket}
 use Rattle.ttx_page.specs.Shown.{shown}
 use Rattle.stl_file.specs.Subtitle.{SubtitleValue}
@@ -16,25 +15,23 @@ use Rattle.sub_rules.specs.Events.{is_pending, is_unfinished, undue_after, unfin
 use Rattle.sub_rules.specs.Events.{wrong_cell}
 use Rattle.sub_rules.specs.FrameRules.{Task, Unread, end_frame, frame_at, packets_before, task_of}
 use Rattle.sub_rules.specs.Good.{KeepsRules}
-use Rattle.sub_rules.specs.GoodWithin.{FinishesAgain, GoodWithin, IsDueWithin, IsFinished}
-use Rattle.sub_rules.specs.GoodWithin.{ShowsDueCodes, SomeFinished}
+use Rattle.sub_rules.specs.GoodWithin.{GoodWithin, IsDueWithin, IsFinished, SomeFinished}
 use Rattle.sub_rules.specs.Transmission.{EachPacket, Transmission, first_frame, last_frame}
-use Rattle.sub_rules.specs.Transmission.{on_air_until}
 use Rattle.sub_laws.specs.BrokenPlaces.{LawOfNothingToldWithin}
 use Rattle.sub_laws.specs.CleanStretch.{IsEnd}
-use Rattle.sub_laws.proofs.DueCodeLemmas.{MayShow, ending_at, ending_is, none_undue, undue_none}
+use Rattle.sub_laws.proofs.DueCodeLemmas.{MayShow, ending_at, none_undue}
 use Rattle.sub_laws.proofs.EventLemmas.{nothing_told, sizes_of}
 use Rattle.sub_laws.proofs.FrameByFrame.{AllOk}
 use Rattle.sub_laws.proofs.GoodLemmas.{rises_each}
-use Rattle.sub_laws.proofs.GoodWithinLemmas.{begins_in, ends_in, has_frame}
+use Rattle.sub_laws.proofs.GoodWithinLemmas.{begins_in, ends_in}
 use Rattle.sub_laws.proofs.PlaceLemmas.{Rules-from_holds, holds-from_rules, quiet_at, rising}
 use Rattle.sub_laws.proofs.PrefixLemmas.{RiseTo, end_high, end_is_on_air, end_low, first-same}
 use Rattle.sub_laws.proofs.PrefixLemmas.{last-same}
 use Rattle.sub_laws.proofs.StandingLemmas.{quiet_parts}
-use Rattle.sub_laws.proofs.UnfinishedLemmas.{finished_from, since_after, since_some, unfinished_at}
-use Rattle.sub_laws.proofs.FinishedLemmas.{at_finished, finished_at, finished_of, frame_end}
-use Rattle.sub_laws.proofs.FinishedLemmas.{late_is, no_since, none_is, of_finished, since_is}
-use Rattle.sub_laws.proofs.FinishedLemmas.{since_no}
+use Rattle.sub_laws.proofs.SufficientDelayLemmas.{HoldsAtEnds, again, calm, codes, subtitle}
+use Rattle.sub_laws.proofs.UnfinishedLemmas.{since_after, since_some, unfinished_at}
+use Rattle.sub_laws.proofs.FinishedLemmas.{at_finished, finished_of, late_is, no_since, none_is}
+use Rattle.sub_laws.proofs.FinishedLemmas.{of_finished, since_is, since_no}
 
 -- ---- the law, one way
 
@@ -45,165 +42,36 @@ module _ (programme : ProgrammeValue) (options : OptionsValue) (unread : Option 
   abbrev task : Task
   task = task_of programme options unread
 
-  abbrev start : ℕ
-  start = frame_at t 0
-
   abbrev up : RiseTo t (length t)
   up = rising programme options unread t every h
 
-  parts : (n f : ℕ) → IsEnd t n f
-      → (broken_cell task t n f ≡ None)
-      × ((is_late task t n f && is_incomplete task t n) ≡ false)
-  parts n f end =
-      let three =
-      (quiet_parts task t n f).0 (quiet_at programme options unread t every h n f end) in
-      (three.0, three.2)
+  -- What is asked of each end.
+  held : HoldsAtEnds task t (first_frame t) (last_frame t)
+  held = record {
+    up = up;
+    some = h.some;
+    from = let first = first-same t in omega arith;
+    to = let last = last-same t in omega arith;
+    parts = λ n f end low high.
+        let three =
+        (quiet_parts task t n f).0 (quiet_at programme options unread t every h n f end) in
+        (three.0, three.2);
+  }
 
-  -- A late end is finished.
-  calm : (n f : ℕ) → IsEnd t n f → is_late task t n f ≡ true → is_unfinished task t n f ≡ false
-  calm n f end late =
-      let both = parts n f end in
-      let wrong : wrong_cell task t n f ≡ None = rw late at both.0 in
-      let shut : is_incomplete task t n ≡ false = rw late at both.1 in
-      rw (wrong, shut) refl
-
-  -- So none is overdue.
-  not_overdue : (n f : ℕ) → IsEnd t n f
-      → is_overdue task start (unfinished_since task t n f) f ≡ false
-  unfolding is_late
-  not_overdue n f end = go (is_overdue task start (unfinished_since task t n f) f) refl
-    where
-      or_true : (b : Bool) → (b || true) ≡ true
-      or_true b = grind (arith, nat_tests)
-
-      late_of : is_overdue task start (unfinished_since task t n f) f ≡ true
-          → is_late task t n f ≡ true
-      late_of e = rw e (or_true (options.within == 0))
-
-      go : (b : Bool) → is_overdue task start (unfinished_since task t n f) f ≡ b → b ≡ false
-      go false e = refl
-      go true e =
-          let none =
-          no_since programme options unread t up n f end (calm n f end (late_of e)) in
-          absurd (true≢false (sym (rw none at e)))
-
-  -- Since a frame the ends up to this one are unfinished: not too long, and no subtitle is missed.
-  early : (n f r : ℕ) → IsEnd t n f → unfinished_since task t n f ≡ Some r
-      → (f < r + options.within) × (is_missed (task.ending (f + 1)) start r ≡ false)
-  early n f r end e =
-      let both =
-      or_parts (nat_le (r + options.within) f) (is_missed (task.ending (f + 1)) start r)
-      (rw e at (not_overdue n f end)) in
-      (before both.0, both.1)
-    where
-      before : nat_le (r + options.within) f ≡ false → f < r + options.within
-      before e = grind (arith, nat_tests)
-
-  -- One of the frames from a to f is finished, where the ends up to f are not unfinished since a.
-  some_finished : (a f : ℕ) → start ≤ a → a ≤ f → f ≤ end_frame t
-      → ((n r : ℕ) → IsEnd t n f → unfinished_since task t n f ≡ Some r → r ≤ a → ⊥)
-      → SomeFinished programme t options a f
-  some_finished a f low below high late =
-      let (n, end) = frame_end programme options unread t up f h.some (omega arith) high in
-      let k : ℕ = f - start in
-      let at : start + k ≡ f = omega arith in
-      let since = since_is programme options unread t up n f end in
-      let (e, from, to, finished) =
-      finished_from (unfinished_at task t up) start a k low (omega arith)
-      (λ r is l. late n r end (since ∙ is) l) in (
-        e,
-        from,
-        omega arith,
-        finished_at programme options unread t up e h.some (omega arith) (omega arith) finished,
-      )
-
-  again : FinishesAgain programme t options (first_frame t) (last_frame t)
-  again a low high =
-      let first = first-same t in
-      let last = last-same t in
-      some_finished a (a + options.within) (omega arith) (omega arith) (omega arith)
-      (λ n r end is l. let before = (early n (a + options.within) r end is).0 in omega arith)
-
-  module _ (keeps : KeepsRules programme t options) where
-    subtitle : (k : ℕ) (d : SubtitleValue) → k < length programme.records
-        → (s : SubtitleValue)
-        → s ≡ get_or programme.records k d
-        → SomeFinished programme t options s.tci (s.tco - 1)
-    subtitle k d l s same =
-        let first = first-same t in
-        let last = last-same t in
-        let some : s.tci < s.tco =
-        subst (λ (x : SubtitleValue). x.tci < x.tco) (sym same)
-        (has_frame programme t options is keeps k d l) in
-        let begins : first_frame t ≤ s.tci =
-        subst (λ (x : SubtitleValue). first_frame t ≤ x.tci) (sym same)
-        (begins_in programme t options is keeps k d l) in
-        let ends : s.tco ≤ last_frame t =
-        subst (λ (x : SubtitleValue). x.tco ≤ last_frame t) (sym same)
-        (ends_in programme t options is keeps k d l) in
-        let member : Contains programme.records s =
-        subst (Contains programme.records) (sym same) (Contains-get_or programme.records k d l) in
-        let next : s.tco ≡ s.tco - 1 + 1 = omega arith in
-        let found : task.ending (s.tco - 1 + 1) ≡ Some s.tci =
-        ap task.ending (sym next)
-        ∙ ending_is programme.national programme.records is s member in
-        some_finished s.tci (s.tco - 1) (omega arith) (omega arith) (omega arith)
-        (λ n r end since l.
-        let not_missed = (early n (s.tco - 1) r end since).1 in
-        not_late r s.tci l (rw found at not_missed))
-      where
-        not_late : (r tci : ℕ) → r ≤ tci
-            → (nat_le r tci || ((r == start) && nat_lt tci start)) ≡ false
-            → ⊥
-        not_late r tci l e = grind (arith, nat_tests)
-
-  -- At a frame's end each cell shows what it may hold.
-  codes : ShowsDueCodes programme t options (first_frame t) (last_frame t)
-  codes f row column low high named =
-      let first = first-same t in
-      let last = last-same t in
-      let (n, end) =
-      frame_end programme options unread t up f h.some (omega arith) (omega arith) in
-      by_within n end (cases_eq options.within 0)
-    where
-      of_may : (n : ℕ) → IsEnd t n f
-          → MayShow options.page (packets_before t n) task.due start f options.within row column
-          → IsDueWithin programme t options f row column
-          (shown options.page (on_air_until t f) row column)
-      of_may n end may =
-          let on = end_is_on_air t up n f end in
-          subst
-          (λ ps. IsDueWithin programme t options f row column (shown options.page ps row column))
-          (sym on) (due_of may)
-        where
-          due_of : MayShow options.page (packets_before t n) task.due start f options.within row
-              column
-              → IsDueWithin programme t options f row column
-              (shown options.page (packets_before t n) row column)
-          due_of (inl blank) = inl blank
-          due_of (inr (e, inl from, to, near, same)) =
-              inr (e, omega (arith, first-same t), to, near, same)
-          due_of (inr (e, inr own, to, near, same)) = inr (e, omega (arith, low), to, near, same)
-
-      by_within : (n : ℕ) → IsEnd t n f → (options.within ≡ 0) ⊎ (options.within ≡ 0 → ⊥)
-          → IsDueWithin programme t options f row column
-          (shown options.page (on_air_until t f) row column)
-      by_within n end (inl none) =
-          let late = late_is programme options unread t up n f (not_overdue n f end) in
-          let is_zero : (options.within == 0) ≡ true = grind (arith, nat_tests) in
-          let whole =
-          finished_of programme options unread t up n f end (calm n f end (late ∙ is_zero)) in
-          inr (f, low, le_refl f, omega arith, whole.shows row column named)
-      by_within n end (inr some) =
-          let late = late_is programme options unread t up n f (not_overdue n f end) in
-          let is_zero : (options.within == 0) ≡ false = grind (arith, nat_tests) in
-          let not_late : is_late task t n f ≡ false = late ∙ is_zero in
-          let none :
-          undue_after options.page (packets_before t n) task.due start f options.within ≡ None =
-          rw not_late at (parts n f end).0 in
-          of_may n end
-          (undue_none options.page (packets_before t n) task.due start f options.within none row
-          column named)
+  held_subtitle : KeepsRules programme t options
+      → (k : ℕ) (d : SubtitleValue) → k < length programme.records
+      → (s : SubtitleValue)
+      → s ≡ get_or programme.records k d
+      → SomeFinished programme t options s.tci (s.tco - 1)
+  held_subtitle keeps k d l s same =
+      let begins : first_frame t ≤ s.tci =
+      subst (λ (x : SubtitleValue). first_frame t ≤ x.tci) (sym same)
+      (begins_in programme t options is keeps k d l) in
+      let ends : s.tco ≤ last_frame t =
+      subst (λ (x : SubtitleValue). x.tco ≤ last_frame t) (sym same)
+      (ends_in programme t options is keeps k d l) in
+      subtitle programme options unread t (first_frame t) (last_frame t) held is k d l s same begins
+      (omega arith)
 
   -- The last frame is finished.
   ends : IsFinished programme t options (last_frame t)
@@ -223,7 +91,12 @@ module _ (programme : ProgrammeValue) (options : OptionsValue) (unread : Option 
 
           go : (b : Bool) → is_late task t (length t) (end_frame t) ≡ b
               → is_unfinished task t (length t) (end_frame t) ≡ false
-          go true is = calm (length t) (end_frame t) end is
+          go true is =
+              let first = first-same t in
+              let last = last-same t in
+              let low = end_high t up (length t) (end_frame t) end in
+              calm programme options unread t (first_frame t) (last_frame t) held (length t)
+              (end_frame t) end (omega arith) (omega arith) is
           go false is =
               since_no programme options unread t up (length t) (end_frame t) end
               (none_is _ (pending_parts is))
@@ -235,9 +108,9 @@ module _ (programme : ProgrammeValue) (options : OptionsValue) (unread : Option 
       record {
         rules = keeps;
         shows = record {
-          codes = codes;
-          again = again;
-          subtitles = λ k d l. subtitle keeps k d l (get_or programme.records k d) refl;
+          codes = codes programme options unread t (first_frame t) (last_frame t) held;
+          again = again programme options unread t (first_frame t) (last_frame t) held;
+          subtitles = λ k d l. held_subtitle keeps k d l (get_or programme.records k d) refl;
           ends = ends;
         };
       }

@@ -85,22 +85,24 @@ module _ (programme : ProgrammeValue) (options : OptionsValue) (unread : Option 
           ],
         )
 
-    since_none : unfinished_since g part may.whole.n may.w ≡ None
-    since_none =
+    since_none : (g.within == 0) ≡ false → unfinished_since g part may.whole.n may.w ≡ None
+    since_none some =
+        let seen = may.whole.finished in
         sym
         (unfinished_since-prefix g g.unread part (drop (risen frames) frames) may.whole.n may.w
         (omega (arith, few, part_long)))
         ∙ ap (λ (fs : Transmission). unfinished_since g fs may.whole.n may.w)
         (take-append-drop (risen frames) frames)
-        ∙ may.whole.finished
+        ∙ rw some at seen
 
-    pub finished_there : SomeFinished programme part options from to
-    finished_there = (
+    pub finished_there : (g.within == 0) ≡ false → SomeFinished programme part options from to
+    finished_there some = (
       may.w,
       may.whole.low,
       may.high,
       finished_of programme options unread part up may.whole.n may.w end_in_part
-          (since_no programme options unread part up may.whole.n may.w end_in_part since_none),
+          (since_no programme options unread part up may.whole.n may.w end_in_part
+          (since_none some)),
     )
 
 pub law_of_trusted_with_delay : LawOfTrustedWithDelay
@@ -111,12 +113,12 @@ law_of_trusted_with_delay programme options unread pieces from to is within told
     let some : (options.within == 0) ≡ false = grind (arith, nat_tests) in
     let may : MayStand g frames from to =
     All-contains (OnTrusted (MayStand g frames)) (all_of_pieces g pieces) (Trusted from to)
-    (all_stay_within g frames some pieces refl) told in
+    (all_stay_within g frames pieces refl) told in
     record {
       header = header_there g frames from to may.stays;
       trusted =
           law_of_stretch_with_delay programme part options from to
-          (enough_with_delay programme options unread part from to is within
-          (untold g frames from to may.stays) (closed g frames from to may.stays));
-      finished = finished_there programme options unread frames from to may;
+          (enough_with_delay programme options unread part from to
+          (untold g frames from to may.stays) (closed g frames from to may.stays) is);
+      finished = finished_there programme options unread frames from to may some;
     }

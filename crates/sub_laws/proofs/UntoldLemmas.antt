@@ -2,38 +2,31 @@
 -- `pieces_untold`; and so it is of refusals, `pieces_unrefused`. Of marks: `first_none`,
 -- `each_sent`.
 use Rattle.std.proofs.lemmas.Bool.Decides.{nat_tests}
-use Rattle.std.proofs.Common.{◌≡◌, ◌↔◌, ℕ, suc, Bool, true}
-use Rattle.std.proofs.Common.{false, not, List, [], ◌∷◌, ◌++◌, length, map, Option, None}
-use Rattle.std.proofs.Common.{refl, sym, ap, ◌∙◌, arith, ◌||◌}
-use Rattle.std.proofs.Common.{if◌then◌else◌}
-use Rattle.std.proofs.lemmas.Option.{none-some}
-use Rattle.std.specs.Option.{option_or}
+use Rattle.std.proofs.Common.{◌≡◌, ◌↔◌, ℕ, suc, Bool, true, false, not, List, [], ◌∷◌, ◌++◌, length}
+use Rattle.std.proofs.Common.{map, Option, None, refl, sym, ap, ◌∙◌, arith}
+use Rattle.std.proofs.lemmas.Bool.{true≢false}
 use Rattle.std.specs.List.{list_any}
-use Rattle.sub_rules.specs.Events.{end_events, events}
-use Rattle.sub_rules.specs.Events.{first_header_events, first_told}
+use Rattle.std.specs.Option.{option_or}
+use Rattle.sub_rules.specs.Events.{end_events, events, first_header_events, first_told}
 use Rattle.sub_rules.specs.Events.{order_events}
 use Rattle.sub_rules.specs.FrameRules.{Task}
-use Rattle.sub_rules.specs.PieceEvents.{all_announced, all_of_pieces, closing_of_pieces}
-use Rattle.sub_rules.specs.PieceEvents.{announced, ended_run, joins}
-use Rattle.sub_rules.specs.PieceEvents.{marks_of_closing, marks_of_each}
-use Rattle.sub_rules.specs.PieceEvents.{marks_of_pieces, marks_of_sent}
-use Rattle.sub_rules.specs.PieceEvents.{marks_of_waiting, no_run, passed_after_all}
-use Rattle.sub_rules.specs.PieceEvents.{sent_by_pieces, told_of_pieces}
+use Rattle.sub_rules.specs.PieceEvents.{all_announced, all_of_pieces, closing_of_pieces, announced}
+use Rattle.sub_rules.specs.PieceEvents.{ended_run, joins, marks_of_closing, marks_of_each}
+use Rattle.sub_rules.specs.PieceEvents.{marks_of_pieces, marks_of_sent, marks_of_waiting, no_run}
+use Rattle.sub_rules.specs.PieceEvents.{passed_after_all, sent_by_pieces, told_of_pieces}
 use Rattle.sub_rules.specs.Pieces.{Piece, frames_of, sent_after}
 use Rattle.sub_rules.specs.Pieces.Piece.{Passed, Sent}
 use Rattle.sub_rules.specs.Transmission.{Transmission}
-use Rattle.sub_rules.specs.Trusted.{Mark, after_mark, at_pes, closing_frame, doubted, late_since}
-use Rattle.sub_rules.specs.Trusted.{no_trust}
-use Rattle.sub_rules.specs.Trusted.{tells_none, told_by, told_with, trust_after, trusted}
-use Rattle.sub_rules.specs.Trusted.{trusted_before}
+use Rattle.sub_rules.specs.Trusted.{Mark, after_mark, at_pes, doubted, late_since, no_trust}
+use Rattle.sub_rules.specs.Trusted.{tells_none, told_by, told_with, trust_after, trusted_before}
 use Rattle.sub_rules.specs.Trusted.Mark.{AtEnd, AtPes, Begins, Closes, Ends, Says}
 use Rattle.sub_rules.specs.declared.event.Event.{Event}
 use Rattle.sub_rules.specs.declared.event.Event.TheVariants.{Ended, PassedUntil, Told, Trusted}
 use Rattle.sub_rules.specs.declared.fault.CheckFault.{CheckFault}
-use Rattle.sub_rules.specs.declared.passed_run.PassedRun.{PassedRun}
 use Rattle.sub_rules.specs.declared.trust.Trust.{Trust}
 use Rattle.sub_laws.proofs.MarkTestLemmas.{PassedPass, Passes, before_passes}
-use Rattle.sub_rules.proofs.PieceEventLemmas.{announced_first, first_of_two}
+use Rattle.sub_rules.proofs.MarkEventLemmas.{marks_first, said_by, first_of_two}
+use Rattle.sub_rules.proofs.PieceEventLemmas.{all_first}
 use Rattle.sub_rules.proofs.TrustedLemmas.{told_by-append}
 use Rattle.sub_laws.proofs.SaidLemmas.{pieces_said, said, said-append, said-says}
 
@@ -51,77 +44,28 @@ two_none xs ys =
       λ parts. two ∙ both.1 parts,
     )
 
--- What is trusted where an event is told.
-abbrev trusted_with : Trust → Event → List Event
-trusted_with t e = trusted_before t.run t.whole (doubted t.last (late_since t) e)
-
-trusted_none : (run whole d : Option ℕ) → first_told (trusted_before run whole d) ≡ None
-trusted_none run whole d = grind (arith, nat_tests)
-
-trusted_silent : (t : Trust) (e : Event) → first_told (trusted_with t e) ≡ None
-trusted_silent t e = trusted_none t.run t.whole (doubted t.last (late_since t) e)
-
-closed_none : (b : Bool) (run whole : Option ℕ) (f : ℕ)
-    → first_told (if b then trusted run whole f else []) ≡ None
-closed_none b run whole f = grind (arith, nat_tests)
-
--- One event more, which is no refusal.
-skip : (trusts rest ys : List Event) (e : Event)
-    → first_told trusts ≡ None
-    → ((zs : List Event) → first_told (e ∷ zs) ≡ first_told zs)
-    → (first_told rest ≡ None) ↔ (first_told ys ≡ None)
-    → (first_told (trusts ++ e ∷ [] ++ rest) ≡ None) ↔ (first_told (e ∷ ys) ≡ None)
-skip trusts rest ys e none passes ih = (
-  λ told.
-      let parts = (two_none (trusts ++ e ∷ []) rest).0 told in passes ys ∙ ih.0 parts.1,
-  λ told.
-      (two_none (trusts ++ e ∷ []) rest).1 (
-        (two_none trusts (e ∷ [])).1 (none, passes []),
-        ih.1 (sym (passes ys) ∙ told),
-      ),
-)
-
--- A refusal.
-told_some : (trusts rest : List Event) (f : CheckFault)
-    → first_told (trusts ++ Told f ∷ [] ++ rest) ≡ None
-    → ⊥
-told_some trusts rest f e =
-    let parts = (two_none (trusts ++ Told f ∷ []) rest).0 e in
-    let own = ((two_none trusts (Told f ∷ [])).0 parts.0).1 in
-    none-some f (sym own)
+-- No refusal is said of a PES packet exactly where none is said.
+none_said : (pes : ℕ) (ms : List Mark)
+    → (first_told (said_by pes ms) ≡ None) ↔ (first_told (said ms) ≡ None)
+unfolding at_pes
+none_said pes [] = (λ e. e, λ e. e)
+none_said pes (Says (Told f) ∷ ms) = (λ e. cc, λ e. cc)
+none_said pes (Says (Ended rule f) ∷ ms) = none_said pes ms
+none_said pes (Says (Trusted from to) ∷ ms) = none_said pes ms
+none_said pes (Says (PassedUntil f) ∷ ms) = none_said pes ms
+none_said pes (Closes are_left more ∷ ms) = none_said pes ms
+none_said pes (AtPes next ∷ ms) = none_said next ms
+none_said pes (Begins f ∷ ms) = none_said pes ms
+none_said pes (AtEnd f since late ∷ ms) = none_said pes ms
+none_said pes (Ends f has_header none ∷ ms) = none_said pes ms
 
 -- No refusal is told with marks exactly where none is among what they say.
 pub first_none : (t : Trust) (ms : List Mark)
     → (first_told (told_by t ms) ≡ None) ↔ (first_told (said ms) ≡ None)
-unfolding told_by told_with at_pes
-first_none t [] = (λ e. e, λ e. e)
-first_none t (Says (Told f) ∷ ms) = (
-  λ e. absurd (told_some (trusted_with t (Told f)) (told_by (after_mark (Says (Told f)) t) ms) _ e),
-  λ e. cc,
-)
-first_none t (Says (Ended rule f) ∷ ms) =
-    skip (trusted_with t (Ended rule f)) (told_by (after_mark (Says (Ended rule f)) t) ms) (said ms)
-    (Ended rule f) (trusted_silent t (Ended rule f)) (λ zs. refl)
-    (first_none (after_mark (Says (Ended rule f)) t) ms)
-first_none t (Says (Trusted from to) ∷ ms) =
-    skip (trusted_with t (Trusted from to)) (told_by (after_mark (Says (Trusted from to)) t) ms)
-    (said ms) (Trusted from to) (trusted_silent t (Trusted from to)) (λ zs. refl)
-    (first_none (after_mark (Says (Trusted from to)) t) ms)
-first_none t (Says (PassedUntil f) ∷ ms) =
-    skip (trusted_with t (PassedUntil f)) (told_by (after_mark (Says (PassedUntil f)) t) ms)
-    (said ms) (PassedUntil f) (trusted_silent t (PassedUntil f)) (λ zs. refl)
-    (first_none (after_mark (Says (PassedUntil f)) t) ms)
-first_none t (Closes are_left more ∷ ms) =
-    let rest = told_by (after_mark (Closes are_left more) t) ms in
-    let ih = first_none (after_mark (Closes are_left more) t) ms in
-    let closed = closed_none (t.told || more) t.run t.whole (closing_frame t are_left) in
-    let two = two_none (told_with (Closes are_left more) t) rest in
-    (λ e. ih.0 (two.0 e).1, λ e. two.1 (closed, ih.1 e))
-first_none t (AtPes pes ∷ ms) = first_none (after_mark (AtPes pes) t) ms
-first_none t (Begins f ∷ ms) = first_none (after_mark (Begins f) t) ms
-first_none t (AtEnd f since late ∷ ms) = first_none (after_mark (AtEnd f since late) t) ms
-first_none t (Ends f has_header none ∷ ms) =
-    first_none (after_mark (Ends f has_header none) t) ms
+first_none t ms =
+    let same = marks_first t ms in
+    let none = none_said t.pes ms in
+    (λ e. none.0 (sym same ∙ e), λ e. same ∙ none.1 e)
 
 -- ---- where nothing is told
 
@@ -132,6 +76,10 @@ append_empty (x ∷ xs) ys e = cc
 some_append : (xs ys : List Event) (e : Event) → xs ++ e ∷ [] ++ ys ≡ [] → ⊥
 some_append [] ys e none = cc
 some_append (x ∷ xs) ys e none = cc
+
+-- What is trusted where an event is told.
+abbrev trusted_with : Trust → Event → List Event
+trusted_with t e = trusted_before t.run t.whole (doubted t.last (late_since t) e)
 
 -- Then nothing is said.
 said_none : (t : Trust) (ms : List Mark) → told_by t ms ≡ [] → said ms ≡ []
@@ -171,7 +119,23 @@ quiet_so_far t (AtEnd f since late ∷ ms) told still none =
 quiet_so_far t (Ends f has_header end ∷ ms) told still none =
     quiet_so_far (after_mark (Ends f has_header end) t) ms told still none
 
--- Nor where nothing is said as it ends.
+-- Where it is not kept that anything was told before the file ends, nothing was.
+pub silent : (t : Trust) (ms : List Mark) → list_any is_close ms ≡ false
+    → (trust_after t ms).told ≡ false
+    → (t.told ≡ false) × (told_by t ms ≡ [])
+unfolding told_by told_with after_mark trust_after
+silent t [] still none = (none, refl)
+silent t (Says x ∷ ms) still none =
+    absurd (true≢false (silent (after_mark (Says x) t) ms still none).0)
+silent t (Closes are_left more ∷ ms) still none = cc
+silent t (AtPes pes ∷ ms) still none = silent (after_mark (AtPes pes) t) ms still none
+silent t (Begins f ∷ ms) still none = silent (after_mark (Begins f) t) ms still none
+silent t (AtEnd f since late ∷ ms) still none =
+    silent (after_mark (AtEnd f since late) t) ms still none
+silent t (Ends f has_header end ∷ ms) still none =
+    silent (after_mark (Ends f has_header end) t) ms still none
+
+-- Nor is anything told where nothing is said as it ends.
 closed_quiet : (t : Trust) (pes : ℕ) (are_left : Bool) (es : List Event) → es ≡ []
     → t.told ≡ false
     → told_by t (AtPes pes ∷ Closes are_left (not (tells_none es)) ∷ map Says es) ≡ []
@@ -183,7 +147,7 @@ closed_quiet t pes are_left (e ∷ es) none told = cc
 
 module _ (g : Task) where
   -- The file has not ended before its end.
-  before_open : (pieces : List Piece)
+  pub before_open : (pieces : List Piece)
       → Passes is_close
       (marks_of_each g [] 0 pieces ++ marks_of_waiting g (sent_by_pieces g pieces))
   before_open pieces =
@@ -260,9 +224,6 @@ announced_empty (e ∷ es) = (
   λ none. cc,
 )
 
-ended_none : (run : PassedRun) → first_told (ended_run run) ≡ None
-ended_none run = grind (arith, nat_tests)
-
 module _ (g : Task) where
   -- A piece that is passed over is told.
   pub each_sent : (sent : Transmission) (pes : ℕ) (pieces : List Piece)
@@ -314,19 +275,11 @@ module _ (g : Task) where
       × (first_told (events g (sent_by_pieces g pieces)) ≡ None))
   unfolding all_of_pieces told_of_pieces
   pieces_unrefused pieces =
-      let marks = marks_of_pieces g pieces in
-      let told = told_of_pieces g pieces in
-      let said_first = first_none no_trust marks in
-      let announced = announced_first told in
-      let ended = ended_none (passed_after_all no_run told) in
-      let two = two_none (all_announced no_run told) (ended_run (passed_after_all no_run told)) in (
+      let all = all_first (told_by no_trust (marks_of_pieces g pieces)) in
+      let said_first = first_none no_trust (marks_of_pieces g pieces) in (
         λ none.
-            let quiet = said_first.0 (sym announced ∙ (two.0 none).0) in
+            let quiet = said_first.0 (sym all ∙ none) in
             let sent = said_sent pieces quiet in
             (sent, ap first_told (sym (pieces_said g pieces sent)) ∙ quiet),
-        λ parts.
-            two.1 (
-              announced ∙ said_first.1 (ap first_told (pieces_said g pieces parts.0) ∙ parts.1),
-              ended,
-            ),
+        λ parts. all ∙ said_first.1 (ap first_told (pieces_said g pieces parts.0) ∙ parts.1),
       )

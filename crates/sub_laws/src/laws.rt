@@ -128,7 +128,7 @@ pub fn law_of_trusted_with_delay()
 /// No frame that may stay is left out: where anything is told of a PES file, each stretch of which
 /// nothing is told that a receiver depends on, and in which no piece may have been sent that is
 /// passed over, is told as trusted, from its first header of the page on.
-#[tactic(auto, using(crate::proofs::AllTrustedLemmas::law_of_all_trusted))]
+#[tactic(auto, using(crate::proofs::AllTrustedDelayLemmas::law_of_all_trusted))]
 pub fn law_of_all_trusted()
     ensures { LawOfAllTrusted }
 {}

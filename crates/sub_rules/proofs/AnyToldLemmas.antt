@@ -2,19 +2,16 @@
 -- a packet does: `any_frame`. By it each event names its own PES packet, and none tells what is
 -- trusted: `own_frame`.
 use Rattle.std.proofs.lemmas.Bool.Decides.{nat_tests}
-use Rattle.std.proofs.Common.{◌≡◌, ℕ, zero, suc, ◌+◌, ◌==◌, Bool, true, false, not, List, []}
-use Rattle.std.proofs.Common.{◌∷◌, ◌++◌}
-use Rattle.std.proofs.Common.{map, length, Option, refl, ◌∙◌, ap₂, arith}
+use Rattle.std.proofs.Common.{◌≡◌, ℕ, zero, suc, ◌+◌, ◌==◌, Bool, true, false, not, List, [], ◌∷◌}
+use Rattle.std.proofs.Common.{◌++◌, map, length, Option, refl, ◌∙◌, ap₂, arith}
 use Rattle.std.specs.List.{list_any}
 use Rattle.std.proofs.lemmas.Bool.{or_parts}
 use Rattle.std.proofs.lemmas.List.Folds.{list_any-append}
 use Rattle.sub_rules.specs.Events.{Standing, closing_events, end_events, endings}
 use Rattle.sub_rules.specs.Events.{first_header_events, frame_events, gap_events, nothing_stands}
-use Rattle.sub_rules.specs.Events.{events_at_end, order_events, packet_events, packet_fault}
-use Rattle.sub_rules.specs.Events.{packets_told, rest_events}
+use Rattle.sub_rules.specs.Events.{order_events, packet_fault, packets_told, rest_events}
 use Rattle.sub_rules.specs.Events.{rules_told, standing_at}
-use Rattle.sub_rules.specs.FrameRules.{Task, Unread, end_frame, frame_at, packets_before}
-use Rattle.sub_rules.specs.FrameRules.{packets_of_frame}
+use Rattle.sub_rules.specs.FrameRules.{Task, Unread, end_frame}
 use Rattle.sub_rules.specs.Transmission.{Transmission}
 use Rattle.sub_rules.specs.Trusted.{at_pes}
 use Rattle.sub_rules.specs.declared.event.Event.{Event}
@@ -22,7 +19,6 @@ use Rattle.sub_rules.specs.declared.event.Event.TheVariants.{Told, Trusted}
 use Rattle.sub_rules.specs.declared.fault.CheckFault.TheVariants as fault
 use Rattle.sub_rules.specs.declared.packet_rule.PacketRule.{PacketRule}
 use Rattle.sub_rules.specs.declared.packet_rule.Watched.{Watched}
-use Rattle.sub_rules.proofs.TrustedLemmas.{is_of_pes}
 
 -- ---- a test of each event
 
@@ -61,15 +57,6 @@ module _ (test : Event → Bool)
         only_first _ _ (at_end _ _ _ _) ∙ only_first _ _ header
         ∙ only_first _ _ (no_packet _ _ _ _ _ _) ∙ only_first _ _ (no_gap i _)
 
-    -- Then none of its packets and of its end does.
-    pub any_own : (i : ℕ) → list_any test (first_header_events g frames i) ≡ false
-        → list_any test (packet_events g.watched (frame_at frames i) (packets_before frames i)
-        (packets_of_frame frames i) (length (packets_of_frame frames i))
-        ++ first_header_events g frames i ++ events_at_end g frames i (suc i) (frame_at frames i))
-        ≡ false
-    any_own i header =
-        only_first _ _ (at_end _ _ _ _) ∙ only_first _ _ header ∙ no_packet _ _ _ _ _ _
-
 -- ---- events that name their PES packet, and tell nothing of what is trusted
 
 -- An event of a list whose frames are counted as PES packets names another one than `pes`, or tells
@@ -102,24 +89,7 @@ own_rule : (pes : ℕ) (r : PacketRule) (frame k : ℕ)
     → is_foreign pes (Told (packet_fault r frame k)) ≡ false
 own_rule pes r frame k = grind (arith, nat_tests)
 
-end_place : (old : Standing) (before : ℕ) (new : Standing) (f : ℕ)
-    → list_any is_of_pes (end_events old before new f) ≡ false
-unfolding end_events
-end_place old before new f = grind (arith, nat_tests)
-
-rule_place : (r : PacketRule) (frame k : ℕ) → is_of_pes (Told (packet_fault r frame k)) ≡ false
-rule_place r frame k = grind (arith, nat_tests)
-
 module _ (g : Task) (frames : Transmission) where
-  -- What is told of a frame's packets and at its end is told of no PES packet.
-  pub no_place : (i : ℕ)
-      → list_any is_of_pes (packet_events g.watched (frame_at frames i) (packets_before frames i)
-      (packets_of_frame frames i) (length (packets_of_frame frames i))
-      ++ first_header_events g frames i ++ events_at_end g frames i (suc i) (frame_at frames i))
-      ≡ false
-  unfolding first_header_events
-  no_place i = any_own is_of_pes end_place rule_place g frames i (grind (arith, nat_tests))
-
   -- What is told of a frame.
   pub own_frame : (i : ℕ) → list_any (is_foreign i) (frame_events g frames i) ≡ false
   unfolding order_events first_header_events

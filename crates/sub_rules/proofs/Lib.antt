@@ -6,12 +6,11 @@ pub mod FirstFrameLemmas
 pub mod FrameLists
 pub mod GrowingLists
 pub mod JoinedLemmas
+pub mod MarkEventLemmas
 pub mod PacketLists
 pub mod PesReadingLemmas
 pub mod PieceEventLemmas
 pub mod PieceFileLemmas
 pub mod PrefixEventLemmas
-pub mod RunFrameLemmas
-pub mod RunLemmas
 pub mod TestLemmas
 pub mod TrustedLemmas

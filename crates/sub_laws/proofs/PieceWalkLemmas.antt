@@ -1,0 +1,333 @@
+-- What comes of pieces, followed mark after mark: with the frames that they send, each of which
+-- ends, and with those that are passed over. Main lemmas: `each_piece`, and `waits`, of the last
+-- frame.
+use Rattle.std.proofs.Common.{◌≡◌, ℕ, suc, ◌-◌, ◌<◌, ◌⊎◌, inl, inr, Bool, true, false, ◌==◌}
+use Rattle.std.proofs.Common.{List, [], ◌∷◌, ◌++◌, length, map, Some, refl, sym, ap, ◌∙◌, subst}
+use Rattle.std.proofs.Common.{arith, append-nil, cond, length-append, if◌then◌else◌}
+use Rattle.std.proofs.lemmas.Bool.{true≢false}
+use Rattle.std.specs.Prelude.{⊤}
+use Rattle.sub_rules.specs.Events.{packets_told, unread_fault}
+use Rattle.sub_rules.specs.FrameRules.{Task, Unread, end_frame, frame_at, packets_before}
+use Rattle.sub_rules.specs.FrameRules.{packets_of_frame}
+use Rattle.sub_rules.specs.PieceEvents.{marks_of_arrival, marks_of_each, marks_of_ending}
+use Rattle.sub_rules.specs.PieceEvents.{marks_of_more, marks_of_next, marks_of_sent}
+use Rattle.sub_rules.specs.PieceEvents.{marks_of_waiting}
+use Rattle.sub_rules.specs.Pieces.{Piece, frames_of, goes_on_with, joined_after, sent_after}
+use Rattle.sub_rules.specs.Pieces.{with_packets}
+use Rattle.sub_rules.specs.Pieces.Piece.{Passed, Sent}
+use Rattle.sub_rules.specs.Transmission.{SentFrame, Transmission}
+use Rattle.sub_rules.specs.Trusted.{Mark, after_mark, told_with}
+use Rattle.sub_rules.specs.Trusted.Mark.{AtPes, Says}
+use Rattle.sub_rules.specs.declared.event.Event.{Event}
+use Rattle.sub_rules.specs.declared.event.Event.TheVariants.{Told}
+use Rattle.sub_rules.specs.declared.trust.Trust.{Trust}
+use Rattle.sub_rules.proofs.JoinedLemmas.{with_packets-last, with_packets-length}
+use Rattle.sub_rules.proofs.PrefixEventLemmas.{packets_of_frame-prefix}
+use Rattle.sub_laws.proofs.GrowingFrameLemmas.{Grows, arrival_is, before_is, end_is, ending_is}
+use Rattle.sub_laws.proofs.GrowingFrameLemmas.{frame_is, goes_on_some, grown, grows, grows_before}
+use Rattle.sub_laws.proofs.GrowingFrameLemmas.{long, packets_are, so_far, whole_at_once}
+
+-- So many packets of the last frame are there in the end, and more.
+packets_grow : (g : Task) (sent frames : Transmission) (is : Grows sent frames) (n : ℕ)
+    → length sent ≡ suc n
+    → packets_of_frame frames n ≡ packets_of_frame sent n ++ is.rest
+packets_grow g sent frames is n size =
+    let all : Transmission = with_packets is.rest sent in
+    let long = with_packets-length is.rest sent in
+    ap (λ (fs : Transmission). packets_of_frame fs n) is.whole
+    ∙ packets_of_frame-prefix g g.unread all is.more n (omega arith)
+    ∙ with_packets-last is.rest sent n (sym size)
+
+-- Each of these pieces that is passed over comes where frames were sent as asked, these being sent
+-- before them.
+abbrev pub EachPassed : ℕ → (Transmission → Type 0) → Transmission → List Piece → Type 0
+EachPassed within Q sent [] = ⊤
+EachPassed within Q sent (Sent s ∷ ahead) = EachPassed within Q (sent_after within sent s) ahead
+EachPassed within Q sent (Passed u ∷ ahead) = Q sent × EachPassed within Q sent ahead
+
+module _ (g : Task) (frames : Transmission)
+    (T : (Trust → Type 0) → Trust → List Mark → Type 0)
+    (C : ℕ → Trust → Type 0)
+    (O : ℕ → List (List ℕ) → Trust → Type 0)
+    (Q : Transmission → Type 0)
+  where
+    -- What is told of a piece that is passed over.
+    abbrev pub passed_marks : ℕ → Unread → List Mark
+    passed_marks pes u = map Says (Told (unread_fault pes (Some u)) ∷ [])
+
+    -- It goes on, T, with what comes of a frame: from where so many frames have ended, C, over
+    -- where the next one is sent, O, and these packets in it, to its end; and with a piece that is
+    -- passed over where frames were sent as asked, Q.
+    pub record Steps : Type 0 where
+      pub at_ended : (n pes : ℕ) (t : Trust) → C n t → C n (after_mark (AtPes pes) t)
+      pub at_open :
+          (n pes : ℕ) (packets : List (List ℕ)) (t : Trust)
+          → O n packets t
+          → O n packets (after_mark (AtPes pes) t)
+      pub arrival :
+          (n : ℕ) (t : Trust)
+          → n < length frames
+          → C n t
+          → T (O n []) t (marks_of_arrival g frames n)
+      pub more :
+          (n : ℕ) (packets more rest : List (List ℕ)) (t : Trust)
+          → n < length frames
+          → packets_of_frame frames n ≡ packets ++ more ++ rest
+          → O n packets t
+          → T (O n (packets ++ more)) t
+          (map Says
+          (packets_told g.watched (frame_at frames n) (length packets)
+          (packets_before frames n ++ packets) more (length more)))
+      pub ending :
+          (n : ℕ) (t : Trust)
+          → n < length frames
+          → O n (packets_of_frame frames n) t
+          → T (C (suc n)) t (marks_of_ending g frames n)
+      pub passed_ended :
+          (sent : Transmission) (pes : ℕ) (u : Unread) (t : Trust)
+          → Grows sent frames
+          → Q sent
+          → C (length sent) t
+          → T (C (length sent)) t (passed_marks pes u)
+      pub passed_open :
+          (sent : Transmission) (n pes : ℕ) (u : Unread) (t : Trust)
+          → Grows sent frames
+          → length sent ≡ suc n
+          → Q sent
+          → O n (packets_of_frame sent n) t
+          → T (O n (packets_of_frame sent n)) t (passed_marks pes u)
+
+    -- What is kept while these frames are sent so far: all have ended, as each does at once, or
+    -- none was sent; or the last one may go on.
+    abbrev pub Sends : Transmission → Trust → Type 0
+    Sends sent t =
+        ((((g.within == 0) ≡ true) ⊎ (length sent ≡ 0)) × C (length sent) t)
+        ⊎ (((g.within == 0) ≡ false)
+        × (n : ℕ)
+        × (length sent ≡ suc n)
+        × O n (packets_of_frame sent n) t)
+
+    module _ (nil : (S : Trust → Type 0) (t : Trust) → S t → T S t [])
+        (cons : (S : Trust → Type 0) (t : Trust) (m : Mark) (ms : List Mark)
+        → told_with m t ≡ []
+        → T S (after_mark m t) ms
+        → T S t (m ∷ ms))
+        (append : (S U : Trust → Type 0) (t : Trust) (xs ys : List Mark)
+        → T S t xs
+        → ((u : Trust) → S u → T U u ys)
+        → T U t (xs ++ ys))
+        (steps : Steps)
+      where
+        and_so : (S U : Trust → Type 0) (t : Trust) (ms : List Mark) → T S t ms
+            → ((u : Trust) → S u → U u)
+            → T U t ms
+        and_so S U t ms is so =
+            subst (T U t) (append-nil ms) (append S U t ms [] is (λ u s. nil U u (so u s)))
+
+        -- ---- a PES packet that is sent
+
+        -- It goes on with the last frame.
+        on_more : (sent : Transmission) (s : SentFrame) (t : Trust) (n : ℕ) → length sent ≡ suc n
+            → Grows sent frames
+            → Grows (with_packets s.packets sent) frames
+            → O n (packets_of_frame sent n) t
+            → T (O n (packets_of_frame (with_packets s.packets sent) n)) t
+            (marks_of_more g sent s.packets)
+        on_more sent s t n size is after open_here =
+            let packets : List (List ℕ) = packets_of_frame sent n in
+            let all : Transmission = with_packets s.packets sent in
+            let last : length sent - 1 ≡ n = omega (arith, size) in
+            let at : end_frame sent ≡ frame_at frames n = end_is g sent frames is n size in
+            let before : packets_before sent (length sent) ≡ packets_before frames n ++ packets =
+            so_far g sent frames is n size in
+            let told :
+            packets_told g.watched (frame_at frames n) (length packets)
+            (packets_before frames n ++ packets) s.packets (length s.packets)
+            ≡ packets_told g.watched (end_frame sent)
+            (length (packets_of_frame sent (length sent - 1))) (packets_before sent (length sent))
+            s.packets (length s.packets) =
+            rw (at, before, last) refl in
+            let now : packets_of_frame all n ≡ packets ++ s.packets =
+            with_packets-last s.packets sent n (sym size) in
+            let whole : packets_of_frame frames n ≡ packets ++ s.packets ++ after.rest =
+            packets_grow g all frames after n (with_packets-length s.packets sent ∙ size)
+            ∙ ap (λ (ps : List (List ℕ)). ps ++ after.rest) now in
+            subst (λ (ps : List (List ℕ)). T (O n ps) t (marks_of_more g sent s.packets)) (sym now)
+            (subst (λ (es : List Event). T (O n (packets ++ s.packets)) t (map Says es)) told
+            (steps.more n packets s.packets after.rest t (long g sent frames is n size) whole
+            open_here))
+
+        -- The last frame ends.
+        ends : (sent more : Transmission) (t : Trust) → frames ≡ sent ++ more
+            → (n : ℕ) → length sent ≡ suc n
+            → O n (packets_of_frame sent n) t
+            → T (C (length sent)) t (marks_of_ending g sent n)
+        ends sent more t whole n long_is open_here =
+            let there : n < length frames =
+            let size = ap (λ (l : Transmission). length l) whole in
+            omega (arith, size, length-append sent more) in
+            subst (λ (k : ℕ). T (C k) t (marks_of_ending g sent n)) (sym long_is)
+            (subst (T (C (suc n)) t) (sym (ending_is g sent more frames whole n (omega arith)))
+            (steps.ending n t there
+            (subst (λ (ps : List (List ℕ)). O n ps t)
+            (packets_are g sent more frames whole n (omega arith)) open_here)))
+
+        -- Within some frames it does where another one comes, or none.
+        pub waits : (sent more : Transmission) (t : Trust) → frames ≡ sent ++ more → Sends sent t
+            → T (C (length sent)) t (marks_of_waiting g sent)
+        unfolding marks_of_waiting
+        waits [] more t whole (inl (ended, closed)) = nil (C 0) t closed
+        waits [] more t whole (inr (later, n, size, open_here)) = absurd (omega arith)
+        waits (s ∷ sent) more t whole (inl (inl at_once, closed)) =
+            subst
+            (λ (c : Bool). T (C (suc (length sent))) t
+            (if c then [] else marks_of_ending g (s ∷ sent) (length sent))) (sym at_once)
+            (nil (C (suc (length sent))) t closed)
+        waits (s ∷ sent) more t whole (inl (inr none, closed)) = absurd (omega arith)
+        waits (s ∷ sent) more t whole (inr (later, n, size, open_here)) =
+            let last : n ≡ length sent = omega arith in
+            subst
+            (λ (c : Bool). T (C (suc (length sent))) t
+            (if c then [] else marks_of_ending g (s ∷ sent) (length sent))) (sym later)
+            (subst (λ (k : ℕ). T (C (suc (length sent))) t (marks_of_ending g (s ∷ sent) k)) last
+            (ends (s ∷ sent) more t whole n size open_here))
+
+        -- Another frame comes.
+        on_next : (sent more : Transmission) (s : SentFrame) (t : Trust)
+            → Grows (sent ++ s ∷ []) frames
+            → ((g.within == 0) ≡ true → frames ≡ (sent ++ s ∷ []) ++ more)
+            → C (length sent) t
+            → T (Sends (sent ++ s ∷ [])) t (marks_of_next g sent s)
+        on_next sent more s t is whole closed =
+            let n : ℕ = length sent in
+            let all : Transmission = sent ++ s ∷ [] in
+            let size : length all ≡ suc n = omega (arith, length-append sent (s ∷ [])) in
+            let packets : List (List ℕ) = packets_of_frame all n in
+            let there = long g all frames is n size in
+            let es : List Event =
+            packets_told g.watched (frame_at all n) 0 (packets_before all n) packets
+            (length packets) in
+            let told :
+            packets_told g.watched (frame_at frames n) 0 (packets_before frames n ++ []) packets
+            (length packets)
+            ≡ es =
+            rw (
+              append-nil (packets_before frames n),
+              frame_is g all frames is n size n (omega arith),
+              before_is g all frames is n size,
+            ) refl in
+            let first : T (O n []) t (marks_of_arrival g all n) =
+            subst (T (O n []) t) (sym (arrival_is g all frames is n size))
+            (steps.arrival n t there closed) in
+            append (O n packets) (Sends all) t (marks_of_arrival g all n ++ map Says es)
+            (if g.within == 0 then marks_of_ending g all n else [])
+            (append (O n []) (O n packets) t (marks_of_arrival g all n) (map Says es) first
+            (λ u so.
+            subst (λ (l : List Event). T (O n packets) u (map Says l)) told
+            (steps.more n [] packets is.rest u there (packets_grow g all frames is n size) so)))
+            (λ u so. go (g.within == 0) refl u size so)
+          where
+            go : (at_once : Bool) → (g.within == 0) ≡ at_once → (u : Trust)
+                → length (sent ++ s ∷ []) ≡ suc (length sent)
+                → O (length sent) (packets_of_frame (sent ++ s ∷ []) (length sent)) u
+                → T (Sends (sent ++ s ∷ [])) u
+                (if at_once then marks_of_ending g (sent ++ s ∷ []) (length sent) else [])
+            go true at_once u size so =
+                and_so (C (length (sent ++ s ∷ []))) (Sends (sent ++ s ∷ [])) u
+                (marks_of_ending g (sent ++ s ∷ []) (length sent))
+                (ends (sent ++ s ∷ []) more u (whole at_once) (length sent) size so)
+                (λ v closed. inl (inl at_once, closed))
+            go false later u size so =
+                nil (Sends (sent ++ s ∷ [])) u (inr (later, length sent, size, so))
+
+        sent_step : (sent more : Transmission) (pes : ℕ) (s : SentFrame) (t : Trust)
+            → joined_after g.within (sent_after g.within sent s) more ≡ frames
+            → Sends sent t
+            → T (Sends (sent_after g.within sent s)) t (marks_of_sent g sent pes s)
+        unfolding marks_of_sent told_with
+        sent_step sent more pes s t all sends =
+            go (goes_on_with g.within sent s) refl
+            (subst (Grows (sent_after g.within sent s)) all
+            (grows g.within (sent_after g.within sent s) more))
+            (λ at_once.
+            whole_at_once g.within (sent_after g.within sent s) more frames at_once all) sends
+          where
+            go : (same : Bool)
+                → goes_on_with g.within sent s ≡ same
+                → Grows (cond same (with_packets s.packets sent) (sent ++ s ∷ [])) frames
+                → ((g.within == 0) ≡ true
+                → frames ≡ (cond same (with_packets s.packets sent) (sent ++ s ∷ [])) ++ more)
+                → Sends sent t
+                → T (Sends (cond same (with_packets s.packets sent) (sent ++ s ∷ []))) t
+                (cond same (AtPes pes ∷ marks_of_more g sent s.packets)
+                (marks_of_waiting g sent ++ AtPes pes ∷ marks_of_next g sent s))
+            go true e is whole (inl (inl at_once, closed)) =
+                let later = (goes_on_some g.within sent s e).0 in
+                absurd (true≢false (sym at_once ∙ later))
+            go true e is whole (inl (inr none, closed)) =
+                let some = (goes_on_some g.within sent s e).1 in absurd (omega arith)
+            go true e is whole (inr (later, n, size, open_here)) =
+                let before : Grows sent frames =
+                grows_before g.within sent s frames
+                (subst
+                (λ (b : Bool). Grows (cond b (with_packets s.packets sent) (sent ++ s ∷ [])) frames)
+                (sym e) is) in
+                let all : Transmission = with_packets s.packets sent in
+                cons (Sends all) t (AtPes pes) (marks_of_more g sent s.packets) refl
+                (and_so (O n (packets_of_frame all n)) (Sends all) (after_mark (AtPes pes) t)
+                (marks_of_more g sent s.packets)
+                (on_more sent s (after_mark (AtPes pes) t) n size before is
+                (steps.at_open n pes (packets_of_frame sent n) t open_here))
+                (λ u so. inr (later, n, with_packets-length s.packets sent ∙ size, so)))
+            go false e is whole sends =
+                let all = grown sent s frames is in
+                append (C (length sent)) (Sends (sent ++ s ∷ [])) t (marks_of_waiting g sent)
+                (AtPes pes ∷ marks_of_next g sent s) (waits sent all.0 t all.1 sends)
+                (λ u closed.
+                cons (Sends (sent ++ s ∷ [])) u (AtPes pes) (marks_of_next g sent s) refl
+                (on_next sent more s (after_mark (AtPes pes) u) is whole
+                (steps.at_ended (length sent) pes u closed)))
+
+        -- ---- a piece that is passed over
+
+        passed_step : (sent : Transmission) (pes : ℕ) (u : Unread) (t : Trust) → Grows sent frames
+            → Q sent
+            → Sends sent t
+            → T (Sends sent) t (AtPes pes ∷ passed_marks pes u)
+        unfolding told_with
+        passed_step sent pes u t is asked (inl (ended, closed)) =
+            cons (Sends sent) t (AtPes pes) (passed_marks pes u) refl
+            (and_so (C (length sent)) (Sends sent) (after_mark (AtPes pes) t) (passed_marks pes u)
+            (steps.passed_ended sent pes u (after_mark (AtPes pes) t) is asked
+            (steps.at_ended (length sent) pes t closed))
+            (λ v so. inl (ended, so)))
+        passed_step sent pes u t is asked (inr (later, n, size, open_here)) =
+            cons (Sends sent) t (AtPes pes) (passed_marks pes u) refl
+            (and_so (O n (packets_of_frame sent n)) (Sends sent) (after_mark (AtPes pes) t)
+            (passed_marks pes u)
+            (steps.passed_open sent n pes u (after_mark (AtPes pes) t) is size asked
+            (steps.at_open n pes (packets_of_frame sent n) t open_here))
+            (λ v so. inr (later, n, size, so)))
+
+        -- ---- pieces
+
+        pub each_piece : (sent : Transmission) (pes : ℕ) (t : Trust) (pieces : List Piece)
+            → joined_after g.within sent (frames_of pieces) ≡ frames
+            → EachPassed g.within Q sent pieces
+            → Sends sent t
+            → T (Sends frames) t (marks_of_each g sent pes pieces)
+        unfolding marks_of_each frames_of joined_after
+        each_piece sent pes t [] all asked sends =
+            nil (Sends frames) t (subst (λ (fs : Transmission). Sends fs t) all sends)
+        each_piece sent pes t (Sent s ∷ pieces) all asked sends =
+            let next : Transmission = sent_after g.within sent s in
+            append (Sends next) (Sends frames) t (marks_of_sent g sent pes s)
+            (marks_of_each g next (suc pes) pieces)
+            (sent_step sent (frames_of pieces) pes s t all sends)
+            (λ u so. each_piece next (suc pes) u pieces all asked so)
+        each_piece sent pes t (Passed u ∷ pieces) all asked sends =
+            let is : Grows sent frames =
+            subst (Grows sent) all (grows g.within sent (frames_of pieces)) in
+            append (Sends sent) (Sends frames) t (AtPes pes ∷ passed_marks pes u)
+            (marks_of_each g sent (suc pes) pieces) (passed_step sent pes u t is asked.0 sends)
+            (λ v so. each_piece sent (suc pes) v pieces all asked.1 so)
