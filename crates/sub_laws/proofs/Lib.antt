@@ -27,6 +27,8 @@ pub mod LeadMarkLemmas
 pub mod MarkTestLemmas
 pub mod OrderToldLemmas
 pub mod PassedOutsideLemmas
+pub mod PassedPacketLemmas
+pub mod PassedTrustLemmas
 pub mod PesFileLemmas
 pub mod PlaceLemmas
 pub mod PlanLemmas
@@ -35,6 +37,7 @@ pub mod ReadFileLemmas
 pub mod RisingEndLemmas
 pub mod RobustLemmas
 pub mod SaidLemmas
+pub mod SameStretchLemmas
 pub mod SayMarkLemmas
 pub mod SoundStretchLemmas
 pub mod SoundUntoldLemmas
@@ -49,6 +52,7 @@ pub mod ToldWithinLemmas
 pub mod TransmissionLemmas
 pub mod TrustedDelayLemmas
 pub mod TrustedFrameLemmas
+pub mod TrustedOnAirLemmas
 pub mod TrustedPieceLemmas
 pub mod TrustedRunLemmas
 pub mod UnfinishedLemmas

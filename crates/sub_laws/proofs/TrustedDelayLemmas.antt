@@ -1,5 +1,5 @@
--- Frames that are told as trusted within some frames may stay in the part in which frames rise:
--- `law_of_trusted_with_delay`.
+-- One of the frames at least that are told as trusted within some frames is finished:
+-- `finished_there`.
 use Rattle.std.proofs.lemmas.Bool.Decides.{nat_tests}
 use Rattle.std.proofs.Common.{◌≡◌, ℕ, ◌-◌, ◌<◌, ◌≤◌, ◌==◌, inl, inr, false, None, length, drop}
 use Rattle.std.proofs.Common.{Option, refl, sym, ap, ◌∙◌, arith}
@@ -29,7 +29,6 @@ use Rattle.sub_laws.proofs.SufficientDelayLemmas.{enough_with_delay}
 use Rattle.sub_laws.proofs.TrustedFrameLemmas.{closed, count_most, header_there, part_last}
 use Rattle.sub_laws.proofs.TrustedFrameLemmas.{part_length, part_rises, risen, risen_low, untold}
 
--- One of them is finished.
 module _ (programme : ProgrammeValue) (options : OptionsValue) (unread : Option Unread)
     (frames : Transmission) (from to : ℕ)
     (may : MayStand (task_of programme options unread) frames from to)
@@ -102,21 +101,3 @@ module _ (programme : ProgrammeValue) (options : OptionsValue) (unread : Option 
       finished_of programme options unread part up may.whole.n may.w end_in_part
           (since_no programme options unread part up may.whole.n may.w end_in_part since_none),
     )
-
-pub law_of_trusted_with_delay : LawOfTrustedWithDelay
-law_of_trusted_with_delay programme options unread pieces from to is within told =
-    let g = task_of programme options unread in
-    let frames : Transmission = joined options.within (frames_of pieces) in
-    let part : Transmission = rising_part frames in
-    let some : (options.within == 0) ≡ false = grind (arith, nat_tests) in
-    let may : MayStand g frames from to =
-    All-contains (OnTrusted (MayStand g frames)) (all_of_pieces g pieces) (Trusted from to)
-    (all_stay_within g frames some pieces refl) told in
-    record {
-      header = header_there g frames from to may.stays;
-      trusted =
-          law_of_stretch_with_delay programme part options from to
-          (enough_with_delay programme options unread part from to is within
-          (untold g frames from to may.stays) (closed g frames from to may.stays));
-      finished = finished_there programme options unread frames from to may;
-    }
