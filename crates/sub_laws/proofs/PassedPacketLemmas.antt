@@ -1,12 +1,15 @@
 -- What the pieces that are passed over put on air is in no frame that is told as trusted: so in
 -- these frames the same is on air as is sent, `same_on_air`.
 use Rattle.std.proofs.lemmas.Bool.Decides.{nat_tests}
-use Rattle.std.proofs.Common.{◌≡◌, ℕ, zero, suc, ◌+◌, ◌-◌, ◌<◌, ◌≤◌, ◌⊎◌, inl, inr, Bool, true, false}
-use Rattle.std.proofs.Common.{◌==◌, ◌&&◌, not, nat_le, nat_lt, cond, List, [], ◌∷◌, ◌++◌, length, take}
-use Rattle.std.proofs.Common.{Option, Some, None, refl, sym, ap, ap₂, ◌∙◌, subst, arith, append_assoc}
+use Rattle.std.proofs.Common.{◌≡◌, ℕ, suc, ◌+◌, ◌-◌, ◌<◌, ◌≤◌, ◌⊎◌, inl, inr, Bool, true, false}
+use Rattle.std.proofs.Common.{◌==◌, ◌&&◌, not, nat_le, nat_lt, cond, List, [], ◌∷◌, ◌++◌, length}
+use Rattle.std.proofs.Common.{take}
+use Rattle.std.proofs.Common.{Option, Some, None, refl, sym, ap, ap₂, ◌∙◌, subst, arith}
+use Rattle.std.proofs.Common.{append_assoc}
 use Rattle.std.proofs.Common.{append-nil, length-append, le_refl, if◌then◌else◌, Contains}
 use Rattle.std.proofs.lemmas.Bool.{cases_lt, true≢false}
 use Rattle.std.proofs.lemmas.List.{take_all, take-append-le}
+use Rattle.std.proofs.lemmas.List.Concat.{flat_map-append}
 use Rattle.sub_rules.specs.FrameRules.{Task, Unread, end_frame, frame_at}
 use Rattle.sub_rules.specs.PieceEvents.{all_of_pieces, sent_by_pieces}
 use Rattle.sub_rules.specs.Pieces.{Piece, frames_of, goes_on_with, joined, joined_after, sent_after}
@@ -14,11 +17,14 @@ use Rattle.sub_rules.specs.Pieces.{with_packets}
 use Rattle.sub_rules.specs.Pieces.Piece.{Passed, Sent}
 use Rattle.sub_rules.specs.Transmission.{SentFrame, Transmission, first_frame, packets_between}
 use Rattle.sub_rules.specs.declared.event.Event.TheVariants.{Trusted}
-use Rattle.sub_rules.proofs.JoinedLemmas.{frames_of-append, joined_after-push, with_packets-end_frame}
+use Rattle.sub_rules.proofs.JoinedLemmas.{frames_of-append, joined_after-push}
+use Rattle.sub_rules.proofs.JoinedLemmas.{with_packets-end_frame}
 use Rattle.sub_rules.proofs.JoinedLemmas.{sent_after-other, sent_after-same, with_packets-frame_at}
 use Rattle.sub_rules.proofs.JoinedLemmas.{with_packets-length}
-use Rattle.sub_laws.specs.PassedPackets.{PassedPackets, all_on_air, frames_before, is_before}
-use Rattle.sub_laws.specs.PassedPackets.{next_frame, on_air_after, with_passed}
+use Rattle.sub_laws.specs.PassedPackets.{LawOfPassedPackets, PassedPackets, all_on_air}
+use Rattle.sub_laws.specs.PassedPackets.{frames_before, in_frame, is_before, next_frame}
+use Rattle.sub_laws.specs.PassedPackets.{on_air_after}
+use Rattle.sub_laws.specs.PassedPackets.{with_passed}
 use Rattle.sub_laws.specs.TrustedFrames.{rising_part}
 use Rattle.sub_laws.proofs.GrowingFrameLemmas.{Grows, frame_is, grown, grows, grows_before}
 use Rattle.sub_laws.proofs.GrowingFrameLemmas.{grows_more, grows_one}
@@ -28,14 +34,51 @@ use Rattle.sub_laws.proofs.PrefixLemmas.{RiseTo, first-same, rises_to, take_risi
 use Rattle.sub_laws.proofs.SameStretchLemmas.{IsSame}
 use Rattle.sub_laws.proofs.TrustedFrameLemmas.{count_most, part_rises, risen, risen_low}
 
+-- ---- what that is
+
 -- With nothing put on air it is what is sent.
-pub all_on_air-none : (within : ℕ) (sent : Transmission) (pieces : List Piece)
+on_air-none : (within : ℕ) (sent : Transmission) (pieces : List Piece)
     → on_air_after within sent pieces [] ≡ joined_after within sent (frames_of pieces)
 unfolding on_air_after joined_after frames_of
-all_on_air-none within sent [] = refl
-all_on_air-none within sent (Sent s ∷ pieces) =
-    all_on_air-none within (sent_after within sent s) pieces
-all_on_air-none within sent (Passed u ∷ pieces) = all_on_air-none within sent pieces
+on_air-none within sent [] = refl
+on_air-none within sent (Sent s ∷ pieces) =
+    on_air-none within (sent_after within sent s) pieces
+on_air-none within sent (Passed u ∷ pieces) = on_air-none within sent pieces
+
+between : (within : ℕ) (u : Unread) (first next in_10 in_11 in_12 : List (List ℕ))
+    → all_on_air within (Sent (in_frame 10 first) ∷ Passed u ∷ Sent (in_frame 12 next) ∷ [])
+    ((in_10 ∷ in_11 ∷ in_12 ∷ []) ∷ [])
+    ≡ in_frame 10 (first ++ in_10) ∷ in_frame 11 in_11 ∷ in_frame 12 next ∷ []
+unfolding on_air_after with_passed with_packets frames_before frames_of
+between within u first next in_10 in_11 in_12 =
+    sent_after-other within (in_frame 10 (first ++ in_10) ∷ in_frame 11 in_11 ∷ [])
+    (in_frame 12 next) (off (not (within == 0)))
+  where
+    off : (b : Bool) → (b && false) ≡ false
+    off true = refl
+    off false = refl
+
+within_one : (more : ℕ) (u : Unread) (first next packets : List (List ℕ))
+    → all_on_air (suc more) (Sent (in_frame 10 first) ∷ Passed u ∷ Sent (in_frame 10 next) ∷ [])
+    ((packets ∷ []) ∷ [])
+    ≡ in_frame 10 (first ++ packets ++ next) ∷ []
+unfolding on_air_after with_passed with_packets frames_before frames_of
+within_one more u first next packets =
+    sent_after-same (suc more) (in_frame 10 (first ++ packets) ∷ []) (in_frame 10 next)
+    (on (suc more == 0) (grind (arith, nat_tests)))
+  where
+    on : (b : Bool) → b ≡ false → (not b && true) ≡ true
+    on true e = absurd (true≢false e)
+    on false e = refl
+
+pub law_of_passed_packets : LawOfPassedPackets
+unfolding on_air_after with_passed with_packets frames_before frames_of
+law_of_passed_packets = record {
+  none = λ within pieces. on_air-none within [] pieces;
+  between = between;
+  within_one = within_one;
+  outside = λ within u v only before in_10 in_11. refl;
+}
 
 -- ---- lists of frames
 
@@ -45,11 +88,8 @@ piece a b f packets = cond (nat_le a f && nat_lt f b) packets []
 
 between-append : (xs ys : Transmission) (a b : ℕ)
     → packets_between (xs ++ ys) a b ≡ packets_between xs a b ++ packets_between ys a b
-between-append [] ys a b = refl
-between-append (x ∷ xs) ys a b =
-    ap (λ (ps : List (List ℕ)). piece a b x.frame x.packets ++ ps) (between-append xs ys a b)
-    ∙ sym (append_assoc (piece a b x.frame x.packets) (packets_between xs a b)
-    (packets_between ys a b))
+between-append xs ys a b =
+    flat_map-append (λ (s : SentFrame). piece a b s.frame s.packets) xs ys
 
 piece-append : (t : Bool) (xs ys : List (List ℕ))
     → cond t (xs ++ ys) [] ≡ cond t xs [] ++ cond t ys []
@@ -222,9 +262,9 @@ on_air-grows within on_air (Passed u ∷ pieces) (packets ∷ passed) =
 -- ---- what is sent, and what is on air
 
 module _ (within from to : ℕ) where
-  -- What is on air beside what is sent, before these pieces: in the frames from one to another it is
-  -- the same. What is on air may have frames after the last one that is sent: these are before the
-  -- next one.
+  -- What is on air beside what is sent, before these pieces: in the frames from one to another it
+  -- is the same. What is on air may have frames after the last one that is sent: these are before
+  -- the next one.
   record Beside (sent on_air : Transmission) (next : Option ℕ) : Type 0 where
     some : 0 < length sent
     some_too : 0 < length on_air

@@ -1,9 +1,9 @@
 -- The frame before a piece that is passed over is none of those that are told as trusted, where
 -- frames rise up to it: `passed_outside`.
 use Rattle.std.proofs.lemmas.Bool.Decides.{nat_tests}
-use Rattle.std.proofs.Common.{◌≡◌, ◌≢◌, ℕ, zero, suc, ◌+◌, ◌-◌, ◌<◌, ◌≤◌, ◌⊎◌, inl, inr, Bool, true}
+use Rattle.std.proofs.Common.{◌≡◌, ℕ, zero, suc, ◌+◌, ◌-◌, ◌<◌, ◌≤◌, ◌⊎◌, inl, inr, Bool, true}
 use Rattle.std.proofs.Common.{false, ◌==◌, ◌||◌, not, List, [], ◌∷◌, ◌++◌, Contains, length, map}
-use Rattle.std.proofs.Common.{Option, Some, None, is_some, refl, sym, ap, ◌∙◌, subst, arith}
+use Rattle.std.proofs.Common.{Some, is_some, refl, sym, ap, ◌∙◌, subst, arith}
 use Rattle.std.proofs.Common.{append_assoc, append-nil, get_or, length-append, if◌then◌else◌}
 use Rattle.std.proofs.lemmas.Bool.{cases_lt, true≢false}
 use Rattle.std.proofs.lemmas.List.Elements.{All-append, All-cons, All-contains, All-nil}
@@ -20,7 +20,7 @@ use Rattle.sub_rules.specs.Events.{standing_at, standing_before, unfinished_sinc
 use Rattle.sub_rules.specs.FrameRules.{Task, Unread, end_frame, frame_at, packets_before}
 use Rattle.sub_rules.specs.FrameRules.{packets_of_frame}
 use Rattle.sub_rules.specs.PacketTests.{are_code_words, breaks, is_word_below}
-use Rattle.sub_rules.specs.PieceEvents.{all_announced, all_of_pieces, closing_of_pieces, ended_run}
+use Rattle.sub_rules.specs.PieceEvents.{all_announced, all_of_pieces, closing_of_pieces}
 use Rattle.sub_rules.specs.PieceEvents.{marks_at_end, marks_of_arrival, marks_of_closing}
 use Rattle.sub_rules.specs.PieceEvents.{marks_of_each, marks_of_ending, marks_of_gap, marks_of_more}
 use Rattle.sub_rules.specs.PieceEvents.{marks_of_next, marks_of_pieces, marks_of_sent}
@@ -32,7 +32,8 @@ use Rattle.sub_rules.specs.Pieces.Piece.{Passed, Sent}
 use Rattle.sub_rules.specs.Transmission.{SentFrame, Transmission}
 use Rattle.sub_rules.specs.Trusted.{Mark, after_mark, closing_frame, is_order, kept, late_since}
 use Rattle.sub_rules.specs.Trusted.{no_trust}
-use Rattle.sub_rules.specs.Trusted.{stands_none, tells_none, told_by, told_with, trust_after, trusted}
+use Rattle.sub_rules.specs.Trusted.{stands_none, tells_none, told_by, told_with, trust_after}
+use Rattle.sub_rules.specs.Trusted.{trusted}
 use Rattle.sub_rules.specs.Trusted.Mark.{AtEnd, AtPes, Begins, Closes, Ends, Says}
 use Rattle.sub_rules.specs.declared.event.Event.{Event}
 use Rattle.sub_rules.specs.declared.event.Event.TheVariants.{Ended, PassedUntil, Told, Trusted}
@@ -75,8 +76,8 @@ module _ (B : Type 0) (l : ℕ) (g : Task) where
   abbrev pub Later : ℕ → ℕ → Type 0
   Later from to = B → l < from
 
-  -- What is kept after frame `last`: a run begins after frame l; and where frames rise, the next one
-  -- is `next` or later, which is after frame l too.
+  -- What is kept after frame `last`: a run begins after frame l; and where frames rise, the next
+  -- one is `next` or later, which is after frame l too.
   pub record Kept (last next : ℕ) (t : Trust) : Type 0 where
     pub last_is : t.last ≡ last
     pub rises : B → t.rises ≡ true → l < next
@@ -93,7 +94,8 @@ module _ (B : Type 0) (l : ℕ) (g : Task) where
     rises = λ b e.
         let is = said.rises_is in
         let was : t.rises ≡ true = grind (arith, nat_tests) in kept.rises b was;
-    run = λ b from e. kept.run b from (kept_some t.run (doubt_of t es) from (sym said.run_is ∙ e)).0;
+    run = λ b from e.
+        kept.run b from (kept_some t.run (doubt_of t es) from (sym said.run_is ∙ e)).0;
     clean = λ b e.
         let is = said.clean_is in
         let was : t.is_clean ≡ true = grind (arith, nat_tests) in kept.clean b was;
@@ -640,7 +642,8 @@ module _ (g : Task) (earlier : List Piece) (u : Unread) (later : List Piece)
         ≡ trust_after now (map Says es) =
         ap (trust_after no_trust) parts
         ∙ trust_after-append no_trust first (AtPes pes ∷ map Says es) in
-        subst (Kept ⊤ last g last (suc last)) (sym same) (ended now (trust_after now (map Says es)) pes at so)
+        subst (Kept ⊤ last g last (suc last)) (sym same)
+        (ended now (trust_after now (map Says es)) pes at so)
       where
         ended : (t v : Trust) (pes : ℕ) → t.last ≡ last
             → IsSaid t v (Told (unread_fault pes (Some u)) ∷ [])
@@ -683,7 +686,8 @@ module _ (g : Task) (earlier : List Piece) (u : Unread) (later : List Piece)
         subst (λ (fs : Transmission). Goes (Later ⊤ last g) (Sends ⊤ last g fs) t second) ends_in
         (each_later ⊤ last g sent (length done) t later (λ b. some) behind) in
         let rest =
-        Goes-append (Later ⊤ last g) (Sends ⊤ last g frames) (Sends ⊤ last g frames) t second waiting after
+        Goes-append (Later ⊤ last g) (Sends ⊤ last g frames) (Sends ⊤ last g frames) t second
+        waiting after
         (λ v so. waits ⊤ last g frames v so) in
         let told : EachTrusted Outside (told_of_pieces g all) =
         subst (EachTrusted Outside)
@@ -695,12 +699,13 @@ module _ (g : Task) (earlier : List Piece) (u : Unread) (later : List Piece)
         (each_told Outside (told_by no_trust first) (λ from to is. inl (before from to is)))
         (All-append (OnTrusted Outside) (told_by t (second ++ waiting)) _
         (each_told Outside (told_by t (second ++ waiting))
-        (λ from to is. inr (All-contains (OnTrusted (Later ⊤ last g)) _ (Trusted from to) rest.each is tt)))
+        (λ from to is.
+        inr (All-contains (OnTrusted (Later ⊤ last g)) _ (Trusted from to) rest.each is tt)))
         (each_told Outside (told_by (trust_after t (second ++ waiting)) close)
         (λ from to is.
         inr (All-contains (OnTrusted (Later ⊤ last g)) _ (Trusted from to)
-        (closing_later ⊤ last g frames (length all) (trust_after t (second ++ waiting)) rest.after) is
-        tt))))) in
+        (closing_later ⊤ last g frames (length all) (trust_after t (second ++ waiting))
+        rest.after) is tt))))) in
         All-append (OnTrusted Outside) (all_announced no_run (told_of_pieces g all)) _
         (each-announced Outside no_run (told_of_pieces g all) told)
         (each-ended Outside (passed_after_all no_run (told_of_pieces g all)))

@@ -1,32 +1,22 @@
 -- One of the frames at least that are told as trusted within some frames is finished:
 -- `finished_there`.
-use Rattle.std.proofs.lemmas.Bool.Decides.{nat_tests}
-use Rattle.std.proofs.Common.{◌≡◌, ℕ, ◌-◌, ◌<◌, ◌≤◌, ◌==◌, inl, inr, false, None, length, drop}
-use Rattle.std.proofs.Common.{Option, refl, sym, ap, ◌∙◌, arith}
+use Rattle.std.proofs.Common.{◌≡◌, ℕ, ◌-◌, ◌<◌, ◌≤◌, inl, inr, None, length, drop}
+use Rattle.std.proofs.Common.{Option, sym, ap, ◌∙◌, arith}
 use Rattle.std.proofs.lemmas.Bool.{cases_lt}
 use Rattle.std.proofs.lemmas.List.{take-append-drop}
-use Rattle.std.proofs.lemmas.List.Elements.{All-contains}
 use Rattle.stl_rows.specs.Programme.{ProgrammeValue}
 use Rattle.sub_plan.specs.Options.{OptionsValue}
 use Rattle.sub_rules.specs.Events.{unfinished_since}
 use Rattle.sub_rules.specs.FrameRules.{Task, Unread, task_of}
 use Rattle.sub_rules.specs.GoodWithin.{SomeFinished}
-use Rattle.sub_rules.specs.PieceEvents.{all_of_pieces}
-use Rattle.sub_rules.specs.Pieces.{frames_of, joined}
 use Rattle.sub_rules.specs.Transmission.{Transmission}
-use Rattle.sub_rules.specs.declared.event.Event.TheVariants.{Trusted}
 use Rattle.sub_rules.proofs.PrefixEventLemmas.{unfinished_since-prefix}
 use Rattle.sub_laws.specs.CleanStretch.{IsEnd}
 use Rattle.sub_laws.specs.TrustedFrames.{rising_part}
-use Rattle.sub_laws.specs.TrustedWithDelay.{LawOfTrustedWithDelay}
-use Rattle.sub_laws.proofs.DelayLemmas.{law_of_stretch_with_delay}
-use Rattle.sub_laws.proofs.DelayPieceLemmas.{all_stay_within}
 use Rattle.sub_laws.proofs.DelayRunLemmas.{MayStand}
-use Rattle.sub_laws.proofs.DoubtLemmas.{OnTrusted}
 use Rattle.sub_laws.proofs.FinishedLemmas.{finished_of, since_no}
 use Rattle.sub_laws.proofs.PrefixLemmas.{RiseTo, frame_at-take, take_rises}
-use Rattle.sub_laws.proofs.SufficientDelayLemmas.{enough_with_delay}
-use Rattle.sub_laws.proofs.TrustedFrameLemmas.{closed, count_most, header_there, part_last}
+use Rattle.sub_laws.proofs.TrustedFrameLemmas.{count_most, part_last}
 use Rattle.sub_laws.proofs.TrustedFrameLemmas.{part_length, part_rises, risen, risen_low, untold}
 
 module _ (programme : ProgrammeValue) (options : OptionsValue) (unread : Option Unread)

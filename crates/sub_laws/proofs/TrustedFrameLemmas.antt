@@ -1,6 +1,6 @@
--- Of frames that are told as trusted nothing is told that a receiver depends on, in the part in which
--- frames rise: `untold`; nor is the page open at an end of them, `closed`, and the first one has a
--- header of the page, `header_there`.
+-- Of frames that are told as trusted nothing is told that a receiver depends on, in the part in
+-- which frames rise: `untold`; nor is the page open at an end of them, `closed`, and the first one
+-- has a header of the page, `header_there`.
 use Rattle.std.proofs.lemmas.Bool.Decides.{nat_tests}
 use Rattle.std.specs.Bool.{Decides}
 use Rattle.std.proofs.Common.{◌≡◌, ℕ, zero, suc, ◌+◌, ◌-◌, ◌<◌, ◌≤◌, inl, inr, true, false, length}
