@@ -3,10 +3,9 @@
 use Rattle.std.proofs.lemmas.Bool.Decides.{nat_tests}
 use Rattle.std.proofs.Common.{◌≡◌, ℕ, suc, ◌+◌, ◌-◌, ◌<◌, ◌≤◌, ◌⊎◌, inl, inr, Bool, true, false}
 use Rattle.std.proofs.Common.{◌==◌, ◌&&◌, not, nat_le, nat_lt, cond, List, [], ◌∷◌, ◌++◌, length}
-use Rattle.std.proofs.Common.{take}
-use Rattle.std.proofs.Common.{Option, Some, None, refl, sym, ap, ap₂, ◌∙◌, subst, arith}
-use Rattle.std.proofs.Common.{append_assoc}
-use Rattle.std.proofs.Common.{append-nil, length-append, le_refl, if◌then◌else◌, Contains}
+use Rattle.std.proofs.Common.{take, Option, Some, None, refl, sym, ap, ap₂, ◌∙◌, subst, arith}
+use Rattle.std.proofs.Common.{append_assoc, append-nil, length-append, le_refl, if◌then◌else◌}
+use Rattle.std.proofs.Common.{Contains}
 use Rattle.std.proofs.lemmas.Bool.{cases_lt, true≢false}
 use Rattle.std.proofs.lemmas.List.{take_all, take-append-le}
 use Rattle.std.proofs.lemmas.List.Concat.{flat_map-append}
@@ -18,13 +17,11 @@ use Rattle.sub_rules.specs.Pieces.Piece.{Passed, Sent}
 use Rattle.sub_rules.specs.Transmission.{SentFrame, Transmission, first_frame, packets_between}
 use Rattle.sub_rules.specs.declared.event.Event.TheVariants.{Trusted}
 use Rattle.sub_rules.proofs.JoinedLemmas.{frames_of-append, joined_after-push}
-use Rattle.sub_rules.proofs.JoinedLemmas.{with_packets-end_frame}
-use Rattle.sub_rules.proofs.JoinedLemmas.{sent_after-other, sent_after-same, with_packets-frame_at}
-use Rattle.sub_rules.proofs.JoinedLemmas.{with_packets-length}
+use Rattle.sub_rules.proofs.JoinedLemmas.{with_packets-end_frame, sent_after-other, sent_after-same}
+use Rattle.sub_rules.proofs.JoinedLemmas.{with_packets-frame_at, with_packets-length}
 use Rattle.sub_laws.specs.PassedPackets.{LawOfPassedPackets, PassedPackets, all_on_air}
 use Rattle.sub_laws.specs.PassedPackets.{frames_before, in_frame, is_before, next_frame}
-use Rattle.sub_laws.specs.PassedPackets.{on_air_after}
-use Rattle.sub_laws.specs.PassedPackets.{with_passed}
+use Rattle.sub_laws.specs.PassedPackets.{on_air_after, with_passed}
 use Rattle.sub_laws.specs.TrustedFrames.{rising_part}
 use Rattle.sub_laws.proofs.GrowingFrameLemmas.{Grows, frame_is, grown, grows, grows_before}
 use Rattle.sub_laws.proofs.GrowingFrameLemmas.{grows_more, grows_one}

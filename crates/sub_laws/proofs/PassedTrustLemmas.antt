@@ -3,12 +3,11 @@
 use Rattle.std.proofs.lemmas.Bool.Decides.{nat_tests}
 use Rattle.std.proofs.Common.{◌≡◌, ℕ, zero, suc, ◌+◌, ◌-◌, ◌<◌, ◌≤◌, ◌⊎◌, inl, inr, Bool, true}
 use Rattle.std.proofs.Common.{false, ◌==◌, ◌||◌, not, List, [], ◌∷◌, ◌++◌, Contains, length, map}
-use Rattle.std.proofs.Common.{Some, is_some, refl, sym, ap, ◌∙◌, subst, arith}
-use Rattle.std.proofs.Common.{append_assoc, append-nil, get_or, length-append, if◌then◌else◌}
+use Rattle.std.proofs.Common.{Some, is_some, refl, sym, ap, ◌∙◌, subst, arith, append_assoc}
+use Rattle.std.proofs.Common.{append-nil, get_or, length-append, if◌then◌else◌}
 use Rattle.std.proofs.lemmas.Bool.{cases_lt, true≢false}
 use Rattle.std.proofs.lemmas.List.Elements.{All-append, All-cons, All-contains, All-nil}
-use Rattle.std.proofs.lemmas.List.Elements.{All-contains_itself, All-weaker}
-use Rattle.std.proofs.lemmas.List.Elements.{Contains-append_left}
+use Rattle.std.proofs.lemmas.List.Elements.{All-contains_itself, All-weaker, Contains-append_left}
 use Rattle.std.proofs.lemmas.Option.{none-some}
 use Rattle.std.specs.List.{list_any}
 use Rattle.std.specs.Prelude.{⊤}
@@ -31,9 +30,8 @@ use Rattle.sub_rules.specs.Pieces.{with_packets}
 use Rattle.sub_rules.specs.Pieces.Piece.{Passed, Sent}
 use Rattle.sub_rules.specs.Transmission.{SentFrame, Transmission}
 use Rattle.sub_rules.specs.Trusted.{Mark, after_mark, closing_frame, is_order, kept, late_since}
-use Rattle.sub_rules.specs.Trusted.{no_trust}
-use Rattle.sub_rules.specs.Trusted.{stands_none, tells_none, told_by, told_with, trust_after}
-use Rattle.sub_rules.specs.Trusted.{trusted}
+use Rattle.sub_rules.specs.Trusted.{no_trust, stands_none, tells_none, told_by, told_with}
+use Rattle.sub_rules.specs.Trusted.{trust_after, trusted}
 use Rattle.sub_rules.specs.Trusted.Mark.{AtEnd, AtPes, Begins, Closes, Ends, Says}
 use Rattle.sub_rules.specs.declared.event.Event.{Event}
 use Rattle.sub_rules.specs.declared.event.Event.TheVariants.{Ended, PassedUntil, Told, Trusted}
@@ -61,10 +59,12 @@ use Rattle.sub_laws.proofs.TrustedRunLemmas.{PacketsQuiet}
 
 -- ---- lists
 
+-- The last item of a list.
 get_or_last : (xs : List (List ℕ)) (x : List ℕ) → get_or (xs ++ x ∷ []) (length xs) [] ≡ x
 get_or_last [] x = refl
 get_or_last (y ∷ xs) x = get_or_last xs x
 
+-- Four lists of marks, the first of them apart.
 parts_of : (ks ls ms ns : List Mark) → ks ++ ls ++ ms ++ ns ≡ ks ++ (ls ++ ms ++ ns)
 parts_of ks ls ms ns =
     ap (λ (l : List Mark). l ++ ns) (append_assoc ks ls ms) ∙ append_assoc ks (ls ++ ms) ns

@@ -1,7 +1,7 @@
 -- Of two transmissions by which the same is on air in a stretch of frames, what suffices of the one
 -- there suffices of the other: `enough_too`, and with a delay `enough_late`.
-use Rattle.std.proofs.Common.{◌≡◌, ℕ, ◌+◌, ◌-◌, ◌<◌, ◌≤◌, inl, inr, true, List, ◌++◌, drop}
-use Rattle.std.proofs.Common.{sym, ap, ◌∙◌, subst, arith, le_refl, le_trans}
+use Rattle.std.proofs.Common.{◌≡◌, ℕ, ◌+◌, ◌-◌, ◌<◌, ◌≤◌, inl, inr, true, List, ◌++◌, drop, sym, ap}
+use Rattle.std.proofs.Common.{◌∙◌, subst, arith, le_refl, le_trans}
 use Rattle.std.proofs.lemmas.List.Elements.{All-weaker}
 use Rattle.ttx_page.proofs.LateStart.{shown-later, unended-later}
 use Rattle.ttx_page.proofs.SpanLists.{holds-append_left, holds-append_right}

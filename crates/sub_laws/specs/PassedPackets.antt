@@ -2,8 +2,7 @@
 -- each of these pieces put on air in its place, after the packets of the PES packet before it and
 -- before those of the next one.
 use Rattle.std.specs.Prelude.{◌≡◌, ℕ, suc, Bool, true, nat_lt, List, [], ◌∷◌, ◌++◌, Option, Some}
-use Rattle.std.specs.Prelude.{None}
-use Rattle.std.specs.Prelude.{if◌then◌else◌}
+use Rattle.std.specs.Prelude.{None, if◌then◌else◌}
 use Rattle.sub_rules.specs.FrameRules.{Unread, end_frame}
 use Rattle.sub_rules.specs.Pieces.{Piece, frames_of, joined, sent_after, with_packets}
 use Rattle.sub_rules.specs.Pieces.Piece.{Passed, Sent}
