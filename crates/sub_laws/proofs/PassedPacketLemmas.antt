@@ -42,40 +42,26 @@ on_air-none within sent (Sent s ∷ pieces) =
     on_air-none within (sent_after within sent s) pieces
 on_air-none within sent (Passed u ∷ pieces) = on_air-none within sent pieces
 
-between : (within : ℕ) (u : Unread) (first next in_10 in_11 in_12 : List (List ℕ))
-    → all_on_air within (Sent (in_frame 10 first) ∷ Passed u ∷ Sent (in_frame 12 next) ∷ [])
-    ((in_10 ∷ in_11 ∷ in_12 ∷ []) ∷ [])
-    ≡ in_frame 10 (first ++ in_10) ∷ in_frame 11 in_11 ∷ in_frame 12 next ∷ []
+pub law_of_passed_packets : LawOfPassedPackets
 unfolding on_air_after with_passed with_packets frames_before frames_of
-between within u first next in_10 in_11 in_12 =
-    sent_after-other within (in_frame 10 (first ++ in_10) ∷ in_frame 11 in_11 ∷ [])
-    (in_frame 12 next) (off (not (within == 0)))
+law_of_passed_packets = record {
+  none = λ within pieces. on_air-none within [] pieces;
+  between = λ within u first next in_10 in_11 in_12.
+      sent_after-other within (in_frame 10 (first ++ in_10) ∷ in_frame 11 in_11 ∷ [])
+      (in_frame 12 next) (off (not (within == 0)));
+  within_one = λ more u first next packets.
+      sent_after-same (suc more) (in_frame 10 (first ++ packets) ∷ []) (in_frame 10 next)
+      (on (suc more == 0) (grind (arith, nat_tests)));
+  outside = λ within u v only before in_10 in_11. refl;
+}
   where
     off : (b : Bool) → (b && false) ≡ false
     off true = refl
     off false = refl
 
-within_one : (more : ℕ) (u : Unread) (first next packets : List (List ℕ))
-    → all_on_air (suc more) (Sent (in_frame 10 first) ∷ Passed u ∷ Sent (in_frame 10 next) ∷ [])
-    ((packets ∷ []) ∷ [])
-    ≡ in_frame 10 (first ++ packets ++ next) ∷ []
-unfolding on_air_after with_passed with_packets frames_before frames_of
-within_one more u first next packets =
-    sent_after-same (suc more) (in_frame 10 (first ++ packets) ∷ []) (in_frame 10 next)
-    (on (suc more == 0) (grind (arith, nat_tests)))
-  where
     on : (b : Bool) → b ≡ false → (not b && true) ≡ true
     on true e = absurd (true≢false e)
     on false e = refl
-
-pub law_of_passed_packets : LawOfPassedPackets
-unfolding on_air_after with_passed with_packets frames_before frames_of
-law_of_passed_packets = record {
-  none = λ within pieces. on_air-none within [] pieces;
-  between = between;
-  within_one = within_one;
-  outside = λ within u v only before in_10 in_11. refl;
-}
 
 -- ---- lists of frames
 

@@ -113,12 +113,7 @@ module _ (B : Type 0) (l : ℕ) (g : Task) where
   at_pes : (last next pes : ℕ) (t : Trust) → Kept last next t
       → Kept last next (after_mark (AtPes pes) t)
   unfolding after_mark
-  at_pes last next pes t kept = record {
-    last_is = kept.last_is;
-    rises = kept.rises;
-    run = kept.run;
-    clean = kept.clean;
-  }
+  at_pes last next pes t kept = grind arith
 
   -- Nor do ends.
   at_end : (last next i n f : ℕ) (frames : Transmission) (t : Trust) → Kept last next t
