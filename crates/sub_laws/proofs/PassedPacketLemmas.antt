@@ -76,8 +76,7 @@ between-append xs ys a b =
 
 piece-append : (t : Bool) (xs ys : List (List ℕ))
     → cond t (xs ++ ys) [] ≡ cond t xs [] ++ cond t ys []
-piece-append true xs ys = refl
-piece-append false xs ys = refl
+piece-append t xs ys = grind (arith, nat_tests)
 
 -- More packets of the last frame.
 between-with : (packets : List (List ℕ)) (xs : Transmission) (a b : ℕ) → 0 < length xs
@@ -131,11 +130,7 @@ rises-push xs s rises up i some under =
 rises-with : (packets : List (List ℕ)) (xs : Transmission) → RiseTo xs (length xs)
     → RiseTo (with_packets packets xs) (length (with_packets packets xs))
 rises-with packets xs rises i some under =
-    let size = with_packets-length packets xs in
-    let before = with_packets-frame_at packets xs (i - 1) in
-    let at = with_packets-frame_at packets xs i in
-    let was = rises i some (omega arith) in
-    omega arith
+    grind (arith, nat_tests, with_packets-length, with_packets-frame_at)
 
 first-with : (packets : List (List ℕ)) (xs : Transmission)
     → first_frame (with_packets packets xs) ≡ first_frame xs
@@ -384,14 +379,14 @@ module _ (within from to : ℕ) where
   both_go : (sent on_air : Transmission) (s : SentFrame) → Beside sent on_air (Some s.frame)
       → goes_on_with within on_air s ≡ goes_on_with within sent s
   both_go sent on_air s beside =
-      goes_on-some within on_air s beside.some_too
-      ∙ ap (λ (b : Bool). not (within == 0) && b) (tests beside.before)
-      ∙ sym (goes_on-some within sent s beside.some)
-    where
-      tests : (end_frame sent ≡ end_frame on_air) ⊎ (nat_lt (end_frame on_air) s.frame ≡ true)
-          → (end_frame on_air == s.frame) ≡ (end_frame sent == s.frame)
-      tests (inl same) = ap (λ (f : ℕ). f == s.frame) (sym same)
-      tests (inr early) = let low = beside.low in grind (arith, nat_tests)
+      let low = beside.low in
+      let before = beside.before in
+      grind (
+        arith,
+        nat_tests,
+        goes_on-some within on_air s beside.some_too,
+        goes_on-some within sent s beside.some,
+      )
 
   on_beside : (sent on_air : Transmission) (s : SentFrame) (next : Option ℕ)
       → Beside sent on_air (Some s.frame)

@@ -89,17 +89,8 @@ module _ (B : Type 0) (l : ℕ) (g : Task) where
 
   kept_said : (last next : ℕ) (t u : Trust) (es : List Event) → Kept last next t → IsSaid t u es
       → Kept last next u
-  kept_said last next t u es kept said = record {
-    last_is = said.last_is ∙ kept.last_is;
-    rises = λ b e.
-        let is = said.rises_is in
-        let was : t.rises ≡ true = grind (arith, nat_tests) in kept.rises b was;
-    run = λ b from e.
-        kept.run b from (kept_some t.run (doubt_of t es) from (sym said.run_is ∙ e)).0;
-    clean = λ b e.
-        let is = said.clean_is in
-        let was : t.is_clean ≡ true = grind (arith, nat_tests) in kept.clean b was;
-  }
+  kept_said last next t u es kept said =
+      grind (arith, nat_tests, kept_some t.run (doubt_of t es))
 
   -- Events change nothing of it.
   says : (last next : ℕ) (t : Trust) (es : List Event) → EachTrusted Later es → Kept last next t
@@ -138,12 +129,7 @@ module _ (B : Type 0) (l : ℕ) (g : Task) where
           (map Says (events_at_end g frames i n f)) refl
           (says last next
           (after_mark (AtEnd f (unfinished_since g frames n f) (is_late g frames n f)) t)
-          (events_at_end g frames i n f) own (record {
-            last_is = kept.last_is;
-            rises = kept.rises;
-            run = kept.run;
-            clean = kept.clean;
-          }))
+          (events_at_end g frames i n f) own (grind arith))
 
   gap : (last next n k : ℕ) (frames : Transmission) (t : Trust) → Kept last next t
       → Tells (Kept last next) t (marks_of_gap g frames n k)
@@ -163,12 +149,7 @@ module _ (B : Type 0) (l : ℕ) (g : Task) where
   -- Frame f comes.
   begins : (last f : ℕ) (t : Trust) → Kept last f t → Kept f (suc f) (after_mark (Begins f) t)
   unfolding after_mark
-  begins last f t kept = record {
-    last_is = refl;
-    rises = λ b e. let up = kept.rises b e in omega arith;
-    run = kept.run;
-    clean = kept.rises;
-  }
+  begins last f t kept = grind arith
 
   -- The order of the next frame is told.
   ordered : (frames : Transmission) (i last : ℕ) (t : Trust) → (B → 0 < i)
@@ -215,17 +196,7 @@ module _ (B : Type 0) (l : ℕ) (g : Task) where
   ends : (f : ℕ) (has none : Bool) (t : Trust) → Kept f (suc f) t
       → Kept f (suc f) (after_mark (Ends f has none) t)
   unfolding after_mark
-  ends f has none t kept = record {
-    last_is = kept.last_is;
-    rises = kept.rises;
-    run = λ b from e.
-        let (clean, quiet, was) = run_of t.is_clean none t.run has f from e in
-        elim was [
-          | inl before ↦ kept.run b from before
-          | inr (gone, header, here) ↦ let high = kept.clean b clean in omega arith
-        ];
-    clean = kept.clean;
-  }
+  ends f has none t kept = grind (arith, nat_tests, run_of t.is_clean none t.run has f)
 
   ending : (frames : Transmission) (i f : ℕ) (t : Trust) → frame_at frames i ≡ f
       → Kept f (suc f) t
@@ -586,12 +557,7 @@ each_told P es h =
 
 -- Before all pieces.
 start : (g : Task) → Sends ⊥ 0 g [] no_trust
-start g = record {
-  last_is = refl;
-  rises = λ b. absurd b;
-  run = λ b. absurd b;
-  clean = λ b. absurd b;
-}
+start g = grind arith
 
 module _ (g : Task) (earlier : List Piece) (u : Unread) (later : List Piece)
     (some : 0 < length (sent_by_pieces g earlier))
