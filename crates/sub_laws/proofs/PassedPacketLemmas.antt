@@ -104,28 +104,13 @@ piece-none : (a b f : ℕ) (packets : List (List ℕ)) → (b ≤ f) ⊎ (f < a)
 piece-none a b f packets out = grind (arith, nat_tests)
 
 end-push : (xs : Transmission) (s : SentFrame) → end_frame (xs ++ s ∷ []) ≡ s.frame
-end-push xs s =
-    ap (frame_at (xs ++ s ∷ [])) (omega (arith, length-append xs (s ∷ [])))
-    ∙ frame_at-next xs s []
+end-push xs s = grind (arith, nat_tests, length-append, frame_at-next xs s [])
 
 rises-push : (xs : Transmission) (s : SentFrame) → RiseTo xs (length xs)
     → end_frame xs < s.frame
     → RiseTo (xs ++ s ∷ []) (length (xs ++ s ∷ []))
 rises-push xs s rises up i some under =
-    let size = length-append xs (s ∷ []) in
-    let before = frame_at-left xs (s ∷ []) (i - 1) (omega arith) in
-    elim (cases_lt i (length xs)) [
-      | inl inside ↦
-          let at = frame_at-left xs (s ∷ []) i inside in
-          let was = rises i some inside in omega arith
-      | inr all ↦
-          let same : i ≡ length xs = omega arith in
-          let at : frame_at (xs ++ s ∷ []) i ≡ s.frame =
-          ap (frame_at (xs ++ s ∷ [])) same ∙ frame_at-next xs s [] in
-          let last : frame_at xs (i - 1) ≡ end_frame xs =
-          ap (frame_at xs) (omega arith) in
-          omega arith
-    ]
+    grind (arith, nat_tests, cases_lt i (length xs), length-append, frame_at-left, frame_at-next)
 
 rises-with : (packets : List (List ℕ)) (xs : Transmission) → RiseTo xs (length xs)
     → RiseTo (with_packets packets xs) (length (with_packets packets xs))
@@ -559,17 +544,13 @@ module _ (g : Task) (all : List Piece) (from to : ℕ)
             → (end_frame sent ≡ end_frame on_air) ⊎ (nat_lt (end_frame on_air) s.frame ≡ true)
             → (k ≡ end_frame on_air) ⊎ (nat_lt k s.frame ≡ true)
             → k < from
-        of_next next (inl same) (inl here) = omega arith
-        of_next next (inr under) (inl here) = grind (arith, nat_tests)
-        of_next next last (inr under) = grind (arith, nat_tests)
+        of_next next last place = grind (arith, nat_tests)
 
         of_fall : s.frame ≤ end_frame sent
             → (end_frame sent ≡ end_frame on_air) ⊎ (nat_lt (end_frame on_air) s.frame ≡ true)
             → (k ≡ end_frame on_air) ⊎ (nat_lt k s.frame ≡ true)
             → k < from
-        of_fall falls (inl same) (inl here) = omega arith
-        of_fall falls (inr under) (inl here) = let low = beside.low in grind (arith, nat_tests)
-        of_fall falls last (inr under) = let low = beside.low in grind (arith, nat_tests)
+        of_fall falls last place = let low = beside.low in grind (arith, nat_tests)
 
     -- ---- one piece after another
 
@@ -688,8 +669,7 @@ module _ (g : Task) (all : List Piece) (from to : ℕ)
     -- Up to the first PES packet nothing is on air.
     none_passed : (next : Option ℕ) (packets : PassedPackets) → with_passed next [] packets ≡ []
     unfolding with_passed
-    none_passed next [] = refl
-    none_passed next (packets ∷ more) = refl
+    none_passed next packets = grind (arith, nat_tests)
 
     begins : (done ahead : List Piece) (passed : List PassedPackets)
         → all ≡ done ++ ahead

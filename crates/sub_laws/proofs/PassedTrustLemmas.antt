@@ -419,9 +419,7 @@ module _ (g : Task) (done : List Piece) (some : 0 < length (sent_by_pieces g don
     low : (frames : Transmission) → ((i : ℕ) → i < n → frame_at frames i ≡ frame_at sent i)
         → (i : ℕ) → i < n → frame_at frames i ≤ l
     low frames same i under =
-        let is = same i under in
-        let up = rises_to sent n rises i (n - 1) (omega arith) (omega arith) in
-        omega arith
+        grind (arith, nat_tests, same i under, rises_to sent n rises i (n - 1))
 
     -- It is sent as another frame.
     falls : (from to : ℕ) → StaysTo g (sent ++ bad ∷ []) from to → to < l
@@ -550,10 +548,7 @@ each_told P es h =
     All-weaker (Contains es) (OnTrusted P) (λ e told. of_event e told) es (All-contains_itself es)
   where
     of_event : (e : Event) → Contains es e → OnTrusted P e
-    of_event (Told refusal) told = tt
-    of_event (Ended broken frame) told = tt
-    of_event (PassedUntil refusal) told = tt
-    of_event (Trusted from to) told = h from to told
+    of_event e told = grind (arith, nat_tests, h)
 
 -- Before all pieces.
 start : (g : Task) → Sends ⊥ 0 g [] no_trust
@@ -610,17 +605,7 @@ module _ (g : Task) (earlier : List Piece) (u : Unread) (later : List Piece)
             → IsSaid t v (Told (unread_fault pes (Some u)) ∷ [])
             → Kept ⊤ last g last (suc last) v
         ended t v pes at so =
-            let doubt = passed_at t.last (late_since t) pes u in
-            let run_is = so.run_is in
-            let clean_is = so.clean_is in
-            record {
-              last_is = so.last_is ∙ at;
-              rises = λ b e. omega arith;
-              run = λ b from e.
-                  absurd
-                  (none-some from (ap (kept t.run) (sym doubt) ∙ sym run_is ∙ e));
-              clean = λ b e. grind (arith, nat_tests);
-            }
+            grind (arith, nat_tests, passed_at t.last (late_since t) pes u)
 
     pub each_outside : EachTrusted Outside (all_of_pieces g all)
     unfolding told_of_pieces all_of_pieces
