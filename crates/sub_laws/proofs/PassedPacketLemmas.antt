@@ -119,8 +119,7 @@ rises-with packets xs rises i some under =
 
 first-with : (packets : List (List ℕ)) (xs : Transmission)
     → first_frame (with_packets packets xs) ≡ first_frame xs
-first-with packets xs =
-    first-same (with_packets packets xs) ∙ with_packets-frame_at packets xs 0 ∙ sym (first-same xs)
+first-with packets xs = grind (arith, nat_tests, first-same, with_packets-frame_at)
 
 first-append : (xs ys : Transmission) → 0 < length xs → first_frame (xs ++ ys) ≡ first_frame xs
 first-append [] ys some = absurd (omega arith)
@@ -267,16 +266,16 @@ module _ (within from to : ℕ) where
         rises_too = rises-with packets on_air beside.rises_too;
         first = beside.first ∙ sym (first-with packets on_air);
         low = omega arith;
-        before =
-            subst (λ (f : ℕ). (end_frame sent ≡ f) ⊎ (is_before f next ≡ true)) (sym end)
-            beside.before;
+        before = let before = beside.before in grind (arith, nat_tests);
         same = λ a b after until.
-            beside.same a b after until
-            ∙ sym
-            (between-with packets on_air a b beside.some_too
-            ∙ ap (λ (ps : List (List ℕ)). packets_between on_air a b ++ ps)
-            (nothing a b (end_frame on_air) packets out after until)
-            ∙ append-nil (packets_between on_air a b));
+            let same = beside.same a b after until in
+            grind (
+              arith,
+              nat_tests,
+              between-with packets on_air a b beside.some_too,
+              nothing a b (end_frame on_air) packets out after until,
+              append-nil,
+            );
       }
 
   -- Another frame on air, before the next one, and none of these.
@@ -394,10 +393,13 @@ module _ (within from to : ℕ) where
         low = omega arith;
         before = inl (end ∙ last ∙ sym end_too);
         same = λ a b after until.
-            between-with s.packets sent a b beside.some
-            ∙ ap₂ (λ (ps qs : List (List ℕ)). ps ++ qs) (beside.same a b after until)
-            (ap (λ (f : ℕ). piece a b f s.packets) last)
-            ∙ sym (between-with s.packets on_air a b beside.some_too);
+            let same = beside.same a b after until in
+            grind (
+              arith,
+              nat_tests,
+              between-with s.packets sent a b beside.some,
+              between-with s.packets on_air a b beside.some_too,
+            );
       }
     where
       last_same : (end_frame sent ≡ end_frame on_air) ⊎ (nat_lt (end_frame on_air) s.frame ≡ true)
@@ -427,10 +429,8 @@ module _ (within from to : ℕ) where
         low = omega arith;
         before = inl (end ∙ sym end_too);
         same = λ a b after until.
-            between-append sent (s ∷ []) a b
-            ∙ ap (λ (ps : List (List ℕ)). ps ++ packets_between (s ∷ []) a b)
-            (beside.same a b after until)
-            ∙ sym (between-append on_air (s ∷ []) a b);
+            let same = beside.same a b after until in
+            grind (arith, nat_tests, between-append);
       }
     where
       up_too : (end_frame sent ≡ end_frame on_air) ⊎ (nat_lt (end_frame on_air) s.frame ≡ true)
@@ -594,23 +594,18 @@ module _ (g : Task) (all : List Piece) (from to : ℕ)
         → AreBeside sent on_air (Some s.frame)
         → (goes_on_with g.within sent s ≡ true) ⊎ (end_frame sent < s.frame)
         → AreBeside (sent_after g.within sent s) (sent_after g.within on_air s) next
-    step sent on_air s next beside (inl e) =
-        let e_too = both_go g.within from to sent on_air s beside ∙ e in
-        let here : end_frame sent ≡ s.frame =
-        let is = goes_on-some g.within sent s beside.some in grind (arith, nat_tests) in
-        subst (λ (l : Transmission). AreBeside l (sent_after g.within on_air s) next)
-        (sym (sent_after-same g.within sent s e))
-        (subst (λ (l : Transmission). AreBeside (with_packets s.packets sent) l next)
-        (sym (sent_after-same g.within on_air s e_too))
-        (on_beside g.within from to sent on_air s next beside here))
-    step sent on_air s next beside (inr up) =
-        let e = not_on sent s beside.some up in
-        let e_too = both_go g.within from to sent on_air s beside ∙ e in
-        subst (λ (l : Transmission). AreBeside l (sent_after g.within on_air s) next)
-        (sym (sent_after-other g.within sent s e))
-        (subst (λ (l : Transmission). AreBeside (sent ++ s ∷ []) l next)
-        (sym (sent_after-other g.within on_air s e_too))
-        (next_beside g.within from to sent on_air s next beside up))
+    step sent on_air s next beside place =
+        let e = both_go g.within from to sent on_air s beside in
+        let is = goes_on-some g.within sent s beside.some in
+        grind (
+          arith,
+          nat_tests,
+          not_on sent s beside.some,
+          sent_after-same g.within,
+          sent_after-other g.within,
+          on_beside g.within from to sent on_air s next beside,
+          next_beside g.within from to sent on_air s next beside,
+        )
 
     walk : (done ahead : List Piece) (sent on_air : Transmission) (passed : List PassedPackets)
         → all ≡ done ++ ahead

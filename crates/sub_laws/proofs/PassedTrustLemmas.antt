@@ -165,12 +165,9 @@ module _ (B : Type 0) (l : ℕ) (g : Task) where
         last_is = now.last_is;
         rises = λ b e.
             let is = so.rises_is in
-            let none : list_any is_order (order_events g frames i) ≡ false =
-            grind (arith, nat_tests) in
-            let up = order_rises g frames i none (some b) in
             let before = at (some b) in
             let low = now.rises b e in
-            omega arith;
+            grind (arith, nat_tests, order_rises g frames i);
         run = now.run;
         clean = now.clean;
       })
@@ -428,24 +425,16 @@ module _ (g : Task) (done : List Piece) (some : 0 < length (sent_by_pieces g don
         let size = length-append sent (bad ∷ []) in
         let within = stays.within in
         let below = stays.run.below in
-        let at = low frames (λ i under. frame_at-left sent (bad ∷ []) i under) in
-        let last : frame_at frames n ≡ l = frame_at-next sent bad [] in
-        elim (cases_lt stays.n (suc n)) [
-          | inl fewer ↦ elim (stays.next (omega arith)) [
-            | inl (up, high) ↦ elim (cases_lt stays.n n) [
-              | inl inside ↦ let top = at stays.n inside in omega arith
-              | inr all ↦
-                  let same : frame_at frames stays.n ≡ frame_at frames n =
-                  ap (frame_at frames) (omega arith) in
-                  omega arith
-            ]
-            | inr high ↦ let top = at (stays.n - 1) (omega arith) in omega arith
-          ]
-          | inr all ↦
-              let up = stays.run.rises n (omega arith) (omega arith) in
-              let before = frame_at-left sent (bad ∷ []) (n - 1) (omega arith) in
-              absurd (omega arith)
-        ]
+        grind (
+          arith,
+          nat_tests,
+          cases_lt stays.n n,
+          low frames (frame_at-left sent (bad ∷ [])),
+          frame_at-left sent (bad ∷ []) (n - 1),
+          frame_at-next sent bad [],
+          stays.next,
+          stays.run.rises n,
+        )
 
     -- It goes on with the last frame.
     joins : (from to : ℕ) → StaysTo g (with_packets ([] ∷ []) sent) from to → to < l
