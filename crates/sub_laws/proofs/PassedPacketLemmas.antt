@@ -85,10 +85,7 @@ between-with : (packets : List (List ℕ)) (xs : Transmission) (a b : ℕ) → 0
 unfolding with_packets
 between-with packets [] a b some = absurd (omega arith)
 between-with packets (x ∷ []) a b some =
-    append-nil _
-    ∙ piece-append (nat_le a x.frame && nat_lt x.frame b) x.packets packets
-    ∙ ap (λ (ps : List (List ℕ)). ps ++ piece a b x.frame packets)
-    (sym (append-nil (piece a b x.frame x.packets)))
+    grind (arith, nat_tests, append-nil, piece-append (nat_le a x.frame && nat_lt x.frame b))
 between-with packets (x ∷ y ∷ xs) a b some =
     let last : length (x ∷ y ∷ xs) - 1 ≡ suc (length (y ∷ xs) - 1) = omega arith in
     ap (λ (ps : List (List ℕ)). piece a b x.frame x.packets ++ ps)
@@ -299,12 +296,14 @@ module _ (within from to : ℕ) where
         low = omega arith;
         before = inr (subst (λ (f : ℕ). is_before f next ≡ true) (sym end) early);
         same = λ a b after until.
-            beside.same a b after until
-            ∙ sym
-            (between-append on_air (s ∷ []) a b
-            ∙ ap (λ (ps : List (List ℕ)). packets_between on_air a b ++ (ps ++ []))
-            (nothing a b s.frame s.packets out after until)
-            ∙ append-nil (packets_between on_air a b));
+            let same = beside.same a b after until in
+            grind (
+              arith,
+              nat_tests,
+              between-append on_air (s ∷ []) a b,
+              nothing a b s.frame s.packets out after until,
+              append-nil,
+            );
       }
 
   frames_beside : (sent on_air : Transmission) (next : Option ℕ) (f : ℕ) (more : PassedPackets)
@@ -525,13 +524,8 @@ module _ (g : Task) (all : List Piece) (from to : ℕ)
         → k < from
     unfolding joined_after
     early sent on_air [] beside whole before k after place =
-        let some = beside.some in
-        let here : frame_at sent j ≡ from = ap (λ (l : Transmission). frame_at l j) whole ∙ at in
-        let size = ap (λ (l : Transmission). length l) whole in
         let few = risen_low frames in
-        let last =
-        rises_to sent (length sent) beside.rises j (length sent - 1) (omega arith) (omega arith) in
-        absurd (omega arith)
+        grind (arith, nat_tests, rises_to sent (length sent) beside.rises j (length sent - 1))
     early sent on_air (s ∷ rest) beside whole before k after place =
         elim (cases_lt (end_frame sent) s.frame) [
           | inl up ↦
@@ -563,16 +557,16 @@ module _ (g : Task) (all : List Piece) (from to : ℕ)
         → (k ≡ end_frame on_air) ⊎ (is_before k (next_frame (frames_of ahead)) ≡ true)
         → IsOut g.within from to k
     is_out done ahead u sent on_air parts so_far whole beside k after place =
-        elim (subst
-        (λ (l : Transmission). 0 < length l
-        → RiseTo l (length l)
-        → (to < end_frame l) ⊎ (end_frame l < from)) so_far
-        (λ some rises. passed_outside g all done ahead u from to parts some rises told) beside.some
-        beside.rises) [
-          | inl high ↦ let low = beside.low in inl (omega arith)
-          | inr before ↦
-              inr (early sent on_air (frames_of ahead) beside whole before k after place)
-        ]
+        let some = beside.some in
+        let rises = beside.rises in
+        let low = beside.low in
+        grind (
+          arith,
+          nat_tests,
+          passed_outside g all done ahead u from to parts,
+          told,
+          early sent on_air (frames_of ahead) beside whole,
+        )
 
     sent_far : (done : List Piece) (s : SentFrame) (sent : Transmission)
         → sent_by_pieces g done ≡ sent

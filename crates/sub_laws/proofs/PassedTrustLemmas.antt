@@ -323,13 +323,13 @@ module _ (B : Type 0) (l : ℕ) (g : Task) where
       (All-nil (OnTrusted Later))) (at_pes f (suc f) pes t kept))
 
   sent_some : (sent : Transmission) (s : SentFrame) → 0 < length (sent_after g.within sent s)
-  sent_some sent s = go sent (goes_on_with g.within sent s) refl
-    where
-      go : (sent : Transmission) (b : Bool) → goes_on_with g.within sent s ≡ b
-          → 0 < length (if b then with_packets s.packets sent else sent ++ s ∷ [])
-      go [] true e = cc
-      go (x ∷ xs) true e = omega (arith, with_packets-length s.packets (x ∷ xs))
-      go xs false e = omega (arith, length-append xs (s ∷ []))
+  sent_some sent s =
+      grind (
+        arith,
+        nat_tests,
+        with_packets-length s.packets sent,
+        length-append sent (s ∷ []),
+      )
 
   -- What is told of pieces, and what is kept then.
   pub each_later : (sent : Transmission) (pes : ℕ) (t : Trust) (pieces : List Piece)
@@ -443,15 +443,15 @@ module _ (g : Task) (done : List Piece) (some : 0 < length (sent_by_pieces g don
         let size = with_packets-length ([] ∷ []) sent in
         let within = stays.within in
         let below = stays.run.below in
-        let at = low frames (λ i under. with_packets-frame_at ([] ∷ []) sent i) in
-        elim (cases_lt stays.n n) [
-          | inl fewer ↦ elim (stays.next (omega arith)) [
-            | inl (up, high) ↦ let top = at stays.n fewer in omega arith
-            | inr high ↦ let top = at (stays.n - 1) (omega arith) in omega arith
-          ]
-          | inr all ↦
-              absurd (broken stays.n stays.run.j (omega arith) stays.run.packets stays.run.below)
-        ]
+        grind (
+          arith,
+          nat_tests,
+          cases_lt stays.n n,
+          low frames (λ i under. with_packets-frame_at ([] ∷ []) sent i),
+          stays.next,
+          broken stays.n stays.run.j,
+          stays.run.packets,
+        )
       where
         broken : (m j : ℕ) → m ≡ n → PacketsQuiet g (with_packets ([] ∷ []) sent) m j → j < m → ⊥
         broken m j all quiet below =

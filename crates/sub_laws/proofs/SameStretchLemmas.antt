@@ -129,18 +129,18 @@ module _ (programme : ProgrammeValue) (options : OptionsValue) (t u : Transmissi
     pub some_too : (from to : ℕ) → a ≤ from → to ≤ b
         → SomeFinished programme t options from to
         → SomeFinished programme u options from to
-    some_too from to low high (f, after, before, finished) =
-        let early = le_trans low after in
-        let late = le_trans before high in (
-          f,
-          after,
-          before,
-          record {
-            shows = λ row column named.
-                sym (shown_too f early late row column) ∙ finished.shows row column named;
-            ended = λ asks. sym (open_too f early late) ∙ finished.ended asks;
-          },
-        )
+    some_too from to low high (f, after, before, finished) = (
+      f,
+      after,
+      before,
+      record {
+        shows = λ row column named.
+            sym (shown_too f (le_trans low after) (le_trans before high) row column)
+            ∙ finished.shows row column named;
+        ended = λ asks.
+            sym (open_too f (le_trans low after) (le_trans before high)) ∙ finished.ended asks;
+      },
+    )
 
     finishes_too : FinishesInTime programme t options a b → FinishesInTime programme u options a b
     finishes_too finishes = record {
