@@ -145,24 +145,21 @@ rising_first xs frames s g is some rises falls =
     let all = grown xs s frames is in
     let at : frame_at frames n ≡ s.frame =
     frame_is g (xs ++ s ∷ []) frames is n size n (omega arith) ∙ frame_at-next xs s [] in
-    let most : n ≤ risen frames =
-    count_most frames (length frames) n
-    (let whole = ap (λ (l : Transmission). length l) all.1 in
-    omega (arith, whole, length-append xs all.0))
-    (λ i positive under.
-    let before = same (i - 1) (omega arith) in
-    let here = same i under in
+    let whole = ap (λ (l : Transmission). length l) all.1 in
+    let rise : RiseTo frames n = (λ i positive under.
     let was = rises i positive under in
-    omega arith) in
-    let few : risen frames ≤ n =
-    elim (cases_lt n (risen frames)) [
-      | inr low ↦ low
-      | inl more ↦
-          let up = part_rises frames n some more in
-          let before = same (n - 1) (omega arith) in
-          absurd (omega arith)
-    ] in
-    let count : risen frames ≡ n = omega arith in
+    grind (arith, nat_tests, same)) in
+    let count : risen frames ≡ n =
+    grind (
+      arith,
+      nat_tests,
+      count_most frames (length frames) n,
+      rise,
+      length-append xs all.0,
+      cases_lt n (risen frames),
+      part_rises frames n,
+      same (n - 1),
+    ) in
     ap (λ (k : ℕ). take k frames) count
     ∙ ap (take n) all.1
     ∙ take-append-le n xs all.0 (omega arith)
@@ -382,7 +379,9 @@ module _ (within from to : ℕ) where
       let end_too = with_packets-end_frame s.packets on_air in
       let some = beside.some in
       let some_too = beside.some_too in
-      let last : end_frame sent ≡ end_frame on_air = last_same beside.before in
+      let low = beside.low in
+      let before = beside.before in
+      let last : end_frame sent ≡ end_frame on_air = grind (arith, nat_tests) in
       record {
         some = omega arith;
         some_too = omega arith;
@@ -400,11 +399,6 @@ module _ (within from to : ℕ) where
               between-with s.packets on_air a b beside.some_too,
             );
       }
-    where
-      last_same : (end_frame sent ≡ end_frame on_air) ⊎ (nat_lt (end_frame on_air) s.frame ≡ true)
-          → end_frame sent ≡ end_frame on_air
-      last_same (inl same) = same
-      last_same (inr early) = let low = beside.low in grind (arith, nat_tests)
 
   -- It is another frame of both.
   next_beside : (sent on_air : Transmission) (s : SentFrame) (next : Option ℕ)
@@ -503,17 +497,15 @@ module _ (g : Task) (all : List Piece) (from to : ℕ)
         let size : length (sent ++ s ∷ []) ≡ suc n = omega (arith, length-append sent (s ∷ [])) in
         let next : frame_at frames n ≡ s.frame =
         frame_is g (sent ++ s ∷ []) frames is n size n (omega arith) ∙ frame_at-next sent s [] in
-        elim (cases_lt j n) [
-          | inl before ↦
-              let here =
-              frame_is g (sent ++ s ∷ []) frames is n size j (omega arith)
-              ∙ frame_at-left sent (s ∷ []) j before in
-              let last = rises_to sent n rises j (n - 1) (omega arith) (omega arith) in
-              absurd (omega arith)
-          | inr after ↦
-              let order = rises_to frames (risen frames) (part_rises frames) n j after risen_too in
-              omega arith
-        ]
+        grind (
+          arith,
+          nat_tests,
+          cases_lt j n,
+          frame_is g (sent ++ s ∷ []) frames is n size j,
+          frame_at-left sent (s ∷ []) j,
+          rises_to sent n rises j (n - 1),
+          rises_to frames (risen frames) (part_rises frames) n j,
+        )
 
     -- So a frame before the next one is before them, where the last one is.
     early : (sent on_air rest : Transmission) → AreBeside sent on_air (next_frame rest)
@@ -527,24 +519,14 @@ module _ (g : Task) (all : List Piece) (from to : ℕ)
         let few = risen_low frames in
         grind (arith, nat_tests, rises_to sent (length sent) beside.rises j (length sent - 1))
     early sent on_air (s ∷ rest) beside whole before k after place =
-        elim (cases_lt (end_frame sent) s.frame) [
-          | inl up ↦
-              let next = reach sent s rest beside.some beside.rises whole up before in
-              of_next next beside.before place
-          | inr falls ↦ of_fall falls beside.before place
-        ]
-      where
-        of_next : s.frame ≤ from
-            → (end_frame sent ≡ end_frame on_air) ⊎ (nat_lt (end_frame on_air) s.frame ≡ true)
-            → (k ≡ end_frame on_air) ⊎ (nat_lt k s.frame ≡ true)
-            → k < from
-        of_next next last place = grind (arith, nat_tests)
-
-        of_fall : s.frame ≤ end_frame sent
-            → (end_frame sent ≡ end_frame on_air) ⊎ (nat_lt (end_frame on_air) s.frame ≡ true)
-            → (k ≡ end_frame on_air) ⊎ (nat_lt k s.frame ≡ true)
-            → k < from
-        of_fall falls last place = let low = beside.low in grind (arith, nat_tests)
+        let low = beside.low in
+        let last = beside.before in
+        grind (
+          arith,
+          nat_tests,
+          cases_lt (end_frame sent) s.frame,
+          reach sent s rest beside.some beside.rises whole,
+        )
 
     -- ---- one piece after another
 
