@@ -3,7 +3,7 @@
 use Rattle.std.proofs.lemmas.Bool.Decides.{nat_tests}
 use Rattle.std.proofs.Common.{◌≡◌, ℕ, suc, ◌+◌, ◌-◌, ◌<◌, ◌≤◌, ◌⊎◌, inl, inr, Bool, true, false}
 use Rattle.std.proofs.Common.{◌==◌, ◌&&◌, not, nat_le, nat_lt, cond, List, [], ◌∷◌, ◌++◌, length}
-use Rattle.std.proofs.Common.{take, Option, Some, None, refl, sym, ap, ap₂, ◌∙◌, subst, arith}
+use Rattle.std.proofs.Common.{take, Option, Some, None, refl, sym, ap, ◌∙◌, subst, arith}
 use Rattle.std.proofs.Common.{append_assoc, append-nil, length-append, le_refl, if◌then◌else◌}
 use Rattle.std.proofs.Common.{Contains}
 use Rattle.std.proofs.lemmas.Bool.{cases_lt, true≢false}
@@ -414,7 +414,9 @@ module _ (within from to : ℕ) where
         some = omega arith;
         some_too = omega arith;
         rises = rises-push sent s beside.rises up;
-        rises_too = rises-push on_air s beside.rises_too (up_too beside.before);
+        rises_too =
+            rises-push on_air s beside.rises_too
+            (let before = beside.before in grind (arith, nat_tests));
         first =
             first-append sent (s ∷ []) beside.some
             ∙ beside.first
@@ -425,11 +427,6 @@ module _ (within from to : ℕ) where
             let same = beside.same a b after until in
             grind (arith, nat_tests, between-append);
       }
-    where
-      up_too : (end_frame sent ≡ end_frame on_air) ⊎ (nat_lt (end_frame on_air) s.frame ≡ true)
-          → end_frame on_air < s.frame
-      up_too (inl same) = omega arith
-      up_too (inr early) = grind (arith, nat_tests)
 
 -- ---- all pieces
 

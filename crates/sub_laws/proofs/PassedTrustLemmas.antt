@@ -9,7 +9,6 @@ use Rattle.std.proofs.lemmas.Bool.{cases_lt, true≢false}
 use Rattle.std.proofs.lemmas.List.Elements.{All-append, All-cons, All-contains, All-nil}
 use Rattle.std.proofs.lemmas.List.Elements.{All-contains_itself, All-weaker, Contains-append_left}
 use Rattle.std.proofs.lemmas.Option.{none-some}
-use Rattle.std.specs.List.{list_any}
 use Rattle.std.specs.Prelude.{⊤}
 use Rattle.ttx_page.specs.PacketKind.{kind}
 use Rattle.ttx_page.specs.Span.{holds_header}
@@ -29,12 +28,12 @@ use Rattle.sub_rules.specs.Pieces.{Piece, frames_of, goes_on_with, joined, joine
 use Rattle.sub_rules.specs.Pieces.{with_packets}
 use Rattle.sub_rules.specs.Pieces.Piece.{Passed, Sent}
 use Rattle.sub_rules.specs.Transmission.{SentFrame, Transmission}
-use Rattle.sub_rules.specs.Trusted.{Mark, after_mark, closing_frame, is_order, kept, late_since}
+use Rattle.sub_rules.specs.Trusted.{Mark, after_mark, closing_frame, kept, late_since}
 use Rattle.sub_rules.specs.Trusted.{no_trust, stands_none, tells_none, told_by, told_with}
 use Rattle.sub_rules.specs.Trusted.{trust_after, trusted}
 use Rattle.sub_rules.specs.Trusted.Mark.{AtEnd, AtPes, Begins, Closes, Ends, Says}
 use Rattle.sub_rules.specs.declared.event.Event.{Event}
-use Rattle.sub_rules.specs.declared.event.Event.TheVariants.{Ended, PassedUntil, Told, Trusted}
+use Rattle.sub_rules.specs.declared.event.Event.TheVariants.{Told, Trusted}
 use Rattle.sub_rules.specs.declared.packet_rule.PacketRule.TheVariants as rule
 use Rattle.sub_rules.specs.declared.packet_rule.Watched.{Watched}
 use Rattle.sub_rules.specs.declared.trust.Trust.{Trust}
@@ -246,6 +245,11 @@ module _ (B : Type 0) (l : ℕ) (g : Task) where
       says f (suc f) t (packets_told g.watched f from before packets (length packets))
       (packets_own Later g.watched f from before packets (length packets)) kept
 
+  at_once : (b : Bool) (S : Trust → Type 0) (t : Trust) (ms : List Mark) → S t → Tells S t ms
+      → Tells S t (if b then ms else [])
+  at_once true S t ms so tells = tells
+  at_once false S t ms so tells = Goes-nil Later S t so
+
   -- Another frame comes.
   next_sent : (sent : Transmission) (s : SentFrame) (t : Trust) → (B → 0 < length sent)
       → Sends sent t
@@ -267,21 +271,9 @@ module _ (B : Type 0) (l : ℕ) (g : Task) where
       (arrival frames i (end_frame sent) t some
       (λ more. frame_at-left sent (s ∷ []) (i - 1) (omega arith)) kept)
       (λ u so. packets_say f 0 (packets_before frames i) packets u so))
-      (λ u so. at_once (g.within == 0) u so))
-    where
-      at_once : (b : Bool) (u : Trust)
-          → Kept (frame_at (sent ++ s ∷ []) (length sent))
-          (suc (frame_at (sent ++ s ∷ []) (length sent))) u
-          → Tells
-          (Kept (frame_at (sent ++ s ∷ []) (length sent))
-          (suc (frame_at (sent ++ s ∷ []) (length sent)))) u
-          (if b then marks_of_ending g (sent ++ s ∷ []) (length sent) else [])
-      at_once true u so =
-          ending (sent ++ s ∷ []) (length sent) (frame_at (sent ++ s ∷ []) (length sent)) u refl so
-      at_once false u so =
-          Goes-nil Later
-          (Kept (frame_at (sent ++ s ∷ []) (length sent))
-          (suc (frame_at (sent ++ s ∷ []) (length sent)))) u so
+      (λ u so.
+      at_once (g.within == 0) S u (marks_of_ending g frames i) so
+      (ending frames i f u refl so)))
 
   -- ---- pieces
 
