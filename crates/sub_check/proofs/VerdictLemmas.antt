@@ -35,7 +35,6 @@ use Rattle.sub_checker.specs.PieceTelling.{IsReadOn, TellsPieces}
 use Rattle.sub_checker.specs.Telling.{CountsRead}
 use Rattle.sub_checker.specs.declared.telling.Accepted.{Accepted}
 use Rattle.sub_laws.specs.Planned.{planned}
-use Rattle.sub_laws.specs.TrustedFrames.{MayStay, rising_part}
 use Rattle.sub_laws.proofs.EventLemmas.{none_refused}
 use Rattle.sub_laws.proofs.GoodLemmas.{rises_each, whole-is}
 use Rattle.sub_laws.proofs.GoodWithinLemmas.{law_of_good_within, law_of_no_delay}
@@ -49,9 +48,8 @@ use Rattle.sub_laws.proofs.RisingEndLemmas.{latest_at}
 use Rattle.sub_laws.proofs.RobustLemmas.{law_of_good}
 use Rattle.sub_laws.proofs.UntoldLemmas.{pieces_unrefused}
 use Rattle.sub_laws.proofs.ToldWithinLemmas.{law_of_nothing_told_within}
-use Rattle.sub_laws.proofs.TrustedFrameLemmas.{law_of_trusted}
 use Rattle.sub_check.specs.CheckedFiles.{HasCounts, IsChecked, IsCheckedWithin, TellsEvents}
-use Rattle.sub_check.specs.CheckedFiles.{TellsWhatMayStay, all_events_of, answer_by}
+use Rattle.sub_check.specs.CheckedFiles.{all_events_of, answer_by}
 use Rattle.sub_check.specs.CheckedFiles.{events_of_first_pieces, first_answer, frames_read}
 use Rattle.sub_check.specs.FirstTold.{IsRuleFault}
 use Rattle.sub_check.proofs.FirstToldLemmas.{each_whole, no_read, of_rule, undue_of_first}
@@ -417,16 +415,6 @@ pub answers_at_once : (programme : ProgrammeValue) (options : OptionsValue) (byt
 answers_at_once programme options bytes (Ok (Some a)) none all = all.at_once none
 answers_at_once programme options bytes (Ok None) none all = tt
 answers_at_once programme options bytes (Err f) none all = tt
-
--- Which frames may stay. For `check_all`.
-pub tells_what_may_stay : (programme : ProgrammeValue) (options : OptionsValue) (bytes : List ℕ)
-    → options.within ≡ 0
-    → TellsWhatMayStay programme options bytes
-tells_what_may_stay programme options bytes none from to is =
-    let file = piece_file_of (clock_of options) bytes in
-    subst (λ (t : Transmission). MayStay programme (rising_part t) options from to)
-    (sym (joined-within options.within (frames_of file.pieces) none))
-    (law_of_trusted programme options file.unread file.pieces from to none is)
 
 -- What was told of the file as one value. For `check_all`.
 pub tells_events :

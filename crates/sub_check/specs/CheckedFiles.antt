@@ -22,6 +22,7 @@ use Rattle.sub_rules.specs.PacketRules.{header_count}
 use Rattle.sub_rules.specs.Transmission.{SentFrame, first_frame, last_frame, Transmission}
 use Rattle.sub_rules.specs.declared.event.Event.{Event}
 use Rattle.sub_rules.specs.declared.event.Event.TheVariants.{Trusted}
+use Rattle.sub_laws.specs.PassedPackets.{PassedPackets, all_on_air}
 use Rattle.sub_laws.specs.TrustedFrames.{MayStay, rising_part}
 use Rattle.sub_laws.specs.TrustedWithDelay.{MayStayWithDelay}
 use Rattle.sub_rules.specs.Fault.{is_failure, is_pes_read, is_subtitle_fault}
@@ -301,21 +302,27 @@ answer_by (Some f) a = Err f
 abbrev pub first_answer : List Event → Accepted → Result Accepted CheckFault
 first_answer events a = answer_by (first_told events) a
 
--- Frames that are told as trusted may stay on air as they are: in the part of the transmission in
--- which frames rise, receivers recover there.
+-- What was on air by its pieces, where those that are passed over put these packets on air. Where
+-- they put none on air it is the frames that are read.
+abbrev pub on_air_with : OptionsValue → List ℕ → List PassedPackets → Transmission
+on_air_with options bytes passed =
+    all_on_air options.within (piece_file_of (clock_of options) bytes).pieces passed
+
+-- Frames that are told as trusted may stay on air as they are, whatever the pieces put on air that
+-- are passed over: in the part of the transmission in which frames rise, receivers recover there.
 abbrev pub TellsWhatMayStay : ProgrammeValue → OptionsValue → List ℕ → Type 0
 TellsWhatMayStay programme options bytes =
-    (from to : ℕ)
+    (passed : List PassedPackets) (from to : ℕ)
     → Contains (all_events_of programme options bytes) (Trusted from to)
-    → MayStay programme (rising_part (frames_read options bytes)) options from to
+    → MayStay programme (rising_part (on_air_with options bytes passed)) options from to
 
 -- So they may within frames: receivers recover there with a delay, and one of the frames at least
 -- is finished.
 abbrev pub TellsWhatMayStayWithDelay : ProgrammeValue → OptionsValue → List ℕ → Type 0
 TellsWhatMayStayWithDelay programme options bytes =
-    (from to : ℕ)
+    (passed : List PassedPackets) (from to : ℕ)
     → Contains (all_events_of programme options bytes) (Trusted from to)
-    → MayStayWithDelay programme (rising_part (frames_read options bytes)) options from to
+    → MayStayWithDelay programme (rising_part (on_air_with options bytes passed)) options from to
 
 -- What is told of its first pieces, wherever the source failed, begins what is told of all. So what
 -- is promised of trusted frames holds of those that were told before.

@@ -107,7 +107,8 @@ pub fn check_all<S: Source, A: LiveAudience<Event>>(
     ensures first_within { IfTold (S.remaining source.old) (λ bytes.
         IfOk result (λ counts. IfSome counts (λ a. IsCheckedWithin programme.now options.now bytes
         (first_answer (all_events_of programme.now options.now bytes) a)))) }
-    // What it is told as trusted may stay on air as it is.
+    // What it is told as trusted may stay on air as it is, whatever the pieces put on air that are
+    // passed over.
     ensures trusted { options.now.within ≡ 0 → IfTold (S.remaining source.old) (λ bytes.
         TellsWhatMayStay programme.now options.now bytes) }
     // So it may, with a delay, within frames.

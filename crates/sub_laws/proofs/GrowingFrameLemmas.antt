@@ -66,6 +66,27 @@ grown sent s frames is = (
       ∙ append_assoc sent (with_more is.rest s ∷ []) is.more,
 )
 
+-- With fewer packets of the last frame, and without it.
+pub grows_more : (packets : List (List ℕ)) (sent frames : Transmission)
+    → Grows (with_packets packets sent) frames
+    → Grows sent frames
+grows_more packets sent frames is = record {
+  rest = packets ++ is.rest;
+  more = is.more;
+  whole = is.whole ∙ ap (λ (l : Transmission). l ++ is.more) (with_two packets is.rest sent);
+}
+
+pub grows_one : (sent : Transmission) (s : SentFrame) (frames : Transmission)
+    → Grows (sent ++ s ∷ []) frames
+    → Grows sent frames
+grows_one sent s frames is =
+    let all = grown sent s frames is in
+    record {
+      rest = [];
+      more = all.0;
+      whole = all.1 ∙ sym (ap (λ (l : Transmission). l ++ all.0) (with_none sent));
+    }
+
 -- One PES packet before.
 pub grows_before : (within : ℕ) (sent : Transmission) (s : SentFrame) (frames : Transmission)
     → Grows (sent_after within sent s) frames
@@ -75,19 +96,8 @@ grows_before within sent s frames = go (goes_on_with within sent s)
     go : (same : Bool)
         → Grows (cond same (with_packets s.packets sent) (sent ++ s ∷ [])) frames
         → Grows sent frames
-    go true is = record {
-      rest = s.packets ++ is.rest;
-      more = is.more;
-      whole = is.whole
-          ∙ ap (λ (l : Transmission). l ++ is.more) (with_two s.packets is.rest sent);
-    }
-    go false is =
-        let all = grown sent s frames is in
-        record {
-          rest = [];
-          more = all.0;
-          whole = all.1 ∙ sym (ap (λ (l : Transmission). l ++ all.0) (with_none sent));
-        }
+    go true = grows_more s.packets sent frames
+    go false = grows_one sent s frames
 
 pub grows : (within : ℕ) (sent more : Transmission)
     → Grows sent (joined_after within sent more)

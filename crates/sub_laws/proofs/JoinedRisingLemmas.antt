@@ -11,13 +11,13 @@ use Rattle.sub_rules.proofs.JoinedLemmas.{sent_after-other}
 use Rattle.sub_laws.proofs.GoodLemmas.{rises_each}
 
 -- A frame of the first of two lists, and the first of the second.
-frame_at-left : (xs ys : Transmission) (i : ℕ) → i < length xs
+pub frame_at-left : (xs ys : Transmission) (i : ℕ) → i < length xs
     → frame_at (xs ++ ys) i ≡ frame_at xs i
 frame_at-left [] ys i l = absurd (omega arith)
 frame_at-left (x ∷ xs) ys zero l = refl
 frame_at-left (x ∷ xs) ys (suc i) l = frame_at-left xs ys i (omega arith)
 
-frame_at-next : (xs : Transmission) (s : SentFrame) (ys : Transmission)
+pub frame_at-next : (xs : Transmission) (s : SentFrame) (ys : Transmission)
     → frame_at (xs ++ s ∷ ys) (length xs) ≡ s.frame
 frame_at-next [] s ys = refl
 frame_at-next (x ∷ xs) s ys = frame_at-next xs s ys

@@ -23,6 +23,8 @@ pub mod JoinedRisingLemmas
 pub mod LateDoubtLemmas
 pub mod LeadMarkLemmas
 pub mod MarkTestLemmas
+pub mod PassedPacketLemmas
+pub mod PassedTrustLemmas
 pub mod PesFileLemmas
 pub mod PieceWalkLemmas
 pub mod PlaceLemmas
@@ -32,6 +34,7 @@ pub mod ReadFileLemmas
 pub mod RisingEndLemmas
 pub mod RobustLemmas
 pub mod SaidLemmas
+pub mod SameStretchLemmas
 pub mod SayMarkLemmas
 pub mod SoundStretchLemmas
 pub mod SoundUntoldLemmas
@@ -46,6 +49,7 @@ pub mod ToldWithinLemmas
 pub mod TransmissionLemmas
 pub mod TrustedDelayLemmas
 pub mod TrustedFrameLemmas
+pub mod TrustedOnAirLemmas
 pub mod TrustedRunLemmas
 pub mod UnfinishedLemmas
 pub mod UntoldLemmas

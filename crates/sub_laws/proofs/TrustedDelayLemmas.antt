@@ -1,35 +1,24 @@
--- Frames that are told as trusted within some frames may stay in the part in which frames rise:
--- `law_of_trusted_with_delay`.
-use Rattle.std.proofs.lemmas.Bool.Decides.{nat_tests}
+-- One of the frames at least that are told as trusted within some frames is finished:
+-- `finished_there`.
 use Rattle.std.proofs.Common.{◌≡◌, ℕ, ◌-◌, ◌<◌, ◌≤◌, ◌==◌, inl, inr, false, None, length, drop}
-use Rattle.std.proofs.Common.{Option, refl, sym, ap, ◌∙◌, arith}
+use Rattle.std.proofs.Common.{Option, sym, ap, ◌∙◌, arith}
 use Rattle.std.proofs.lemmas.Bool.{cases_lt}
 use Rattle.std.proofs.lemmas.List.{take-append-drop}
-use Rattle.std.proofs.lemmas.List.Elements.{All-contains}
 use Rattle.stl_rows.specs.Programme.{ProgrammeValue}
 use Rattle.sub_plan.specs.Options.{OptionsValue}
 use Rattle.sub_rules.specs.Events.{unfinished_since}
 use Rattle.sub_rules.specs.FrameRules.{Task, Unread, task_of}
 use Rattle.sub_rules.specs.GoodWithin.{SomeFinished}
-use Rattle.sub_rules.specs.PieceEvents.{all_of_pieces}
-use Rattle.sub_rules.specs.Pieces.{frames_of, joined}
 use Rattle.sub_rules.specs.Transmission.{Transmission}
-use Rattle.sub_rules.specs.declared.event.Event.TheVariants.{Trusted}
 use Rattle.sub_rules.proofs.PrefixEventLemmas.{unfinished_since-prefix}
 use Rattle.sub_laws.specs.CleanStretch.{IsEnd}
 use Rattle.sub_laws.specs.TrustedFrames.{rising_part}
-use Rattle.sub_laws.specs.TrustedWithDelay.{LawOfTrustedWithDelay}
-use Rattle.sub_laws.proofs.DelayLemmas.{law_of_stretch_with_delay}
-use Rattle.sub_laws.proofs.DelayPieceLemmas.{all_stay_within}
 use Rattle.sub_laws.proofs.DelayRunLemmas.{MayStand}
-use Rattle.sub_laws.proofs.DoubtLemmas.{OnTrusted}
 use Rattle.sub_laws.proofs.FinishedLemmas.{finished_of, since_no}
 use Rattle.sub_laws.proofs.PrefixLemmas.{RiseTo, frame_at-take, take_rises}
-use Rattle.sub_laws.proofs.SufficientDelayLemmas.{enough_with_delay}
-use Rattle.sub_laws.proofs.TrustedFrameLemmas.{closed, count_most, header_there, part_last}
+use Rattle.sub_laws.proofs.TrustedFrameLemmas.{count_most, part_last}
 use Rattle.sub_laws.proofs.TrustedFrameLemmas.{part_length, part_rises, risen, risen_low, untold}
 
--- One of them is finished.
 module _ (programme : ProgrammeValue) (options : OptionsValue) (unread : Option Unread)
     (frames : Transmission) (from to : ℕ)
     (may : MayStand (task_of programme options unread) frames from to)
@@ -104,21 +93,3 @@ module _ (programme : ProgrammeValue) (options : OptionsValue) (unread : Option 
           (since_no programme options unread part up may.whole.n may.w end_in_part
           (since_none some)),
     )
-
-pub law_of_trusted_with_delay : LawOfTrustedWithDelay
-law_of_trusted_with_delay programme options unread pieces from to is within told =
-    let g = task_of programme options unread in
-    let frames : Transmission = joined options.within (frames_of pieces) in
-    let part : Transmission = rising_part frames in
-    let some : (options.within == 0) ≡ false = grind (arith, nat_tests) in
-    let may : MayStand g frames from to =
-    All-contains (OnTrusted (MayStand g frames)) (all_of_pieces g pieces) (Trusted from to)
-    (all_stay_within g frames pieces refl) told in
-    record {
-      header = header_there g frames from to may.stays;
-      trusted =
-          law_of_stretch_with_delay programme part options from to
-          (enough_with_delay programme options unread part from to
-          (untold g frames from to may.stays) (closed g frames from to may.stays) is);
-      finished = finished_there programme options unread frames from to may some;
-    }

@@ -1,34 +1,26 @@
--- Frames that are told as trusted may stay in the part in which frames rise: `law_of_trusted`.
+-- Of frames that are told as trusted nothing is told that a receiver depends on, in the part in
+-- which frames rise: `untold`; nor is the page open at an end of them, `closed`, and the first one
+-- has a header of the page, `header_there`.
 use Rattle.std.proofs.lemmas.Bool.Decides.{nat_tests}
 use Rattle.std.specs.Bool.{Decides}
 use Rattle.std.proofs.Common.{◌≡◌, ℕ, zero, suc, ◌+◌, ◌-◌, ◌<◌, ◌≤◌, inl, inr, true, false, length}
-use Rattle.std.proofs.Common.{take, drop, None, ap, refl, subst, sym, ◌∙◌, arith, IsFalse}
+use Rattle.std.proofs.Common.{take, drop, None, ap, sym, ◌∙◌, arith, IsFalse}
 use Rattle.std.proofs.lemmas.Bool.{cases_lt, cases_eq}
 use Rattle.std.proofs.lemmas.List.{length-take-le, take-append-drop, take-take}
-use Rattle.std.proofs.lemmas.List.Elements.{All-contains}
 use Rattle.ttx_page.specs.PacketKind.{kind}
 use Rattle.ttx_page.specs.Span.{holds_header}
 use Rattle.sub_rules.specs.Events.{Standing, standing_at}
-use Rattle.sub_rules.specs.FrameRules.{Task, frame_at, packets_of_frame, task_of}
+use Rattle.sub_rules.specs.FrameRules.{Task, frame_at, packets_of_frame}
 use Rattle.sub_rules.specs.PacketTests.{breaks}
-use Rattle.sub_rules.specs.PieceEvents.{all_of_pieces, sent_by_pieces}
-use Rattle.sub_rules.specs.Pieces.{frames_of}
 use Rattle.sub_rules.specs.Transmission.{Transmission, last_frame, packets_of}
 use Rattle.sub_rules.specs.Trusted.{stands_none}
-use Rattle.sub_rules.specs.declared.event.Event.TheVariants.{Trusted}
 use Rattle.sub_rules.specs.declared.packet_rule.PacketRule.{PacketRule}
-use Rattle.sub_rules.proofs.JoinedLemmas.{joined-within}
 use Rattle.sub_rules.proofs.PrefixEventLemmas.{standing_at-prefix}
 use Rattle.sub_laws.specs.CleanStretch.{AtEnds, IsEnd, IsStretch, IsUntold, is_needed}
-use Rattle.sub_laws.specs.TrustedFrames.{LawOfTrusted, rises_at, rising_count, rising_part}
-use Rattle.sub_laws.proofs.CleanStretchLemmas.{law_of_untold_stretch}
-use Rattle.sub_laws.proofs.DelayPieceLemmas.{all_stay_within}
-use Rattle.sub_laws.proofs.DelayRunLemmas.{MayStand}
-use Rattle.sub_laws.proofs.DoubtLemmas.{OnTrusted}
+use Rattle.sub_laws.specs.TrustedFrames.{rises_at, rising_count, rising_part}
 use Rattle.sub_laws.proofs.GoodLemmas.{any_sent}
 use Rattle.sub_laws.proofs.PrefixLemmas.{RiseTo, before, first-same, frame_at-take, packet_at}
 use Rattle.sub_laws.proofs.PrefixLemmas.{packets-take, rises_to, take_last, take_rising}
-use Rattle.sub_laws.proofs.StretchLemmas.{law_of_stretch}
 use Rattle.sub_laws.proofs.TrustedRunLemmas.{StaysTo}
 
 -- ---- the rising part
@@ -157,7 +149,7 @@ module _ (g : Task) (frames : Transmission) (from to : ℕ) (stays : StaysTo g f
   last_low = grind (arith, nat_tests, cases_lt, risen_low, order, before, n_low, rises_more)
 
   -- The frame of its header.
-  j_low : stays.run.j < m
+  pub j_low : stays.run.j < m
   j_low = let b = stays.run.below in let l = n_low in omega arith
 
   stretch : IsStretch part from to
@@ -207,25 +199,3 @@ module _ (g : Task) (frames : Transmission) (from to : ℕ) (stays : StaysTo g f
       any_sent g.watched part stays.run.j from (let l = j_low in omega arith)
       (frame_at-take frames m stays.run.j j_low ∙ stays.run.at)
       (grind (arith, nat_tests, packets-take, j_low))
-
--- ---- the law
-
-pub law_of_trusted : LawOfTrusted
-law_of_trusted programme options unread pieces from to at_once told =
-    let g = task_of programme options unread in
-    let frames = frames_of pieces in
-    let sent = sent_by_pieces g pieces in
-    let may : MayStand g sent from to =
-    All-contains (OnTrusted (MayStand g sent)) (all_of_pieces g pieces) (Trusted from to)
-    (all_stay_within g sent pieces refl) told in
-    let stays : StaysTo g frames from to =
-    subst (λ (fs : Transmission). StaysTo g fs from to)
-    (joined-within options.within frames at_once) may.stays in
-    let clean =
-    law_of_untold_stretch programme (rising_part frames) options unread from to at_once
-    (untold g frames from to stays) in
-    record {
-      header = header_there g frames from to stays;
-      trusted = law_of_stretch programme (rising_part frames) options from to clean.0;
-      complete = λ asks. clean.1 asks (closed g frames from to stays);
-    }

@@ -6,6 +6,7 @@ pub mod DelayLaws
 pub mod Laws
 pub mod LostRows
 pub mod OnScreen
+pub mod PassedPackets
 pub mod Planned
 pub mod Recovery
 pub mod Robust

@@ -15,6 +15,7 @@ use Rattle.sub_rules.specs.Transmission.{Transmission, last_frame}
 use Rattle.sub_rules.specs.declared.event.Event.TheVariants.{Trusted}
 use Rattle.sub_laws.specs.CleanStretch.{AtEnds, IsUntold}
 use Rattle.sub_laws.specs.OnScreen.{CompleteWithin}
+use Rattle.sub_laws.specs.PassedPackets.{PassedPackets, all_on_air}
 use Rattle.sub_laws.specs.Stretch.{MayBeTrusted}
 
 -- ---- the rising part
@@ -48,16 +49,16 @@ pub record MayStay
   pub trusted : MayBeTrusted programme transmission options from to
   pub complete : IsTrue options.asks_complete → CompleteWithin transmission options from to
 
--- Frames that are told as trusted of a PES file may stay, in the part of what is sent in which
--- frames rise: whatever is broken elsewhere, and whatever the pieces put on air that are passed
--- over, in their places. So who mends a transmission need not touch them.
+-- Frames that are told as trusted of a PES file may stay, in the part of what is on air in which
+-- frames rise: whatever is broken elsewhere, and whatever packets the pieces put on air that are
+-- passed over, in their places. So who mends a transmission need not touch them.
 abbrev pub LawOfTrusted : Type 0
 LawOfTrusted =
     (programme : ProgrammeValue) (options : OptionsValue) (unread : Option Unread)
-    → (pieces : List Piece) (from to : ℕ)
+    → (pieces : List Piece) (passed : List PassedPackets) (from to : ℕ)
     → options.within ≡ 0
     → Contains (all_of_pieces (task_of programme options unread) pieces) (Trusted from to)
-    → MayStay programme (rising_part (frames_of pieces)) options from to
+    → MayStay programme (rising_part (all_on_air options.within pieces passed)) options from to
 
 -- ---- nothing is left out
 

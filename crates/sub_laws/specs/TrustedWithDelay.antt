@@ -7,10 +7,11 @@ use Rattle.sub_rules.specs.FrameRules.{Unread, task_of}
 use Rattle.sub_rules.specs.Good.{HoldsHeader}
 use Rattle.sub_rules.specs.GoodWithin.{SomeFinished}
 use Rattle.sub_rules.specs.PieceEvents.{all_of_pieces}
-use Rattle.sub_rules.specs.Pieces.{Piece, frames_of, joined}
+use Rattle.sub_rules.specs.Pieces.{Piece}
 use Rattle.sub_rules.specs.Transmission.{Transmission}
 use Rattle.sub_rules.specs.declared.event.Event.TheVariants.{Trusted}
 use Rattle.sub_laws.specs.Delay.{MayBeTrustedWithDelay}
+use Rattle.sub_laws.specs.PassedPackets.{PassedPackets, all_on_air}
 use Rattle.sub_laws.specs.TrustedFrames.{rising_part}
 
 -- The frames from one to another may stay on air as they are, by what is sent up to the last of
@@ -26,15 +27,15 @@ pub record MayStayWithDelay
   pub finished : SomeFinished programme transmission options from to
 
 -- Frames that are told as trusted of a PES file within some frames may stay, in the part of what is
--- sent in which frames rise: whatever is broken elsewhere, and whatever the pieces put on air that
--- are passed over, in their places. PES packets of one frame that follow one another are one there.
--- So who mends a transmission that may be late need not touch them.
+-- on air in which frames rise: whatever is broken elsewhere, and whatever packets the pieces put on
+-- air that are passed over, in their places. PES packets of one frame that follow one another are
+-- one there. So who mends a transmission that may be late need not touch them.
 abbrev pub LawOfTrustedWithDelay : Type 0
 LawOfTrustedWithDelay =
     (programme : ProgrammeValue) (options : OptionsValue) (unread : Option Unread)
-    → (pieces : List Piece) (from to : ℕ)
+    → (pieces : List Piece) (passed : List PassedPackets) (from to : ℕ)
     → IsProgramme programme.national programme.records
     → 0 < options.within
     → Contains (all_of_pieces (task_of programme options unread) pieces) (Trusted from to)
-    → MayStayWithDelay programme (rising_part (joined options.within (frames_of pieces))) options
+    → MayStayWithDelay programme (rising_part (all_on_air options.within pieces passed)) options
     from to

@@ -13,6 +13,7 @@ ghost use Rattle.sub_laws.specs.Laws.{LawOfAllKept, LawOfGood, LawOfWindow};
 ghost use Rattle.sub_laws.specs.OnScreen.{LawOfCompletePlan};
 ghost use Rattle.sub_rules.specs.PesReading.{LawOfExactFrames, LawOfPesFiles};
 ghost use Rattle.sub_rules.specs.PieceEvents.{LawOfFirstTold};
+ghost use Rattle.sub_laws.specs.PassedPackets.{LawOfPassedPackets};
 ghost use Rattle.sub_laws.specs.Planned.{LawOfPlan, LawOfPlanRead};
 ghost use Rattle.sub_laws.specs.Stretch.{LawOfWholeRecovery, LawOfWholeStretch};
 ghost use Rattle.sub_laws.specs.Sufficient.{LawOfStretch, LawOfSufficientParts};
@@ -112,9 +113,16 @@ pub fn law_of_untold_stretch()
     ensures { LawOfUntoldStretch }
 {}
 
+/// What is on air of a PES file is what is sent, and in its place what each piece put on air that
+/// is passed over.
+#[tactic(auto, using(crate::proofs::PassedPacketLemmas::law_of_passed_packets))]
+pub fn law_of_passed_packets()
+    ensures { LawOfPassedPackets }
+{}
+
 /// Frames that are told as trusted of a PES file may stay on air as they are, whatever is broken
-/// elsewhere, and whatever its pieces put on air that are passed over: the first one holds a header
-/// of the page, and from it on receivers recover there.
+/// elsewhere, and whatever packets its pieces put on air that are passed over: the first one holds
+/// a header of the page, and from it on receivers recover there.
 pub fn law_of_trusted()
     ensures { LawOfTrusted }
 {}
