@@ -59,6 +59,11 @@ def with_late_rows(sendings: Sent, late: int = 1) -> Sent:
     return found
 
 
+def with_late_ends(sendings: Sent) -> Sent:
+    """Rows and closing headers a frame after the header of the page, also where it is erased."""
+    return [one for pts, some in sendings for one in ((pts, some[:1]), (pts + TICKS, some[1:]))]
+
+
 def with_jitter(sendings: Sent) -> Sent:
     """Each PTS a few milliseconds off."""
     chance = random.Random(1)
@@ -253,6 +258,26 @@ def cuts_to_the_blank_page(case: Case) -> None:
     done = case.tool("cut", pes, "--stl", HELLO, "--within", "1", "-o", "early.cut.pes")
     end = pts_in(packets(case.read("early.cut.pes"))[-1]) // TICKS - TEN - 50
     case.test("nothing comes for some time", done.status == 0 and end == 97, (end, done))
+
+
+def cuts_to_the_end_of_the_page(case: Case) -> None:
+    """Where a closing header ended the page before, the one after the last TCO is in the cut, though
+    the page is blank before it; of an inserter without any nothing is waited for."""
+    planned = sent(case, HELLO)
+    for name, some in (("late ends", with_late_ends(planned)),
+                       ("none", [(pts, few[:-1]) for pts, few in planned])):
+        after = some[-1][0] + 2 * TICKS
+        pes = case.write("sent.pes", joined([*some, (after, some[-1][1])]))
+        done = case.tool("cut", pes, "--stl", HELLO, "--within", "5", "-o", "cut.pes")
+        case.test(name, done.status == 0 and case.read("cut.pes") == joined(some), done)
+    pes = case.write("story.pes", joined(with_late_ends(sent(case, STORY, *WORDS))))
+    for words in (["--within", "1"], ["--within", "1", *WORDS], ["--within", "5"]):
+        done = qc(case, STORY, pes, *words)
+        case.test(f"{words}", done.status == 0, done)
+    done = qc(case, STORY, "-", "--within", "1", *WORDS, data=case.read("story.pes"))
+    case.test("a feed", done.status == 0, done)
+    done = qc(case, STORY, pes, *WORDS)
+    case.test("what would accept it", "within 1 it is accepted: --within 1" in lines_of(done), done)
 
 
 def begins_with_a_blank_frame(case: Case) -> None:
@@ -535,7 +560,8 @@ def is_quick_without_it(case: Case) -> None:
 
 
 CASES = [takes_the_frames_of_pts, judges_what_is_blameless, stays_without_it, finds_the_origin,
-         tells_how_late_edges_are, cuts_to_the_blank_page, begins_with_a_blank_frame,
+         tells_how_late_edges_are, cuts_to_the_blank_page, cuts_to_the_end_of_the_page,
+         begins_with_a_blank_frame,
          names_the_least, says_of_each_subtitle, places_faults_of_fields, goes_with_every_call,
          judges_parts, says_what_to_type, names_no_wrong_cause, measures_repeats,
          says_what_adds_up, passes_over_repeats, refuses_other_words, is_quick_without_it]
