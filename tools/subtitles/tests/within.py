@@ -196,6 +196,11 @@ def passes_over_repeats(case: Case) -> None:
         frames, ticks = divmod(late, TICKS)
         how = f"{frames} frame{'s' * (frames > 1)}" if frames else f"{ticks} ticks"
         case.test(f"{name}: the delay", f"qc: all subtitles are {how} late" in done.told, done)
+    chance = random.Random(6)
+    pes = case.write("loaded.pes", joined([(pts + TICKS * (3 + (chance.randrange(4) == 0)), some)
+                                           for pts, some in planned]))
+    done = qc(case, stl, pes, *WORDS)
+    case.test("not all", "qc: most subtitles are 3 frames late" in done.told, done)
     # Two subtitles with one text, and four frames between them.
     data = gsi_block(b"Again", 6, 6) + b"".join(
         subtitle_blocks(number, 100 * number, 100 * number + 96, 22, 2, b"No!")
