@@ -67,8 +67,9 @@ def is_blank(sent: Sent) -> bool:
 
 
 class Blank:
-    """Hears what is taken, and tells whether the page is blank after it: the last frame within 1
-    and more is the first one from the last TCO on at whose end it is."""
+    """Hears what is taken, and tells whether the page is blank after it, and has ended where it
+    does: the last frame within 1 and more is the first one from the last TCO on at whose end that
+    is so."""
 
     def __init__(self, page: Page) -> None:
         self.sent = Sent(page)
@@ -85,10 +86,10 @@ class Blank:
         self.sent.take_all(self.waiting)
         self.waiting = []
 
-    def is_blank(self) -> bool:
-        """Whether the page is blank."""
+    def is_over(self) -> bool:
+        """Whether the page is blank, and ended by another header where it was before."""
         self.hear()
-        return is_blank(self.sent)
+        return is_blank(self.sent) and not (self.sent.was_ended and self.sent.is_open)
 
 
 class Cut:
@@ -97,8 +98,8 @@ class Cut:
     With `every` it takes more: from the last sending on that comes at most so many frames before
     `begin` and leaves the page blank, where there is one; and up to the first sending at `end` or
     at most so many frames later. `within` more frames it ends with the first one from `end` on at
-    whose end the page is blank, or that is as many after it. With `packets` it takes none but those
-    of these numbers.
+    whose end the page is blank, and has ended where it does, or that is as many after it. With
+    `packets` it takes none but those of these numbers.
 
     A PES packet without a PTS goes with the one before. `read` counts all of them and `kept` those
     that were taken, `first` and `last` are the frames of these. `is_over` once two in a row were
@@ -175,7 +176,7 @@ class Cut:
         if self.blank:
             self.blank.take(found)
             if self.frame >= self.end:  # its other PES packets may come, and not be blank
-                self.has_end = self.frame >= self.end + self.within or self.blank.is_blank()
+                self.has_end = self.frame >= self.end + self.within or self.blank.is_over()
         elif not self.has_end and self.frame >= self.end and self.has_header(data):
             self.high, self.has_end = self.frame, True
         self.last = self.frame

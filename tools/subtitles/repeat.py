@@ -11,6 +11,7 @@ from .teletext import CODE_WORDS, Page, mirrored
 from .units import ADDRESS
 
 FEWEST = 3  # repeats that are measured
+NEAR = 5  # frames before an edge in which its own sending may come, by a clock that is late
 
 
 def coded_header(page: Page) -> bytes:
@@ -41,13 +42,14 @@ def measured(frames: Iterable[int], edges: Sequence[int]) -> int | None:
     """The frames from one repeat to the next at most times, `None` where there are too few.
 
     A repeat is a sending since whose forerunner nothing became due: `edges` are the frames, rising,
-    at which that is so. The first repeat after an edge tells nothing: it may come at once. Where
-    each is sent twice in a row, most of the time lies between two pairs of them.
+    at which that is so. The first repeat after an edge tells nothing: it may come at once; nor does
+    what comes just before one, which may be its own sending. Where each is sent twice in a row,
+    most of the time lies between two pairs of them.
     """
     known = sorted(set(frames))
     found = []
     for before, first, second in zip(known, known[1:], known[2:]):
-        if bisect.bisect_right(edges, before) == bisect.bisect_right(edges, second):
+        if bisect.bisect_right(edges, before) == bisect.bisect_right(edges, second + NEAR):
             found.append(second - first)
     if len(found) < FEWEST:
         return None

@@ -62,6 +62,7 @@ class Sent:
         self.before: dict[int, bytes] | None = None
         self.field = b""
         self.is_open = self.has_header = self.is_new = False
+        self.was_ended = False  # the page, by a header of another one
         self.changes: list[Change] = []
         self.headers: list[Headers] = []
         self.bases, self.number = Bases(), 0
@@ -127,6 +128,7 @@ class Sent:
                 self.rows = {}
         else:
             if magazine == self.page[0] or has_bit(header, SERIAL):
+                self.was_ended = self.was_ended or self.is_open
                 self.is_open = False
             if has_bit(header, SUBTITLE):
                 self.others[magazine, page] += 1

@@ -14,7 +14,7 @@ import heapq
 import itertools
 from typing import Hashable, Iterable, Iterator, NamedTuple, Sequence
 
-from .sent import Change as Sent
+from .sent import ROWS, Change as Sent
 from .times import CLOCK, EARLY, TICKS
 
 VOTES = 4_000_000  # how many are counted; of longer files some changes vote for all
@@ -22,6 +22,7 @@ LONG = 600_000  # frames of an election in which each pair is counted by itself
 REPEATED = 20  # subtitles with the same letters; where there are more, their text does not vote
 TRIED = 64  # origins that are held against all edges
 MOST_APART = 50  # frames between all beginnings and all ends
+AGAIN = 5  # frames, at most, in which a page that is erased to be sent again is whole
 
 
 class Shown(NamedTuple):
@@ -100,7 +101,8 @@ class Election:
 
     Within 0 an edge agrees with a change at its frame, whatever the letters are. Within more it
     agrees where the page gets the letters that are due, at its frame or as many later; PTS are then
-    of the frame in which they lie, so that of each frame the last change counts.
+    of the frame in which they lie, so that of each frame the last change counts. A page that is
+    erased only to be sent again does not change.
     """
 
     def __init__(self, edges: Sequence[Edge], changes: Sequence[Sent], first: int, last: int,
@@ -111,6 +113,7 @@ class Election:
             phase = phase_of((change.pts - first) % CLOCK for change in changes)
             self.first = (first + phase) % CLOCK
             changes = list(self.at_ends(changes))
+        changes = without_repeats(changes, min(AGAIN, least_pause(edges) - 1))
         # Of each change its distance from the first PTS: frames, and ticks more or less.
         self.changes: dict[int, tuple[bytes, int]] = {}
         for change in changes:
@@ -118,6 +121,7 @@ class Election:
             self.changes[frames] = change.letters, ticks
         self.length = max(self.distance(last)[0], 0)
         self.best: list[Fit] | None = None
+        self.known_apart: dict[int, Apart | None] = {}  # by start, since it is asked for often
 
     def at_ends(self, changes: Sequence[Sent]) -> Iterator[Sent]:
         """The changes from the end of one frame to that of another: a text that is erased and comes
@@ -133,6 +137,7 @@ class Election:
         """The election of some of the edges, by the changes between two distances."""
         one = copy.copy(self)
         one.edges, one.frames, one.best = edges, [edge.frame for edge in edges], None
+        one.known_apart = {}
         one.changes = {frames: change for frames, change in self.changes.items()
                        if low < frames < high}
         return one
@@ -226,6 +231,12 @@ class Election:
 
         Only edges at which the letters change to those that are due count here.
         """
+        if fit.start not in self.known_apart:
+            self.known_apart[fit.start] = self.found_apart(fit)
+        return self.known_apart[fit.start]
+
+    def found_apart(self, fit: Fit) -> Apart | None:
+        """The same, which takes some time."""
         for is_begin in (True, False):
             now = self.late_by(fit, is_begin, 0)
             if now.of and now.agree * 2 >= now.of:
@@ -256,6 +267,37 @@ class Election:
         """The letters to which the page changes so many frames after the first PTS."""
         change = self.changes.get(frames)
         return change[0] if change else None
+
+
+def least_pause(edges: Sequence[Edge]) -> int:
+    """The fewest frames between two subtitles one after the other with the same letters."""
+    return min((after.frame - end.frame for begin, end, after in zip(edges, edges[1:], edges[2:])
+                if begin.letters == after.letters and not end.letters), default=AGAIN + 1)
+
+
+def without_repeats(changes: Sequence[Sent], most: int) -> list[Sent]:
+    """The changes, without those of a page that is erased and sent again, as with each repeat of
+    an inserter whose rows come after their header: in so many frames its text is back."""
+    found: list[Sent] = []
+    number = 0
+    while number < len(changes):
+        found.append(changes[number])
+        back: int | None = number
+        while back is not None:
+            number, back = back, back_at(changes, back, most)
+        number += 1
+    return found
+
+
+def back_at(changes: Sequence[Sent], number: int, most: int) -> int | None:
+    """The number of the change after which the text of another one is back, which was erased so
+    many frames before at most."""
+    text, after = changes[number], changes[number + 1:number + 2 + len(ROWS)]
+    if not text.letters or not after or after[0].letters:
+        return None
+    near = itertools.takewhile(
+        lambda one: (one.pts - after[0].pts) % CLOCK <= TICKS * most, after)
+    return next((number + away for away, one in enumerate(near, 1) if one.rows == text.rows), None)
 
 
 def phase_of(distances: Iterable[int]) -> int:

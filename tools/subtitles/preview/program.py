@@ -50,7 +50,7 @@ class Subtitle:
 
     def whole_words(self) -> str:
         """After how many frames it was whole."""
-        return "never whole while it is due" if self.whole_after is None else \
+        return "not seen whole while it is due" if self.whole_after is None else \
             f"whole after {counted(self.whole_after, 'frame')}"
 
 

@@ -16,7 +16,9 @@ carriers      the PES packets of a transport stream, one file for a PID
 feed          a recording that comes through a pipe
 live          `check --all` that hears a feed
 stall         a feed that stands still
+fitting       what tools/origin says of it: parts with their clocks
 start         the clock by the first picture
+clock         the clock of a part, and what is said of it
 warned        what is strange of a recording
 
 checking      `check --all`, and what it comes to

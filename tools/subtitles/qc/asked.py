@@ -14,6 +14,7 @@ from ..words import (
     start_word, within_words)
 
 AUTO = "auto"  # the national option is that of the language
+MOST_TRIED = 5  # frames within which a recording is tried, where it is not judged or refused
 LC, GERMAN = slice(14, 16), b"08"  # the field in the GSI block, and a language in it
 
 
@@ -56,6 +57,10 @@ class Asked:
 
     def within_words(self) -> list[str]:
         return within_words(self.within)
+
+    def within_more(self, within: int) -> Asked:
+        """The same within other frames."""
+        return dataclasses.replace(self, within=within)
 
     def clock_words(self) -> list[str]:
         """What tools/origin is told of the clock, as options."""

@@ -20,6 +20,7 @@ TEXT, PLACE, ATTRIBUTE = "wrong text", "wrong place", "wrong colour or attribute
 NOT_ERASED, UNKNOWN = "not erased", "unknown"
 NAMES = (LATE, EARLY, NEVER, OTHER, TEXT, PLACE, ATTRIBUTE, NOT_ERASED, UNKNOWN)
 UNSEEN = "not all that was sent then can be read"
+IN_PARTS = "as it is due only after another PES packet of the same frame"
 
 
 class Cause(NamedTuple):
@@ -197,6 +198,8 @@ class Namer:
             if came is not None and came < one.begin:
                 return self.moved(place, came)
             return self.later(place, faulty)
+        if came is not None and self.is_in_time(place, came):
+            return self.later(place, faulty)
         strange = self.strange(place, came)
         if strange is not None:
             return self.differs(place, strange)
@@ -211,7 +214,30 @@ class Namer:
         if came > one.begin and not self.held.is_seen(one.begin, came):
             return self.unknown(place, one.begin, came, UNSEEN)
         name, frames = (LATE, came - one.begin) if came > one.begin else (EARLY, one.begin - came)
-        return Cause(place, name, frames, one.rows, None, "", max(came, one.begin))
+        words = self.row_words(came) if name == LATE and frames <= self.held.within else ""
+        return Cause(place, name, frames, one.rows, None, words, max(came, one.begin))
+
+    def is_in_time(self, place: int, came: int) -> bool:
+        """Whether a page came as many frames after its TCI as are allowed, and the page was whole
+        as many before that."""
+        late = came - self.subtitles[place].begin
+        return 0 < late <= self.held.within and \
+            came - self.broken_since(came - 1) <= self.held.within
+
+    def broken_since(self, frame: int) -> int:
+        """The first of the frames in a row, up to one, at whose ends another page is held than the
+        one that is due; it is not looked for farther back than 250 frames."""
+        first = frame
+        while frame - first < LEAST and first > 0 and not self.is_due(first - 1):
+            first -= 1
+        return first
+
+    def row_words(self, came: int) -> str:
+        """For how many frames in a row the page was not whole when it came. Where it was not before
+        the TCI either these are more than it is late."""
+        first = self.broken_since(came - 1)
+        return f"the page is not whole for {counted(came - first, 'frame')} in a row, from " \
+            f"{time_of(first)} on"
 
     def never(self, place: int) -> Cause:
         """Its page came nowhere near."""
@@ -252,6 +278,9 @@ class Namer:
     def later(self, place: int, faulty: Faulty) -> Cause:
         """It came at its TCI; something was wrong after that, or before."""
         one = self.subtitles[place]
+        span = faulty.within or faulty.after
+        if span and self.is_due(span.first):
+            return self.unknown(place, span.first, one.end, IN_PARTS)
         if faulty.within:
             return self.broken(place, faulty.within)
         if faulty.after is None:
@@ -284,7 +313,7 @@ class Namer:
             return self.of_other(place, other, one.end)
         if page == BLANK_PAGE:
             return self.unknown(place, span.first, one.end,
-                                f"it is gone at {time_of(span.first)}")
+                                f"it is gone at {time_of(self.broken_since(span.first))}")
         return self.differs(place, number)
 
     def unknown(self, place: int, frame: int, known: int, words: str) -> Cause:

@@ -18,7 +18,7 @@ Frames = Sequence[int | None]  # of each subtitle; `None` where nobody saw it wh
 
 class Spread(NamedTuple):
     """The least of some numbers of frames, the one in the middle, and the greatest; how many
-    subtitles are never whole."""
+    subtitles nobody saw whole."""
 
     least: int
     middle: int
@@ -28,7 +28,7 @@ class Spread(NamedTuple):
     def words(self) -> str:
         """All that in a line."""
         middle = "" if self.least == self.greatest else f", {self.middle} in the middle"
-        never = f"; {self.never} never" if self.never else ""
+        never = f"; {self.never} not seen whole" if self.never else ""
         return f"subtitles are whole after {range_words(self.least, self.greatest)}{middle}{never}"
 
 
@@ -48,7 +48,9 @@ def frames_of(programme: Programme, held: Held, is_complete: bool) -> list[int |
 
 
 def frames_until(one: Subtitle, held: Held, is_complete: bool) -> int | None:
-    """The same of one."""
+    """The same of one; where nothing of the page was heard before its TCI nobody knows."""
+    if held.first > one.begin:
+        return None
     for number in held.numbers(one.begin, one.end):
         if held.pages[number] != one.rows:
             continue

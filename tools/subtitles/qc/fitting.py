@@ -15,6 +15,8 @@ FOUND = re.compile(r"(?:--from (\S+) --to (\S+) )?(?:--pes (\d+)-(\d+) )?--origi
 SHIFTED = re.compile(r"from (\S+) on(?:, where PTS go back,)? subtitles are .*|and so on, .*")
 AWAY = re.compile(r"that is (?:(\d+) frames?(?: and (\d+) ticks)? (late|early) compared with )?"
                   r"--origin \d+")
+AGREE = re.compile(r"(\d+) of (\d+) edges? agrees?, .*")
+APART = re.compile(r"all (?:beginnings|ends) are .*")
 RUNS = re.compile(r"the programme is there (\d+) times")
 BREAKS = re.compile(r"(\d+|no) breaks? found, where --breaks \d+ is said")
 
@@ -73,9 +75,16 @@ def with_delay(clock: Clock, done: Done) -> tuple[Clock, list[str]]:
     words = " and ".join([counted(frames, "frame")] * (frames > 0)
                          + [counted(ticks, "tick")] * (ticks > 0))
     shifted = next((one for one in map(SHIFTED.fullmatch, done.told) if one), None)
+    which = "all" if are_all(done) else "most"
     where = f"up to {shifted[1]}" if shifted else \
-        "all" if len(done.printed) == 1 else "up to the first break all"
+        which if len(done.printed) == 1 else f"up to the first break {which}"
     return clock, [f"{where} subtitles are {words} {away[3]}"]
+
+
+def are_all(done: Done) -> bool:
+    """Whether all edges of the first part agree, or all beginnings or all ends do."""
+    agree = next((one for one in map(AGREE.fullmatch, done.told) if one), None)
+    return agree is None or agree[1] == agree[2] or any(map(APART.fullmatch, done.told))
 
 
 def runs_in(done: Done) -> int:

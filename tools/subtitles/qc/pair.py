@@ -180,7 +180,7 @@ class Pair:
         self.verdict.notes += notes_of(done)
         is_other = runs > 1 and self.asked.run is None and not recording.is_feed
         if given is None or self.asked.breaks or is_other:
-            found = self.steps.fitted(done, self.whole)
+            found = self.steps.fitted(done, self.whole, recording)
         else:
             found = found_in(done, self.whole) or [self.whole]
         if given:
@@ -275,10 +275,9 @@ class Pair:
                 asked, self.typed.program_path, (one.stl_path, one.names.cut_path),
                 one.found.origin, len(SubtitleFile(one.stl_path).begins), answer, part.causes)
         is_lost = any(is_in(place, part) for place in recording.places())
-        if answer.status and not (asked.within or recording.is_feed or
-                                  is_lost and not asked.is_loss_allowed):
-            part.accepted_within = Trying(self.steps, recording, one, self.count == 1).least(
-                answer.numbers, part.causes)
+        if answer.status and not (recording.is_feed or is_lost and not asked.is_loss_allowed):
+            part.accepted_within = Trying(self.steps, recording, one, part.number,
+                                          self.count).least(answer.numbers, part.causes)
 
     def causes(self, one: Stretch, answer: Answer, recording: Recording) -> Causes | None:
         """Why what a part holds is refused; it is said, as far as it was not said before."""

@@ -8,8 +8,8 @@ from typing import NamedTuple, Sequence
 
 from ..finding import main as find_origin
 from ..times import frame_of, time_of
-from ..words import heard
-from .asked import Asked
+from ..words import heard, within_words
+from .asked import MOST_TRIED, Asked
 from .checking import Answer, check
 from .clock import START, TCP, Clock
 from .fitting import Done, Found, Packets, breaks_in, found_in, refuse, runs_in
@@ -101,17 +101,24 @@ class Steps:
         return [*asked.page_words(), *asked.option_words(), *known, *asked.clock_words(),
                 *asked.within_words(), *more]
 
-    def fitted(self, done: Done, whole: Found) -> list[Found]:
+    def fitted(self, done: Done, whole: Found, recording: Recording) -> list[Found]:
         """The parts that tools/origin finds; else `Unclear`."""
         found = found_in(done, whole)
         if not found:
             runs, breaks = runs_in(done), breaks_in(done)
-            if breaks is not None:
-                refuse(done, [self.again("--breaks", str(breaks))])
             if runs > 1:
                 refuse(done, [self.again("--run", str(one)) for one in range(1, runs + 1)])
-            refuse(done, [self.again("--origin", "T"), self.again("--page", "P")])
+            others = [self.again("--origin", "T"), self.again("--page", "P")] if breaks is None \
+                else [self.again("--breaks", str(breaks))]
+            refuse(done, [*self.within_more(whole, recording), *others])
         return found
+
+    def within_more(self, whole: Found, recording: Recording) -> list[str]:
+        """The call within more frames, where these make it clear."""
+        done = self.ask_origin(recording, None, *within_words(MOST_TRIED)) \
+            if self.asked.within < MOST_TRIED else None
+        is_clear = done and found_in(done, whole)
+        return [self.again("--within", str(MOST_TRIED))] if is_clear else []
 
     def part(self, number: int, found: Found) -> Stretch:
         """Cuts the subtitles of a part out of the subtitle file."""

@@ -130,7 +130,7 @@ class Verdict:
     @property
     def accepted_within(self) -> int | None:
         """The least number of frames within which all parts would be accepted, where one is
-        refused within 0 and it is known."""
+        refused and it is known."""
         refused = [part.accepted_within for part in self.parts if part.answer.status]
         known = [one for one in refused if one is not None]
         return max(known) if known and len(known) == len(refused) else None

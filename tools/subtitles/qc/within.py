@@ -1,11 +1,12 @@
-"""The least number of frames within which a part that is refused would be accepted."""
+"""The least number of frames within which a part that is refused would be accepted: more than are
+asked for, and 5 at most."""
 from __future__ import annotations
 
 import os
 import subprocess
 
 from ..words import within_words
-from .asked import Asked
+from .asked import MOST_TRIED, Asked
 from .causes import EARLY, LATE, NOT_ERASED, UNKNOWN, Cause
 from .fitting import Found, found_in
 from .naming import Causes
@@ -13,7 +14,6 @@ from .recording import Recording
 from .steps import Steps, Stretch, origin_words, packets_words
 from .told import told_of
 
-MOST = 5  # frames that are tried
 # Faults that stay whatever N is: of the subtitle file, of PES packets that can't be read.
 FIXED = {*range(10, 26), *range(30, 41), 44, *range(50, 58), 60}
 # Faults that stay where each PES packet has a frame of its own, and others that N may take away.
@@ -27,10 +27,13 @@ def line_of(least: int) -> str:
 
 
 class Trying:
-    """Judges a part once more, within 1 to 5 frames, each time as --within N would."""
+    """Judges a part once more, within more frames, each time as --within N would. It is the part
+    with a number, of so many."""
 
-    def __init__(self, steps: Steps, recording: Recording, one: Stretch, is_alone: bool) -> None:
-        self.steps, self.recording, self.one, self.is_alone = steps, recording, one, is_alone
+    def __init__(self, steps: Steps, recording: Recording, one: Stretch, number: int,
+                 count: int) -> None:
+        self.steps, self.recording, self.one = steps, recording, one
+        self.number, self.count = number, count
         self.asked: Asked = steps.asked
         self.path = one.names.temporary("within.pes")
 
@@ -38,11 +41,11 @@ class Trying:
         """The least such number; `None` where there is none."""
         if not self.may_be(numbers, causes):
             return None
-        found = self.clocked(MOST)
+        found = self.clocked(MOST_TRIED)
         if found is None or not self.cut(found):
             return None
         try:
-            for within in range(1, MOST + 1):
+            for within in range(self.asked.within + 1, MOST_TRIED + 1):
                 line = self.check(found, within)
                 told = told_of(line)
                 if told is None:
@@ -63,28 +66,29 @@ class Trying:
     def is_delay(self, cause: Cause) -> bool:
         """Whether a cause may be a delay; a clock that was fitted may be late."""
         if cause.name in (LATE, EARLY):
-            most = 2 * MOST if self.one.found.clock.is_fitted else MOST
+            most = 2 * MOST_TRIED if self.one.found.clock.is_fitted else MOST_TRIED
             return (cause.frames or 0) <= most
         return cause.name in (NOT_ERASED, UNKNOWN)
 
     def clocked(self, within: int) -> Found | None:
         """The part by its clock; one that was fitted is fitted within so many frames."""
         found = self.one.found
-        if not found.clock.is_fitted or not self.is_alone:
+        if not found.clock.is_fitted:
             return found
         done = self.steps.ask_origin(self.recording, None, *within_words(within))
         parts = found_in(done, found)
-        return parts[0] if len(parts) == 1 else None
+        other = parts[self.number - 1] if len(parts) == self.count else None
+        return other if other and other[:2] == found[:2] else None
 
     def is_same(self, found: Found, within: int) -> bool:
         """Whether the clock is the same within fewer frames, or accepted by too."""
-        other = self.clocked(within) if within < MOST else found
+        other = self.clocked(within) if within < MOST_TRIED else found
         return other is not None and (other.origin == found.origin or self.cut(other) and
                                       self.check(other, within).startswith("accepted "))
 
     def cut(self, found: Found) -> bool:
         """Cuts the PES packets out; whether there are some."""
-        words = [*self.asked.page_words(), *self.asked.every_words(), "--within", str(MOST),
+        words = [*self.asked.page_words(), *self.asked.every_words(), *within_words(MOST_TRIED),
                  *origin_words(found.origin), *packets_words(found.packets)]
         subprocess.run([*self.steps.typed.call("cut"), *words, "--stl", self.one.stl_path, "-o",
                         self.path, "--", self.recording.path], stdin=subprocess.DEVNULL,
@@ -93,7 +97,7 @@ class Trying:
 
     def check(self, found: Found, within: int) -> str:
         """The line of `check`."""
-        words = [*self.asked.check_words(), *origin_words(found.origin), "--within", str(within)]
+        words = [*self.asked.within_more(within).check_words(), *origin_words(found.origin)]
         done = subprocess.run([self.steps.typed.program_path, "check", *words, "--",
                                self.one.stl_path, self.path], stdin=subprocess.DEVNULL,
                               stdout=subprocess.PIPE, encoding="utf-8", errors="replace",

@@ -9,7 +9,7 @@ from typing import Callable, Sequence
 from xml.etree import ElementTree
 
 from ..pes import data_field, pes_packet, pts_in, teletext_packets
-from ..stl import gsi_block, subtitle_blocks
+from ..stl import NEW_LINE, gsi_block, subtitle_blocks
 from ..times import CLOCK, EARLY, FRAMES_OF_A_DAY, NO_FRAME, TICKS, frame_at, frame_in, frames_at
 from .bench import Case, example, example_bytes, packets, random_subtitles, tool_path
 from .causes import LATE_AT
@@ -45,12 +45,23 @@ def in_fields(sendings: Sent) -> Sent:
             for one in ((pts, some[:1]), (pts + TICKS // 2, some[1:]))]
 
 
-def with_late_rows(sendings: Sent) -> Sent:
-    """The rows a frame after their header."""
+def in_fields_at_once(sendings: Sent) -> Sent:
+    """The same, and both have the PTS of the frame."""
+    return [one for pts, some in sendings for one in ((pts, some[:1]), (pts, some[1:]))]
+
+
+def with_late_rows(sendings: Sent, late: int = 1) -> Sent:
+    """The rows some frames after their header."""
     found: Sent = []
     for pts, some in sendings:
-        found += [(pts, some)] if len(some) == 2 else [(pts, some[:1]), (pts + TICKS, some[1:])]
+        found += [(pts, some)] if len(some) == 2 else \
+            [(pts, some[:1]), (pts + TICKS * late, some[1:])]
     return found
+
+
+def with_late_ends(sendings: Sent) -> Sent:
+    """Rows and closing headers a frame after the header of the page, also where it is erased."""
+    return [one for pts, some in sendings for one in ((pts, some[:1]), (pts + TICKS, some[1:]))]
 
 
 def with_jitter(sendings: Sent) -> Sent:
@@ -69,6 +80,7 @@ WAYS: dict[str, tuple[Callable[[Sent], Sent], int, tuple[int, int]]] = {
     # What is done, the least N that accepts it, and after how many frames subtitles are whole, the
     # last of them between these.
     "fields": (in_fields, 1, (0, 0)),
+    "fields at once": (in_fields_at_once, 1, (0, 0)),
     "late rows": (with_late_rows, 1, (1, 1)),
     "jitter": (with_jitter, 1, (0, 0)),
     "load": (under_load, 2, (0, 2)),
@@ -166,6 +178,51 @@ def finds_the_origin(case: Case) -> None:
                   done.out.decode() == f"--origin {ORIGIN + 3 * TICKS}\n", done)
 
 
+def passes_over_repeats(case: Case) -> None:
+    """A page that each repeat erases and sends again does not change then: the origin is that of
+    the beginnings, and no repeat later; and so are the delay and the clock of qc."""
+    stl = case.write("ten.stl", many(2))
+    planned = sent(case, stl, *WORDS)
+    for name, some, late in (("rows", with_late_rows(planned), 3600),
+                             ("fields", in_fields(planned), 1800),
+                             ("rows two frames late", with_late_rows(planned, 2), 7200),
+                             ("rows in two frames", in_three_frames(planned), 7200)):
+        pes = case.write("sent.pes", joined(some))
+        done = case.tool("origin", stl, pes)
+        early = f"all ends are {-(-late // TICKS)} frame{'s' * (late > TICKS)} early compared with"
+        case.test(f"{name}: the origin", done.out.decode() == f"--origin {ORIGIN + late}\n", done)
+        case.test(f"{name}: the ends", any(early in line for line in done.told), done)
+        done = qc(case, stl, pes, *WORDS)
+        frames, ticks = divmod(late, TICKS)
+        how = f"{frames} frame{'s' * (frames > 1)}" if frames else f"{ticks} ticks"
+        case.test(f"{name}: the delay", f"qc: all subtitles are {how} late" in done.told, done)
+    chance = random.Random(6)
+    pes = case.write("loaded.pes", joined([(pts + TICKS * (3 + (chance.randrange(4) == 0)), some)
+                                           for pts, some in planned]))
+    done = qc(case, stl, pes, *WORDS)
+    case.test("not all", "qc: most subtitles are 3 frames late" in done.told, done)
+    # Two subtitles with one text, and four frames between them.
+    data = gsi_block(b"Again", 6, 6) + b"".join(
+        subtitle_blocks(number, 100 * number, 100 * number + 96, 22, 2, b"No!")
+        for number in range(1, 7))
+    stl = case.write("again.stl", data)
+    planned = sent(case, stl, *WORDS)
+    for within in ("0", "1", "5"):
+        done = case.tool("origin", stl, case.write("again.pes", joined(planned)), "--within",
+                         within)
+        case.test(f"the same text again, within {within}", "origin: 12 of 12 edges agree, 12 with "
+                  "the letters that are due" in done.told[0], done)
+
+
+def in_three_frames(sendings: Sent) -> Sent:
+    """The header in one frame, and each of two rows in one of its own."""
+    found: Sent = []
+    for pts, some in sendings:
+        parts = [some] if len(some) == 2 else [some[:1], some[1:2], some[2:]]
+        found += [(pts + TICKS * number, part) for number, part in enumerate(parts)]
+    return found
+
+
 def tells_how_late_edges_are(case: Case) -> None:
     done = case.tool("origin", STORY, LATE_ROWS, "--within", "1")
     case.test("rows", (done.status, done.out) == (0, b"--origin 0\n") and
@@ -206,6 +263,26 @@ def cuts_to_the_blank_page(case: Case) -> None:
     done = case.tool("cut", pes, "--stl", HELLO, "--within", "1", "-o", "early.cut.pes")
     end = pts_in(packets(case.read("early.cut.pes"))[-1]) // TICKS - TEN - 50
     case.test("nothing comes for some time", done.status == 0 and end == 97, (end, done))
+
+
+def cuts_to_the_end_of_the_page(case: Case) -> None:
+    """Where a closing header ended the page before, the one after the last TCO is in the cut, though
+    the page is blank before it; of an inserter without any nothing is waited for."""
+    planned = sent(case, HELLO)
+    for name, some in (("late ends", with_late_ends(planned)),
+                       ("none", [(pts, few[:-1]) for pts, few in planned])):
+        after = some[-1][0] + 2 * TICKS
+        pes = case.write("sent.pes", joined([*some, (after, some[-1][1])]))
+        done = case.tool("cut", pes, "--stl", HELLO, "--within", "5", "-o", "cut.pes")
+        case.test(name, done.status == 0 and case.read("cut.pes") == joined(some), done)
+    pes = case.write("story.pes", joined(with_late_ends(sent(case, STORY, *WORDS))))
+    for words in (["--within", "1"], ["--within", "1", *WORDS], ["--within", "5"]):
+        done = qc(case, STORY, pes, *words)
+        case.test(f"{words}", done.status == 0, done)
+    done = qc(case, STORY, "-", "--within", "1", *WORDS, data=case.read("story.pes"))
+    case.test("a feed", done.status == 0, done)
+    done = qc(case, STORY, pes, *WORDS)
+    case.test("what would accept it", "within 1 it is accepted: --within 1" in lines_of(done), done)
 
 
 def begins_with_a_blank_frame(case: Case) -> None:
@@ -271,7 +348,7 @@ def says_of_each_subtitle(case: Case) -> None:
         case.test(f"within {within}: of all", known["whole_after"] ==
                   {"least": 0, "middle": 0, "greatest": 2, "never": 0}, known["whole_after"])
         case.test(f"within {within}: would be accepted", known["accepted_within"] ==
-                  (2 if within == "0" else None), known["accepted_within"])
+                  (2 if status else None), known["accepted_within"])
         text = words_of(case.read("out/story.html"))
         case.test(f"within {within}: the report", "Subtitles are whole after 0 to 2 frames, 0 in "
                   "the middle." in text, text)
@@ -285,6 +362,13 @@ def says_of_each_subtitle(case: Case) -> None:
     known = json.loads(case.read("lost.json"))
     case.test("never", [one["whole_after"] for one in known["subtitles"]] == [0, None, 0] and
               known["whole_after"]["never"] == 1, known["subtitles"])
+    begun = case.write("begun.pes", joined([one for one in planned if one[0] // TICKS > LATE_AT -
+                                            175]))
+    done = qc(case, STORY, begun, "--origin", "0", "--within", "2", "--json", "begun.json")
+    known = json.loads(case.read("begun.json"))
+    case.test("begun within the first", done.status == 1 and known["subtitles"][0]["whole_after"]
+              is None and "subtitles are whole after 0 frames; 1 not seen whole" in lines_of(done),
+              (known["subtitles"], done))
 
 
 def words_of(page: bytes) -> str:
@@ -339,10 +423,11 @@ def goes_with_every_call(case: Case) -> None:
     case.test("a channel", done.status == 0 and known["asked"]["within"] == 1, (done, known))
 
 
-def many() -> bytes:
-    """A subtitle file of ten subtitles."""
+def many(lines: int = 1) -> bytes:
+    """A subtitle file of ten subtitles, each of so many lines."""
     blocks = [subtitle_blocks(number, 100 * number, 100 * number + 60, 22, 2,
-                              b"Subtitle %d" % number) for number in range(1, 11)]
+                              NEW_LINE.join([b"Subtitle %d" % number] * lines))
+              for number in range(1, 11)]
     return gsi_block(b"Ten", 10, 10) + b"".join(blocks)
 
 
@@ -358,6 +443,95 @@ def judges_parts(case: Case) -> None:
     case.test("accepted", done.status == 0 and lines_of(done)[-1].endswith("in 2 parts"), done)
     done = qc(case, one, pes, "--breaks", "1", *WORDS, "--every", "1500")
     case.test("refused", done.status != 0, done)
+
+
+def says_what_to_type(case: Case) -> None:
+    """Where more frames would do: which, with --within too and of several parts; where the clock is
+    not clear without, or no break is found, the call with which it is."""
+    stl = case.write("halves.stl", halves())
+    rows = with_late_rows(sent(case, stl, *WORDS), 2)
+    ways: list[tuple[list[str], Sent]] = [([], rows), (["--breaks", "1"], with_break(rows))]
+    given: list[list[str]] = [[], ["--within", "1"], WORDS, ["--within", "1", *WORDS]]
+    for words in given:
+        for more, some in ways:
+            pes = case.write("rows.pes", joined(some))
+            done = qc(case, stl, pes, *words, *more)
+            case.test(f"{words} {more}: the least", done.status == 1 and
+                      "within 2 it is accepted: --within 2" in lines_of(done), done)
+            done = qc(case, stl, pes, *words, *more, "--within", "2")
+            case.test(f"{words} {more}: it is", done.status == 0, done)
+    stl = case.write("ten.stl", many())
+    loaded = under_load(sent(case, stl, *WORDS), 4)
+    ways = [([], loaded), (["--breaks", "1"], with_break(loaded))]
+    for words, some in ways:
+        done = qc(case, stl, case.write("loaded.pes", joined(some)), *words)
+        told = [line for line in done.told if line.startswith("qc: type ")]
+        case.test(f"{words}: not clear", done.status == 2 and len(told) == 1 and
+                  told[0].endswith(" ".join([*words, "--within 5"])), done)
+        for line in told:
+            again = case.call(["sh", "-c", line.removeprefix("qc: type ")])
+            case.test(f"{words}: what is typed", again.status == 0, again)
+
+
+def with_break(sendings: Sent) -> Sent:
+    """What comes after one of the times at which the page is erased, which it is twice before a
+    subtitle, comes 2000 frames later."""
+    erased = [pts for pts, some in sendings if len(some) == 2]
+    half = erased[len(erased) // 4 * 2]
+    return [(pts + 2000 * TICKS * (pts > half), some) for pts, some in sendings]
+
+
+def halves() -> bytes:
+    """A subtitle file of twelve subtitles: six that adjoin, and after a pause six more."""
+    times = [(100 * number + 500 * (number > 6), number) for number in range(1, 13)]
+    blocks = [subtitle_blocks(number, begin, begin + 100, 22, 2, b"Subtitle %d" % number)
+              for begin, number in times]
+    return gsi_block(b"Halves", 12, 12) + b"".join(blocks)
+
+
+def names_no_wrong_cause(case: Case) -> None:
+    """Fields with one PTS are no wrong colour: the cause is that it takes another PES packet."""
+    planned = sent(case, HELLO)
+    pes = case.write("fields.pes", joined(in_fields_at_once(planned)))
+    lines = lines_of(qc(case, HELLO, pes, "--origin", "0"))
+    cause = 'cause: subtitle 1 at 10:00:00:00, "Hi": unknown: as it is due only after another ' \
+        "PES packet of the same frame"
+    case.test("the cause", cause in lines and "causes of 1 subtitle: 1 unknown" in lines, lines)
+
+
+def measures_repeats(case: Case) -> None:
+    """How often the page is repeated, by a clock too that is a frame late, as one is that is fitted
+    to rows a frame after their header."""
+    stl = case.write("random.stl", random_subtitles(5)[0])
+    pes = case.write("rows.pes", joined(with_late_rows(sent(case, stl, *WORDS))))
+    given: list[list[str]] = [[], WORDS, ["--within", "1"]]
+    for words in given:
+        done = qc(case, stl, pes, *words)
+        case.test(f"{words}", "qc: warning: the page is repeated each 25 frames; --every 25 would "
+                  "hold it to that" in done.told, done)
+
+
+def says_what_adds_up(case: Case) -> None:
+    """Where a page is late after a pause that is no longer than that, the frames of both count; and
+    a subtitle that came in time is not called late for a repeat that erases it for longer."""
+    blocks = [subtitle_blocks(number, 103 * number, 103 * number + 100, 22, 2,
+                              b"Subtitle %d" % number) for number in range(1, 6)]
+    stl = case.write("pauses.stl", gsi_block(b"Pauses", 5, 5) + b"".join(blocks))
+    first, *others = sent(case, stl)
+    late = [(first[0] - 40 * TICKS, others[-1][1]), first,
+            *((pts + 3 * TICKS, some) for pts, some in others)]
+    pes = case.write("late.pes", joined(late))
+    words = "late by 3 frames: the page is not whole for 6 frames in a row, from 00:00:08:03 on"
+    for within, status in (("3", 1), ("5", 1), ("6", 0)):
+        done = qc(case, stl, pes, "--origin", "0", "--within", within)
+        is_said = f'cause: subtitle 2 at 00:00:08:06, "Subtitle 2": {words}' in lines_of(done)
+        case.test(f"within {within}", done.status == status and is_said == bool(status), done)
+    planned = sent(case, HELLO)
+    rows = [with_late_rows([one], 4 if number == 1 else 1) for number, one in enumerate(planned)]
+    pes = case.write("repeat.pes", joined(sum(rows, [])))
+    lines = lines_of(qc(case, HELLO, pes, "--origin", "0", "--within", "2"))
+    case.test("a repeat", 'cause: subtitle 1 at 10:00:00:00, "Hi": unknown: it is gone at '
+              "10:00:01:00" in lines and "within 4 it is accepted: --within 4" in lines, lines)
 
 
 def refuses_other_words(case: Case) -> None:
@@ -391,6 +565,8 @@ def is_quick_without_it(case: Case) -> None:
 
 
 CASES = [takes_the_frames_of_pts, judges_what_is_blameless, stays_without_it, finds_the_origin,
-         tells_how_late_edges_are, cuts_to_the_blank_page, begins_with_a_blank_frame,
+         tells_how_late_edges_are, cuts_to_the_blank_page, cuts_to_the_end_of_the_page,
+         begins_with_a_blank_frame,
          names_the_least, says_of_each_subtitle, places_faults_of_fields, goes_with_every_call,
-         judges_parts, refuses_other_words, is_quick_without_it]
+         judges_parts, says_what_to_type, names_no_wrong_cause, measures_repeats,
+         says_what_adds_up, passes_over_repeats, refuses_other_words, is_quick_without_it]
