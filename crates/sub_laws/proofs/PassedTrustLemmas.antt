@@ -38,7 +38,7 @@ use Rattle.sub_rules.specs.declared.packet_rule.PacketRule.TheVariants as rule
 use Rattle.sub_rules.specs.declared.packet_rule.Watched.{Watched}
 use Rattle.sub_rules.specs.declared.trust.Trust.{Trust}
 use Rattle.sub_rules.proofs.AnyToldLemmas.{own_closing}
-use Rattle.sub_rules.proofs.JoinedLemmas.{frames_of-append, joined-within, joined_after-append}
+use Rattle.sub_rules.proofs.JoinedLemmas.{frames_of-append, joined_after-append}
 use Rattle.sub_rules.proofs.JoinedLemmas.{joined_after-push, marks_of_each-append}
 use Rattle.sub_rules.proofs.JoinedLemmas.{with_packets-end_frame, with_packets-last}
 use Rattle.sub_rules.proofs.JoinedLemmas.{with_packets-frame_at, with_packets-length}
@@ -53,8 +53,7 @@ use Rattle.sub_laws.proofs.JoinedRisingLemmas.{frame_at-left, frame_at-next}
 use Rattle.sub_laws.proofs.PrefixLemmas.{RiseTo, before as before_of, packet_at, rises_to}
 use Rattle.sub_laws.proofs.SayMarkLemmas.{Goes, Goes-append, Goes-cons, Goes-nil, Goes-says, IsSaid}
 use Rattle.sub_laws.proofs.SayMarkLemmas.{doubt_of, each_put, kept_some, said}
-use Rattle.sub_laws.proofs.TrustedPieceLemmas.{StaysTo, all_stay}
-use Rattle.sub_laws.proofs.TrustedRunLemmas.{PacketsQuiet}
+use Rattle.sub_laws.proofs.TrustedRunLemmas.{PacketsQuiet, StaysTo}
 
 -- ---- lists
 
@@ -477,18 +476,9 @@ module _ (g : Task) (done : List Piece) (some : 0 < length (sent_by_pieces g don
 
     all_stays : (from to : ℕ) → Contains (all_of_pieces g more) (Trusted from to)
         → StaysTo g (sent_by_pieces g more) from to
-    all_stays from to told = go (g.within == 0) refl
-      where
-        go : (b : Bool) → (g.within == 0) ≡ b → StaysTo g (sent_by_pieces g more) from to
-        go true e =
-            let none : g.within ≡ 0 = grind (arith, nat_tests) in
-            subst (λ (fs : Transmission). StaysTo g fs from to)
-            (sym (joined-within g.within (frames_of more) none))
-            (All-contains (OnTrusted (StaysTo g (frames_of more))) (all_of_pieces g more)
-            (Trusted from to) (all_stay g more none) told)
-        go false e =
-            (All-contains (OnTrusted (MayStand g (sent_by_pieces g more))) (all_of_pieces g more)
-            (Trusted from to) (all_stay_within g (sent_by_pieces g more) e more refl) told).stays
+    all_stays from to told =
+        (All-contains (OnTrusted (MayStand g (sent_by_pieces g more))) (all_of_pieces g more)
+        (Trusted from to) (all_stay_within g (sent_by_pieces g more) more refl) told).stays
 
     -- What is told of the pieces up to it is told of these too.
     pub told_before : (from to : ℕ)

@@ -1,14 +1,13 @@
 -- Frames that are told as trusted may stay, whatever packets the pieces put on air that are passed
 -- over: `law_of_trusted`, and within some frames `law_of_trusted_with_delay`.
 use Rattle.std.proofs.lemmas.Bool.Decides.{nat_tests}
-use Rattle.std.proofs.Common.{◌≡◌, ◌==◌, false, refl, sym, subst, arith, le_refl}
+use Rattle.std.proofs.Common.{◌≡◌, ◌==◌, false, refl, arith, le_refl}
 use Rattle.std.proofs.lemmas.List.Elements.{All-contains}
 use Rattle.sub_rules.specs.FrameRules.{Task, task_of}
 use Rattle.sub_rules.specs.PieceEvents.{all_of_pieces}
 use Rattle.sub_rules.specs.Pieces.{frames_of, joined}
 use Rattle.sub_rules.specs.Transmission.{Transmission}
 use Rattle.sub_rules.specs.declared.event.Event.TheVariants.{Trusted}
-use Rattle.sub_rules.proofs.JoinedLemmas.{joined-within}
 use Rattle.sub_laws.specs.CleanStretch.{IsUntold}
 use Rattle.sub_laws.specs.PassedPackets.{all_on_air}
 use Rattle.sub_laws.specs.TrustedFrames.{LawOfTrusted, rising_part}
@@ -25,7 +24,7 @@ use Rattle.sub_laws.proofs.StretchLemmas.{law_of_stretch}
 use Rattle.sub_laws.proofs.SufficientDelayLemmas.{enough_with_delay}
 use Rattle.sub_laws.proofs.TrustedDelayLemmas.{finished_there}
 use Rattle.sub_laws.proofs.TrustedFrameLemmas.{closed, header_there, j_low, untold}
-use Rattle.sub_laws.proofs.TrustedPieceLemmas.{StaysTo, all_stay}
+use Rattle.sub_laws.proofs.TrustedRunLemmas.{StaysTo}
 
 pub law_of_trusted : LawOfTrusted
 law_of_trusted programme options unread pieces passed from to at_once told =
@@ -33,11 +32,10 @@ law_of_trusted programme options unread pieces passed from to at_once told =
     let frames : Transmission = joined options.within (frames_of pieces) in
     let part : Transmission = rising_part frames in
     let on_air : Transmission = rising_part (all_on_air options.within pieces passed) in
-    let stays : StaysTo g frames from to =
-    subst (λ (fs : Transmission). StaysTo g fs from to)
-    (sym (joined-within options.within (frames_of pieces) at_once))
-    (All-contains (OnTrusted (StaysTo g (frames_of pieces))) (all_of_pieces g pieces)
-    (Trusted from to) (all_stay g pieces at_once) told) in
+    let may : MayStand g frames from to =
+    All-contains (OnTrusted (MayStand g frames)) (all_of_pieces g pieces) (Trusted from to)
+    (all_stay_within g frames pieces refl) told in
+    let stays : StaysTo g frames from to = may.stays in
     let quiet : IsUntold g part from to = untold g frames from to stays in
     let order = quiet.stretch.in_order in
     let clean = law_of_untold_stretch programme part options unread from to at_once quiet in
@@ -66,7 +64,7 @@ law_of_trusted_with_delay programme options unread pieces passed from to is with
     let some : (options.within == 0) ≡ false = grind (arith, nat_tests) in
     let may : MayStand g frames from to =
     All-contains (OnTrusted (MayStand g frames)) (all_of_pieces g pieces) (Trusted from to)
-    (all_stay_within g frames some pieces refl) told in
+    (all_stay_within g frames pieces refl) told in
     let quiet : IsUntold g part from to = untold g frames from to may.stays in
     let order = quiet.stretch.in_order in
     let header = header_there g frames from to may.stays in
@@ -80,9 +78,9 @@ law_of_trusted_with_delay programme options unread pieces passed from to is with
       trusted =
           law_of_stretch_with_delay programme on_air options from to
           (enough_late programme options part on_air from to same header
-          (enough_with_delay programme options unread part from to is within quiet
-          (closed g frames from to may.stays)));
+          (enough_with_delay programme options unread part from to quiet
+          (closed g frames from to may.stays) is));
       finished =
           some_too programme options part on_air from to same header from to (le_refl from)
-          (le_refl to) (finished_there programme options unread frames from to may);
+          (le_refl to) (finished_there programme options unread frames from to may some);
     }

@@ -14,7 +14,7 @@ use Rattle.std.proofs.lemmas.List.Elements.{All-tail}
 use Rattle.std.specs.List.{AllByRecursion}
 use lib.Seq.{take-append-le}
 use Rattle.sub_rules.specs.Events.{packets_told}
-use Rattle.sub_rules.specs.FrameRules.{Task, frame_at, packets_before}
+use Rattle.sub_rules.specs.FrameRules.{Task, end_frame, frame_at, packets_before}
 use Rattle.sub_rules.specs.FrameRules.{packets_of_frame}
 use Rattle.sub_rules.specs.PieceEvents.{marks_of_each}
 use Rattle.sub_rules.specs.Pieces.{Piece, frames_of, goes_on_with, joined, joined_after, sent_after}
@@ -117,6 +117,11 @@ with_packets-length packets (s ∷ next ∷ frames) =
 pub with_packets-frame_at : (packets : List (List ℕ)) (sent : Transmission) (i : ℕ)
     → frame_at (with_packets packets sent) i ≡ frame_at sent i
 with_packets-frame_at packets sent i = rw (with_packets-frames packets sent) refl
+
+pub with_packets-end_frame : (packets : List (List ℕ)) (sent : Transmission)
+    → end_frame (with_packets packets sent) ≡ end_frame sent
+with_packets-end_frame packets sent =
+    rw (with_packets-frames packets sent, with_packets-length packets sent) refl
 
 -- The frames before the last one stay.
 pub with_packets-take : (packets : List (List ℕ)) (sent : Transmission) (n : ℕ)

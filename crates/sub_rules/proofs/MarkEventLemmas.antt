@@ -3,10 +3,11 @@
 -- the frame, `said_sent`.
 use Rattle.std.proofs.lemmas.Bool.Decides.{nat_tests}
 use Rattle.std.proofs.Common.{◌≡◌, ℕ, zero, suc, ◌+◌, ◌||◌, ◌==◌, Bool, true, false, List, [], ◌∷◌}
-use Rattle.std.proofs.Common.{◌++◌, length, map, Option, Some, None, refl, sym, ap, ◌∙◌, subst}
+use Rattle.std.proofs.Common.{◌++◌, length, map, Option, None, refl, sym, ap, ◌∙◌, subst}
 use Rattle.std.proofs.Common.{arith, append_assoc, if◌then◌else◌}
 use Rattle.std.proofs.lemmas.Bool.{true≢false}
 use Rattle.std.proofs.lemmas.List.{map-append}
+use Rattle.std.specs.Option.{option_or}
 use Rattle.sub_rules.specs.Events.{events_at_end, first_header_events, first_told, frame_events}
 use Rattle.sub_rules.specs.Events.{gap_events, gap_length, is_late, latest, order_events}
 use Rattle.sub_rules.specs.Events.{packet_events, standing_at, unfinished_since}
@@ -21,7 +22,6 @@ use Rattle.sub_rules.specs.Trusted.{stands_none, told_by, told_with, trusted, tr
 use Rattle.sub_rules.specs.Trusted.Mark.{AtEnd, AtPes, Begins, Closes, Ends, Says}
 use Rattle.sub_rules.specs.declared.event.Event.{Event}
 use Rattle.sub_rules.specs.declared.event.Event.TheVariants.{Ended, PassedUntil, Told, Trusted}
-use Rattle.sub_rules.specs.declared.fault.CheckFault.{CheckFault}
 use Rattle.sub_rules.specs.declared.trust.Trust.{Trust}
 use Rattle.ttx_page.specs.PacketKind.{kind}
 use Rattle.ttx_page.specs.Span.{holds_header}
@@ -30,14 +30,9 @@ use Rattle.sub_rules.proofs.JoinedLemmas.{goes_on-none}
 
 -- ---- what is told first of two lists
 
--- The first, if there is one; else the other.
-abbrev pub or_else : Option CheckFault → Option CheckFault → Option CheckFault
-or_else None b = b
-or_else (Some f) b = Some f
-
 -- What is told first of the one list, or else of the other.
 pub first_of_two : (xs ys : List Event)
-    → first_told (xs ++ ys) ≡ or_else (first_told xs) (first_told ys)
+    → first_told (xs ++ ys) ≡ option_or (first_told xs) (first_told ys)
 first_of_two [] ys = refl
 first_of_two (Told f ∷ xs) ys = refl
 first_of_two (Ended rule frame ∷ xs) ys = first_of_two xs ys
