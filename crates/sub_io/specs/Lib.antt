@@ -1,5 +1,6 @@
 pub mod Buffered
 pub mod Calls
+pub mod Closing
 pub mod Countdown
 pub mod Counted
 pub mod Device

@@ -5,6 +5,7 @@ ghost use Rattle.std.specs.Prelude.{Ok, IfErr, IfOk, IsErr, OnOk, false, true, i
 ghost use Rattle.std.specs.Io.KnownBytes.{Appends, Keeps, append_known};
 ghost use Rattle.sub_io.specs.Buffered.{HeldBack, failures_and_refused};
 ghost use Rattle.sub_io.specs.Calls.{HoldsBack, PutsByPushes, answered};
+ghost use Rattle.sub_io.specs.Closing.{ClosesInside};
 ghost use Rattle.sub_io.specs.Device.{CanFail, CountsFailure, Pushes};
 
 use crate::sink::push_all;
@@ -254,13 +255,12 @@ impl<K: Sink> Flush for BufferedSink<'_, K> {
 impl<K: Close> Close for BufferedSink<'_, K> {
     ghost is_closed = { λ k. K.is_closed k.device };
 
+    ghost is_close = { ClosesInside K.is_close };
+
     /// Closes the sink inside. Bytes that are held back are not handed on.
     fn close(&mut self)
+        ensures call { ClosesInside K.is_close self.old self.new }
         ensures closed { K.is_closed self.new.device ≡ true }
-        ensures held { self.new.held ≡ self.old.held }
-        ensures room { self.new.room ≡ self.old.room }
-        ensures failed { self.new.failed ≡ self.old.failed }
-        ensures refused { self.new.refused ≡ self.old.refused }
         ensures device { K.failure_count self.new.device ≡ K.failure_count self.old.device }
         ensures count { failures_and_refused (K.failure_count self.new.device) self.new.refused
             ≡ failures_and_refused (K.failure_count self.old.device) self.old.refused }

@@ -2,10 +2,11 @@
 
 ghost use Rattle.std.specs.Prelude.{◌≡◌, ◌+◌, ◌<◌, ◌≤◌, IfOk, IsErr, None, Option, Some, length};
 ghost use Rattle.std.specs.Prelude.{is_none};
+ghost use Rattle.sub_io.specs.Closing.{LetsGo};
 ghost use Rattle.sub_io.specs.Counted.{Counted, told_while_open};
 ghost use Rattle.sub_io.specs.Device.{CanFail, CountsFailure, Pushes};
 
-use crate::{Close, Failed, Sink};
+use crate::{Close, Failed, LetGo, Sink};
 use std::io::Write;
 use std::marker::Model;
 
@@ -78,13 +79,18 @@ impl<W: Write> Sink for IntoFile<W> {
     }
 }
 
-impl<W: Write + Drop> Close for IntoFile<W> {
+impl<W: Write + LetGo> Close for IntoFile<W> {
     ghost is_closed = { λ s. is_none s.device };
 
-    /// Lets go of the writer, which closes a file.
+    ghost is_close = { LetsGo W.is_let_go };
+
+    /// Lets go of the writer as it is, which closes a file.
     fn close(&mut self)
-        ensures { self.new ≡ record { device = None; failure_count = self.old.failure_count } }
+        ensures call { LetsGo W.is_let_go self.old self.new }
+        ensures closed { self.new ≡ record { device = None; failure_count = self.old.failure_count } }
     {
-        self.inner = None;
+        if let Some(writer) = self.inner.take() {
+            writer.let_go();
+        }
     }
 }

@@ -13,7 +13,8 @@
 //! ```
 //!
 //! - `Source` and `Sink` are the traits, `fill` and `put_all` what the readers and writers call;
-//!   `Flush` is a sink that may hold bytes back, `Close` one that can be closed.
+//!   `Flush` is a sink that may hold bytes back, `Close` one that can be closed, for which it lets go
+//!   (`LetGo`) of what is below it.
 //! - `MemSource` and `MemSink` are devices over memory, `FromRead`, `IntoWrite` and `IntoFile` over
 //!   std.
 //! - `BufferedSource` and `BufferedSink` stand before another device, so that it is called less
@@ -28,6 +29,7 @@
 mod audience;
 mod buffered_sink;
 mod buffered_source;
+mod close;
 mod fail_at;
 mod fault_code;
 mod into_file;
@@ -40,11 +42,12 @@ mod std_io;
 pub use audience::{Audience, FirstTold, Stopped};
 pub use buffered_sink::BufferedSink;
 pub use buffered_source::BufferedSource;
+pub use close::{Close, LetGo};
 pub use fail_at::FailAt;
 pub use fault_code::FaultCode;
 pub use into_file::IntoFile;
 pub use live::{Live, LiveAudience};
 pub use memory::{MemSink, MemSource};
-pub use sink::{Close, Flush, Sink, put_all};
+pub use sink::{Flush, Sink, put_all};
 pub use source::{Failed, Source, fill};
 pub use std_io::{FromRead, IntoWrite};

@@ -189,6 +189,8 @@ impl Flush for MemSink<'_> {
 impl Close for MemSink<'_> {
     ghost is_closed = { λ _. true };
 
+    ghost is_close = { λ old new. new ≡ old };
+
     /// Does nothing: memory is not closed.
     fn close(&mut self)
         ensures { self.new ≡ self.old }

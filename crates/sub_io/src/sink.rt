@@ -1,7 +1,7 @@
 //! Devices that take bytes.
 
 ghost use Rattle.std.specs.Prelude.{◌≡◌, ℕ, ◌<◌, ◌≤◌, List, length, Option, IfErr, IfOk};
-ghost use Rattle.std.specs.Prelude.{OnOk, take, is_ok, Bool, true};
+ghost use Rattle.std.specs.Prelude.{OnOk, take, is_ok};
 ghost use Rattle.std.specs.Io.KnownBytes.{Appends, Keeps};
 ghost use Rattle.sub_io.specs.Calls.{PutsByPushes, answered, any_call};
 ghost use Rattle.sub_io.specs.Device.{CanFail, CountsFailure, Pushes, Writes};
@@ -59,17 +59,6 @@ pub trait Flush: Sink {
         ensures held { OnOk result (held self.new ≡ 0) }
         ensures count { CountsFailure (Self.failure_count self.old) result
             (Self.failure_count self.new) };
-}
-
-/// A sink that can be closed before its value ends, as a file.
-pub trait Close: Sink {
-    // Whether it is closed. What need not be closed, as memory, always is.
-    ghost is_closed: { Self → Bool };
-
-    /// Closes it: what is below it is handed nothing more. What closing reports is not looked at.
-    fn close(&mut self)
-        ensures closed { is_closed self.new ≡ true }
-        ensures count { Self.failure_count self.new ≡ Self.failure_count self.old };
 }
 
 /// Pushes all of `from`, in as many calls as the sink needs: each is lent what is left of it.
