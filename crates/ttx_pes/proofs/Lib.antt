@@ -18,3 +18,6 @@ pub mod PieceLemmas
 pub mod PieceListLemmas
 pub mod SentUnitLemmas
 pub mod HeadLemmas
+pub mod HeldBytesLemmas
+pub mod PieceRangeLemmas
+pub mod RangeLemmas

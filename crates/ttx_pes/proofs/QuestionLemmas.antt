@@ -14,46 +14,46 @@ use Rattle.ttx_pes.specs.declared.fault.PesFault.TheVariants as fault
 use Rattle.ttx_pes.specs.DataUnit.{UnitValue, is_teletext}
 use Rattle.ttx_pes.specs.LineOrder.{last_place, line_order_place, stands_after}
 use Rattle.ttx_pes.specs.PesPacket.{PesValue}
-use Rattle.ttx_pes.specs.Reading.{is_start, packet_at, pts_at, size_at, teletext_at, told_size}
+use Rattle.ttx_pes.specs.Reading.{flags_fault, is_start, packet_at, pts_at, size_at, teletext_at, told_size}
 use Rattle.ttx_pes.specs.Reading.{unit_at, units_at, value_at}
 use Rattle.ttx_pes.specs.Refusal.{told_fault, unit_faults}
 use Rattle.ttx_pes.proofs.LineOrderLemmas.{last_place-push}
 
 -- ---- the first test that fails
 
--- The fault of the first test that fails, where the first of them has that number.
-abbrev pub first_wrong : ℕ → List Bool → Option PesFault
-first_wrong i [] = None
-first_wrong i (t ∷ ts) = cond (not t) (Some (told_fault i)) (first_wrong (i + 1) ts)
+-- The fault of the first test of bytes that fails, where the first of them has that number.
+abbrev pub first_wrong : List ℕ → ℕ → List Bool → Option PesFault
+first_wrong b i [] = None
+first_wrong b i (t ∷ ts) = cond (not t) (Some (told_fault b i)) (first_wrong b (i + 1) ts)
 
 -- The tests before a number hold.
 abbrev pub HoldBelow : List Bool → ℕ → Type 0
 HoldBelow ts i = (j : ℕ) → j < i → get_or ts j true ≡ true
 
 -- A test that fails, after others that hold.
-pub record FirstWrong (i : ℕ) (ts : List Bool) : Type 0 where
+pub record FirstWrong (b : List ℕ) (i : ℕ) (ts : List Bool) : Type 0 where
   pub at : ℕ
   pub held : HoldBelow ts at
   pub wrong : get_or ts at true ≡ false
-  pub told : first_wrong i ts ≡ Some (told_fault (i + at))
+  pub told : first_wrong b i ts ≡ Some (told_fault b (i + at))
 
 -- One more before them holds.
 held_after : (ts : List Bool) (n : ℕ) → HoldBelow ts n → HoldBelow (true ∷ ts) (suc n)
 held_after ts n h u lt = grind (arith, nat_tests)
 
 -- All hold, or one is the first that fails.
-pub tests_cases : (i : ℕ) (ts : List Bool)
-    → (((j : ℕ) → get_or ts j true ≡ true) × (first_wrong i ts ≡ None)) ⊎ FirstWrong i ts
-tests_cases i [] = inl (λ j. refl, refl)
-tests_cases i (false ∷ ts) = inr (record {
+pub tests_cases : (b : List ℕ) (i : ℕ) (ts : List Bool)
+    → (((j : ℕ) → get_or ts j true ≡ true) × (first_wrong b i ts ≡ None)) ⊎ FirstWrong b i ts
+tests_cases b i [] = inl (λ j. refl, refl)
+tests_cases b i (false ∷ ts) = inr (record {
   at = 0;
   held = λ j lt. absurd (omega arith);
   wrong = refl;
   told =
       let number : i ≡ i + 0 = omega arith in
-      ap (λ (n : ℕ). Some (told_fault n)) number;
+      ap (λ (n : ℕ). Some (told_fault b n)) number;
 })
-tests_cases i (true ∷ ts) = elim (tests_cases (i + 1) ts) [
+tests_cases b i (true ∷ ts) = elim (tests_cases b (i + 1) ts) [
   | inl all ↦ inl (λ j. held_after ts j (λ k lt. all.0 k) j (omega arith), all.1)
   | inr found ↦ inr (record {
     at = suc found.at;
@@ -129,16 +129,16 @@ refusal (Ok x) = None
 refusal (Err f) = Some f
 
 -- The fault of a question of a data unit.
-unit_fault : (i k r : ℕ) → r < 3 → i ≡ 9 + 3 * k + r
-    → told_fault i ≡ get_or unit_faults r fault.Truncated
-unit_fault i k r lt e = grind (arith, nat_tests, get_or_past)
+unit_fault : (b : List ℕ) (i k r : ℕ) → r < 3 → i ≡ 9 + 3 * k + r
+    → told_fault b i ≡ get_or unit_faults r fault.Truncated
+unit_fault b i k r lt e = grind (arith, nat_tests, get_or_past)
 
 -- n data units from number k on are read where their tests hold.
 units_asked : (n k i before : ℕ) (front : List UnitValue) (b d : List ℕ)
     → i ≡ 9 + 3 * k
     → last_place 0 front ≡ before
     → ((j : ℕ) → j < 46 * n → get_or d j 0 ≡ get_or b (46 + (46 * k + j)) 0)
-    → refusal (units_at n front d) ≡ first_wrong i (units_tests b n k before)
+    → refusal (units_at n front d) ≡ first_wrong b i (units_tests b n k before)
 unfolding units_at unit_at teletext_at
 units_asked zero k i before front b d number last same = refl
 units_asked (suc n) k i before front b d number last same =
@@ -148,15 +148,15 @@ units_asked (suc n) k i before front b d number last same =
     let e1 = at 1 (omega arith) in
     let e2 = at 2 (omega arith) in
     let e3 = at 3 (omega arith) in
-    let f0 = unit_fault i k 0 (omega arith) (omega arith) in
-    let f1 = unit_fault (i + 1) k 1 (omega arith) (omega arith) in
-    let f2 = unit_fault (i + 1 + 1) k 2 (omega arith) (omega arith) in
+    let f0 = unit_fault b i k 0 (omega arith) (omega arith) in
+    let f1 = unit_fault b (i + 1) k 1 (omega arith) (omega arith) in
+    let f2 = unit_fault b (i + 1 + 1) k 2 (omega arith) (omega arith) in
     let rest : (j : ℕ) → j < 46 * n → get_or (drop 46 d) j 0 ≡ get_or b (46 + (46 * suc k + j)) 0 =
     λ j lt. get_or-drop 46 d j 0 ∙ same (46 + j) (omega arith)
     ∙ ap (λ (p : ℕ). get_or b p 0) (omega arith) in
     let on : (us : List UnitValue) (p : ℕ) → last_place 0 us ≡ p
     → refusal (units_at n us (drop 46 d))
-    ≡ first_wrong (i + 1 + 1 + 1) (units_tests b n (suc k) p) = λ us p e.
+    ≡ first_wrong b (i + 1 + 1 + 1) (units_tests b n (suc k) p) = λ us p e.
     units_asked n (suc k) (i + 1 + 1 + 1) p us b (drop 46 d) (omega arith) e rest in
     grind (arith, nat_tests, cases_Bool, last_place-push)
 
@@ -179,10 +179,11 @@ not-not c = grind (arith, nat_tests)
 body_asked : (n : ℕ) (b y rest : List ℕ)
     → length y ≡ 40 + 46 * n
     → ((i : ℕ) → i < 40 + 46 * n → get_or y i 0 ≡ get_or b (6 + i) 0)
+    → told_fault b 4 ≡ flags_fault y
     → refusal {A = PesValue × List ℕ} (value_at y >>= λ v. Ok (v, rest))
-    ≡ first_wrong 4 (body_tests b n)
+    ≡ first_wrong b 4 (body_tests b n)
 unfolding value_at pts_at
-body_asked n b y rest len same =
+body_asked n b y rest len same flags =
     let count : length (drop 40 y) / 46 ≡ n = rw length-drop (omega arith) in
     let units = units_asked n 0 9 0 [] b (drop 40 y) refl refl (λ i lt. get_or-drop 40 y i 0
     ∙ same (40 + i) (omega arith) ∙ ap (λ (j : ℕ). get_or b j 0) (omega arith)) in
@@ -190,7 +191,7 @@ body_asked n b y rest len same =
 
 -- A packet is read where its tests hold.
 pub packet_asked : (b : List ℕ)
-    → refusal (packet_at b) ≡ first_wrong 0 (tests b (told_units b))
+    → refusal (packet_at b) ≡ first_wrong b 0 (tests b (told_units b))
 unfolding packet_at size_at
 packet_asked b =
     simp (test_first, refusal-test, not-not)
@@ -208,7 +209,8 @@ packet_asked b =
             rw (length-take, length-drop) (omega arith) in
             let body = body_asked _ b y (drop (told_size b) b) len (λ i lt.
             get_or-take (told_size b - 6) (drop 6 b) i 0 (omega arith)
-            ∙ get_or-drop 6 b i 0) in
+            ∙ get_or-drop 6 b i 0)
+            (ap (λ (n : ℕ). flags_fault (take n (drop 6 b))) (omega arith)) in
             rw (told, le-ltb (length b) (told_size b) all, body) refl
       ]
     ]))))

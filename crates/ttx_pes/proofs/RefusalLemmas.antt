@@ -1,7 +1,8 @@
 -- Which refusal bytes get: that of the first question in which they fail. Main lemma:
 -- refusal_by_questions.
 use Rattle.std.proofs.Common.{rules, ◌≡◌, ℕ, zero, suc, ◌+◌, ◌-◌, ◌*◌, ◌/◌, ◌%◌, ◌<◌, ◌≤◌, true}
-use Rattle.std.proofs.Common.{false, cond, not, ltb, List, [], ◌∷◌, ◌++◌, length, get_or, map, Some}
+use Rattle.std.proofs.Common.{false, cond, not, ltb, List, [], ◌∷◌, ◌++◌, length, get_or, map}
+use Rattle.std.proofs.Common.{None, Some}
 use Rattle.std.proofs.Common.{Ok, Err, refl, sym, ap, ◌∙◌, arith, inl, inr, length-append, subst}
 use Rattle.std.proofs.Math.Bool.{or-true}
 use Rattle.std.proofs.lemmas.Bool.{cases_lt, eq-eqb, le-leb, le-ltb, lt-ltb}
@@ -42,15 +43,19 @@ held_if_read : (b : List ℕ) (r : PesValue × List ℕ)
     → packet_at b ≡ Ok r
     → (j : ℕ) → get_or (tests b (told_units b)) j true ≡ true
 held_if_read b r read =
-    let asked = sym (packet_asked b) ∙ ap refusal read in
-    grind (arith, nat_tests, tests_cases, tests, told_units)
+    let asked : first_wrong b 0 (tests b (told_units b)) ≡ None =
+    sym (packet_asked b) ∙ ap refusal read in
+    elim (tests_cases b 0 (tests b (told_units b))) [
+      | inl all ↦ all.0
+      | inr found ↦ let told = found.told in absurd cc
+    ]
 
 read_if_held : (b : List ℕ)
     → ((j : ℕ) → get_or (tests b (told_units b)) j true ≡ true)
     → (r : PesValue × List ℕ) × (packet_at b ≡ Ok r)
 read_if_held b all =
     let asked = packet_asked b in
-    elim (tests_cases 0 (tests b (told_units b))) [
+    elim (tests_cases b 0 (tests b (told_units b))) [
       | inr found ↦ let held = all found.at in let wrong = found.wrong in absurd cc
       | inl none ↦ let nothing = none.1 in grind (arith, nat_tests, answer_cases (packet_at b))
     ]
@@ -253,18 +258,18 @@ none_agrees b q v p wrong h agree =
 refused_first : (b : List ℕ) (f : PesFault)
     → AreBytes b
     → packet_at b ≡ Err f
-    → (q : ℕ) × (told_fault q ≡ f) × FailFirst q b
+    → (q : ℕ) × (told_fault b q ≡ f) × FailFirst q b
 refused_first b f fit e =
-    let asked : first_wrong 0 (tests b (told_units b)) ≡ Some f =
+    let asked : first_wrong b 0 (tests b (told_units b)) ≡ Some f =
     sym (packet_asked b) ∙ ap refusal e in
-    elim (tests_cases 0 (tests b (told_units b))) [
+    elim (tests_cases b 0 (tests b (told_units b))) [
       | inl all ↦ let none = all.1 in absurd cc
       | inr found ↦
           let n = payloads b found.at found.held in
           let number : found.at ≡ 0 + found.at = omega arith in
           let a = agreeing b fit found.at n.0 n.1 n.2 n.3 found.held in (
             found.at,
-            ap told_fault number ∙ same_Some _ _ (sym found.told ∙ asked),
+            ap (told_fault b) number ∙ same_Some _ _ (sym found.told ∙ asked),
             record {
               value = a.0;
               packet = a.1;

@@ -22,6 +22,7 @@ pes_code fault.Read = fault_code 41 (codes "Read")
 pes_code fault.Write = fault_code 42 (codes "Write")
 pes_code fault.Ended = fault_code 43 (codes "Ended")
 pes_code fault.TooMany = fault_code 44 (codes "TooMany")
+pes_code fault.Lost = fault_code 45 (codes "Lost")
 
 -- The fault is one of a packet that is as long as its length field says: another may follow it.
 abbrev pub is_of_piece : PesFault → Bool
@@ -33,6 +34,7 @@ is_of_piece fault.DataId = true
 is_of_piece fault.UnitLength = true
 is_of_piece fault.Framing = true
 is_of_piece fault.LineOrder = true
+is_of_piece fault.Lost = true
 is_of_piece _ = false
 
 -- The source failed.

@@ -1,14 +1,16 @@
 -- Laws of the format, over plain lists of bytes.
 use Rattle.std.specs.Prelude.{◌≡◌, ◌≢◌, ◌↔◌, ℕ, ◌^◌, ◌<◌, ◌≤◌, List, [], ◌++◌, length, map, Some}
 use Rattle.std.specs.Prelude.{None, Ok, Err, true}
-use Rattle.std.specs.List.{AllByRecursion, AllPairs}
+use Rattle.std.specs.Prelude.{IfSome, Option, min}
+use Rattle.std.specs.List.{AllByRecursion, AllPairs, concat}
 use Rattle.sub_io.specs.Reading.{AreBytes}
 use Rattle.ttx_packet.specs.PacketAddress.{IsPacket}
 use Rattle.ttx_pes.specs.DataUnit.{UnitValue}
 use Rattle.ttx_pes.specs.LineOrder.{numbered_units, AreInLineOrder, RisesTo}
 use Rattle.ttx_pes.specs.PesPacket.{PesValue, IsPesPacket, IsPesValue, canonical_packet}
 use Rattle.ttx_pes.specs.PesPacket.{numbered_frame}
-use Rattle.ttx_pes.specs.Pieces.{FallInto, pieces_after}
+use Rattle.ttx_pes.specs.PieceRange.{BeginsNoPiece, chosen_of, first_index, in_range}
+use Rattle.ttx_pes.specs.Pieces.{FallInto, IsPiece, pieces_after}
 use Rattle.ttx_pes.specs.Reader.{BeginsNone}
 use Rattle.ttx_pes.specs.Reading.{packet_at, answer_at, rest_after, is_format_fault, most_packets}
 use Rattle.ttx_pes.specs.Refusal.{told_fault, FailFirst}
@@ -59,7 +61,7 @@ LawOfRefusal =
     → AreBytes bytes
     → ((f : PesFault)
     → packet_at bytes ≡ Err f
-    → (question : ℕ) × (told_fault question ≡ f) × FailFirst question bytes)
+    → (question : ℕ) × (told_fault bytes question ≡ f) × FailFirst question bytes)
     × ((question : ℕ) → FailFirst question bytes → (f : PesFault) × (packet_at bytes ≡ Err f))
 
 -- An answer says of the bytes to come, in the words of the grammar: at the end there are none, a
@@ -109,3 +111,19 @@ LawOfNumberedFrame =
 -- So what is told of pieces that are passed over is told of all of them, and of nothing else.
 abbrev pub LawOfPieces : Type 0
 LawOfPieces = (bytes : List ℕ) → AreBytes bytes → FallInto bytes (pieces_after 0 bytes)
+
+-- A range of a file that falls into pieces, and a rest that no piece begins, is those of its pieces
+-- that have the numbers of the range, and the rest where the file has no piece of the last number.
+-- Its first piece has as many before it as the range says, if there are so many.
+-- So what is read of a range is what the file has there, and numbers are those of the file.
+abbrev pub LawOfRanges : Type 0
+LawOfRanges =
+    (first : ℕ) (last : Option ℕ) (pieces : List (List ℕ)) (rest : List ℕ)
+    → IfSome last (λ l. first ≤ l)
+    → AllByRecursion IsPiece pieces
+    → AreBytes rest
+    → BeginsNoPiece rest
+    → (in_range (record { first = first; last = last }) (concat pieces ++ rest)
+    ≡ chosen_of first last pieces rest)
+    × (first_index (record { first = first; last = last }) (concat pieces ++ rest)
+    ≡ min first (length pieces))

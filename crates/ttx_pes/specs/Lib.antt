@@ -12,3 +12,4 @@ pub mod Comparing
 pub mod LentPacket
 pub mod Pieces
 pub mod SentUnits
+pub mod PieceRange

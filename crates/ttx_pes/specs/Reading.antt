@@ -4,12 +4,13 @@ use Rattle.std.specs.Prelude.{ℕ, zero, suc, ◌+◌, ◌-◌, ◌*◌, ◌/◌
 use Rattle.std.specs.Prelude.{not, ◌==◌, ◌&&◌, nat_lt, nat_le, if◌then◌else◌, List, [], ◌∷◌, ◌++◌}
 use Rattle.std.specs.Prelude.{length, take, drop, map, slice_index, Option, Some, None, Result, Ok}
 use Rattle.std.specs.Prelude.{Err}
+use Rattle.std.specs.List.{list_all}
 use Rattle.sub_io.specs.Reading.{◌>>=◌}
 use Rattle.ttx_packet.specs.BitOrder.{mirror}
 use Rattle.ttx_pes.specs.declared.fault.PesFault.{PesFault}
 use Rattle.ttx_pes.specs.declared.fault.PesFault.TheVariants as fault
 use Rattle.ttx_pes.specs.DataUnit.{UnitValue, is_teletext, data_unit_length, data_unit_size}
-use Rattle.ttx_pes.specs.DataUnit.{framing_code}
+use Rattle.ttx_pes.specs.DataUnit.{framing_code, stuffing}
 use Rattle.ttx_pes.specs.LineOrder.{last_place, stands_after}
 use Rattle.ttx_pes.specs.PesPacket.{PesValue, header_data_length, longest_packet, payload_size}
 
@@ -70,10 +71,19 @@ has_markers b =
     && (byte_at b 11 % 2 == 1)
     && (byte_at b 13 % 2 == 1)
 
+-- All bytes are FF: from byte 6 on so it is in the mark that stands where PES packets were lost
+-- (own). Scrambled, or with such flags, no packet is that by chance.
+abbrev pub is_mark : List ℕ → Bool
+is_mark b = list_all (λ byte. byte == stuffing) b
+
+-- What is told where byte 6 does not begin with 1000.
+abbrev pub flags_fault : List ℕ → PesFault
+flags_fault b = if is_mark b then fault.Lost else fault.Flags
+
 -- Bytes 6 to 45: the PTS.
 unfoldable pub pts_at : List ℕ → Result ℕ PesFault
 pts_at b =
-    if not (byte_at b 6 / 0x10 == 8) then Err fault.Flags
+    if not (byte_at b 6 / 0x10 == 8) then Err (flags_fault b)
     else if not (byte_at b 7 / 0x40 == 2) then Err fault.NoTime
     else if not (byte_at b 8 == header_data_length) then Err fault.HeaderLength
     else if not (has_markers b) then Err fault.Time
@@ -137,7 +147,7 @@ left_behind b (Err _) = b
 unfoldable pub rest_after : List ℕ → List ℕ
 rest_after b = left_behind b (packet_at b)
 
--- Whether a fault is one of the format: `Truncated` to `LineOrder`.
+-- Whether a fault is one of the format: `Truncated` to `LineOrder`, and `Lost`.
 abbrev pub is_format_fault : PesFault → Bool
 is_format_fault fault.Read = false
 is_format_fault fault.Write = false

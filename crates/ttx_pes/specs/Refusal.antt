@@ -9,7 +9,7 @@
 --   1            0..3   packet_start_code_prefix, stream_id                     Start
 --   2            4..5   PES_packet_length                                       Length
 --   3            that there are all bytes of the packet                         Truncated
---   4            6      PES_scrambling_control, with the two bits before it     Flags
+--   4            6      PES_scrambling_control, with the two bits before it     Flags, Lost
 --   5            7      PTS_DTS_flags                                           NoTime
 --   6            8      PES_header_data_length                                  HeaderLength
 --   7            9..13  PTS                                                     Time
@@ -17,27 +17,34 @@
 --   9 + 3 * k    1      data_unit_length                                        UnitLength
 --   10 + 3 * k   0, 3   data_unit_id and, of a Teletext unit, framing_code      Framing
 --   11 + 3 * k   2      field_parity and line_offset                            LineOrder
+--
+-- At question 4 `Lost` is told where all bytes of the packet from 6 on are FF, else `Flags`.
 use Rattle.std.specs.Prelude.{◌≡◌, ℕ, ◌+◌, ◌-◌, ◌*◌, ◌/◌, ◌%◌, ◌<◌, ◌≤◌, List, [], ◌∷◌, ◌++◌}
-use Rattle.std.specs.Prelude.{length, replicate, slice_index, slice_index_or}
+use Rattle.std.specs.Prelude.{drop, length, replicate, slice_index, slice_index_or, take}
 use Rattle.ttx_pes.specs.declared.fault.PesFault.{PesFault}
 use Rattle.ttx_pes.specs.declared.fault.PesFault.TheVariants as fault
 use Rattle.ttx_pes.specs.DataUnit.{data_unit_size}
 use Rattle.ttx_pes.specs.PesPacket.{PesValue, IsPesPacket, header_size, most_units}
+use Rattle.ttx_pes.specs.Reading.{flags_fault}
+
+-- The bytes of a packet from 6 on, as many as PES_packet_length says.
+abbrev pub told_body : List ℕ → List ℕ
+told_body b = take (0x100 * slice_index b 4 + slice_index b 5) (drop 6 b)
 
 -- The faults of the questions of a packet, and of those of a data unit.
-abbrev pub packet_faults : List PesFault
-packet_faults =
-    fault.Truncated ∷ fault.Start ∷ fault.Length ∷ fault.Truncated ∷ fault.Flags ∷ fault.NoTime
-    ∷ fault.HeaderLength ∷ fault.Time ∷ fault.DataId ∷ []
+abbrev pub packet_faults : List ℕ → List PesFault
+packet_faults b =
+    fault.Truncated ∷ fault.Start ∷ fault.Length ∷ fault.Truncated ∷ flags_fault (told_body b)
+    ∷ fault.NoTime ∷ fault.HeaderLength ∷ fault.Time ∷ fault.DataId ∷ []
 
 -- What is refused of the fields of each data unit, in the order of the questions.
 abbrev pub unit_faults : List PesFault
 unit_faults = fault.UnitLength ∷ fault.Framing ∷ fault.LineOrder ∷ []
 
--- The fault that is told where the answer to a question is wrong.
-abbrev pub told_fault : ℕ → PesFault
-told_fault i =
-    slice_index_or packet_faults i (slice_index_or unit_faults (i % 3) fault.Truncated)
+-- The fault that is told of bytes where the answer to a question is wrong.
+abbrev pub told_fault : List ℕ → ℕ → PesFault
+told_fault b i =
+    slice_index_or (packet_faults b) i (slice_index_or unit_faults (i % 3) fault.Truncated)
 
 -- A number after those of all questions, for bytes that may be anything: no packet has more units.
 abbrev pub no_question : ℕ

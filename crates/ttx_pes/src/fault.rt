@@ -39,6 +39,8 @@ pub enum PesFault {
     Ended,
     /// A byte follows 2,160,000 packets, one for each frame of a day (own).
     TooMany,
+    /// All bytes from 6 on are FF: the mark that stands where PES packets were lost (own).
+    Lost,
 }
 
 impl PesFault {
@@ -64,6 +66,7 @@ impl PesFault {
             PesFault::Write => FaultCode::new(42, "Write"),
             PesFault::Ended => FaultCode::new(43, "Ended"),
             PesFault::TooMany => FaultCode::new(44, "TooMany"),
+            PesFault::Lost => FaultCode::new(45, "Lost"),
         }
     }
 
@@ -80,7 +83,8 @@ impl PesFault {
             | PesFault::DataId
             | PesFault::UnitLength
             | PesFault::Framing
-            | PesFault::LineOrder => true,
+            | PesFault::LineOrder
+            | PesFault::Lost => true,
             _ => false,
         }
     }

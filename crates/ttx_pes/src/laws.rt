@@ -2,7 +2,7 @@
 ghost use Rattle.ttx_pes.specs.Laws.{LawOfAnswers, LawOfCanonicalPacket, LawOfGrammar};
 ghost use Rattle.ttx_pes.specs.Laws.{LawOfNumberedFrame, LawOfPieces};
 ghost use Rattle.ttx_pes.specs.Laws.{LawOfLineOrder, LawOfOneValue, LawOfPacketValue, LawOfReading};
-ghost use Rattle.ttx_pes.specs.Laws.{LawOfReadingBack, LawOfRefusal};
+ghost use Rattle.ttx_pes.specs.Laws.{LawOfRanges, LawOfReadingBack, LawOfRefusal};
 
 /// A PES packet has one value, and none is a proper prefix of another: a file falls into packets in
 /// one way.
@@ -68,4 +68,10 @@ pub fn law_of_numbered_frame()
 /// longest list of byte strings, each as long as its length field says, that begins the bytes.
 pub fn law_of_pieces()
     ensures { LawOfPieces }
+{}
+
+/// A range of a file is those of its pieces that have the numbers of the range, and what follows
+/// the last piece of the file where that stands before the last one of the range.
+pub fn law_of_ranges()
+    ensures { LawOfRanges }
 {}

@@ -19,15 +19,20 @@
 mod comparing_reader;
 mod data_unit;
 mod fault;
+mod held_bytes;
 mod held_packet;
 mod kept_frame;
 mod laws;
 mod lent_packet;
 mod line_numbers;
+mod numbered;
 mod packet_bytes;
 mod pes_frame;
 mod pes_header;
+mod piece_range;
+mod pieces_ahead;
 mod progress;
+mod range_source;
 mod reader;
 mod repeated_packet;
 mod same_bytes;
@@ -41,14 +46,18 @@ pub use comparing_reader::{Compared, ComparingReader};
 pub use fault::PesFault;
 pub use laws::{
     law_of_answers, law_of_canonical_packet, law_of_grammar, law_of_line_order,
-    law_of_numbered_frame, law_of_one_value, law_of_packet_value, law_of_pieces, law_of_reading,
-    law_of_reading_back, law_of_refusal,
+    law_of_numbered_frame, law_of_one_value, law_of_packet_value, law_of_pieces, law_of_ranges,
+    law_of_reading, law_of_reading_back, law_of_refusal,
 };
 pub use lent_packet::{hand_on_first, holds_packet};
 pub use line_numbers::put_frame;
+pub use numbered::{FailedAt, Numbered};
 pub use packet_bytes::MOST_PACKETS;
 pub use pes_frame::{MOST_UNITS, PesFrame};
+pub use pes_header::size_of;
+pub use piece_range::PieceRange;
 pub use progress::Progress;
+pub use range_source::RangeSource;
 pub use reader::PesReader;
 pub use repeated_packet::RepeatedPacket;
 pub use sent_units::SentUnits;

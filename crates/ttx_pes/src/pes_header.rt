@@ -5,7 +5,8 @@ ghost use Rattle.std.specs.Prelude.{slice_index, IfOk, IfErr};
 ghost use Rattle.ttx_pes.specs.Fault.{is_of_piece};
 ghost use Rattle.ttx_pes.specs.PesPacket.{header_size, longest_packet, payload_size};
 ghost use Rattle.ttx_pes.specs.PesPacket.{pes_packet_header, pts_bytes};
-ghost use Rattle.ttx_pes.specs.Reading.{is_start, pts_at, size_at, is_format_fault};
+ghost use Rattle.ttx_pes.specs.Reading.{flags_fault, is_format_fault, is_mark, is_start, pts_at};
+ghost use Rattle.ttx_pes.specs.Reading.{size_at};
 
 use crate::fault::PesFault;
 use crate::writer::{Bytes, add};
@@ -18,9 +19,14 @@ pub(crate) const PAYLOAD: usize = 184;
 /// The bytes of the longest packet.
 pub(crate) const LONGEST_PACKET: usize = 9 * PAYLOAD;
 
-// The size of the packet that begins with these six bytes.
+/// The size of the PES packet that begins with these six bytes, 184 to 1656 (EN 300 472,
+/// PES_packet_length).
+///
+/// # Errors
+///
+/// `Start`, then `Length`.
 #[tactic(auto, unfolding(crate::specs::Reading::size_at))]
-pub(crate) fn size_of(head: &[u8; 6]) -> Result<usize, PesFault>
+pub fn size_of(head: &[u8; 6]) -> Result<usize, PesFault>
     ensures exact { size_at head.now ≡ result }
     ensures kind { IfErr result (λ fault. is_format_fault fault ≡ true) }
     ensures of_no_piece { IfErr result (λ fault. is_of_piece fault ≡ false) }
@@ -62,7 +68,7 @@ pub(crate) fn pts_of(body: &[u8]) -> Result<u64, PesFault>
     ensures range { IfOk result (λ pts. pts < 2 ^ 33) }
 {
     if body[0] / 16 != 8 {
-        return Err(PesFault::Flags);
+        return Err(flags_fault(body));
     }
     if body[1] / 64 != 2 {
         return Err(PesFault::NoTime);
@@ -78,6 +84,24 @@ pub(crate) fn pts_of(body: &[u8]) -> Result<u64, PesFault>
     }
     let high = (body[3] / 2 % 8) as u64;
     Ok(high * (1 << 30) + fifteen_bits(body, 4) * (1 << 15) + fifteen_bits(body, 6))
+}
+
+// What is told where byte 6 does not begin with 1000, by the packet's bytes from byte 6 on.
+fn flags_fault(body: &[u8]) -> PesFault
+    ensures { result ≡ flags_fault body.now }
+{
+    if is_mark(body) {
+        PesFault::Lost
+    } else {
+        PesFault::Flags
+    }
+}
+
+// Whether all bytes are FF, as in the mark of lost packets.
+fn is_mark(body: &[u8]) -> bool
+    ensures { result ≡ is_mark body.now }
+{
+    body.iter().all(|byte| *byte == 0xFF)
 }
 
 // A group of 15 bits of the PTS, without the marker bit after it.

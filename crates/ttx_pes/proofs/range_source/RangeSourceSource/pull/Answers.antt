@@ -1,0 +1,56 @@
+-- What is pulled is given: pulls_piece, pulls_none.
+use Rattle.std.proofs.Common.{◌≡◌, ◌<◌, ◌++◌, arith, drop, length-append}
+use Rattle.std.proofs.Common.{Ok, Some, inl, inr, subst}
+use Rattle.std.proofs.lemmas.List.{length-drop, length-take-le, take-append-le}
+use Rattle.sub_io.specs.declared.source.Failed.{Failed}
+use Rattle.ttx_pes.specs.PieceRange.{IsDecided}
+use Rattle.ttx_pes.proofs.PieceRangeLemmas.{pulls_after, pulls_none, pulls_piece}
+use Rattle.ttx_pes.proofs.range_source.RangeSourceSource.pull.Goals as goal
+
+pub overflow_sub-self : goal.overflow_sub-self
+overflow_sub-self g c =
+    let most = c.min-most.ensures in
+    let whole = length-take-le c.min-most.result c.args.to.now (omega (arith, most)) in
+    omega (arith, c.in_ok-n-in-Giving.ensures.bound, c.pull.ensures.len, most, whole)
+
+pub returns-in_ok-n-in-Giving-clause-bound : goal.returns-in_ok-n-in-Giving-clause-bound
+returns-in_ok-n-in-Giving-clause-bound g c =
+    let n = c.in_ok-n-in-Giving.n in
+    let to = c.pull.new.to in
+    let rest = drop c.min-most.result c.args.to.now in
+    let size = length-append to rest in
+    let bound = c.in_ok-n-in-Giving.ensures.bound in
+    let len = length-take-le n (to ++ rest) (omega (arith, size, bound)) in
+    (omega (arith, size, bound), omega (arith, len))
+
+pub returns-in_ok-n-in-Giving-clause-bytes : goal.returns-in_ok-n-in-Giving-clause-bytes
+returns-in_ok-n-in-Giving-clause-bytes g c =
+    let n = c.in_ok-n-in-Giving.n in
+    let to = c.pull.new.to in
+    let rest = drop c.min-most.result c.args.to.now in
+    let most = c.min-most.ensures in
+    let whole = length-take-le c.min-most.result c.args.to.now (omega (arith, most)) in
+    let len = c.pull.ensures.len in
+    let bound = c.in_ok-n-in-Giving.ensures.bound in
+    let all = length-append to rest in
+    let left = length-drop c.min-most.result c.args.to.now in
+    let some : 0 < c.in-Giving.size =
+    subst (λ p. IsDecided p c.settle.new.self.left) c.in-Giving.is c.in_ok-settle.ensures.decided in
+    pulls_after {E = Failed} _ _ _ (to ++ rest) (Ok n) c.in_ok-settle.ensures.kept
+    (rw c.in-Giving.is (pulls_piece Failed _ _ _ _ to (to ++ rest) c.in-Giving.size n 0 _ some
+    (omega (arith, bound, len, most, whole)) (omega (arith, bound))
+    (take-append-le n to rest (omega (arith, bound)))
+    (λ more. omega (arith, more, len, most, whole, some, all, left))
+    c.in_ok-n-in-Giving.ensures.bytes))
+
+pub returns-in-Passing-clause-bytes : goal.returns-in-Passing-clause-bytes
+returns-in-Passing-clause-bytes g c =
+    let decided = c.in_ok-settle.ensures.decided in
+    elim c.in-Passing.is [
+      | inl passing ↦ absurd (subst (λ p. IsDecided p c.settle.new.self.left) passing decided)
+      | inr between ↦
+          let none : c.settle.new.self.left ≡ Some 0 =
+          subst (λ p. IsDecided p c.settle.new.self.left) between decided in
+          pulls_after {E = Failed} _ _ _ c.args.to.now (Ok 0) c.in_ok-settle.ensures.kept
+          (rw between (pulls_none Failed _ _ c.args.to.now 0 _ none))
+    ]

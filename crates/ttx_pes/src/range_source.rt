@@ -1,0 +1,272 @@
+//! A source of some of the PES packets of a file.
+ghost use Rattle.std.specs.Prelude.{◌≡◌, ◌⊎◌, ◌<◌, ◌≤◌, ◌+◌, IfSome, OnOk};
+ghost use Rattle.std.specs.Prelude.{Some, option_map};
+ghost use Rattle.std.specs.Io.{ReadsAtMost};
+ghost use Rattle.std.specs.Io.KnownBytes.{Keeps, prepend_known};
+ghost use Rattle.sub_io.specs.Device.{CanFail, CountsFailure, Pulls};
+ghost use Rattle.sub_io.specs.Reading.{IfTold};
+ghost use Rattle.ttx_pes.specs.PieceRange.{IsDecided, KeepsIndex, first_index, in_range};
+ghost use Rattle.ttx_pes.specs.PieceRange.{told_index, told_of, told_piece};
+ghost use Rattle.ttx_pes.specs.PesPacket.{longest_packet};
+
+use crate::held_bytes::HeldBytes;
+use crate::numbered::{FailedAt, Numbered};
+use crate::pes_header::size_of;
+use crate::piece_range::PieceRange;
+use crate::pieces_ahead::PiecesAhead;
+use sub_io::{Failed, Source};
+
+// The bytes that tell the size of a piece.
+const HEAD: usize = 6;
+
+/// How far a `RangeSource` has come.
+#[derive(Clone, Copy)]
+pub(crate) enum Phase {
+    /// Pieces before the range are passed over.
+    Passing,
+    /// The next piece is to be given, if there is one and the range has room for it.
+    Between,
+    /// So many bytes of a piece are to be given.
+    Giving(usize),
+    /// All bytes are given.
+    Open,
+}
+
+/// Gives the pieces of a range of what another source gives: PES packets, and such byte strings as
+/// are as long as their length field says. Where there are fewer pieces than go up to the last one
+/// of the range, what follows them is given too. Nothing behind the last one is asked for.
+#[derive(Drop)]
+pub struct RangeSource<S> {
+    inner: S,
+    held: HeldBytes,
+    ahead: PiecesAhead,
+    phase: Phase,
+    // How many pieces may be given after the one that is.
+    left: Option<u64>,
+}
+
+// The size of the piece that these bytes begin.
+#[tactic(auto, unfolding(crate::specs::PieceRange::told_piece))]
+fn told_piece(bytes: &[u8]) -> Option<usize>
+    ensures size { result ≡ told_piece bytes.now }
+    ensures range { IfSome result (λ size. (6 ≤ size) × (size ≤ longest_packet)) }
+{
+    match size_of(bytes.first_chunk()?) {
+        Ok(size) => Some(size),
+        Err(_) => None,
+    }
+}
+
+impl<S: Source> RangeSource<S> {
+    /// The pieces of a range of a source that is at the start of a file.
+    #[tactic(auto, unfolding(crate::specs::PieceRange::in_range))]
+    pub fn new(inner: S, range: PieceRange) -> Self
+        ensures remaining { told_of result.phase result.ahead.to_pass result.left result.held
+            (S.remaining result.inner) ≡ option_map (in_range range) (S.remaining inner) }
+        ensures first { told_index result.phase result.ahead result.held
+            (S.remaining result.inner) ≡ option_map (first_index range) (S.remaining inner) }
+        ensures count { S.failure_count result.inner ≡ S.failure_count inner }
+    {
+        RangeSource {
+            inner,
+            held: HeldBytes::new(),
+            ahead: PiecesAhead::new(range.first()),
+            phase: Phase::Passing,
+            left: range.most(),
+        }
+    }
+
+    // Passes over a piece before the range; where none comes, what comes is to be given.
+    fn pass_piece(&mut self) -> Result<(), Failed>
+        requires phase { self.old.phase ≡ Phase.Passing }
+        requires some { 0 < self.old.ahead.to_pass }
+        requires count { CanFail (S.failure_count self.old.inner) }
+        ensures kept { Keeps
+            (told_of self.old.phase self.old.ahead.to_pass self.old.left self.old.held
+            (S.remaining self.old.inner))
+            (told_of self.new.phase self.new.ahead.to_pass self.new.left self.new.held
+            (S.remaining self.new.inner)) }
+        ensures index { KeepsIndex
+            (told_index self.old.phase self.old.ahead self.old.held (S.remaining self.old.inner))
+            (told_index self.new.phase self.new.ahead self.new.held (S.remaining self.new.inner)) }
+        ensures left { self.new.left ≡ self.old.left }
+        ensures phase { OnOk result ((self.new.phase ≡ Phase.Between)
+            ⊎ ((self.new.phase ≡ Phase.Passing)
+            × (self.new.ahead.to_pass + 1 ≡ self.old.ahead.to_pass))) }
+        ensures count { CountsFailure (S.failure_count self.old.inner) result
+            (S.failure_count self.new.inner) }
+    {
+        self.held.read_up_to(&mut self.inner, HEAD)?;
+        let Some(size) = told_piece(self.held.bytes()) else {
+            self.phase = Phase::Between;
+            return Ok(());
+        };
+        self.held.read_up_to(&mut self.inner, size)?;
+        if self.held.bytes().len() < size {
+            self.phase = Phase::Between;
+            return Ok(());
+        }
+        self.held.pass(size);
+        self.ahead.count_one();
+        Ok(())
+    }
+
+    // Passes over the pieces before the range.
+    #[tactic(auto, using(crate::proofs::PieceRangeLemmas::at_range))]
+    fn pass_all(&mut self) -> Result<(), Failed>
+        requires phase { self.old.phase ≡ Phase.Passing }
+        requires count { CanFail (S.failure_count self.old.inner) }
+        ensures kept { Keeps
+            (told_of self.old.phase self.old.ahead.to_pass self.old.left self.old.held
+            (S.remaining self.old.inner))
+            (told_of self.new.phase self.new.ahead.to_pass self.new.left self.new.held
+            (S.remaining self.new.inner)) }
+        ensures index { KeepsIndex
+            (told_index self.old.phase self.old.ahead self.old.held (S.remaining self.old.inner))
+            (told_index self.new.phase self.new.ahead self.new.held (S.remaining self.new.inner)) }
+        ensures phase { OnOk result (self.new.phase ≡ Phase.Between) }
+        ensures count { CountsFailure (S.failure_count self.old.inner) result
+            (S.failure_count self.new.inner) }
+    {
+        while let Phase::Passing = self.phase {
+            if self.ahead.to_pass() == 0 {
+                self.phase = Phase::Between;
+            } else {
+                self.pass_piece()?;
+            }
+        }
+        Ok(())
+    }
+
+    // The size of the piece that comes next, where no byte is held and the source inside lends those
+    // that tell it: then none of it is copied.
+    #[inline(always)]
+    fn lent_piece(&self) -> Option<usize>
+        ensures size { IfSome result (λ size.
+            IfTold (prepend_known self.now.held (S.remaining self.now.inner))
+            (λ bytes. told_piece bytes ≡ Some size)) }
+        ensures range { IfSome result (λ size. (6 ≤ size) × (size ≤ longest_packet)) }
+    {
+        if !self.held.bytes().is_empty() {
+            return None;
+        }
+        told_piece(self.inner.held())
+    }
+
+    // Decides what is given next, between pieces: one, or all that comes; nothing behind the range.
+    fn decide(&mut self) -> Result<(), Failed>
+        requires phase { self.old.phase ≡ Phase.Between }
+        requires count { CanFail (S.failure_count self.old.inner) }
+        ensures kept { Keeps
+            (told_of self.old.phase self.old.ahead.to_pass self.old.left self.old.held
+            (S.remaining self.old.inner))
+            (told_of self.new.phase self.new.ahead.to_pass self.new.left self.new.held
+            (S.remaining self.new.inner)) }
+        ensures decided { OnOk result (IsDecided self.new.phase self.new.left) }
+        ensures count { CountsFailure (S.failure_count self.old.inner) result
+            (S.failure_count self.new.inner) }
+    {
+        let Some(left) = self.left else {
+            self.phase = Phase::Open;
+            return Ok(());
+        };
+        if left == 0 {
+            return Ok(());
+        }
+        if let Some(size) = self.lent_piece() {
+            self.phase = Phase::Giving(size);
+            self.left = Some(left - 1);
+            return Ok(());
+        }
+        self.held.read_up_to(&mut self.inner, HEAD)?;
+        match told_piece(self.held.bytes()) {
+            Some(size) => {
+                self.phase = Phase::Giving(size);
+                self.left = Some(left - 1);
+            }
+            None => self.phase = Phase::Open,
+        }
+        Ok(())
+    }
+
+    // Reads on until it is decided what is given next.
+    fn settle(&mut self) -> Result<(), Failed>
+        requires count { CanFail (S.failure_count self.old.inner) }
+        ensures kept { Keeps
+            (told_of self.old.phase self.old.ahead.to_pass self.old.left self.old.held
+            (S.remaining self.old.inner))
+            (told_of self.new.phase self.new.ahead.to_pass self.new.left self.new.held
+            (S.remaining self.new.inner)) }
+        ensures decided { OnOk result (IsDecided self.new.phase self.new.left) }
+        ensures count { CountsFailure (S.failure_count self.old.inner) result
+            (S.failure_count self.new.inner) }
+    {
+        match self.phase {
+            Phase::Passing => {
+                self.pass_all()?;
+                self.decide()
+            }
+            Phase::Between => self.decide(),
+            Phase::Giving(0) => {
+                self.phase = Phase::Between;
+                self.decide()
+            }
+            Phase::Giving(_) | Phase::Open => Ok(()),
+        }
+    }
+}
+
+impl<S: Source> Source for RangeSource<S> {
+    ghost remaining = { λ s. told_of s.phase s.ahead.to_pass s.left s.held (S.remaining s.inner) };
+
+    ghost failure_count = { λ s. S.failure_count s.inner };
+
+    /// Gives bytes of the range.
+    ///
+    /// # Errors
+    ///
+    /// `Failed` where the source inside fails.
+    fn pull(&mut self, to: &mut [u8]) -> Result<usize, Failed>
+        requires { CanFail (S.failure_count self.old.inner) }
+        ensures bound { ReadsAtMost result to.new }
+        ensures bytes { Pulls
+            (told_of self.old.phase self.old.ahead.to_pass self.old.left self.old.held
+            (S.remaining self.old.inner))
+            (told_of self.new.phase self.new.ahead.to_pass self.new.left self.new.held
+            (S.remaining self.new.inner)) to.new result }
+        ensures count { CountsFailure (S.failure_count self.old.inner) result
+            (S.failure_count self.new.inner) }
+    {
+        self.settle()?;
+        match self.phase {
+            Phase::Giving(size) => {
+                let most = to.len().min(size);
+                let n = self.held.pull(&mut self.inner, &mut to[..most])?;
+                self.phase = Phase::Giving(size - n);
+                Ok(n)
+            }
+            Phase::Open => self.held.pull(&mut self.inner, to),
+            Phase::Passing | Phase::Between => Ok(0),
+        }
+    }
+
+    /// The failures of the source inside.
+    fn failures(&self) -> u64 {
+        self.inner.failures()
+    }
+}
+
+impl<S: Source> Numbered for RangeSource<S> {
+    ghost first = { λ s. told_index s.phase s.ahead s.held (S.remaining s.inner) };
+
+    fn find_first(&mut self) -> Result<u64, FailedAt> {
+        if let Phase::Passing = self.phase {
+            if self.pass_all().is_err() {
+                return Err(FailedAt {
+                    pes: self.ahead.passed(),
+                });
+            }
+        }
+        Ok(self.ahead.passed())
+    }
+}
