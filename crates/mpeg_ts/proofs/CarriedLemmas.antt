@@ -1,0 +1,171 @@
+-- What a recording gives, read step by step, is what the packets of the PID carry: carried_given.
+use Rattle.std.proofs.Common.{◌≡◌, ℕ, zero, suc, ◌+◌, ◌≤◌, ◌<◌, List, [], ◌∷◌, ◌++◌, length, drop}
+use Rattle.std.proofs.Common.{Bool, true, false, Option, None, Some, refl, sym, ap, ◌∙◌, subst}
+use Rattle.std.proofs.Common.{arith}
+use Rattle.std.proofs.Common.{length-drop, length-take-le}
+use Rattle.std.proofs.lemmas.Bool.Decides.{nat_tests}
+use Rattle.std.specs.Prelude.{◌&&◌, ◌||◌, ◌==◌, ◌/◌, ◌%◌, not, nat_lt, if◌then◌else◌, slice_index}
+use Rattle.std.specs.Prelude.{option_map}
+use Rattle.mpeg_ts.specs.Carried.{carried, mark_where, with_marks}
+use Rattle.mpeg_ts.specs.GoodPackets.{GoodPacket, Note, Valid, Wrong, good_after, hole_size}
+use Rattle.mpeg_ts.specs.GoodPackets.{note_of, notes, nothing_since}
+use Rattle.mpeg_ts.specs.Joining.{given_after, nothing_joined}
+use Rattle.mpeg_ts.specs.PacketsInStep.{Item, Packet, Skipped, begins_packet, items, items_of}
+use Rattle.mpeg_ts.specs.Parts.{PartOutcome, begins_part, gap_where, is_break, outcomes, part_of, parts}
+use Rattle.mpeg_ts.specs.Stream.{given_of, start_of_stream, still_given, stream_gives}
+use Rattle.mpeg_ts.specs.TransportPacket.{begins, has_adaptation, has_payload, is_wrong}
+use Rattle.mpeg_ts.specs.TransportPacket.{payload, payload_place, pid}
+use Rattle.mpeg_ts.specs.declared.joining.Given.TheVariants as given
+use Rattle.mpeg_ts.proofs.JoinedLemmas.{claims, joined, new_part, or_true}
+use Rattle.mpeg_ts.proofs.NoteLemmas.{AreSound, FirstIsCut, first_is_cut, good_payloads}
+use Rattle.mpeg_ts.proofs.NoteLemmas.{notes_joined}
+use Rattle.mpeg_ts.proofs.OutcomeLemmas.{HavePayloads, by_bool, give, outcomes-from, tail}
+use Rattle.mpeg_ts.proofs.OutcomeLemmas.{with_marks-nothing}
+use Rattle.mpeg_ts.proofs.StreamLemmas.{items_end, items_packet, items_skipped}
+
+-- ---- packets have payloads
+
+-- Each packet has 188 bytes.
+abbrev AreWhole : List Item → Type 0
+AreWhole [] = Unit {0}
+AreWhole (Packet p ∷ more) = (length p ≡ 188) × AreWhole more
+AreWhole (Skipped ∷ more) = AreWhole more
+
+items_whole : (distance : ℕ) (in_step : Bool) (room : ℕ) (bytes : List ℕ)
+    → AreWhole (items distance in_step room bytes)
+unfolding items
+items_whole distance in_step zero bytes = tt
+items_whole distance in_step (suc room) bytes =
+    by_bool (nat_lt (length bytes) 188)
+    (λ few. let short : length bytes < 188 = grind (arith, nat_tests) in
+    subst AreWhole (sym (items_end distance in_step (suc room) bytes short)) tt)
+    (λ many. let long : 188 ≤ length bytes = grind (arith, nat_tests) in
+    by_bool (begins_packet distance in_step bytes)
+    (λ begins. subst AreWhole (sym (items_packet distance in_step room bytes long begins))
+    (length-take-le 188 bytes long, items_whole distance true room (drop distance bytes)))
+    (λ skips. subst AreWhole (sym (items_skipped distance in_step room bytes long skips))
+    (items_whole distance false room (drop 1 bytes))))
+
+-- The last of the reasons why a packet is wrong.
+last_reason : (x y a h n : Bool)
+    → (x || y || (a && h && n)) ≡ false
+    → a ≡ true
+    → h ≡ true
+    → n ≡ false
+last_reason true y a h n e f g = absurd cc
+last_reason false true a h n e f g = absurd cc
+last_reason false false false h n e f g = absurd cc
+last_reason false false true false n e f g = absurd cc
+last_reason false false true true n e f g = e
+
+-- The payload of a packet that is not wrong has bytes.
+payload_some : (p : List ℕ)
+    → length p ≡ 188
+    → is_wrong p ≡ false
+    → has_payload p ≡ true
+    → 0 < length (payload p)
+payload_some p long right some =
+    by_bool (has_adaptation p)
+    (λ yes. let few : nat_lt 182 (slice_index p 4) ≡ false =
+    last_reason (slice_index p 1 / 0x80 % 2 == 1) (not (slice_index p 3 / 0x40 % 4 == 0))
+    (has_adaptation p) (has_payload p) (nat_lt 182 (slice_index p 4)) right yes some in
+    let short : slice_index p 4 ≤ 182 = grind (arith, nat_tests) in
+    let place : payload_place p ≡ 5 + slice_index p 4 =
+    ap (λ (b : Bool). if b then 5 + slice_index p 4 else 4) yes in
+    omega (arith, long, place, short, length-drop (payload_place p) p))
+    (λ no. let place : payload_place p ≡ 4 =
+    ap (λ (b : Bool). if b then 5 + slice_index p 4 else 4) no in
+    omega (arith, long, place, length-drop (payload_place p) p))
+
+sound_note : (p : List ℕ) (more : List Note)
+    → length p ≡ 188
+    → AreSound more
+    → AreSound (note_of p ∷ more)
+sound_note p more long sound =
+    by_bool (is_wrong p)
+    (λ wrong. subst (λ (n : Note). AreSound (n ∷ more))
+    (sym (ap (λ (b : Bool). if b then Wrong else Valid p) wrong)) sound)
+    (λ right. subst (λ (n : Note). AreSound (n ∷ more))
+    (sym (ap (λ (b : Bool). if b then Wrong else Valid p) right))
+    (λ some. payload_some p long right some, sound))
+
+notes_sound : (distance number run : ℕ) (all : List Item)
+    → AreWhole all
+    → AreSound (notes distance number run all)
+unfolding notes
+notes_sound distance number run [] whole = tt
+notes_sound distance number run (Packet p ∷ more) whole =
+    let rest = notes_sound distance number 0 more whole.1 in
+    by_bool (pid p == number)
+    (λ yes. rw yes (sound_note p (notes distance number 0 more) whole.0 rest))
+    (λ no. rw no rest)
+notes_sound distance number run (Skipped ∷ more) whole =
+    let rest = notes_sound distance number (run + 1) more whole in
+    by_bool (run + 1 == hole_size distance) (λ yes. rw yes rest) (λ no. rw no rest)
+
+-- ---- from the start
+
+-- Before the first PES packet a gap gives nothing.
+no_mark_yet : (b : Bool) (more : List PartOutcome)
+    → mark_where (b && false) ++ give (given_after b given.Nothing) more
+    ≡ give given.Nothing more
+no_mark_yet true more = refl
+no_mark_yet false more = refl
+
+no_gap_yet : (b : Bool) (more : List PartOutcome)
+    → give given.Nothing more ≡ give given.Nothing (gap_where b ++ more)
+no_gap_yet true more = refl
+no_gap_yet false more = refl
+
+no_packet_yet : (wrong : Bool)
+    → mark_where (wrong && false) ≡ with_marks false false (gap_where wrong)
+unfolding with_marks
+no_packet_yet true = refl
+no_packet_yet false = refl
+
+-- What good packets give from the start is what their parts give.
+joined_start : (wrong : Bool) (goods : List GoodPacket)
+    → FirstIsCut goods
+    → HavePayloads goods
+    → joined nothing_joined wrong goods ≡ with_marks false false (outcomes wrong (parts goods))
+unfolding outcomes
+joined_start wrong [] cut all = no_packet_yet wrong
+joined_start wrong (g ∷ more) cut all =
+    let first : begins_part g ≡ true =
+    ap (λ (b : Bool). begins g.packet || b) cut ∙ or_true (begins g.packet) in
+    let rest = tail wrong (part_of g) more in
+    rw first (
+    new_part wrong more nothing_joined g all.1 (claims wrong more all.1)
+    ∙ no_mark_yet (is_break g.link || true) rest
+    ∙ no_gap_yet (is_break g.link) rest
+    ∙ sym (ap (give given.Nothing) (outcomes-from wrong (part_of g) more))
+    ∙ sym (with_marks-nothing false (outcomes wrong (parts (g ∷ more)))))
+
+-- All that a recording gives, read from its start, is what the packets of the PID carry.
+pub carried_given : (number distance : ℕ) (recording : List ℕ)
+    → given_of (start_of_stream number distance) recording ≡ carried number distance recording
+unfolding stream_gives carried
+carried_given number distance recording =
+    let all = notes distance number 0 (items_of distance recording) in
+    let since = nothing_since None in
+    let good = good_after since all in
+    let sound = notes_sound distance number 0 (items_of distance recording)
+    (items_whole distance true _ _) in
+    notes_joined nothing_joined since all (record {
+      repeat = refl;
+      jump = refl;
+      lost = refl;
+      quiet = λ e. refl;
+      none = λ e. refl;
+      last = refl;
+    }) sound
+    ∙ joined_start good.wrong_behind good.packets (first_is_cut since all refl)
+    (good_payloads since all sound)
+
+-- The same, where the source tells its bytes.
+pub carried_told : (number distance : ℕ) (told : Option (List ℕ))
+    → still_given (start_of_stream number distance) told
+    ≡ option_map (carried number distance) told
+carried_told number distance None = refl
+carried_told number distance (Some recording) =
+    ap (λ (l : List ℕ). Some l) (carried_given number distance recording)

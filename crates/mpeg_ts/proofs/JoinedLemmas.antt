@@ -1,0 +1,284 @@
+-- What is given packet after packet is what the parts give; main lemmas: claims, new_part.
+use Rattle.std.proofs.Common.{◌≡◌, ℕ, List, [], ◌∷◌, ◌++◌, length, take, Bool, true, false}
+use Rattle.std.proofs.Common.{refl, sym, ap, ◌∙◌, subst, arith, append_assoc}
+use Rattle.std.proofs.lemmas.List.{append-nil}
+use Rattle.std.specs.Prelude.{◌&&◌, ◌||◌, not, nat_lt, if◌then◌else◌}
+use Rattle.mpeg_ts.specs.Carried.{mark_where}
+use Rattle.mpeg_ts.specs.GoodPackets.{GoodPacket}
+use Rattle.mpeg_ts.specs.Joining.{JoiningValue, after_good, begun, found_in, gave_packet}
+use Rattle.mpeg_ts.specs.Joining.{given_after}
+use Rattle.mpeg_ts.specs.Joining.{handed_over, has_ended, holding, is_complete, remembering}
+use Rattle.mpeg_ts.specs.Joining.{settled_as, with_gap}
+use Rattle.mpeg_ts.specs.Parts.{PartOutcome, Part, begins_part, gap_where, is_break, outcome}
+use Rattle.mpeg_ts.specs.Parts.{part_bytes, part_of}
+use Rattle.mpeg_ts.specs.Parts.{up_to, with_packet}
+use Rattle.mpeg_ts.specs.TransportPacket.{begins, payload}
+use Rattle.mpeg_ts.specs.declared.joining.Given.{Given}
+use Rattle.mpeg_ts.specs.declared.joining.Given.TheVariants as given
+use Rattle.mpeg_ts.specs.declared.joining.Found.{Found}
+use Rattle.mpeg_ts.specs.declared.joining.Found.TheVariants as found
+use Rattle.mpeg_ts.specs.declared.joining.PartState.TheVariants.{Headless, Open, Complete, Ended}
+use Rattle.mpeg_ts.proofs.OutcomeLemmas.{HavePayloads, IsOther, behind, by_bool, bytes-with, give}
+use Rattle.mpeg_ts.proofs.OutcomeLemmas.{give-again, give-end, give-end_whole, give-excess}
+use Rattle.mpeg_ts.proofs.OutcomeLemmas.{give-gap_where, give-other, give-quiet, other_found}
+use Rattle.mpeg_ts.proofs.OutcomeLemmas.{other_with_last, outcome-headless, outcome-unfinished}
+use Rattle.mpeg_ts.proofs.OutcomeLemmas.{quiet_after, tail, tail-whole, up_to-last, whole_found}
+
+-- What good packets give one after another, where all that was ready has been given; `wrong` says
+-- whether a wrong packet comes behind the last.
+abbrev pub joined : JoiningValue → Bool → List GoodPacket → List ℕ
+joined v wrong [] = if has_ended v.part then [] else mark_where (wrong && gave_packet v.given)
+joined v wrong (g ∷ more) =
+    if has_ended v.part then []
+    else
+    (after_good g.link v g.packet).pending
+    ++ joined (handed_over (after_good g.link v g.packet)) wrong more
+
+-- Where it has ended nothing comes.
+pub joined-ended : (v : JoiningValue) (wrong : Bool) (goods : List GoodPacket)
+    → has_ended v.part ≡ true
+    → joined v wrong goods ≡ []
+joined-ended v wrong [] e = rw e refl
+joined-ended v wrong (g ∷ more) e = rw e refl
+
+-- What is given of good packets, by how far the part before them has come.
+pub record Claims (wrong : Bool) (goods : List GoodPacket) : Type 0 where
+  -- A part that does not begin a PES packet.
+  pub headless :
+      (v : JoiningValue) (part : Part)
+      → part.begins ≡ false
+      → joined (record v { part = Headless }) wrong goods ≡ give v.given (tail wrong part goods)
+  -- One whose PES packet is not there whole.
+  pub opened :
+      (v : JoiningValue) (part : Part)
+      → part.begins ≡ true
+      → found_in (part_bytes part) ≡ found.Unfinished
+      → joined (record v { part = Open; bytes = part_bytes part }) wrong goods
+      ≡ give v.given (tail wrong part goods)
+  -- One whose PES packet was given.
+  pub complete :
+      (v : JoiningValue) (excess : Bool)
+      → (excess ≡ true → gave_packet v.given ≡ false)
+      → joined (record v { part = Complete }) wrong goods
+      ≡ give v.given (behind excess wrong goods)
+
+-- ---- a part with bytes
+
+-- What an open part gives by what is found in it, and what comes then.
+abbrev pub settled_gives : Found → JoiningValue → Bool → List GoodPacket → List ℕ
+settled_gives f v wrong more =
+    (settled_as f v).pending ++ joined (handed_over (settled_as f v)) wrong more
+
+-- What a part with those bytes gives, after a gap or not.
+abbrev pub given_open : Bool → JoiningValue → List ℕ → Bool → List GoodPacket → List ℕ
+given_open gap v bytes wrong more =
+    settled_gives (found_in bytes) (with_gap gap (record v { part = Open; bytes = bytes })) wrong
+    more
+
+-- Behind a PES packet with bytes behind it a mark was given last.
+quiet_excess : (excess : Bool)
+    → excess ≡ true
+    → gave_packet (if excess then given.Mark else given.Packet) ≡ false
+quiet_excess true e = refl
+quiet_excess false e = absurd cc
+
+-- The mark behind a PES packet.
+excess_given : (excess wrong : Bool) (more : List GoodPacket)
+    → mark_where excess
+    ++ give (if excess then given.Mark else given.Packet) (behind excess wrong more)
+    ≡ give given.Packet (behind excess wrong more)
+excess_given true wrong more = sym (give-excess given.Packet wrong more)
+excess_given false wrong more = refl
+
+-- What a part gives, by what is found in it.
+settle_by : (gap : Bool) (v : JoiningValue) (part : Part) (wrong : Bool) (more : List GoodPacket)
+    → HavePayloads more
+    → Claims wrong more
+    → part.begins ≡ true
+    → (IsOther (part_bytes part) → up_to 6 part.payloads ≡ part_bytes part)
+    → (f : Found)
+    → found_in (part_bytes part) ≡ f
+    → settled_gives f (with_gap gap (record v { part = Open; bytes = part_bytes part })) wrong more
+    ≡ mark_where (gap && gave_packet v.given)
+    ++ give (given_after gap v.given) (tail wrong part more)
+settle_by gap v part wrong more all claims begins last found.Unfinished e =
+    ap (λ l. mark_where (gap && gave_packet v.given) ++ l)
+    (claims.opened
+    (handed_over (with_gap gap (record v { part = Open; bytes = part_bytes part }))) part begins e)
+settle_by gap v part wrong more all claims begins last found.Other e =
+    let before = mark_where (gap && gave_packet v.given) in
+    let bytes = part_bytes part in
+    let state : JoiningValue = record (with_gap gap (record v { part = Open; bytes = bytes })) {
+      part = Ended;
+      pending = [];
+    } in
+    let o = other_found bytes e in
+    ap (λ l. (before ++ bytes) ++ l) (joined-ended state wrong more refl)
+    ∙ append-nil (before ++ bytes)
+    ∙ ap (λ l. before ++ l)
+    (sym (give-other (given_after gap v.given) wrong part more begins o ∙ last o))
+settle_by gap v part wrong more all claims begins last (found.Whole size) e =
+    let before = mark_where (gap && gave_packet v.given) in
+    let bytes = part_bytes part in
+    let front = take size bytes in
+    let excess = nat_lt size (length bytes) in
+    let after = if excess then given.Mark else given.Packet in
+    let state : JoiningValue = record (with_gap gap (record v { part = Open; bytes = bytes })) {
+      part = Complete;
+      given = after;
+      pending = [];
+    } in
+    let w = whole_found bytes size e in
+    let rest = give after (behind excess wrong more) in
+    ap (λ l. (before ++ (front ++ mark_where excess)) ++ l)
+    (claims.complete state excess (quiet_excess excess))
+    ∙ append_assoc before (front ++ mark_where excess) rest
+    ∙ ap (λ l. before ++ l) (append_assoc front (mark_where excess) rest
+    ∙ ap (λ l. front ++ l) (excess_given excess wrong more))
+    ∙ ap (λ l. before ++ l)
+    (sym (ap (give (given_after gap v.given))
+    (tail-whole wrong part size more all begins w)))
+
+-- What a part gives.
+settle : (gap : Bool) (v : JoiningValue) (part : Part) (wrong : Bool) (more : List GoodPacket)
+    → HavePayloads more
+    → Claims wrong more
+    → part.begins ≡ true
+    → (IsOther (part_bytes part) → up_to 6 part.payloads ≡ part_bytes part)
+    → given_open gap v (part_bytes part) wrong more
+    ≡ mark_where (gap && gave_packet v.given)
+    ++ give (given_after gap v.given) (tail wrong part more)
+settle gap v part wrong more all claims begins last =
+    settle_by gap v part wrong more all claims begins last (found_in (part_bytes part)) refl
+
+-- ---- a new part
+
+-- The only payload of a part is the last.
+up_to-one : (g : GoodPacket) → up_to 6 (part_of g).payloads ≡ part_bytes (part_of g)
+up_to-one g =
+    up_to-last 6 [] (payload g.packet) (omega arith) ∙ sym (append-nil (payload g.packet))
+
+-- What a new part gives, by whether it begins a PES packet.
+new_part_by : (wrong : Bool) (more : List GoodPacket) (v : JoiningValue) (g : GoodPacket)
+    → HavePayloads more
+    → Claims wrong more
+    → (b : Bool)
+    → begins g.packet ≡ b
+    → (begun (is_break g.link) b (remembering v g.packet) (payload g.packet)).pending
+    ++ joined (handed_over (begun (is_break g.link) b (remembering v g.packet) (payload g.packet)))
+    wrong more
+    ≡ mark_where ((is_break g.link || not (is_complete v.part)) && gave_packet v.given)
+    ++ give (given_after (is_break g.link || not (is_complete v.part)) v.given)
+    (tail wrong (part_of g) more)
+new_part_by wrong more v g all claims true e =
+    let gap = is_break g.link || not (is_complete v.part) in
+    let p = payload g.packet in
+    let state : JoiningValue = record (remembering v g.packet) { bytes = []; last = p } in
+    ap (λ b. given_open gap state b wrong more) (sym (append-nil p))
+    ∙ settle gap state (part_of g) wrong more all claims e (λ o. up_to-one g)
+new_part_by wrong more v g all claims false e =
+    let gap = is_break g.link || not (is_complete v.part) in
+    let state : JoiningValue =
+    holding gap (record (remembering v g.packet) { part = Headless }) (payload g.packet) in
+    ap (λ l. mark_where (gap && gave_packet v.given) ++ l)
+    (claims.headless (handed_over state) (part_of g) e)
+
+-- What a new part gives.
+pub new_part : (wrong : Bool) (more : List GoodPacket) (v : JoiningValue) (g : GoodPacket)
+    → HavePayloads more
+    → Claims wrong more
+    → (begun (is_break g.link) (begins g.packet) (remembering v g.packet)
+    (payload g.packet)).pending
+    ++ joined (handed_over (begun (is_break g.link) (begins g.packet) (remembering v g.packet)
+    (payload g.packet))) wrong more
+    ≡ mark_where ((is_break g.link || not (is_complete v.part)) && gave_packet v.given)
+    ++ give (given_after (is_break g.link || not (is_complete v.part)) v.given)
+    (tail wrong (part_of g) more)
+new_part wrong more v g all claims =
+    new_part_by wrong more v g all claims (begins g.packet) refl
+
+-- ---- all packets
+
+pub or_true : (b : Bool) → (b || true) ≡ true
+or_true true = refl
+or_true false = refl
+
+or_false : (b : Bool) → (b || false) ≡ b
+or_false true = refl
+or_false false = refl
+
+-- Where a mark was given, another gap gives nothing.
+give-excess_quiet : (g : Given) (excess : Bool) (rest : List PartOutcome)
+    → (excess ≡ true → gave_packet g ≡ false)
+    → give g rest ≡ give g (gap_where excess ++ rest)
+give-excess_quiet g true rest quiet = sym (give-quiet g rest (quiet refl))
+give-excess_quiet g false rest quiet = refl
+
+-- A new part behind one that is not whole, of which a gap comes.
+after_unfinished : (wrong : Bool) (more : List GoodPacket) (part : Part) (h : Given) (g : GoodPacket)
+    → outcome false part ≡ gap_where true
+    → mark_where ((is_break g.link || true) && gave_packet h)
+    ++ give (given_after (is_break g.link || true) h) (tail wrong (part_of g) more)
+    ≡ give h (outcome false part ++ (gap_where (is_break g.link) ++ tail wrong (part_of g) more))
+after_unfinished wrong more part h g comes =
+    let rest = tail wrong (part_of g) more in
+    ap (λ b. mark_where (b && gave_packet h) ++ give (given_after b h) rest)
+    (or_true (is_break g.link))
+    ∙ ap (λ l. mark_where (gave_packet h) ++ l) (sym (give-again h (is_break g.link) rest))
+    ∙ sym (ap (λ l. give h (l ++ (gap_where (is_break g.link) ++ rest))) comes)
+
+-- What good packets give, from any state on.
+pub claims : (wrong : Bool) (goods : List GoodPacket) → HavePayloads goods → Claims wrong goods
+claims wrong [] all = record {
+  headless = λ v part begins.
+      give-end v.given wrong
+      ∙ sym (ap (λ l. give v.given (l ++ gap_where wrong))
+      (outcome-headless (not wrong) part begins));
+  opened = λ v part begins e.
+      give-end v.given wrong
+      ∙ sym (ap (λ l. give v.given (l ++ gap_where wrong))
+      (outcome-unfinished (not wrong) part begins e));
+  complete = λ v excess quiet. give-end_whole v.given excess wrong quiet;
+}
+claims wrong (g ∷ more) all =
+    let rest = claims wrong more all.1 in
+    let p = payload g.packet in
+    record {
+      headless = λ v part begins.
+          let state : JoiningValue = record v { part = Headless } in
+          by_bool (begins_part g)
+          (λ yes. rw yes (
+          new_part wrong more state g all.1 rest
+          ∙ after_unfinished wrong more part v.given g (outcome-headless false part begins)))
+          (λ no. rw no (
+          rest.headless (handed_over (holding false (remembering state g.packet) p))
+          (with_packet part g) begins));
+      opened = λ v part begins e.
+          let state : JoiningValue = record v { part = Open; bytes = part_bytes part } in
+          let grown : JoiningValue = record (remembering state g.packet) { last = p } in
+          by_bool (begins_part g)
+          (λ yes. rw yes (
+          new_part wrong more state g all.1 rest
+          ∙ after_unfinished wrong more part v.given g (outcome-unfinished false part begins e)))
+          (λ no. rw no (
+          ap (λ b. given_open false grown b wrong more) (sym (bytes-with part g))
+          ∙ settle false grown (with_packet part g) wrong more all.1 rest begins
+          (λ o. up_to-last 6 part.payloads p
+          (other_with_last (part_bytes part) p e (subst IsOther (bytes-with part g) o))
+          ∙ sym (bytes-with part g))));
+      complete = λ v excess quiet.
+          let state : JoiningValue = record v { part = Complete } in
+          let after = tail wrong (part_of g) more in
+          by_bool (begins_part g)
+          (λ yes. rw yes (
+          new_part wrong more state g all.1 rest
+          ∙ ap (λ b. mark_where (b && gave_packet v.given) ++ give (given_after b v.given) after)
+          (or_false (is_break g.link))
+          ∙ sym (give-gap_where v.given (is_break g.link) after)
+          ∙ give-excess_quiet v.given excess (gap_where (is_break g.link) ++ after) quiet))
+          (λ no. rw no (
+          ap (λ l. mark_where (gave_packet v.given) ++ l)
+          (rest.complete (handed_over (holding true (remembering state g.packet) p)) true
+          (λ _. quiet_after v.given))
+          ∙ sym (give-excess v.given wrong more)));
+    }

@@ -1,0 +1,638 @@
+-- What notes give one after another is what the good packets among them give; main lemma:
+-- notes_joined.
+use Rattle.std.proofs.Common.{◌≡◌, ℕ, ◌+◌, ◌<◌, List, [], ◌∷◌, ◌++◌, length, Bool, true, false}
+use Rattle.std.proofs.Common.{Option, Some, None, refl, sym, ap, ◌∙◌, subst, arith, append_assoc}
+use Rattle.std.proofs.lemmas.List.{append-nil, get_or-take}
+use Rattle.std.specs.Prelude.{◌&&◌, ◌||◌, ◌==◌, ◌%◌, not, if◌then◌else◌, bytes_eq}
+use Rattle.mpeg_ts.specs.Carried.{mark, mark_where}
+use Rattle.mpeg_ts.specs.GoodPackets.{GoodPacket, GoodPackets, Link, First, Follows, Seam, Break}
+use Rattle.mpeg_ts.specs.GoodPackets.{Note}
+use Rattle.mpeg_ts.specs.GoodPackets.{Valid, Wrong, Hole, Since, good_after, counts_on, is_repeat}
+use Rattle.mpeg_ts.specs.GoodPackets.{is_repeat_of, link_from, linked, nothing_since, with_good}
+use Rattle.mpeg_ts.specs.Joining.{JoiningValue, after_good, after_note, after_valid, begun}
+use Rattle.mpeg_ts.specs.Joining.{found_in}
+use Rattle.mpeg_ts.specs.Joining.{counter_goes_on, gave_packet, given_after, given_later, gone_on}
+use Rattle.mpeg_ts.specs.Joining.{grown, handed_over, has_ended, is_complete, link_after}
+use Rattle.mpeg_ts.specs.Joining.{remembering, repeats, settled_as, with_gap}
+use Rattle.mpeg_ts.specs.Parts.{is_break, is_cut}
+use Rattle.mpeg_ts.specs.TransportPacket.{announces_jump, begins, counter, has_payload, header}
+use Rattle.mpeg_ts.specs.TransportPacket.{payload}
+use Rattle.mpeg_ts.specs.declared.joining.Given.{Given}
+use Rattle.mpeg_ts.specs.declared.joining.Given.TheVariants as given
+use Rattle.mpeg_ts.specs.declared.joining.Found.{Found}
+use Rattle.mpeg_ts.specs.declared.joining.Found.TheVariants as found
+use Rattle.mpeg_ts.specs.declared.joining.PartState.{PartState}
+use Rattle.mpeg_ts.specs.declared.joining.PartState.TheVariants.{Headless, Open, Complete, Ended}
+use Rattle.mpeg_ts.proofs.JoinedLemmas.{joined, joined-ended, or_true}
+use Rattle.mpeg_ts.proofs.OutcomeLemmas.{HavePayloads, by_bool, quiet_after}
+
+-- ---- what is kept of a good packet
+
+-- It is the last one.
+pub record IsLast (v : JoiningValue) (p : List ℕ) : Type 0 where
+  pub head : v.header ≡ header p
+  pub load : v.last ≡ payload p
+  pub jump : v.announced ≡ announces_jump p
+
+-- Nothing came since.
+pub record IsFresh (v : JoiningValue) (p : List ℕ) : Type 0 where
+  pub is_last : IsLast v p
+  pub no_repeat : v.has_repeat ≡ false
+  pub no_jump : v.has_jump ≡ false
+  pub no_break : v.has_break ≡ false
+
+settled_fresh : (f : Found) (v : JoiningValue) (p : List ℕ)
+    → IsFresh v p
+    → IsFresh (settled_as f v) p
+settled_fresh found.Unfinished v p k = k
+settled_fresh found.Other v p k = record {
+  is_last = record { head = k.is_last.head; load = k.is_last.load; jump = k.is_last.jump };
+  no_repeat = k.no_repeat;
+  no_jump = k.no_jump;
+  no_break = k.no_break;
+}
+settled_fresh (found.Whole size) v p k = record {
+  is_last = record { head = k.is_last.head; load = k.is_last.load; jump = k.is_last.jump };
+  no_repeat = k.no_repeat;
+  no_jump = k.no_jump;
+  no_break = k.no_break;
+}
+
+grown_fresh : (gap : Bool) (v : JoiningValue) (bytes p : List ℕ)
+    → IsFresh (grown gap (record (remembering v p) { bytes = bytes }) (payload p)) p
+grown_fresh gap v bytes p =
+    settled_fresh (found_in (bytes ++ payload p))
+    (with_gap gap (record (remembering v p) {
+      part = Open;
+      bytes = bytes ++ payload p;
+      last = payload p;
+    })) p
+    (record {
+      is_last = record { head = refl; load = refl; jump = refl };
+      no_repeat = refl;
+      no_jump = refl;
+      no_break = refl;
+    })
+
+begun_fresh : (breaks b : Bool) (v : JoiningValue) (p : List ℕ)
+    → IsFresh (begun breaks b (remembering v p) (payload p)) p
+begun_fresh breaks true v p = grown_fresh (breaks || not (is_complete v.part)) v [] p
+begun_fresh breaks false v p = record {
+  is_last = record { head = refl; load = refl; jump = refl };
+  no_repeat = refl;
+  no_jump = refl;
+  no_break = refl;
+}
+
+gone_on_fresh : (part : PartState) (v : JoiningValue) (p : List ℕ)
+    → IsFresh (gone_on part (remembering v p) (payload p)) p
+gone_on_fresh Headless v p = record {
+  is_last = record { head = refl; load = refl; jump = refl };
+  no_repeat = refl;
+  no_jump = refl;
+  no_break = refl;
+}
+gone_on_fresh Open v p = grown_fresh false v v.bytes p
+gone_on_fresh Complete v p = record {
+  is_last = record { head = refl; load = refl; jump = refl };
+  no_repeat = refl;
+  no_jump = refl;
+  no_break = refl;
+}
+gone_on_fresh Ended v p = record {
+  is_last = record { head = refl; load = refl; jump = refl };
+  no_repeat = refl;
+  no_jump = refl;
+  no_break = refl;
+}
+
+-- After a good packet it is the last one.
+good_fresh : (link : Link) (v : JoiningValue) (p : List ℕ) → IsFresh (after_good link v p) p
+good_fresh link v p =
+    by_choice (begins p || is_cut link)
+    (begun (is_break link) (begins p) (remembering v p) (payload p))
+    (gone_on v.part (remembering v p) (payload p))
+    (begun_fresh (is_break link) (begins p) v p) (gone_on_fresh v.part v p)
+  where
+    by_choice : (b : Bool) (x y : JoiningValue)
+        → IsFresh x p
+        → IsFresh y p
+        → IsFresh (if b then x else y) p
+    by_choice true x y k l = k
+    by_choice false x y k l = l
+
+-- ---- what came since
+
+-- What is kept of the last good packet, if there is one.
+abbrev pub KeepsLast : JoiningValue → Option (List ℕ) → Type 0
+KeepsLast v None = v.last ≡ []
+KeepsLast v (Some q) = IsLast v q × (0 < length (payload q))
+
+-- What is kept is what came since the last good packet.
+pub record Knows (v : JoiningValue) (s : Since) : Type 0 where
+  pub repeat : v.has_repeat ≡ s.has_repeat
+  pub jump : v.has_jump ≡ s.has_jump
+  pub lost : v.has_break ≡ (s.has_wrong || s.has_hole)
+  pub quiet : s.has_wrong ≡ true → gave_packet v.given ≡ false
+  pub none : s.good ≡ None → gave_packet v.given ≡ false
+  pub last : KeepsLast v s.good
+
+-- The same conditions in another order.
+and_order : (a b c d e : Bool)
+    → (not a && (not b && (c && (d && e)))) ≡ ((d && e) && not a && not b && c)
+and_order true b c false e = refl
+and_order true b c true false = refl
+and_order true b c true true = refl
+and_order false true c false e = refl
+and_order false true c true false = refl
+and_order false true c true true = refl
+and_order false false true false e = refl
+and_order false false true true false = refl
+and_order false false true true true = refl
+and_order false false false false e = refl
+and_order false false false true false = refl
+and_order false false false true true = refl
+
+-- Where the last one fails, all do.
+and_last : (a b c d : Bool) → (not a && (not b && (c && (d && false)))) ≡ false
+and_last true b c d = refl
+and_last false true c d = refl
+and_last false false false d = refl
+and_last false false true false = refl
+and_last false false true true = refl
+
+-- No bytes are not some.
+nil_not_some : (xs : List ℕ) → 0 < length xs → bytes_eq [] xs ≡ false
+nil_not_some [] some = absurd (omega arith)
+nil_not_some (x ∷ xs) some = refl
+
+-- A packet repeats the last good one.
+repeats_by : (v : JoiningValue) (s : Since) (o : Option (List ℕ)) (p : List ℕ)
+    → KeepsLast v o
+    → v.has_repeat ≡ s.has_repeat
+    → v.has_jump ≡ s.has_jump
+    → 0 < length (payload p)
+    → repeats v p ≡ is_repeat_of o s p
+repeats_by v s None p last repeat jump some =
+    let differ : bytes_eq v.last (payload p) ≡ false =
+    ap (λ (l : List ℕ). bytes_eq l (payload p)) last ∙ nil_not_some (payload p) some in
+    ap (λ (b : Bool). not v.has_repeat && (not v.has_jump
+    && ((not (announces_jump p) || v.announced) && (bytes_eq v.header (header p) && b)))) differ
+    ∙ and_last v.has_repeat v.has_jump (not (announces_jump p) || v.announced)
+    (bytes_eq v.header (header p))
+repeats_by v s (Some q) p last repeat jump some =
+    and_order v.has_repeat v.has_jump (not (announces_jump p) || v.announced)
+    (bytes_eq v.header (header p)) (bytes_eq v.last (payload p))
+    ∙ ap (λ (l : List ℕ). (bytes_eq l (header p) && bytes_eq v.last (payload p))
+    && not v.has_repeat && not v.has_jump && (not (announces_jump p) || v.announced)) last.0.head
+    ∙ ap (λ (l : List ℕ). (bytes_eq (header q) (header p) && bytes_eq l (payload p))
+    && not v.has_repeat && not v.has_jump && (not (announces_jump p) || v.announced)) last.0.load
+    ∙ ap (λ (b : Bool). (bytes_eq (header q) (header p) && bytes_eq (payload q) (payload p))
+    && not b && not v.has_jump && (not (announces_jump p) || v.announced)) repeat
+    ∙ ap (λ (b : Bool). (bytes_eq (header q) (header p) && bytes_eq (payload q) (payload p))
+    && not s.has_repeat && not b && (not (announces_jump p) || v.announced)) jump
+    ∙ ap (λ (b : Bool). (bytes_eq (header q) (header p) && bytes_eq (payload q) (payload p))
+    && not s.has_repeat && not s.has_jump && (not (announces_jump p) || b)) last.0.jump
+
+-- What links a packet to a last one.
+abbrev pub link_by : Bool → Bool → Bool → Link
+link_by lost jumps follows =
+    if lost then Break else if jumps then Seam else if follows then Follows else Break
+
+link_some : (v : JoiningValue) (l p : List ℕ)
+    → 0 < length l
+    → link_after v l p
+    ≡ link_by v.has_break (v.has_jump || announces_jump p) (counter_goes_on v.header p)
+link_some v [] p some = absurd (omega arith)
+link_some v (x ∷ xs) p some = refl
+
+-- The counter stands in the first four bytes.
+counter_kept : (v : JoiningValue) (q p : List ℕ)
+    → v.header ≡ header q
+    → counter_goes_on v.header p ≡ counts_on q p
+counter_kept v q p head =
+    ap (λ (l : List ℕ). counter_goes_on l p) head
+    ∙ ap (λ (n : ℕ). counter p == (n % 0x10 + 1) % 0x10) (get_or-take 4 q 3 0 (omega arith))
+
+-- A packet is linked to the last good one as it is.
+link_same : (v : JoiningValue) (s : Since) (o : Option (List ℕ)) (p : List ℕ)
+    → KeepsLast v o
+    → v.has_jump ≡ s.has_jump
+    → v.has_break ≡ (s.has_wrong || s.has_hole)
+    → link_after v v.last p ≡ link_from o s p
+link_same v s None p last jump lost = ap (λ (l : List ℕ). link_after v l p) last
+link_same v s (Some q) p last jump lost =
+    let load = last.0.load in
+    let some : 0 < length v.last = subst (λ (l : List ℕ). 0 < length l) (sym load) last.1 in
+    link_some v v.last p some
+    ∙ ap (λ (b : Bool). link_by b (v.has_jump || announces_jump p) (counter_goes_on v.header p)) lost
+    ∙ ap (λ (b : Bool). link_by (s.has_wrong || s.has_hole) (b || announces_jump p)
+    (counter_goes_on v.header p)) jump
+    ∙ ap (link_by (s.has_wrong || s.has_hole) (s.has_jump || announces_jump p))
+    (counter_kept v q p last.0.head)
+
+-- ---- the notes
+
+-- Each packet that has a payload has bytes in it.
+abbrev pub AreSound : List Note → Type 0
+AreSound [] = Unit {0}
+AreSound (Valid p ∷ more) = (has_payload p ≡ true → 0 < length (payload p)) × AreSound more
+AreSound (Wrong ∷ more) = AreSound more
+AreSound (Hole ∷ more) = AreSound more
+
+-- A packet without a payload.
+good-no_payload : (s : Since) (p : List ℕ) (more : List Note)
+    → has_payload p ≡ false
+    → good_after s (Valid p ∷ more)
+    ≡ good_after (record s { has_jump = s.has_jump || announces_jump p }) more
+unfolding good_after
+good-no_payload s p more none = rw none refl
+
+-- A repeat.
+good-repeat : (s : Since) (p : List ℕ) (more : List Note)
+    → has_payload p ≡ true
+    → is_repeat s p ≡ true
+    → good_after s (Valid p ∷ more) ≡ good_after (record s { has_repeat = true }) more
+unfolding good_after
+good-repeat s p more some again = rw (some, again) refl
+
+-- A good packet.
+good-good : (s : Since) (p : List ℕ) (more : List Note)
+    → has_payload p ≡ true
+    → is_repeat s p ≡ false
+    → good_after s (Valid p ∷ more)
+    ≡ with_good (linked s p) (good_after (nothing_since (Some p)) more)
+unfolding good_after
+good-good s p more some other = rw (some, other) refl
+
+-- What is kept after each.
+valid-no_payload : (v : JoiningValue) (p : List ℕ)
+    → has_payload p ≡ false
+    → after_valid v p ≡ record v { has_jump = v.has_jump || announces_jump p }
+unfolding after_valid
+valid-no_payload v p none = rw none refl
+
+valid-repeat : (v : JoiningValue) (p : List ℕ)
+    → has_payload p ≡ true
+    → repeats v p ≡ true
+    → after_valid v p ≡ record v { has_repeat = true }
+unfolding after_valid
+valid-repeat v p some again = rw (some, again) refl
+
+valid-good : (v : JoiningValue) (p : List ℕ)
+    → has_payload p ≡ true
+    → repeats v p ≡ false
+    → after_valid v p ≡ after_good (link_after v v.last p) v p
+unfolding after_valid
+valid-good v p some other = rw (some, other) refl
+
+-- Two lists are equal where they are so by whether it has ended.
+step_by : (v : JoiningValue) (n : Note) (more : List Note) (all : List ℕ)
+    → (has_ended v.part ≡ true → [] ≡ all)
+    → (has_ended v.part ≡ false
+    → (after_note (handed_over v) n).pending
+    ++ given_later (handed_over (after_note (handed_over v) n)) more
+    ≡ all)
+    → given_later (handed_over v) (n ∷ more) ≡ all
+unfolding given_later
+step_by v n more all at_end going =
+    by_bool (has_ended v.part) (λ yes. rw yes (at_end yes)) (λ no. rw no (going no))
+
+-- What was noted since the last good packet changes nothing of what good packets give.
+joined-flags : (v : JoiningValue) (a b c wrong : Bool) (goods : List GoodPacket)
+    → joined (handed_over (record v { has_repeat = a; has_jump = b; has_break = c })) wrong goods
+    ≡ joined (handed_over v) wrong goods
+joined-flags v a b c wrong [] = refl
+joined-flags v a b c wrong (g ∷ more) = refl
+
+-- The end of the notes.
+no_note : (ended wrong given : Bool)
+    → (wrong ≡ true → given ≡ false)
+    → ◌≡◌ {A = List ℕ} [] (if ended then [] else mark_where (wrong && given))
+no_note true wrong given quiet = refl
+no_note false false given quiet = refl
+no_note false true given quiet = ap mark_where (sym (quiet refl))
+
+-- ---- a wrong packet
+
+-- Something is lost before the first of these good packets, or a wrong packet stands behind none.
+abbrev pub BeginBroken : Bool → List GoodPacket → Type 0
+BeginBroken wrong [] = wrong ≡ true
+BeginBroken wrong (g ∷ more) = g.link ≡ Break
+
+-- So it is after a wrong packet behind a good one.
+begin_broken : (s : Since) (q : List ℕ) (all : List Note)
+    → s.has_wrong ≡ true
+    → s.good ≡ Some q
+    → BeginBroken (good_after s all).wrong_behind (good_after s all).packets
+unfolding good_after
+begin_broken s q [] wrong good = wrong
+begin_broken s q (Wrong ∷ more) wrong good =
+    begin_broken (record s { has_wrong = true }) q more refl good
+begin_broken s q (Hole ∷ more) wrong good =
+    begin_broken (record s { has_hole = true }) q more wrong good
+begin_broken s q (Valid p ∷ more) wrong good =
+    let IsBroken : GoodPackets → Type 0 = λ g. BeginBroken g.wrong_behind g.packets in
+    by_bool (has_payload p)
+    (λ some. by_bool (is_repeat s p)
+    (λ again. subst IsBroken (sym (good-repeat s p more some again))
+    (begin_broken (record s { has_repeat = true }) q more wrong good))
+    (λ other. subst IsBroken (sym (good-good s p more some other))
+    (ap (λ (o : Option (List ℕ)). link_from o s p) good
+    ∙ ap (λ (b : Bool). link_by (b || s.has_hole) (s.has_jump || announces_jump p)
+    (counts_on q p)) wrong)))
+    (λ none. subst IsBroken (sym (good-no_payload s p more none))
+    (begin_broken (record s { has_jump = s.has_jump || announces_jump p }) q more wrong good))
+
+-- What is ready stands before what comes of a part.
+pending_first : (f : Found) (v : JoiningValue) (wrong : Bool) (more : List GoodPacket)
+    → (settled_as f (record v { pending = mark })).pending
+    ++ joined (handed_over (settled_as f (record v { pending = mark }))) wrong more
+    ≡ mark ++ ((settled_as f (record v { pending = [] })).pending
+    ++ joined (handed_over (settled_as f (record v { pending = [] }))) wrong more)
+pending_first found.Unfinished v wrong more = refl
+pending_first found.Other v wrong more =
+    append_assoc mark v.bytes
+    (joined (handed_over (settled_as found.Other (record v { pending = [] }))) wrong more)
+pending_first (found.Whole size) v wrong more =
+    append_assoc mark (settled_as (found.Whole size) (record v { pending = [] })).pending
+    (joined (handed_over (settled_as (found.Whole size) (record v { pending = [] }))) wrong more)
+
+-- A part after a break, whether the mark was given before or not.
+begun_first : (b : Bool) (v : JoiningValue) (p : List ℕ) (wrong : Bool) (more : List GoodPacket)
+    → (begun true b (remembering (handed_over (record v { given = given.Packet })) p)
+    (payload p)).pending
+    ++ joined (handed_over (begun true b
+    (remembering (handed_over (record v { given = given.Packet })) p) (payload p))) wrong more
+    ≡ mark ++ ((begun true b
+    (remembering (handed_over (record v { has_break = true; given = given.Mark })) p)
+    (payload p)).pending
+    ++ joined (handed_over (begun true b
+    (remembering (handed_over (record v { has_break = true; given = given.Mark })) p)
+    (payload p))) wrong more)
+begun_first true v p wrong more =
+    pending_first (found_in (payload p))
+    (record (remembering v p) {
+      part = Open;
+      bytes = payload p;
+      last = payload p;
+      given = given.Mark;
+    }) wrong more
+begun_first false v p wrong more = refl
+
+-- A good packet after a break.
+broken_first : (v : JoiningValue) (link : Link) (p : List ℕ) (wrong : Bool) (more : List GoodPacket)
+    → link ≡ Break
+    → (after_good link (handed_over (record v { given = given.Packet })) p).pending
+    ++ joined (handed_over (after_good link (handed_over (record v { given = given.Packet })) p))
+    wrong more
+    ≡ mark ++ ((after_good link
+    (handed_over (record v { has_break = true; given = given.Mark })) p).pending
+    ++ joined (handed_over (after_good link
+    (handed_over (record v { has_break = true; given = given.Mark })) p)) wrong more)
+broken_first v First p wrong more is = absurd cc
+broken_first v Follows p wrong more is = absurd cc
+broken_first v Seam p wrong more is = absurd cc
+broken_first v Break p wrong more is =
+    let cut : (begins p || true) ≡ true = or_true (begins p) in
+    rw cut (begun_first (begins p) v p wrong more)
+
+-- After a wrong packet a mark comes first.
+gap_first : (v : JoiningValue) (g : Given) (wrong : Bool) (goods : List GoodPacket)
+    → has_ended v.part ≡ false
+    → (gave_packet g ≡ true → BeginBroken wrong goods)
+    → joined (handed_over (record v { given = g })) wrong goods
+    ≡ mark_where (gave_packet g)
+    ++ joined (handed_over (record v { has_break = true; given = given_after true g })) wrong goods
+gap_first v given.Nothing wrong goods going broken =
+    sym (joined-flags (record v { given = given.Nothing }) v.has_repeat v.has_jump true wrong goods)
+gap_first v given.Mark wrong goods going broken =
+    sym (joined-flags (record v { given = given.Mark }) v.has_repeat v.has_jump true wrong goods)
+gap_first v given.Packet wrong [] going broken =
+    let yes_wrong : wrong ≡ true = broken refl in
+    rw (going, yes_wrong) (sym (append-nil mark))
+gap_first v given.Packet wrong (g ∷ more) going broken =
+    rw going (broken_first v g.link g.packet wrong more (broken refl))
+
+-- ---- all notes
+
+-- A wrong packet behind no good one comes before any mark.
+after_wrong_broken : (v : JoiningValue) (s : Since) (o : Option (List ℕ)) (all : List Note)
+    → s.good ≡ o
+    → (s.good ≡ None → gave_packet v.given ≡ false)
+    → gave_packet v.given ≡ true
+    → BeginBroken (good_after (record s { has_wrong = true }) all).wrong_behind
+    (good_after (record s { has_wrong = true }) all).packets
+after_wrong_broken v s None all good none gave = let quiet = none good in absurd cc
+after_wrong_broken v s (Some q) all good none gave =
+    begin_broken (record s { has_wrong = true }) q all refl good
+
+-- The notes give what the good packets among them give.
+abbrev pub Agrees : JoiningValue → Since → List Note → Type 0
+Agrees v s all =
+    given_later (handed_over v) all
+    ≡ joined (handed_over v) (good_after s all).wrong_behind (good_after s all).packets
+
+-- So it is with a packet without a payload before them,
+agree_no_payload : (v : JoiningValue) (s : Since) (p : List ℕ) (more : List Note)
+    → has_payload p ≡ false
+    → Agrees (record v { has_jump = v.has_jump || announces_jump p })
+    (record s { has_jump = s.has_jump || announces_jump p }) more
+    → Agrees v s (Valid p ∷ more)
+agree_no_payload v s p more none rest =
+    let goods = good_after s (Valid p ∷ more) in
+    let after = good_after (record s { has_jump = s.has_jump || announces_jump p }) more in
+    step_by v (Valid p) more (joined (handed_over v) goods.wrong_behind goods.packets)
+    (λ yes. sym (joined-ended (handed_over v) goods.wrong_behind goods.packets yes))
+    (λ _. ap (λ (w : JoiningValue). w.pending ++ given_later (handed_over w) more)
+    (valid-no_payload (handed_over v) p none)
+    ∙ rest
+    ∙ joined-flags v v.has_repeat (v.has_jump || announces_jump p) v.has_break
+    after.wrong_behind after.packets
+    ∙ ap (λ (g : GoodPackets). joined (handed_over v) g.wrong_behind g.packets)
+    (sym (good-no_payload s p more none)))
+
+-- with a repeat,
+agree_repeat : (v : JoiningValue) (s : Since) (p : List ℕ) (more : List Note)
+    → has_payload p ≡ true
+    → repeats v p ≡ true
+    → is_repeat s p ≡ true
+    → Agrees (record v { has_repeat = true }) (record s { has_repeat = true }) more
+    → Agrees v s (Valid p ∷ more)
+agree_repeat v s p more some again same rest =
+    let goods = good_after s (Valid p ∷ more) in
+    let after = good_after (record s { has_repeat = true }) more in
+    step_by v (Valid p) more (joined (handed_over v) goods.wrong_behind goods.packets)
+    (λ yes. sym (joined-ended (handed_over v) goods.wrong_behind goods.packets yes))
+    (λ _. ap (λ (w : JoiningValue). w.pending ++ given_later (handed_over w) more)
+    (valid-repeat (handed_over v) p some again)
+    ∙ rest
+    ∙ joined-flags v true v.has_jump v.has_break after.wrong_behind after.packets
+    ∙ ap (λ (g : GoodPackets). joined (handed_over v) g.wrong_behind g.packets)
+    (sym (good-repeat s p more some same)))
+
+-- A good packet where it has not ended.
+joined-next : (v : JoiningValue) (wrong : Bool) (g : GoodPacket) (more : List GoodPacket)
+    → has_ended v.part ≡ false
+    → joined v wrong (g ∷ more)
+    ≡ (after_good g.link v g.packet).pending
+    ++ joined (handed_over (after_good g.link v g.packet)) wrong more
+joined-next v wrong g more going = rw going refl
+
+-- and with a good packet.
+agree_good : (v : JoiningValue) (s : Since) (p : List ℕ) (more : List Note)
+    → has_payload p ≡ true
+    → repeats v p ≡ false
+    → is_repeat s p ≡ false
+    → link_after v v.last p ≡ link_from s.good s p
+    → Agrees (after_good (link_from s.good s p) (handed_over v) p) (nothing_since (Some p)) more
+    → Agrees v s (Valid p ∷ more)
+agree_good v s p more some other same link rest =
+    let goods = good_after s (Valid p ∷ more) in
+    let after = good_after (nothing_since (Some p)) more in
+    let w : JoiningValue = after_good (link_from s.good s p) (handed_over v) p in
+    step_by v (Valid p) more (joined (handed_over v) goods.wrong_behind goods.packets)
+    (λ yes. sym (joined-ended (handed_over v) goods.wrong_behind goods.packets yes))
+    (λ no. ap (λ (u : JoiningValue). u.pending ++ given_later (handed_over u) more)
+    (valid-good (handed_over v) p some other
+    ∙ ap (λ (l : Link). after_good l (handed_over v) p) link)
+    ∙ ap (λ l. w.pending ++ l) rest
+    ∙ sym (joined-next (handed_over v) after.wrong_behind (linked s p) after.packets no)
+    ∙ ap (λ (g : GoodPackets). joined (handed_over v) g.wrong_behind g.packets)
+    (sym (good-good s p more some same)))
+
+-- What is kept of the last packet stays.
+keeps_last : (v w : JoiningValue) (o : Option (List ℕ))
+    → w.header ≡ v.header
+    → w.last ≡ v.last
+    → w.announced ≡ v.announced
+    → KeepsLast v o
+    → KeepsLast w o
+keeps_last v w None head load jump last = load ∙ last
+keeps_last v w (Some q) head load jump last = (
+  record { head = head ∙ last.0.head; load = load ∙ last.0.load; jump = jump ∙ last.0.jump },
+  last.1,
+)
+
+-- What notes give is what the good packets among them give.
+pub notes_joined : (v : JoiningValue) (s : Since) (all : List Note)
+    → Knows v s
+    → AreSound all
+    → Agrees v s all
+unfolding given_later good_after
+notes_joined v s [] k sound = no_note (has_ended v.part) s.has_wrong (gave_packet v.given) k.quiet
+notes_joined v s (Wrong ∷ more) k sound =
+    let since : Since = record s { has_wrong = true } in
+    let after : JoiningValue =
+    record v { has_break = true; given = given_after true v.given } in
+    let goods = good_after since more in
+    let known : Knows after since = record {
+      repeat = k.repeat;
+      jump = k.jump;
+      lost = refl;
+      quiet = λ _. quiet_after v.given;
+      none = λ _. quiet_after v.given;
+      last = keeps_last v after s.good refl refl refl k.last;
+    } in
+    step_by v Wrong more (joined (handed_over v) goods.wrong_behind goods.packets)
+    (λ yes. sym (joined-ended (handed_over v) goods.wrong_behind goods.packets yes))
+    (λ no. ap (λ l. mark_where (gave_packet v.given) ++ l)
+    (notes_joined after since more known sound)
+    ∙ sym (gap_first v v.given goods.wrong_behind goods.packets no
+    (after_wrong_broken v s s.good more refl k.none)))
+notes_joined v s (Hole ∷ more) k sound =
+    let since : Since = record s { has_hole = true } in
+    let after : JoiningValue = record v { has_break = true } in
+    let goods = good_after since more in
+    let known : Knows after since = record {
+      repeat = k.repeat;
+      jump = k.jump;
+      lost = sym (or_true s.has_wrong);
+      quiet = k.quiet;
+      none = k.none;
+      last = keeps_last v after s.good refl refl refl k.last;
+    } in
+    step_by v Hole more (joined (handed_over v) goods.wrong_behind goods.packets)
+    (λ yes. sym (joined-ended (handed_over v) goods.wrong_behind goods.packets yes))
+    (λ _. notes_joined after since more known sound
+    ∙ joined-flags v v.has_repeat v.has_jump true goods.wrong_behind goods.packets)
+notes_joined v s (Valid p ∷ more) k sound =
+    let link = link_same v s s.good p k.last k.jump k.lost in
+    let next = link_from s.good s p in
+    let fresh = good_fresh next (handed_over v) p in
+    let jumped : JoiningValue = record v { has_jump = v.has_jump || announces_jump p } in
+    let repeated : JoiningValue = record v { has_repeat = true } in
+    by_bool (has_payload p)
+    (λ some. let same = repeats_by v s s.good p k.last k.repeat k.jump (sound.0 some) in
+    by_bool (is_repeat s p)
+    (λ again. agree_repeat v s p more some (same ∙ again) again
+    (notes_joined repeated (record s { has_repeat = true }) more (record {
+      repeat = refl;
+      jump = k.jump;
+      lost = k.lost;
+      quiet = k.quiet;
+      none = k.none;
+      last = keeps_last v repeated s.good refl refl refl k.last;
+    }) sound.1))
+    (λ other. agree_good v s p more some (same ∙ other) other link
+    (notes_joined (after_good next (handed_over v) p) (nothing_since (Some p)) more (record {
+      repeat = fresh.no_repeat;
+      jump = fresh.no_jump;
+      lost = fresh.no_break;
+      quiet = λ e. absurd cc;
+      none = λ e. absurd cc;
+      last = (fresh.is_last, sound.0 some);
+    }) sound.1)))
+    (λ none. agree_no_payload v s p more none
+    (notes_joined jumped (record s { has_jump = s.has_jump || announces_jump p }) more (record {
+      repeat = k.repeat;
+      jump = ap (λ (b : Bool). b || announces_jump p) k.jump;
+      lost = k.lost;
+      quiet = k.quiet;
+      none = k.none;
+      last = keeps_last v jumped s.good refl refl refl k.last;
+    }) sound.1))
+
+-- ---- what the good packets are
+
+-- The first good packet begins a part.
+abbrev pub FirstIsCut : List GoodPacket → Type 0
+FirstIsCut [] = Unit {0}
+FirstIsCut (g ∷ more) = is_cut g.link ≡ true
+
+pub first_is_cut : (s : Since) (all : List Note)
+    → s.good ≡ None
+    → FirstIsCut (good_after s all).packets
+unfolding good_after
+first_is_cut s [] none = tt
+first_is_cut s (Wrong ∷ more) none = first_is_cut (record s { has_wrong = true }) more none
+first_is_cut s (Hole ∷ more) none = first_is_cut (record s { has_hole = true }) more none
+first_is_cut s (Valid p ∷ more) none =
+    let IsCutFirst : GoodPackets → Type 0 = λ g. FirstIsCut g.packets in
+    by_bool (has_payload p)
+    (λ some. by_bool (is_repeat s p)
+    (λ again. subst IsCutFirst (sym (good-repeat s p more some again))
+    (first_is_cut (record s { has_repeat = true }) more none))
+    (λ other. subst IsCutFirst (sym (good-good s p more some other))
+    (ap (λ (o : Option (List ℕ)). is_cut (link_from o s p)) none)))
+    (λ empty. subst IsCutFirst (sym (good-no_payload s p more empty))
+    (first_is_cut (record s { has_jump = s.has_jump || announces_jump p }) more none))
+
+-- Each of them has bytes in its payload.
+pub good_payloads : (s : Since) (all : List Note)
+    → AreSound all
+    → HavePayloads (good_after s all).packets
+unfolding good_after
+good_payloads s [] sound = tt
+good_payloads s (Wrong ∷ more) sound = good_payloads (record s { has_wrong = true }) more sound
+good_payloads s (Hole ∷ more) sound = good_payloads (record s { has_hole = true }) more sound
+good_payloads s (Valid p ∷ more) sound =
+    let Have : GoodPackets → Type 0 = λ g. HavePayloads g.packets in
+    by_bool (has_payload p)
+    (λ some. by_bool (is_repeat s p)
+    (λ again. subst Have (sym (good-repeat s p more some again))
+    (good_payloads (record s { has_repeat = true }) more sound.1))
+    (λ other. subst Have (sym (good-good s p more some other))
+    (sound.0 some, good_payloads (nothing_since (Some p)) more sound.1)))
+    (λ empty. subst Have (sym (good-no_payload s p more empty))
+    (good_payloads (record s { has_jump = s.has_jump || announces_jump p }) more sound.1))

@@ -1,0 +1,424 @@
+-- What parts give, as it is known packet after packet; main lemmas: with_marks-nothing,
+-- outcomes-from, tail-whole, give-other.
+use Rattle.std.proofs.Common.{◌≡◌, ℕ, ◌+◌, ◌-◌, ◌≤◌, ◌<◌, List, [], ◌∷◌, ◌++◌, length, take}
+use Rattle.std.proofs.Common.{Bool, true, false, refl, sym, ap, ◌∙◌, arith, append_assoc}
+use Rattle.std.proofs.Common.{length-append, Result, Ok, Err}
+use Rattle.std.proofs.lemmas.Bool.Decides.{nat_tests}
+use Rattle.std.proofs.lemmas.List.{append-nil}
+use Rattle.std.specs.Prelude.{◌&&◌, not, nat_lt, nat_le, if◌then◌else◌}
+use Rattle.std.specs.List.{concat}
+use lib.Seq.{take-append-le}
+use Rattle.ttx_pes.specs.Reading.{size_at}
+use Rattle.ttx_pes.specs.declared.fault.PesFault.{PesFault}
+use Rattle.mpeg_ts.specs.Carried.{mark, mark_where, with_marks}
+use Rattle.mpeg_ts.specs.GoodPackets.{GoodPacket}
+use Rattle.mpeg_ts.specs.Joining.{found_in, found_of, gave_packet, given_after}
+use Rattle.mpeg_ts.specs.Parts.{PartOutcome, Pes, Gap, Other, Part, begins_part, part_bytes, gap_where}
+use Rattle.mpeg_ts.specs.Parts.{is_break, may_be_cut_off, outcome, outcome_of_size, outcomes}
+use Rattle.mpeg_ts.specs.Parts.{part_of, parts_from, up_to, with_packet}
+use Rattle.mpeg_ts.specs.TransportPacket.{payload}
+use Rattle.mpeg_ts.specs.declared.joining.Given.{Given}
+use Rattle.mpeg_ts.specs.declared.joining.Given.TheVariants as given
+use Rattle.mpeg_ts.specs.declared.joining.Found.TheVariants as found
+
+-- A Bool is true or false: the proof of what holds in both cases.
+pub by_bool : {P : Type 0} (b : Bool) → (b ≡ true → P) → (b ≡ false → P) → P
+by_bool true f g = f refl
+by_bool false f g = g refl
+
+-- ---- marks
+
+-- The bytes of outcomes, after what was given before: a mark is given as soon as a gap is known.
+abbrev pub give : Given → List PartOutcome → List ℕ
+give g [] = []
+give g (Gap ∷ more) = mark_where (gave_packet g) ++ give (given_after true g) more
+give g (Pes bytes ∷ more) = bytes ++ give given.Packet more
+give g (Other bytes ∷ more) = bytes
+
+-- Behind a PES packet, without a gap and with one.
+marks : (all : List PartOutcome)
+    → (with_marks true false all ≡ give given.Packet all)
+    × (with_marks true true all ≡ mark ++ give given.Mark all)
+unfolding with_marks
+marks [] = (refl, sym (append-nil mark))
+marks (Gap ∷ more) = ((marks more).1, (marks more).1)
+marks (Pes b ∷ more) =
+    (ap (λ l. b ++ l) (marks more).0, ap (λ l. mark ++ (b ++ l)) (marks more).0)
+marks (Other b ∷ more) = (refl, refl)
+
+-- Before the first PES packet.
+pub with_marks-nothing : (gap : Bool) (all : List PartOutcome)
+    → with_marks false gap all ≡ give given.Nothing all
+unfolding with_marks
+with_marks-nothing gap [] = refl
+with_marks-nothing gap (Gap ∷ more) = with_marks-nothing true more
+with_marks-nothing gap (Pes b ∷ more) = ap (λ l. b ++ l) (marks more).0
+with_marks-nothing gap (Other b ∷ more) = refl
+
+-- After a gap no packet was given last.
+pub quiet_after : (g : Given) → gave_packet (given_after true g) ≡ false
+quiet_after given.Nothing = refl
+quiet_after given.Packet = refl
+quiet_after given.Mark = refl
+
+-- Where none was, a gap gives nothing.
+pub give-quiet : (g : Given) (more : List PartOutcome)
+    → gave_packet g ≡ false
+    → give g (Gap ∷ more) ≡ give g more
+give-quiet given.Nothing more quiet = refl
+give-quiet given.Packet more quiet = absurd cc
+give-quiet given.Mark more quiet = refl
+
+-- A gap after a gap gives nothing.
+pub give-again : (g : Given) (b : Bool) (more : List PartOutcome)
+    → give (given_after true g) (gap_where b ++ more) ≡ give (given_after true g) more
+give-again g true more = give-quiet (given_after true g) more (quiet_after g)
+give-again g false more = refl
+
+-- A gap, where there is one.
+pub give-gap_where : (g : Given) (b : Bool) (more : List PartOutcome)
+    → give g (gap_where b ++ more)
+    ≡ mark_where (b && gave_packet g) ++ give (given_after b g) more
+give-gap_where g true more = refl
+give-gap_where g false more = refl
+
+-- The end behind a part that is not whole.
+pub give-end : (g : Given) (wrong : Bool)
+    → mark_where (wrong && gave_packet g)
+    ≡ give g (gap_where (not (not wrong)) ++ gap_where wrong)
+give-end g false = refl
+give-end given.Nothing true = refl
+give-end given.Packet true = sym (append-nil mark)
+give-end given.Mark true = refl
+
+-- The end behind a whole part.
+pub give-end_whole : (g : Given) (excess wrong : Bool)
+    → (excess ≡ true → gave_packet g ≡ false)
+    → mark_where (wrong && gave_packet g) ≡ give g (gap_where excess ++ gap_where wrong)
+give-end_whole g false false quiet = refl
+give-end_whole given.Nothing false true quiet = refl
+give-end_whole given.Packet false true quiet = sym (append-nil mark)
+give-end_whole given.Mark false true quiet = refl
+give-end_whole given.Nothing true false quiet = refl
+give-end_whole given.Packet true false quiet = absurd (let no = quiet refl in cc)
+give-end_whole given.Mark true false quiet = refl
+give-end_whole given.Nothing true true quiet = refl
+give-end_whole given.Packet true true quiet = absurd (let no = quiet refl in cc)
+give-end_whole given.Mark true true quiet = refl
+
+-- ---- parts
+
+-- What comes of the open part and of the good packets that follow, but for a gap before it.
+abbrev pub tail : Bool → Part → List GoodPacket → List PartOutcome
+tail wrong part [] = outcome (not wrong) part ++ gap_where wrong
+tail wrong part (g ∷ more) =
+    if begins_part g then
+    outcome false part ++ (gap_where (is_break g.link) ++ tail wrong (part_of g) more)
+    else tail wrong (with_packet part g) more
+
+-- What comes behind the PES packet of a whole part, with bytes behind it or without.
+abbrev pub behind : Bool → Bool → List GoodPacket → List PartOutcome
+behind excess wrong [] = gap_where excess ++ gap_where wrong
+behind excess wrong (g ∷ more) =
+    if begins_part g then
+    gap_where excess ++ (gap_where (is_break g.link) ++ tail wrong (part_of g) more)
+    else behind true wrong more
+
+-- A part before others is not cut off.
+not_cut_off : (wrong : Bool) (part : Part) (goods : List GoodPacket)
+    → may_be_cut_off wrong (parts_from part goods) ≡ false
+unfolding parts_from
+not_cut_off wrong part [] = refl
+not_cut_off wrong part (g ∷ more) =
+    by_bool (begins_part g) (λ yes. rw yes refl)
+    (λ no. rw no (not_cut_off wrong (with_packet part g) more))
+
+-- What comes of parts.
+pub outcomes-from : (wrong : Bool) (part : Part) (goods : List GoodPacket)
+    → outcomes wrong (parts_from part goods)
+    ≡ gap_where part.after_break ++ tail wrong part goods
+unfolding parts_from outcomes
+outcomes-from wrong part [] = refl
+outcomes-from wrong part (g ∷ more) =
+    by_bool (begins_part g)
+    (λ yes. rw yes (
+    ap (λ c. gap_where part.after_break
+    ++ (outcome c part ++ outcomes wrong (parts_from (part_of g) more)))
+    (not_cut_off wrong (part_of g) more)
+    ∙ ap (λ l. gap_where part.after_break ++ (outcome false part ++ l))
+    (outcomes-from wrong (part_of g) more)))
+    (λ no. rw no (outcomes-from wrong (with_packet part g) more))
+
+-- ---- the bytes of a part
+
+-- Lists joined, with one more behind them.
+concat-behind : (ps : List (List ℕ)) (x : List ℕ) → concat (ps ++ x ∷ []) ≡ concat ps ++ x
+concat-behind [] x = append-nil x
+concat-behind (f ∷ ps) x =
+    ap (λ l. f ++ l) (concat-behind ps x) ∙ sym (append_assoc f (concat ps) x)
+
+-- The bytes of a part with a packet more.
+pub bytes-with : (part : Part) (g : GoodPacket)
+    → part_bytes (with_packet part g) ≡ part_bytes part ++ payload g.packet
+bytes-with part g = concat-behind part.payloads (payload g.packet)
+
+-- The payloads in which a number is reached, with one more behind them.
+up_to-reached : (c : ℕ) (ps : List (List ℕ)) (x : List ℕ)
+    → 0 < c
+    → c ≤ length (concat ps)
+    → up_to c (ps ++ x ∷ []) ≡ up_to c ps
+unfolding up_to
+up_to-reached c [] x some le = absurd (omega arith)
+up_to-reached c (f ∷ ps) x some le =
+    by_bool (nat_le c (length f)) (λ yes. rw yes refl)
+    (λ no. let lt : length f < c = grind (arith, nat_tests) in
+    rw no (ap (λ l. f ++ l)
+    (up_to-reached (c - length f) ps x (omega arith)
+    (omega (arith, length-append f (concat ps))))))
+
+-- One more payload, before which the number is not reached.
+pub up_to-last : (c : ℕ) (ps : List (List ℕ)) (x : List ℕ)
+    → length (concat ps) < c
+    → up_to c (ps ++ x ∷ []) ≡ concat ps ++ x
+unfolding up_to
+up_to-last c [] x lt =
+    by_bool (nat_le c (length x)) (λ yes. rw yes refl) (λ no. rw no (append-nil x))
+up_to-last c (f ∷ ps) x lt =
+    let gt : nat_le c (length f) ≡ false =
+    not_reached c (length f) (omega (arith, length-append f (concat ps))) in
+    rw gt (ap (λ l. f ++ l)
+    (up_to-last (c - length f) ps x (omega (arith, length-append f (concat ps))))
+    ∙ sym (append_assoc f (concat ps) x))
+  where
+    not_reached : (m n : ℕ) → n < m → nat_le m n ≡ false
+    not_reached m n lt = grind (arith, nat_tests)
+
+-- ---- what is found in a part
+
+-- A whole PES packet.
+found-whole : (n size : ℕ) (r : Result ℕ PesFault)
+    → found_of n r ≡ found.Whole size
+    → (r ≡ Ok size) × (size ≤ n)
+found-whole n size (Err f) e = absurd cc
+found-whole n size (Ok s) e = by_bool (nat_le s n)
+    (λ yes. let same : found.Whole s ≡ found.Whole size = rw yes at e in
+    let eq : s ≡ size = cc in
+    let le : s ≤ n = grind (arith, nat_tests) in
+    (ap (λ k. Ok k) eq, omega arith))
+    (λ no. let bad : found.Unfinished ≡ found.Whole size = rw no at e in absurd cc)
+
+-- Another start or length.
+found-other : (n : ℕ) (r : Result ℕ PesFault)
+    → found_of n r ≡ found.Other
+    → (f : PesFault) × (r ≡ Err f)
+found-other n (Err f) e = (f, refl)
+found-other n (Ok s) e = by_bool (nat_le s n)
+    (λ yes. let bad : found.Whole s ≡ found.Other = rw yes at e in absurd cc)
+    (λ no. let bad : found.Unfinished ≡ found.Other = rw no at e in absurd cc)
+
+-- Bytes in which a whole PES packet was found.
+pub record IsWhole (bytes : List ℕ) (size : ℕ) : Type 0 where
+  pub six : 6 ≤ length bytes
+  pub sized : size_at (take 6 bytes) ≡ Ok size
+  pub within : size ≤ length bytes
+
+-- Bytes with another start or length.
+pub record IsOther (bytes : List ℕ) : Type 0 where
+  pub six : 6 ≤ length bytes
+  pub fault : PesFault
+  pub refused : size_at (take 6 bytes) ≡ Err fault
+
+pub whole_found : (bytes : List ℕ) (size : ℕ)
+    → found_in bytes ≡ found.Whole size
+    → IsWhole bytes size
+unfolding found_in
+whole_found bytes size e = by_bool (nat_lt (length bytes) 6)
+    (λ yes. let bad : found.Unfinished ≡ found.Whole size = rw yes at e in absurd cc)
+    (λ no. let many : 6 ≤ length bytes = grind (arith, nat_tests) in
+    let p = found-whole (length bytes) size (size_at (take 6 bytes)) (rw no at e) in
+    record { six = many; sized = p.0; within = p.1 })
+
+pub other_found : (bytes : List ℕ) → found_in bytes ≡ found.Other → IsOther bytes
+unfolding found_in
+other_found bytes e = by_bool (nat_lt (length bytes) 6)
+    (λ yes. let bad : found.Unfinished ≡ found.Other = rw yes at e in absurd cc)
+    (λ no. let many : 6 ≤ length bytes = grind (arith, nat_tests) in
+    let p = found-other (length bytes) (size_at (take 6 bytes)) (rw no at e) in
+    record { six = many; fault = p.0; refused = p.1 })
+
+-- A part that does not begin with a PES packet's first byte.
+pub outcome-headless : (cut : Bool) (part : Part)
+    → part.begins ≡ false
+    → outcome cut part ≡ gap_where (not cut)
+unfolding outcome
+outcome-headless cut part headless = rw headless refl
+
+-- By the size that the first six bytes say.
+outcome-of_unfinished : (cut : Bool) (part : Part) (r : Result ℕ PesFault)
+    → found_of (length (part_bytes part)) r ≡ found.Unfinished
+    → outcome_of_size cut part r ≡ gap_where (not cut)
+outcome-of_unfinished cut part (Err f) e = absurd cc
+outcome-of_unfinished cut part (Ok size) e = by_bool (nat_le size (length (part_bytes part)))
+    (λ yes. let bad : found.Whole size ≡ found.Unfinished = rw yes at e in absurd cc)
+    (λ no. rw no refl)
+
+-- A part whose PES packet is not there whole.
+pub outcome-unfinished : (cut : Bool) (part : Part)
+    → part.begins ≡ true
+    → found_in (part_bytes part) ≡ found.Unfinished
+    → outcome cut part ≡ gap_where (not cut)
+unfolding outcome found_in
+outcome-unfinished cut part begins e = by_bool (nat_lt (length (part_bytes part)) 6)
+    (λ yes. let few : nat_le 6 (length (part_bytes part)) ≡ false = grind (arith, nat_tests) in
+    rw (begins, few) refl)
+    (λ no. let many : nat_le 6 (length (part_bytes part)) ≡ true = grind (arith, nat_tests) in
+    rw (begins, many)
+    (outcome-of_unfinished cut part (size_at (take 6 (part_bytes part))) (rw no at e)))
+
+-- A whole part.
+outcome-whole : (cut : Bool) (part : Part) (size : ℕ)
+    → part.begins ≡ true
+    → IsWhole (part_bytes part) size
+    → outcome cut part
+    ≡ Pes (take size (part_bytes part)) ∷ gap_where (nat_lt size (length (part_bytes part)))
+unfolding outcome
+outcome-whole cut part size begins w =
+    let many : nat_le 6 (length (part_bytes part)) ≡ true = is_le 6 (length (part_bytes part)) w.six in
+    let fits : nat_le size (length (part_bytes part)) ≡ true =
+    is_le size (length (part_bytes part)) w.within in
+    let sized = w.sized in
+    rw (begins, many, sized, fits) refl
+  where
+    is_le : (m n : ℕ) → m ≤ n → nat_le m n ≡ true
+    is_le m n le = grind (arith, nat_tests)
+
+-- A part with another start or length.
+outcome-other : (cut : Bool) (part : Part)
+    → part.begins ≡ true
+    → IsOther (part_bytes part)
+    → outcome cut part ≡ Other (up_to 6 part.payloads) ∷ []
+unfolding outcome
+outcome-other cut part begins o =
+    let many : nat_le 6 (length (part_bytes part)) ≡ true = is_le 6 (length (part_bytes part)) o.six in
+    let refused = o.refused in
+    rw (begins, many, refused) refl
+  where
+    is_le : (m n : ℕ) → m ≤ n → nat_le m n ≡ true
+    is_le m n le = grind (arith, nat_tests)
+
+-- ---- what is settled stays so
+
+-- Each of these packets has bytes in its payload.
+abbrev pub HavePayloads : List GoodPacket → Type 0
+HavePayloads [] = Unit {0}
+HavePayloads (g ∷ more) = (0 < length (payload g.packet)) × HavePayloads more
+
+-- The first six bytes are the same with more behind them.
+same_six : (bytes more all : List ℕ)
+    → all ≡ bytes ++ more
+    → 6 ≤ length bytes
+    → size_at (take 6 all) ≡ size_at (take 6 bytes)
+same_six bytes more all e six =
+    ap (λ l. size_at (take 6 l)) e ∙ ap size_at (take-append-le 6 bytes more six)
+
+-- The PES packet of a whole part is given, whatever follows.
+pub tail-whole : (wrong : Bool) (part : Part) (size : ℕ) (goods : List GoodPacket)
+    → HavePayloads goods
+    → part.begins ≡ true
+    → IsWhole (part_bytes part) size
+    → tail wrong part goods
+    ≡ Pes (take size (part_bytes part))
+    ∷ behind (nat_lt size (length (part_bytes part))) wrong goods
+tail-whole wrong part size [] all begins w =
+    ap (λ l. l ++ gap_where wrong) (outcome-whole (not wrong) part size begins w)
+tail-whole wrong part size (g ∷ more) all begins w =
+    let bytes = part_bytes part in
+    let p = payload g.packet in
+    let grown = part_bytes (with_packet part g) in
+    let same : grown ≡ bytes ++ p = bytes-with part g in
+    let long : length grown ≡ length bytes + length p = ap length same ∙ length-append bytes p in
+    let w2 : IsWhole grown size = record {
+      six = omega (arith, long, w.six);
+      sized = same_six bytes p grown same w.six ∙ w.sized;
+      within = omega (arith, long, w.within);
+    } in
+    let front : take size grown ≡ take size bytes =
+    ap (take size) same ∙ take-append-le size bytes p w.within in
+    let excess : nat_lt size (length grown) ≡ true =
+    is_lt size (length grown) (omega (arith, long, w.within, all.0)) in
+    by_bool (begins_part g)
+    (λ yes. rw yes (
+    ap (λ l. l ++ (gap_where (is_break g.link) ++ tail wrong (part_of g) more))
+    (outcome-whole false part size begins w)))
+    (λ no. rw no (
+    tail-whole wrong (with_packet part g) size more all.1 begins w2
+    ∙ ap (λ l. Pes l ∷ behind (nat_lt size (length grown)) wrong more) front
+    ∙ ap (λ b. Pes (take size bytes) ∷ behind b wrong more) excess))
+  where
+    is_lt : (m n : ℕ) → m < n → nat_lt m n ≡ true
+    is_lt m n lt = grind (arith, nat_tests)
+
+-- So are the bytes of a part with another start or length.
+pub give-other : (g : Given) (wrong : Bool) (part : Part) (goods : List GoodPacket)
+    → part.begins ≡ true
+    → IsOther (part_bytes part)
+    → give g (tail wrong part goods) ≡ up_to 6 part.payloads
+give-other h wrong part [] begins o =
+    ap (λ l. give h (l ++ gap_where wrong)) (outcome-other (not wrong) part begins o)
+give-other h wrong part (g ∷ more) begins o =
+    let bytes = part_bytes part in
+    let p = payload g.packet in
+    let grown = part_bytes (with_packet part g) in
+    let same : grown ≡ bytes ++ p = bytes-with part g in
+    let long : length grown ≡ length bytes + length p = ap length same ∙ length-append bytes p in
+    let o2 : IsOther grown = record {
+      six = omega (arith, long, o.six);
+      fault = o.fault;
+      refused = same_six bytes p grown same o.six ∙ o.refused;
+    } in
+    by_bool (begins_part g)
+    (λ yes. rw yes (
+    ap (λ l. give h (l ++ (gap_where (is_break g.link) ++ tail wrong (part_of g) more)))
+    (outcome-other false part begins o)))
+    (λ no. rw no (
+    give-other h wrong (with_packet part g) more begins o2
+    ∙ up_to-reached 6 part.payloads p (omega arith) o.six))
+
+-- Bytes behind the PES packet are a gap, whatever follows.
+pub give-excess : (g : Given) (wrong : Bool) (goods : List GoodPacket)
+    → give g (behind true wrong goods)
+    ≡ mark_where (gave_packet g) ++ give (given_after true g) (behind true wrong goods)
+give-excess h wrong [] =
+    ap (λ l. mark_where (gave_packet h) ++ l)
+    (sym (give-quiet (given_after true h) (gap_where wrong) (quiet_after h)))
+give-excess h wrong (g ∷ more) =
+    let rest = gap_where (is_break g.link) ++ tail wrong (part_of g) more in
+    by_bool (begins_part g)
+    (λ yes. rw yes (ap (λ l. mark_where (gave_packet h) ++ l)
+    (sym (give-quiet (given_after true h) rest (quiet_after h)))))
+    (λ no. rw no (give-excess h wrong more))
+
+-- Where a PES packet came to be known as not there whole, and then as another, its first six bytes
+-- came with the last payload.
+pub other_with_last : (bytes more : List ℕ)
+    → found_in bytes ≡ found.Unfinished
+    → IsOther (bytes ++ more)
+    → length bytes < 6
+unfolding found_in
+other_with_last bytes more e o = by_bool (nat_lt (length bytes) 6)
+    (λ yes. is_lt (length bytes) 6 yes)
+    (λ no. absurd (not_other (size_at (take 6 bytes)) (length bytes) o.fault (rw no at e)
+    (sym (same_six bytes more (bytes ++ more) refl (is_le (length bytes) no)) ∙ o.refused)))
+  where
+    is_lt : (m n : ℕ) → nat_lt m n ≡ true → m < n
+    is_lt m n less = grind (arith, nat_tests)
+
+    is_le : (m : ℕ) → nat_lt m 6 ≡ false → 6 ≤ m
+    is_le m many = grind (arith, nat_tests)
+
+    not_other : (r : Result ℕ PesFault) (n : ℕ) (f : PesFault)
+        → found_of n r ≡ found.Unfinished
+        → r ≡ Err f
+        → ⊥
+    not_other (Err f) n h e same = cc
+    not_other (Ok s) n h e same = cc

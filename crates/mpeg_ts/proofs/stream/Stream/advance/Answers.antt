@@ -1,0 +1,21 @@
+-- The bytes from the item after so many on: ahead_moved.
+use Rattle.mpeg_ts.specs.Stream.{StreamValue}
+use Rattle.mpeg_ts.specs.contracts.stream.Stream.{the_view}
+use Rattle.mpeg_ts.proofs.StreamLemmas.{ahead_moved}
+use Rattle.mpeg_ts.proofs.stream.Stream.advance.Goals as goal
+
+pub returns-clause-ahead : goal.returns-clause-ahead
+returns-clause-ahead c =
+    let i = c.self.inside in
+    let moved : StreamValue = record {
+      number = i.number;
+      distance = i.distance;
+      window = c.advance-self-inside.new.self;
+      lead = c.advance-self-inside.result;
+      in_step = i.in_step;
+      run = i.run;
+      joining = i.joining;
+    } in
+    rw (← c.self.view_is) (λ bytes.
+    ahead_moved (the_view i) moved c.args.count bytes c.advance-self-inside.ensures.held
+    c.advance-self-inside.ensures.left c.advance-self-inside.ensures.rest)

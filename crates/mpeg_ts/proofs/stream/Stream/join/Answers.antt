@@ -1,0 +1,10 @@
+-- A packet of another PID: other_pid.
+use Rattle.std.proofs.Common.{◌∙◌}
+use Rattle.mpeg_ts.specs.contracts.stream.Stream.{the_view}
+use Rattle.mpeg_ts.proofs.StreamLemmas.{other_pid}
+use Rattle.mpeg_ts.proofs.stream.Stream.join.Goals as goal
+
+pub returns-then-pid_of-self : goal.returns-then-pid_of-self
+returns-then-pid_of-self c =
+    rw (← c.self.view_is) (other_pid (the_view c.self.inside) c.args.packet.now
+    (λ same. c.if-pid_of-self.true (c.pid_of.ensures ∙ same)))

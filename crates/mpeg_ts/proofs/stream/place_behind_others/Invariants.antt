@@ -1,0 +1,20 @@
+-- All packets so far are those of others.
+use Rattle.std.proofs.Common.{◌≡◌, ◌≤◌, ◌-◌, List, [], ◌++◌, ℕ, drop, length, true, false}
+use Rattle.mpeg_ts.specs.Joining.{JoiningValue, has_ended}
+use Rattle.mpeg_ts.specs.Stream.{stream_gives}
+use Rattle.mpeg_ts.proofs.stream.place_behind_others.Given as goal
+
+abbrev pub invariant-loop-at : goal.invariant-loop-at
+invariant-loop-at l = record {
+  from : l.from ≤ l.at;
+  within : l.at ≤ length l.bytes;
+  gives :
+      (rest : List ℕ) (joining : JoiningValue)
+      → has_ended joining.part ≡ false
+      → joining.pending ≡ []
+      → stream_gives l.distance l.number 0 true joining (drop l.at (l.bytes ++ rest))
+      ≡ stream_gives l.distance l.number 0 true joining (drop l.from (l.bytes ++ rest));
+}
+
+abbrev pub decreases-loop-at : goal.decreases-loop-at
+decreases-loop-at l = length l.bytes - l.at

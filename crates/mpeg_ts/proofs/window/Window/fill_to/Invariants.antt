@@ -1,0 +1,20 @@
+-- What was taken and what may be are what they were together, and no pull has failed.
+use Rattle.std.proofs.Common.{length, ◌+◌, ◌-◌, ◌≡◌, ◌≤◌}
+use Rattle.std.specs.Io.KnownBytes.{Keeps}
+use Rattle.mpeg_ts.specs.Window.{to_come}
+use Rattle.mpeg_ts.proofs.window.Window.fill_to.Given as goal
+
+abbrev pub invariant-loop-have : goal.invariant-loop-have
+invariant-loop-have g l = record {
+  have : l.have ≡ length l.self.held;
+  keeps : Keeps (to_come l.initial.self (g.S.Source.remaining l.initial.source))
+      (to_come l.self (g.S.Source.remaining l.source));
+  sum :
+      length l.self.held + l.self.left
+      ≡ length l.initial.self.held + l.initial.self.left;
+  grows : length l.initial.self.held ≤ length l.self.held;
+  count : g.S.Source.failure_count l.source ≡ g.S.Source.failure_count l.initial.source;
+}
+
+abbrev pub decreases-loop-have : goal.decreases-loop-have
+decreases-loop-have g l = l.count - l.have

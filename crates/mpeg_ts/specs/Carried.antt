@@ -1,0 +1,38 @@
+-- What the packets of a PID of a recording carry, as PES packets one after another: as a file of
+-- PES packets has them, with a mark where something is missing (own).
+use Rattle.std.specs.Prelude.{ℕ, ◌&&◌, Bool, true, false, List, [], ◌∷◌, ◌++◌, replicate}
+use Rattle.std.specs.Int.{bytes_high_first}
+use Rattle.ttx_pes.specs.PesPacket.{packet_start, packet_length}
+use Rattle.mpeg_ts.specs.GoodPackets.{good_packets}
+use Rattle.mpeg_ts.specs.PacketsInStep.{items_of}
+use Rattle.mpeg_ts.specs.Parts.{PartOutcome, Pes, Gap, Other, outcomes_of}
+
+-- The mark, 184 bytes: the start and the length of a PES packet, and FF in all others, so that no
+-- PES packet with Teletext is the same.
+--
+--   0..3    packet_start_code_prefix, stream_id   00 00 01 BD
+--   4..5    PES_packet_length                     00 B2
+--   6..183                                        FF
+unfoldable pub mark : List ℕ
+mark = packet_start ++ (bytes_high_first 2 (packet_length 1) ++ replicate 178 0xFF)
+
+-- A mark, if there is one.
+abbrev pub mark_where : Bool → List ℕ
+mark_where true = mark
+mark_where false = []
+
+-- The bytes that outcomes give, where `given` says whether a PES packet came before them, and `gap`
+-- whether there was a gap since. One mark stands for all gaps between two PES packets, and behind
+-- the last; none stands before the first, since a recording begins anywhere.
+unfoldable pub with_marks : Bool → Bool → List PartOutcome → List ℕ
+with_marks given gap [] = mark_where (given && gap)
+with_marks given gap (Gap ∷ more) = with_marks given true more
+with_marks given gap (Pes bytes ∷ more) =
+    mark_where (given && gap) ++ (bytes ++ with_marks true false more)
+with_marks given gap (Other bytes ∷ more) = mark_where (given && gap) ++ bytes
+
+-- What the packets of the PID carry in a recording whose packets have that distance.
+unfoldable pub carried : ℕ → ℕ → List ℕ → List ℕ
+carried number distance recording =
+    with_marks false false
+    (outcomes_of (good_packets distance number (items_of distance recording)))

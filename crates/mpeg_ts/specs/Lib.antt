@@ -1,0 +1,10 @@
+pub mod Carried
+pub mod GoodPackets
+pub mod Joining
+pub mod PacketSize
+pub mod PacketsInStep
+pub mod Parts
+pub mod Pid
+pub mod Stream
+pub mod TransportPacket
+pub mod Window

@@ -1,0 +1,65 @@
+-- A transport packet, 188 bytes (ISO/IEC 13818-1, 2.4.3.2 to 2.4.3.5):
+--
+--   0      sync_byte                      47
+--   1..2   transport_error_indicator (1 bit), payload_unit_start_indicator (1), transport_priority
+--          (1), PID (13)
+--   3      transport_scrambling_control (2 bits), adaptation_field_control (2: an adaptation field,
+--          a payload), continuity_counter (4)
+--   4      adaptation_field_length, where there is an adaptation field
+--   5      discontinuity_indicator (1 bit) and seven flags, where that length is not 0
+--   ..     the rest of the adaptation field, and the payload up to the end
+use Rattle.std.specs.Prelude.{ℕ, ◌+◌, ◌*◌, ◌/◌, ◌%◌, ◌==◌, ◌&&◌, ◌||◌, not, nat_lt}
+use Rattle.std.specs.Prelude.{Bool, if◌then◌else◌, List, take, drop, slice_index}
+
+-- The bytes of a packet.
+abbrev pub packet_size : ℕ
+packet_size = 188
+
+-- Its first byte.
+abbrev pub sync_byte : ℕ
+sync_byte = 0x47
+
+-- The PID.
+abbrev pub pid : List ℕ → ℕ
+pid p = slice_index p 1 % 0x20 * 0x100 + slice_index p 2
+
+-- payload_unit_start_indicator: a PES packet begins with the first byte of the payload.
+abbrev pub begins : List ℕ → Bool
+begins p = slice_index p 1 / 0x40 % 2 == 1
+
+-- continuity_counter.
+abbrev pub counter : List ℕ → ℕ
+counter p = slice_index p 3 % 0x10
+
+-- adaptation_field_control says that an adaptation field follows,
+abbrev pub has_adaptation : List ℕ → Bool
+has_adaptation p = slice_index p 3 / 0x20 % 2 == 1
+
+-- and that a payload does.
+abbrev pub has_payload : List ℕ → Bool
+has_payload p = slice_index p 3 / 0x10 % 2 == 1
+
+-- discontinuity_indicator, of an adaptation field that has it: a jump of the counter is announced.
+abbrev pub announces_jump : List ℕ → Bool
+announces_jump p =
+    has_adaptation p && not (slice_index p 4 == 0) && (slice_index p 5 / 0x80 % 2 == 1)
+
+-- A packet whose transport_error_indicator is set, which is scrambled, or whose adaptation field
+-- leaves no room for the payload that it says it has.
+abbrev pub is_wrong : List ℕ → Bool
+is_wrong p =
+    (slice_index p 1 / 0x80 % 2 == 1)
+    || not (slice_index p 3 / 0x40 % 4 == 0)
+    || (has_adaptation p && has_payload p && nat_lt 182 (slice_index p 4))
+
+-- Bytes 0 to 3: what a packet that repeats another has in common with it, beside the payload.
+abbrev pub header : List ℕ → List ℕ
+header p = take 4 p
+
+-- Where the payload begins.
+abbrev pub payload_place : List ℕ → ℕ
+payload_place p = if has_adaptation p then 5 + slice_index p 4 else 4
+
+-- The payload: the bytes up to the end.
+abbrev pub payload : List ℕ → List ℕ
+payload p = drop (payload_place p) p

@@ -1,0 +1,23 @@
+-- The bytes of a recording that were taken and are to be looked at.
+use Rattle.std.specs.Prelude.{ℕ, List, ◌++◌, take, Option, option_map}
+
+-- Room for them.
+abbrev pub window_size : ℕ
+window_size = 205
+
+-- Those that were taken, and how many more may be.
+pub record WindowValue : Type 0 where
+  pub held : List ℕ
+  pub left : ℕ
+
+-- They, and what may still be taken, where the source has these bytes to give.
+abbrev pub held_and_left : WindowValue → List ℕ → List ℕ
+held_and_left w bytes = w.held ++ take w.left bytes
+
+-- The same, where the source tells its bytes.
+abbrev pub to_come : WindowValue → Option (List ℕ) → Option (List ℕ)
+to_come w told = option_map (held_and_left w) told
+
+-- What may still be taken.
+abbrev pub left_to_take : WindowValue → Option (List ℕ) → Option (List ℕ)
+left_to_take w told = option_map (take w.left) told

@@ -1,0 +1,447 @@
+//! Putting the PES packets of a PID together, one transport packet after another.
+ghost use Rattle.std.specs.Prelude.{◌≡◌, ℕ, ◌+◌, ◌≤◌, ◌<◌, ◌↔◌, ◌++◌, ◌||◌, drop, take, length, []};
+ghost use Rattle.std.specs.Prelude.{◌&&◌};
+ghost use Rattle.std.specs.Prelude.{if◌then◌else◌};
+ghost use Rattle.std.specs.Prelude.{false, true};
+ghost use Rattle.mpeg_ts.specs.GoodPackets.{Wrong, Hole};
+ghost use Rattle.mpeg_ts.specs.Joining.{after_note, after_valid, begun, found_in, gone_on, grown};
+ghost use Rattle.mpeg_ts.specs.Joining.{has_ended, holding, is_complete, link_after};
+ghost use Rattle.mpeg_ts.specs.Joining.{nothing_joined, remembering};
+ghost use Rattle.mpeg_ts.specs.Joining.{gave_packet, given_after, repeats};
+ghost use Rattle.mpeg_ts.specs.Parts.{is_break, is_cut};
+ghost use Rattle.mpeg_ts.specs.TransportPacket.{has_payload, is_wrong, payload};
+ghost use Rattle.mpeg_ts.specs.declared.joining.Found.TheVariants.{Unfinished, Whole};
+
+use crate::mark::{MARK_SIZE, mark_bytes};
+use crate::transport_packet::{
+    PACKET, announces_jump, begins, counter_of, has_payload, payload_of,
+};
+use arrayvec::ArrayVec;
+use std::marker::Model;
+use ttx_pes::size_of;
+
+/// How far the part has come that the last good packet belongs to.
+#[derive(Drop)]
+pub(crate) enum PartState {
+    /// It does not begin with a PES packet's first byte, or there is none yet: it gives nothing.
+    Headless,
+    /// Its PES packet has begun, and is not there whole.
+    Open,
+    /// Its PES packet was given.
+    Complete,
+    /// It has another start or another length than a PES packet with Teletext: it was given as it
+    /// is, and nothing comes after it.
+    Ended,
+}
+
+/// What was given last.
+#[derive(Drop)]
+pub(crate) enum Given {
+    /// No PES packet yet.
+    Nothing,
+    /// A PES packet.
+    Packet,
+    /// A mark, behind a PES packet.
+    Mark,
+}
+
+/// What the bytes of a part hold.
+#[derive(Drop)]
+pub(crate) enum Found {
+    /// Not all of a PES packet.
+    Unfinished,
+    /// A PES packet, the first so many of them.
+    Whole(usize),
+    /// Another start or another length.
+    Other,
+}
+
+// Looks for the PES packet that bytes begin with.
+#[tactic(auto, unfolding(crate::specs::Joining::found_in))]
+fn find_packet(bytes: &[u8]) -> Found
+    ensures found { found_in bytes.now ≡ result }
+    ensures within { (size : ℕ) → result ≡ Whole size → size ≤ length bytes.now }
+    ensures some { (size : ℕ) → result ≡ Whole size → 0 < size }
+    ensures open { result ≡ Unfinished → length bytes.now ≤ 1655 }
+{
+    let Some(head) = bytes.first_chunk() else {
+        return Found::Unfinished;
+    };
+    match size_of(head) {
+        Err(_) => Found::Other,
+        Ok(size) => {
+            if size <= bytes.len() {
+                Found::Whole(size)
+            } else {
+                Found::Unfinished
+            }
+        }
+    }
+}
+
+// Room for the bytes of a part whose PES packet is not there whole, and one more payload.
+const ROOM: usize = 1840;
+
+/// Puts PES packets together.
+#[derive(Drop)]
+pub(crate) struct Joining {
+    // The payloads of the part, or the last one alone where no more of the part is given.
+    bytes: ArrayVec<u8, ROOM>,
+    // Of the last good packet: bytes 0 to 3, how many bytes at the end of `bytes` are its payload
+    // (0 where there is none yet), and whether it announced a jump.
+    header: [u8; 4],
+    payload_size: usize,
+    announced: bool,
+    // Since the last good packet.
+    has_repeat: bool,
+    has_jump: bool,
+    has_break: bool,
+    part: PartState,
+    given: Given,
+    // What is ready to be given: so many last bytes of a mark, then `bytes[start..end]`, and then
+    // perhaps a mark.
+    mark_left: usize,
+    start: usize,
+    end: usize,
+    mark_behind: bool,
+}
+
+impl Model for Joining {
+    ghost use Rattle.std.specs.Prelude.{◌-◌, drop, length};
+    ghost use Rattle.mpeg_ts.specs.Joining.{JoiningValue, IsJoining, ready_bytes};
+
+    ghost Value = { JoiningValue };
+
+    ghost view = { λ j. record {
+      header = j.header;
+      announced = j.announced;
+      last = drop (length j.bytes.items - j.payload_size) j.bytes.items;
+      has_repeat = j.has_repeat;
+      has_jump = j.has_jump;
+      has_break = j.has_break;
+      part = j.part;
+      bytes = j.bytes.items;
+      given = j.given;
+      pending = ready_bytes j.mark_left j.start j.end j.mark_behind j.bytes.items;
+    } };
+
+    ghost invariant = { λ j. IsJoining
+        j.mark_left j.start j.end j.mark_behind j.payload_size j.part j.bytes.items };
+}
+
+// Makes a mark ready for a gap behind a PES packet.
+fn mark_gap(gap: bool, given: &mut Given, mark_left: &mut usize)
+    ensures given { given.new ≡ given_after gap given.old }
+    ensures mark { mark_left.new ≡ (if gap && gave_packet given.old then 184 else mark_left.old) }
+{
+    if !gap {
+        return;
+    }
+    match &*given {
+        Given::Packet => {
+            *given = Given::Mark;
+            *mark_left = MARK_SIZE;
+        }
+        _ => {}
+    }
+}
+
+impl Joining {
+    // Before the first packet.
+    pub(crate) fn new() -> Self
+        ensures { result ≡ nothing_joined }
+    {
+        Joining {
+            bytes: ArrayVec::new(),
+            header: [0; 4],
+            payload_size: 0,
+            announced: false,
+            has_repeat: false,
+            has_jump: false,
+            has_break: false,
+            part: PartState::Headless,
+            given: Given::Nothing,
+            mark_left: 0,
+            start: 0,
+            end: 0,
+            mark_behind: false,
+        }
+    }
+
+    // Whether nothing is ready to be given.
+    #[tactic(auto, using(crate::proofs::ReadyLemmas::idling))]
+    #[inline(always)]
+    pub(crate) fn is_idle(&self) -> bool
+        ensures { (result ≡ true) ↔ (self.now.pending ≡ []) }
+    {
+        self.mark_left == 0 && self.start == self.end
+    }
+
+    // Whether nothing comes any more but what is ready.
+    #[inline(always)]
+    pub(crate) fn has_ended(&self) -> bool
+        ensures { result ≡ has_ended self.now.part }
+    {
+        match &self.part {
+            PartState::Ended => true,
+            _ => false,
+        }
+    }
+
+    // A wrong packet came.
+    #[tactic(auto, using(crate::proofs::ReadyLemmas::growing))]
+    pub(crate) fn note_wrong(&mut self)
+        requires { self.old.pending ≡ [] }
+        ensures { self.new ≡ after_note self.old Wrong }
+    {
+        self.has_break = true;
+        mark_gap(true, &mut self.given, &mut self.mark_left);
+    }
+
+    // So many bytes were skipped in a row that packets may be missing.
+    pub(crate) fn note_hole(&mut self)
+        ensures { self.new ≡ after_note self.old Hole }
+    {
+        self.has_break = true;
+    }
+
+    // A packet came that is not wrong.
+    #[tactic(auto, unfolding(crate::specs::Joining::after_valid))]
+    pub(crate) fn take(&mut self, packet: &[u8; PACKET])
+        requires idle { self.old.pending ≡ [] }
+        requires valid { is_wrong packet.now ≡ false }
+        ensures { self.new ≡ after_valid self.old packet.now }
+    {
+        if !has_payload(packet) {
+            self.has_jump = self.has_jump || announces_jump(packet);
+            return;
+        }
+        if self.is_repeat(packet) {
+            self.has_repeat = true;
+            return;
+        }
+        let is_break = self.is_break(packet);
+        let is_cut = self.is_cut(packet);
+        self.remember(packet);
+        if begins(packet) || is_cut {
+            self.begin_part(is_break, begins(packet), payload_of(packet));
+        } else {
+            self.go_on(payload_of(packet));
+        }
+    }
+
+    // The payload of the last good packet.
+    fn last_payload(&self) -> &[u8]
+        ensures { result.now ≡ self.now.last }
+    {
+        let bytes = self.bytes.as_slice();
+        let (_, last) = bytes.split_at(bytes.len() - self.payload_size);
+        last
+    }
+
+    // Whether a packet repeats the last good one.
+    fn is_repeat(&self, packet: &[u8; PACKET]) -> bool
+        requires payload { has_payload packet.now ≡ true }
+        requires valid { is_wrong packet.now ≡ false }
+        ensures { result ≡ repeats self.now packet.now }
+    {
+        let (header, _) = packet.split_at(4);
+        !self.has_repeat
+            && !self.has_jump
+            && (!announces_jump(packet) || self.announced)
+            && header == self.header.as_slice()
+            && self.last_payload() == payload_of(packet)
+    }
+
+    // Whether something is lost between the last good packet and this one.
+    fn is_break(&self, packet: &[u8; PACKET]) -> bool
+        ensures { result ≡ is_break (link_after self.now self.now.last packet.now) }
+    {
+        if self.last_payload().is_empty() {
+            return false;
+        }
+        if self.has_break {
+            return true;
+        }
+        if self.has_jump || announces_jump(packet) {
+            return false;
+        }
+        counter_of(packet) != (self.header[3] % 0x10 + 1) % 0x10
+    }
+
+    // Whether this packet does not follow the last good one.
+    fn is_cut(&self, packet: &[u8; PACKET]) -> bool
+        ensures { result ≡ is_cut (link_after self.now self.now.last packet.now) }
+    {
+        if self.last_payload().is_empty() {
+            return true;
+        }
+        if self.has_break || self.has_jump || announces_jump(packet) {
+            return true;
+        }
+        counter_of(packet) != (self.header[3] % 0x10 + 1) % 0x10
+    }
+
+    // Makes the packet the last good one, but for its payload.
+    fn remember(&mut self, packet: &[u8; PACKET])
+        ensures { self.new ≡ remembering self.old packet.now }
+    {
+        self.header = [packet[0], packet[1], packet[2], packet[3]];
+        self.announced = announces_jump(packet);
+        self.has_repeat = false;
+        self.has_jump = false;
+        self.has_break = false;
+    }
+
+    // Whether the PES packet of the part was given.
+    fn is_complete(&self) -> bool
+        ensures { result ≡ is_complete self.now.part }
+    {
+        match &self.part {
+            PartState::Complete => true,
+            _ => false,
+        }
+    }
+
+    // Begins a part with that payload.
+    fn begin_part(&mut self, is_break: bool, begins: bool, payload: &[u8])
+        requires idle { self.old.pending ≡ [] }
+        requires some { 1 ≤ length payload.now }
+        requires most { length payload.now ≤ 184 }
+        ensures { self.new ≡ begun is_break begins self.old payload.now }
+    {
+        let gap = is_break || !self.is_complete();
+        if begins {
+            self.clear();
+            self.grow(gap, payload);
+        } else {
+            self.part = PartState::Headless;
+            self.hold(gap, payload);
+        }
+    }
+
+    // Goes on with the part.
+    fn go_on(&mut self, payload: &[u8])
+        requires idle { self.old.pending ≡ [] }
+        requires some { 1 ≤ length payload.now }
+        requires most { length payload.now ≤ 184 }
+        ensures { self.new ≡ gone_on self.old.part self.old payload.now }
+    {
+        match &self.part {
+            PartState::Open => self.grow(false, payload),
+            PartState::Complete => self.hold(true, payload),
+            _ => self.hold(false, payload),
+        }
+    }
+
+    // Forgets the bytes of the part, and the last payload.
+    #[tactic(auto, using(crate::proofs::ReadyLemmas::idling))]
+    fn clear(&mut self)
+        requires { self.old.pending ≡ [] }
+        ensures { self.new ≡ record self.old { bytes = []; last = [] } }
+    {
+        self.bytes.clear();
+        self.payload_size = 0;
+        self.start = 0;
+        self.end = 0;
+    }
+
+    // Keeps that payload alone.
+    #[tactic(auto, using(crate::proofs::ReadyLemmas::growing))]
+    fn hold(&mut self, gap: bool, payload: &[u8])
+        requires idle { self.old.pending ≡ [] }
+        requires most { length payload.now ≤ 184 }
+        ensures { self.new ≡ holding gap self.old payload.now }
+    {
+        self.clear();
+        self.bytes.try_extend_from_slice(payload).unwrap();
+        self.payload_size = payload.len();
+        mark_gap(gap, &mut self.given, &mut self.mark_left);
+    }
+
+    // Adds that payload to an open part, and makes its PES packet ready if it is there whole.
+    #[tactic(auto, using(crate::proofs::ReadyLemmas::growing))]
+    fn grow(&mut self, gap: bool, payload: &[u8])
+        requires idle { self.old.pending ≡ [] }
+        requires room { length self.old.bytes ≤ 1655 }
+        requires most { length payload.now ≤ 184 }
+        ensures { self.new ≡ grown gap self.old payload.now }
+    {
+        mark_gap(gap, &mut self.given, &mut self.mark_left);
+        self.bytes.try_extend_from_slice(payload).unwrap();
+        self.payload_size = payload.len();
+        self.start = 0;
+        self.end = 0;
+        match find_packet(self.bytes.as_slice()) {
+            Found::Unfinished => {
+                self.part = PartState::Open;
+            }
+            Found::Other => {
+                self.part = PartState::Ended;
+                self.end = self.bytes.len();
+            }
+            Found::Whole(size) => {
+                self.part = PartState::Complete;
+                self.end = size;
+                self.mark_behind = size < self.bytes.len();
+                self.given = if self.mark_behind {
+                    Given::Mark
+                } else {
+                    Given::Packet
+                };
+            }
+        }
+    }
+
+    // The bytes that are given next, as far as they stand together.
+    #[inline(always)]
+    pub(crate) fn lent(&self) -> &[u8]
+        ensures next { take (length result.now) self.now.pending ≡ result.now }
+        ensures within { length result.now ≤ length self.now.pending }
+        ensures none { result.now ≡ [] → self.now.pending ≡ [] }
+    {
+        if self.mark_left > 0 {
+            let (_, left) = mark_bytes().split_at(MARK_SIZE - self.mark_left);
+            return left;
+        }
+        &self.bytes.as_slice()[self.start..self.end]
+    }
+
+    // Passes over so many of the bytes that are ready.
+    #[tactic(auto, using(crate::proofs::ReadyLemmas::passing))]
+    #[inline(always)]
+    pub(crate) fn pass(&mut self, count: usize)
+        requires { count ≤ length self.old.pending }
+        ensures { self.new ≡ record self.old { pending = drop count self.old.pending } }
+    {
+        if count <= self.mark_left {
+            self.mark_left -= count;
+            return;
+        }
+        let more = count - self.mark_left;
+        if more < self.end - self.start || !self.mark_behind {
+            self.mark_left = 0;
+            self.start += more;
+            return;
+        }
+        self.mark_left = MARK_SIZE - (more - (self.end - self.start));
+        self.start = self.end;
+        self.mark_behind = false;
+    }
+
+    // Gives bytes that are ready, as many as there is room for, and answers how many.
+    #[inline(always)]
+    pub(crate) fn give(&mut self, to: &mut [u8]) -> usize
+        ensures bound { result ≤ length to.new }
+        ensures bytes { self.old.pending ≡ take result to.new ++ self.new.pending }
+        ensures rest { self.new ≡ record self.old { pending = self.new.pending } }
+        ensures none { result ≡ 0 → 0 < length to.new → self.old.pending ≡ [] }
+    {
+        let lent = self.lent();
+        let count = lent.len().min(to.len());
+        let (given, _) = lent.split_at(count);
+        to[..count].copy_from_slice(given);
+        self.pass(count);
+        count
+    }
+}

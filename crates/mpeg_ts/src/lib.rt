@@ -1,0 +1,29 @@
+//! Transport streams (ISO/IEC 13818-1), as far as the PES packets of one PID go.
+//!
+//! A source over any source of a transport stream: it gives the PES packets with Teletext that the
+//! packets of the PID carry, one after another, as if they stood in a file, and a mark where
+//! something is missing between two of them. So whatever reads PES packets reads them in a
+//! recording too. Stands on `sub_io` for the devices and on `ttx_pes` for the start and the length
+//! of a PES packet.
+//!
+//! ```text
+//! let pid = Pid::new(0x101).ok_or(..)?;
+//! let mut source = PesSource::new(recording, pid, PacketSize::Plain);
+//! while reader.next_into(&mut source, &mut frame)? {
+//!     ..
+//! }
+//! ```
+#![tactic(auto)]
+
+mod joining;
+mod mark;
+mod packet_size;
+mod pes_source;
+mod pid;
+mod stream;
+mod transport_packet;
+mod window;
+
+pub use packet_size::PacketSize;
+pub use pes_source::PesSource;
+pub use pid::Pid;

@@ -1,0 +1,96 @@
+//! The PES packets that the packets of a PID carry, as a source.
+ghost use Rattle.std.specs.Prelude.{◌≡◌, option_map};
+ghost use Rattle.mpeg_ts.specs.Carried.{carried};
+ghost use Rattle.mpeg_ts.specs.PacketSize.{bytes_of};
+ghost use Rattle.mpeg_ts.specs.Stream.{start_of_stream, still_given};
+
+use crate::stream::Stream;
+use crate::{PacketSize, Pid};
+use std::marker::Model;
+use sub_io::{Failed, Source};
+
+/// Gives the PES packets that the packets of one PID of a transport stream carry (ISO/IEC 13818-1),
+/// one after another, as if they stood in a file. Where something is missing between two of them it
+/// gives a mark, 184 bytes that begin as a PES packet and are FF from byte 6 on (own).
+///
+/// It gives a PES packet before any byte behind its last packet is asked for, but the first byte
+/// of the next where that packet was found out of step; a mark as soon as it is known. A PES packet
+/// is lent whole. It takes no memory beside its own.
+///
+/// Contracts see it as the source inside, and what was read of it.
+#[derive(Drop)]
+pub struct PesSource<S> {
+    inner: S,
+    stream: Stream,
+}
+
+impl<S> Model for PesSource<S> {
+    ghost use Rattle.mpeg_ts.specs.Stream.{SourceValue};
+
+    ghost Value = { SourceValue S };
+
+    ghost view = { λ s. record { device = s.inner; stream = s.stream } };
+}
+
+impl<S: Source> PesSource<S> {
+    /// A source of the PES packets of that PID, at the start of a recording, of which as many as
+    /// 2^48 bytes are read.
+    #[tactic(auto, using(crate::proofs::CarriedLemmas::carried_told))]
+    pub fn new(source: S, pid: Pid, packet_size: PacketSize) -> Self
+        ensures start { result ≡ record {
+          device = source;
+          stream = start_of_stream pid (bytes_of packet_size);
+        } }
+        // What it gives is what the packets of the PID carry in the recording.
+        ensures carried { still_given result.stream (S.remaining result.device)
+            ≡ option_map (carried pid (bytes_of packet_size)) (S.remaining source) }
+    {
+        PesSource {
+            inner: source,
+            stream: Stream::new(pid, packet_size),
+        }
+    }
+}
+
+impl<S: Source> Source for PesSource<S> {
+    ghost remaining = { λ s. still_given s.stream (S.remaining s.device) };
+
+    ghost failure_count = { λ s. S.failure_count s.device };
+
+    ghost lent = { λ s. s.stream.joining.pending };
+
+    /// Gives bytes of a PES packet or of a mark. It reads on where none are ready.
+    ///
+    /// # Errors
+    ///
+    /// `Failed` where the source inside fails.
+    #[tactic(auto, using(crate::proofs::SourceLemmas::pulls))]
+    fn pull(&mut self, to: &mut [u8]) -> Result<usize, Failed> {
+        if !self.stream.is_idle() {
+            return Ok(self.stream.give(to));
+        }
+        self.stream.read_on(&mut self.inner)?;
+        Ok(self.stream.give(to))
+    }
+
+    /// The failures of the source inside.
+    fn failures(&self) -> u64 {
+        self.inner.failures()
+    }
+
+    /// The bytes that are ready, a PES packet or a mark.
+    #[tactic(auto, using(crate::proofs::SourceLemmas::lends))]
+    fn held(&self) -> &[u8] {
+        self.stream.lent()
+    }
+
+    /// Passes over bytes that are ready.
+    #[tactic(auto, using(crate::proofs::SourceLemmas::passes))]
+    fn pass(&mut self, count: usize) -> bool {
+        if self.stream.lent().len() < count {
+            return false;
+        }
+        self.stream.pass(count);
+        true
+    }
+}

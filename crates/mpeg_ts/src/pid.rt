@@ -1,0 +1,48 @@
+//! The PID of the packets that are read.
+ghost use Rattle.std.specs.Prelude.{◌≡◌, ◌≤◌, None, Some};
+
+use std::marker::Model;
+
+/// A PID whose packets may carry PES packets, 0 to 8190: 8191 is the PID of null packets (ISO/IEC
+/// 13818-1, PID).
+///
+/// Contracts see it as its number.
+#[derive(Clone, Copy, Debug, PartialEq, Eq)]
+pub struct Pid {
+    number: u16,
+}
+
+impl Model for Pid {
+    ghost use Rattle.std.specs.Prelude.{ℕ, ◌≤◌};
+    ghost use Rattle.mpeg_ts.specs.Pid.{greatest_pid};
+
+    ghost Value = { ℕ };
+
+    ghost view = { λ p. p.number };
+
+    ghost invariant = { λ p. p.number ≤ greatest_pid };
+
+    ghost inverse = { λ number. record { number = number } };
+}
+
+impl Pid {
+    ghost use Rattle.mpeg_ts.specs.Pid.{greatest_pid, pid_of};
+
+    /// The PID of that number. `None` where it is over 8190.
+    pub fn new(number: u16) -> Option<Pid>
+        ensures { result ≡ pid_of number }
+    {
+        if number > 8190 {
+            return None;
+        }
+        Some(Pid { number })
+    }
+
+    /// Its number, 0 to 8190.
+    pub fn number(self) -> u16
+        ensures number { result ≡ self }
+        ensures bound { result ≤ greatest_pid }
+    {
+        self.number
+    }
+}

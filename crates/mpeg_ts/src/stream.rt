@@ -1,0 +1,477 @@
+//! Reading a recording for one PID: its packets in step, and what they give.
+ghost use Rattle.std.specs.Prelude.{◌≡◌, ◌+◌, ◌-◌, ◌^◌, ◌<◌, ◌≤◌, ◌↔◌, List, ℕ, [], ◌++◌, drop};
+ghost use Rattle.std.specs.Prelude.{take, length};
+ghost use Rattle.std.specs.Prelude.{Ok, IfOk, IfSome, IsSome, false, slice_index, true};
+ghost use Rattle.std.specs.Io.KnownBytes.{IsAtEnd, Keeps};
+ghost use Rattle.sub_io.specs.Device.{CanFail, CountsFailure};
+ghost use Rattle.mpeg_ts.specs.Joining.{JoiningValue, has_ended};
+ghost use Rattle.mpeg_ts.specs.PacketSize.{bytes_of};
+ghost use Rattle.mpeg_ts.specs.PacketsInStep.{begins_packet, lead_size};
+ghost use Rattle.mpeg_ts.specs.Stream.{after_packet, after_skipped, bytes_ahead, bytes_at_most};
+ghost use Rattle.mpeg_ts.specs.Stream.{given_of, start_of_stream, still_given, stream_gives};
+ghost use Rattle.mpeg_ts.specs.TransportPacket.{pid, sync_byte};
+ghost use Rattle.mpeg_ts.specs.Window.{window_size};
+
+use crate::joining::Joining;
+use crate::transport_packet::{PACKET, SYNC_BYTE, is_wrong, pid_of};
+use crate::window::Window;
+use crate::{PacketSize, Pid};
+use std::marker::Model;
+use sub_io::{Failed, Source};
+
+// So many bytes of a recording are read at most.
+const MOST_BYTES: u64 = 1 << 48;
+
+/// How far a recording was read for one PID.
+#[derive(Drop)]
+pub(crate) struct Stream {
+    number: u16,
+    distance: usize,
+    window: Window,
+    // So many bytes are passed over before the next item.
+    lead: usize,
+    in_step: bool,
+    // So many bytes were skipped in a row.
+    run: u64,
+    joining: Joining,
+}
+
+impl Model for Stream {
+    ghost use Rattle.std.specs.Prelude.{◌+◌, length};
+    ghost use Rattle.mpeg_ts.specs.Stream.{IsStream, StreamValue};
+
+    ghost Value = { StreamValue };
+
+    ghost view = { λ s. record {
+      number = s.number;
+      distance = s.distance;
+      window = s.window;
+      lead = s.lead;
+      in_step = s.in_step;
+      run = s.run;
+      joining = s.joining;
+    } };
+
+    ghost invariant = { λ s. IsStream
+        s.distance s.lead s.run (length s.window.held + s.window.left) s.in_step };
+}
+
+// What stands before the first packet.
+fn lead_of(packet_size: PacketSize) -> usize
+    ensures { result ≡ lead_size (bytes_of packet_size) }
+{
+    match packet_size {
+        PacketSize::TimeStamped => 4,
+        _ => 0,
+    }
+}
+
+// The packet at that place of the bytes that were taken.
+fn packet_at(window: &Window, place: usize) -> &[u8; PACKET]
+    requires { place + 188 ≤ length window.now.held }
+    ensures { result.now ≡ take 188 (drop place window.now.held) }
+{
+    let (_, ahead) = window.held().split_at(place);
+    ahead.first_chunk().unwrap()
+}
+
+// The place behind the packets of other PIDs that stand in the bytes from a place on: that of a
+// packet of the PID, of a byte that is no sync byte, or of fewer bytes than the distance.
+#[tactic(auto, using(crate::proofs::StreamLemmas::others))]
+fn place_behind_others(bytes: &[u8], from: usize, distance: usize, number: u16) -> usize
+    requires from { from ≤ length bytes.now }
+    requires near { 188 ≤ distance }
+    ensures from { from ≤ result }
+    ensures within { result ≤ length bytes.now }
+    ensures gives { (rest : List ℕ) (joining : JoiningValue)
+        → has_ended joining.part ≡ false
+        → joining.pending ≡ []
+        → stream_gives distance number 0 true joining (drop result (bytes.now ++ rest))
+        ≡ stream_gives distance number 0 true joining (drop from (bytes.now ++ rest)) }
+{
+    let mut at = from;
+    while bytes.len() - at >= distance {
+        let (_, unit) = bytes.split_at(at);
+        if unit[0] != SYNC_BYTE || unit_pid(unit) == number {
+            return at;
+        }
+        at += distance;
+    }
+    at
+}
+
+// Whether bytes hold so many, and at that place begin a packet with a sync byte.
+#[inline(always)]
+fn lends_packet(bytes: &[u8], place: usize, count: usize) -> bool
+    requires { place + 188 ≤ count }
+    ensures within { result ≡ true → count ≤ length bytes.now }
+    ensures sync { result ≡ true → slice_index bytes.now place ≡ sync_byte }
+{
+    bytes.len() >= count && bytes[place] == SYNC_BYTE
+}
+
+// The packet at that place of the bytes, which are a source's: a copy, since they are passed over
+// before it is looked at.
+#[inline(always)]
+fn copy_packet(bytes: &[u8], place: usize) -> [u8; PACKET]
+    requires { place + 188 ≤ length bytes.now }
+    ensures packet { result ≡ take 188 (drop place bytes.now) }
+    ensures sync { slice_index bytes.now place ≡ sync_byte → slice_index result 0 ≡ sync_byte }
+{
+    let (_, ahead) = bytes.split_at(place);
+    *ahead.first_chunk().unwrap()
+}
+
+// The PID of the packet that begins the bytes.
+#[inline(always)]
+fn unit_pid(unit: &[u8]) -> u16
+    requires { 188 ≤ length unit.now }
+    ensures { result ≡ pid unit.now }
+{
+    (unit[1] % 0x20) as u16 * 0x100 + unit[2] as u16
+}
+
+impl Stream {
+    // At the start of a recording.
+    #[tactic(auto, unfolding(crate::specs::PacketsInStep::most_bytes))]
+    pub(crate) fn new(pid: Pid, packet_size: PacketSize) -> Self
+        ensures { result ≡ start_of_stream pid (bytes_of packet_size) }
+    {
+        Stream {
+            number: pid.number(),
+            distance: packet_size.bytes(),
+            window: Window::new(MOST_BYTES),
+            lead: lead_of(packet_size),
+            in_step: true,
+            run: 0,
+            joining: Joining::new(),
+        }
+    }
+
+    // Takes bytes until they are so many, and answers whether they are: fewer only at the end.
+    #[tactic(auto, using(crate::proofs::StreamLemmas::needing))]
+    fn need<S: Source>(&mut self, source: &mut S, count: usize) -> Result<bool, Failed>
+        requires count { CanFail (S.failure_count source.old) }
+        requires some { self.old.lead < count }
+        requires room { count ≤ window_size }
+        ensures keeps { Keeps (still_given self.old (S.remaining source.old))
+            (still_given self.new (S.remaining source.new)) }
+        ensures there { result ≡ Ok true → count ≤ length self.new.window.held }
+        ensures end { result ≡ Ok false → IfSome (S.remaining source.new)
+            (λ bytes. length (bytes_ahead self.new bytes) < count - self.new.lead) }
+        ensures same { self.new ≡ record self.old { window = self.new.window } }
+        ensures sum { length self.new.window.held + self.new.window.left
+            ≡ length self.old.window.held + self.old.window.left }
+        ensures grows { length self.old.window.held ≤ length self.new.window.held }
+        ensures count { CountsFailure
+            (S.failure_count source.old) result (S.failure_count source.new) }
+    {
+        self.window.fill_to(source, count)
+    }
+
+    // The bytes that were taken from the next item on.
+    fn ahead(&self) -> &[u8]
+        requires { self.now.lead ≤ length self.now.window.held }
+        ensures { result.now ≡ drop self.now.lead self.now.window.held }
+    {
+        let (_, ahead) = self.window.held().split_at(self.lead);
+        ahead
+    }
+
+    // Whether a packet stands next.
+    #[tactic(auto, using(crate::proofs::StreamLemmas::beginning))]
+    fn begins_packet<S: Source>(&mut self, source: &mut S) -> Result<bool, Failed>
+        requires count { CanFail (S.failure_count source.old) }
+        requires there { self.old.lead + 188 ≤ length self.old.window.held }
+        ensures keeps { Keeps (still_given self.old (S.remaining source.old))
+            (still_given self.new (S.remaining source.new)) }
+        ensures begins { IfOk result (λ begins. IfSome (S.remaining source.new)
+            (λ bytes. begins_packet self.new.distance self.new.in_step
+            (bytes_ahead self.new bytes) ≡ begins)) }
+        ensures there { IfOk result (λ _.
+            self.new.lead + 188 ≤ length self.new.window.held) }
+        ensures same { self.new ≡ record self.old { window = self.new.window } }
+        ensures sum { length self.new.window.held + self.new.window.left
+            ≡ length self.old.window.held + self.old.window.left }
+        ensures count { CountsFailure
+            (S.failure_count source.old) result (S.failure_count source.new) }
+    {
+        if self.in_step {
+            return Ok(self.ahead()[0] == SYNC_BYTE);
+        }
+        let distance = self.distance;
+        let count = self.lead + distance + 1;
+        if !self.need(source, count)? {
+            return Ok(false);
+        }
+        let ahead = self.ahead();
+        Ok(ahead[0] == SYNC_BYTE && ahead[distance] == SYNC_BYTE)
+    }
+
+    // Passes over so many bytes from the next item on.
+    #[tactic(auto, using(crate::proofs::StreamLemmas::advancing))]
+    fn advance(&mut self, count: usize)
+        requires there { self.old.lead + 188 ≤ length self.old.window.held }
+        requires some { 1 ≤ count }
+        requires most { count ≤ 204 }
+        requires few { self.old.in_step ≡ false → count ≤ 188 }
+        ensures ahead { (bytes : List ℕ) →
+            bytes_ahead self.new bytes ≡ drop count (bytes_ahead self.old bytes) }
+        ensures same { self.new
+            ≡ record self.old { window = self.new.window; lead = self.new.lead } }
+        ensures lead { self.new.lead
+            ≡ (self.old.lead + count) - length self.old.window.held }
+        ensures fewer { bytes_at_most self.new < bytes_at_most self.old }
+        ensures counted { self.new.run
+            + (length self.new.window.held + self.new.window.left) + 1 ≤ 2 ^ 48 }
+    {
+        let count = self.lead + count;
+        self.lead = self.window.advance(count);
+    }
+
+    // Takes the packet that stands next.
+    #[tactic(auto, using(crate::proofs::StreamLemmas::packets))]
+    fn take_packet(&mut self)
+        requires there { self.old.lead + 188 ≤ length self.old.window.held }
+        requires idle { self.old.joining.pending ≡ [] }
+        requires going { has_ended self.old.joining.part ≡ false }
+        ensures gives { (bytes : List ℕ)
+            → begins_packet self.old.distance self.old.in_step (bytes_ahead self.old bytes) ≡ true
+            → given_of self.new bytes ≡ given_of self.old bytes }
+        ensures fewer { bytes_at_most self.new < bytes_at_most self.old }
+    {
+        self.in_step = true;
+        self.run = 0;
+        self.join_packet();
+        let distance = self.distance;
+        self.advance(distance);
+    }
+
+    // Joins the packet that stands next, if it is one of the PID.
+    fn join_packet(&mut self)
+        requires there { self.old.lead + 188 ≤ length self.old.window.held }
+        requires idle { self.old.joining.pending ≡ [] }
+        ensures { self.new ≡ record self.old {
+          joining = after_packet self.old.number
+              (take 188 (drop self.old.lead self.old.window.held)) self.old.joining;
+        } }
+    {
+        let packet = *packet_at(&self.window, self.lead);
+        self.join(&packet);
+    }
+
+    // Joins a packet, if it is one of the PID.
+    #[inline(always)]
+    fn join(&mut self, packet: &[u8; PACKET])
+        requires { self.old.joining.pending ≡ [] }
+        ensures { self.new ≡ record self.old {
+          joining = after_packet self.old.number packet.now self.old.joining;
+        } }
+    {
+        if pid_of(packet) != self.number {
+            return;
+        }
+        if is_wrong(packet) {
+            self.joining.note_wrong();
+        } else {
+            self.joining.take(packet);
+        }
+    }
+
+    // Skips a byte.
+    #[tactic(auto, using(crate::proofs::StreamLemmas::skips))]
+    fn skip(&mut self)
+        requires there { self.old.lead + 188 ≤ length self.old.window.held }
+        requires idle { self.old.joining.pending ≡ [] }
+        requires going { has_ended self.old.joining.part ≡ false }
+        ensures gives { (bytes : List ℕ)
+            → begins_packet self.old.distance self.old.in_step (bytes_ahead self.old bytes) ≡ false
+            → given_of self.new bytes ≡ given_of self.old bytes }
+        ensures fewer { bytes_at_most self.new < bytes_at_most self.old }
+    {
+        self.join_skipped();
+        self.advance(1);
+        self.in_step = false;
+        self.run += 1;
+    }
+
+    // Notes a hole where the byte that is skipped next is its last.
+    fn join_skipped(&mut self)
+        ensures { self.new ≡ record self.old {
+          joining = after_skipped self.old.distance self.old.run self.old.joining;
+        } }
+    {
+        if self.run + 1 == 15 * self.distance as u64 {
+            self.joining.note_hole();
+        }
+    }
+
+    // Takes the next item, `false` at the end.
+    #[tactic(auto, using(crate::proofs::StreamLemmas::steps))]
+    fn step<S: Source>(&mut self, source: &mut S) -> Result<bool, Failed>
+        requires count { CanFail (S.failure_count source.old) }
+        requires idle { self.old.joining.pending ≡ [] }
+        requires going { has_ended self.old.joining.part ≡ false }
+        ensures keeps { Keeps (still_given self.old (S.remaining source.old))
+            (still_given self.new (S.remaining source.new)) }
+        ensures end { result ≡ Ok false
+            → IsAtEnd (still_given self.new (S.remaining source.new)) }
+        ensures fewer { result ≡ Ok true → bytes_at_most self.new < bytes_at_most self.old }
+        ensures count { CountsFailure
+            (S.failure_count source.old) result (S.failure_count source.new) }
+    {
+        let count = self.lead + PACKET;
+        if !self.need(source, count)? {
+            return Ok(false);
+        }
+        if self.begins_packet(source)? {
+            self.take_packet();
+        } else {
+            self.skip();
+        }
+        Ok(true)
+    }
+
+    // Passes over packets of other PIDs that the source lends.
+    #[inline(always)]
+    #[tactic(auto, using(crate::proofs::StreamLemmas::skims))]
+    fn pass_others<S: Source>(&mut self, source: &mut S)
+        requires count { CanFail (S.failure_count source.old) }
+        requires idle { self.old.joining.pending ≡ [] }
+        requires going { has_ended self.old.joining.part ≡ false }
+        ensures keeps { Keeps (still_given self.old (S.remaining source.old))
+            (still_given self.new (S.remaining source.new)) }
+        ensures same { self.new
+            ≡ record self.old { window = self.new.window; lead = self.new.lead } }
+        ensures fewer { bytes_at_most self.new ≤ bytes_at_most self.old }
+        ensures count { S.failure_count source.new ≡ S.failure_count source.old }
+    {
+        if !self.in_step || self.window.len() > 0 {
+            return;
+        }
+        let lent = source.held();
+        if lent.len() < self.lead || self.window.left() < lent.len() as u64 {
+            return;
+        }
+        let count = place_behind_others(lent, self.lead, self.distance, self.number);
+        if count == 0 || !source.pass(count) {
+            return;
+        }
+        self.window.pass(count as u64);
+        self.lead = 0;
+    }
+
+    // Takes the packet that stands next, if the source lends all bytes up to the one after it, and
+    // answers whether it did.
+    #[inline(always)]
+    fn take_lent<S: Source>(&mut self, source: &mut S) -> bool
+        requires count { CanFail (S.failure_count source.old) }
+        requires idle { self.old.joining.pending ≡ [] }
+        requires going { has_ended self.old.joining.part ≡ false }
+        ensures keeps { Keeps (still_given self.old (S.remaining source.old))
+            (still_given self.new (S.remaining source.new)) }
+        ensures fewer { result ≡ true → bytes_at_most self.new < bytes_at_most self.old }
+        ensures same { result ≡ false → self.new ≡ self.old }
+        ensures count { S.failure_count source.new ≡ S.failure_count source.old }
+    {
+        if !self.in_step || self.window.len() > 0 {
+            return false;
+        }
+        let count = self.lead + self.distance;
+        let lent = source.held();
+        if !lends_packet(lent, self.lead, count) {
+            return false;
+        }
+        if self.window.left() < count as u64 {
+            return false;
+        }
+        let packet = copy_packet(lent, self.lead);
+        if !source.pass(count) {
+            return false;
+        }
+        self.window.pass(count as u64);
+        self.lead = 0;
+        self.join(&packet);
+        true
+    }
+
+    // Whether nothing is ready, and more may come.
+    #[inline(always)]
+    fn wants_more(&self) -> bool
+        ensures wants { result ≡ true → (self.now.joining.pending ≡ [])
+            × (has_ended self.now.joining.part ≡ false) }
+        ensures not { result ≡ false → self.now.joining.pending ≡ []
+            → has_ended self.now.joining.part ≡ true }
+    {
+        self.joining.is_idle() && !self.joining.has_ended()
+    }
+
+    // Reads on until bytes are ready, or the end is reached.
+    #[inline(always)]
+    #[tactic(auto, using(crate::proofs::StreamLemmas::reads))]
+    pub(crate) fn read_on<S: Source>(&mut self, source: &mut S) -> Result<(), Failed>
+        requires { CanFail (S.failure_count source.old) }
+        ensures keeps { Keeps (still_given self.old (S.remaining source.old))
+            (still_given self.new (S.remaining source.new)) }
+        ensures end { result ≡ Ok tt → self.new.joining.pending ≡ []
+            → IsAtEnd (still_given self.new (S.remaining source.new)) }
+        ensures count { CountsFailure
+            (S.failure_count source.old) result (S.failure_count source.new) }
+    {
+        while self.wants_more() {
+            self.pass_others(source);
+            if !self.take_lent(source) {
+                if !self.step(source)? {
+                    return Ok(());
+                }
+            }
+        }
+        Ok(())
+    }
+
+    // Whether nothing is ready to be given.
+    #[inline(always)]
+    pub(crate) fn is_idle(&self) -> bool
+        ensures { (result ≡ true) ↔ (self.now.joining.pending ≡ []) }
+    {
+        self.joining.is_idle()
+    }
+
+    // The bytes that are given next, as far as they stand together.
+    #[inline(always)]
+    pub(crate) fn lent(&self) -> &[u8]
+        ensures next { take (length result.now) self.now.joining.pending ≡ result.now }
+        ensures within { length result.now ≤ length self.now.joining.pending }
+    {
+        self.joining.lent()
+    }
+
+    // Passes over so many of the bytes that are ready.
+    #[inline(always)]
+    pub(crate) fn pass(&mut self, count: usize)
+        requires { count ≤ length self.old.joining.pending }
+        ensures { self.new ≡ record self.old {
+          joining = record self.old.joining {
+            pending = drop count self.old.joining.pending;
+          };
+        } }
+    {
+        self.joining.pass(count);
+    }
+
+    // Gives bytes that are ready, as many as there is room for, and answers how many.
+    #[inline(always)]
+    pub(crate) fn give(&mut self, to: &mut [u8]) -> usize
+        ensures bound { result ≤ length to.new }
+        ensures bytes { self.old.joining.pending
+            ≡ take result to.new ++ self.new.joining.pending }
+        ensures rest { self.new ≡ record self.old {
+          joining = record self.old.joining {
+            pending = self.new.joining.pending;
+          };
+        } }
+        ensures none { result ≡ 0 → 0 < length to.new → self.old.joining.pending ≡ [] }
+    {
+        self.joining.give(to)
+    }
+}

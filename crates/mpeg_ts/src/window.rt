@@ -1,0 +1,169 @@
+//! The bytes of a recording that were taken and are to be looked at.
+ghost use Rattle.std.specs.Prelude.{◌≡◌, ◌+◌, ◌-◌, ◌<◌, ◌≤◌, [], drop, length, Ok, IfOk, IsErr};
+ghost use Rattle.std.specs.Prelude.{false, true};
+ghost use Rattle.std.specs.Io.KnownBytes.{IsAtEnd, Keeps};
+ghost use Rattle.sub_io.specs.Device.{CanFail, CountsFailure};
+ghost use Rattle.mpeg_ts.specs.Window.{left_to_take, to_come, window_size};
+
+use arrayvec::ArrayVec;
+use std::marker::Model;
+use sub_io::{Failed, Source};
+
+/// Room for what stands before a packet and the packet; or for one and the first byte behind it at
+/// the longest distance.
+pub(crate) const WINDOW: usize = 205;
+
+/// Bytes that were taken from a source, and how many more may be.
+#[derive(Drop)]
+pub(crate) struct Window {
+    bytes: ArrayVec<u8, WINDOW>,
+    left: u64,
+}
+
+impl Model for Window {
+    ghost use Rattle.mpeg_ts.specs.Window.{WindowValue};
+
+    ghost Value = { WindowValue };
+
+    ghost view = { λ w. record { held = w.bytes.items; left = w.left } };
+}
+
+impl Window {
+    // No byte was taken, and so many may be.
+    pub(crate) fn new(left: u64) -> Self
+        ensures { result ≡ record { held = []; left = left } }
+    {
+        Window {
+            bytes: ArrayVec::new(),
+            left,
+        }
+    }
+
+    // The bytes that were taken.
+    #[inline(always)]
+    pub(crate) fn held(&self) -> &[u8]
+        ensures held { result.now ≡ self.now.held }
+        ensures most { length result.now ≤ window_size }
+    {
+        self.bytes.as_slice()
+    }
+
+    // How many bytes were taken.
+    #[inline(always)]
+    pub(crate) fn len(&self) -> usize
+        ensures { result ≡ length self.now.held }
+    {
+        self.bytes.len()
+    }
+
+    // How many bytes may still be taken.
+    #[inline(always)]
+    pub(crate) fn left(&self) -> u64
+        ensures { result ≡ self.now.left }
+    {
+        self.left
+    }
+
+    // So many bytes were taken that are not looked at any more.
+    #[inline(always)]
+    pub(crate) fn pass(&mut self, count: u64)
+        requires { count ≤ self.old.left }
+        ensures { self.new ≡ record self.old { left = self.old.left - count } }
+    {
+        self.left -= count;
+    }
+
+    // How many bytes more are taken at most, where so many are wanted.
+    fn room_for(&self, count: usize) -> usize
+        requires few { length self.now.held < count }
+        requires room { count ≤ window_size }
+        ensures fits { length self.now.held + result ≤ count }
+        ensures left { result ≤ self.now.left }
+        ensures some { 0 < self.now.left → 0 < result }
+    {
+        let room = count - self.bytes.len();
+        if self.left < room as u64 {
+            self.left as usize
+        } else {
+            room
+        }
+    }
+
+    // Pulls once, for so many bytes.
+    #[tactic(auto, using(crate::proofs::WindowLemmas::pulling))]
+    fn pull<S: Source>(&mut self, source: &mut S, room: usize) -> Result<usize, Failed>
+        requires count { CanFail (S.failure_count source.old) }
+        requires room { length self.old.held + room ≤ window_size }
+        requires left { room ≤ self.old.left }
+        ensures keeps { Keeps (to_come self.old (S.remaining source.old))
+            (to_come self.new (S.remaining source.new)) }
+        ensures more { IfOk result (λ n. length self.new.held ≡ length self.old.held + n) }
+        ensures left { IfOk result (λ n. self.new.left + n ≡ self.old.left) }
+        ensures bound { IfOk result (λ n. n ≤ room) }
+        ensures end { result ≡ Ok 0 → 0 < room → IsAtEnd (S.remaining source.new) }
+        ensures err { IsErr result → self.new ≡ self.old }
+        ensures count { CountsFailure
+            (S.failure_count source.old) result (S.failure_count source.new) }
+    {
+        let mut bytes = [0; WINDOW];
+        let (front, _) = bytes.split_at_mut(room);
+        let n = source.pull(front)?;
+        let (given, _) = front.split_at(n);
+        self.bytes.try_extend_from_slice(given).unwrap();
+        self.left -= n as u64;
+        Ok(n)
+    }
+
+    // Takes bytes until they are so many, and answers whether they are: fewer only at the end.
+    #[tactic(auto, using(crate::proofs::WindowLemmas::filling))]
+    pub(crate) fn fill_to<S: Source>(
+        &mut self,
+        source: &mut S,
+        count: usize,
+    ) -> Result<bool, Failed>
+        requires count { CanFail (S.failure_count source.old) }
+        requires room { count ≤ window_size }
+        ensures keeps { Keeps (to_come self.old (S.remaining source.old))
+            (to_come self.new (S.remaining source.new)) }
+        ensures there { result ≡ Ok true → count ≤ length self.new.held }
+        ensures few { result ≡ Ok false → length self.new.held < count }
+        ensures end { result ≡ Ok false
+            → IsAtEnd (left_to_take self.new (S.remaining source.new)) }
+        ensures sum { length self.new.held + self.new.left
+            ≡ length self.old.held + self.old.left }
+        ensures grows { length self.old.held ≤ length self.new.held }
+        ensures count { CountsFailure
+            (S.failure_count source.old) result (S.failure_count source.new) }
+    {
+        let mut have = self.held().len();
+        while have < count {
+            let room = self.room_for(count);
+            let n = self.pull(source, room)?;
+            if n == 0 {
+                return Ok(false);
+            }
+            have += n;
+        }
+        Ok(true)
+    }
+
+    // Passes over so many bytes, and answers how many of them were not taken yet.
+    pub(crate) fn advance(&mut self, count: usize) -> usize
+        ensures held { self.new.held ≡ drop count self.old.held }
+        ensures left { self.new.left ≡ self.old.left }
+        ensures rest { result ≡ count - length self.old.held }
+    {
+        let have = self.bytes.len();
+        if have <= count {
+            self.bytes.clear();
+            return count - have;
+        }
+        let mut bytes = [0; WINDOW];
+        let (front, _) = bytes.split_at_mut(have - count);
+        let (_, behind) = self.bytes.as_slice().split_at(count);
+        front.copy_from_slice(behind);
+        self.bytes.clear();
+        self.bytes.try_extend_from_slice(front).unwrap();
+        0
+    }
+}

@@ -1,0 +1,12 @@
+pub mod CarrierLemmas
+pub mod LeadsLemmas
+pub mod LossGoodLemmas
+pub mod LossLaw
+pub mod LossLemmas
+pub mod LossNoteLemmas
+pub mod LossPartLemmas
+pub mod MultiplexLemmas
+pub mod NeighbourLemmas
+pub mod PartLemmas
+pub mod RecordingLemmas
+pub mod StartingLemmas

@@ -1,0 +1,363 @@
+-- The law of losses, from the bytes of a recording: `law_of_losses`.
+use Rattle.std.proofs.Common.{◌≡◌, ℕ, ◌+◌, ◌%◌, ◌≤◌, ◌⊎◌, inl, inr, Bool, true, false, ◌||◌, ◌==◌}
+use Rattle.std.proofs.Common.{List, [], ◌∷◌, ◌++◌, length, length-append, map, None, refl, ap, ◌∙◌}
+use Rattle.std.proofs.Common.{subst, arith, append_assoc, slice_index}
+use Rattle.std.specs.List.{AllByRecursion, concat, flat_map, list_any}
+use Rattle.std.specs.Option.{option_to_list}
+use Rattle.std.proofs.lemmas.Bool.Decides.{nat_tests}
+use Rattle.std.proofs.lemmas.Grind.{flat_map-append}
+use Rattle.std.proofs.lemmas.List.Folds.{concat-append}
+use Rattle.mpeg_ts.specs.Carried.{carried, with_marks}
+use Rattle.mpeg_ts.specs.GoodPackets.{GoodPackets, Note, good_after, nothing_since}
+use Rattle.mpeg_ts.specs.Parts.{outcomes, outcomes_of, parts}
+use Rattle.mpeg_ts.specs.TransportPacket.{counter}
+use Rattle.mpeg_ts_laws.specs.Laws.{LawOfLosses}
+use Rattle.mpeg_ts_laws.specs.Losses.{Fate, Fated, IsFate, IsSpoiled, Kept, LeftOut, MadeWrong}
+use Rattle.mpeg_ts_laws.specs.Losses.{any_wrong, left_of, sent_packet, units_left}
+use Rattle.mpeg_ts_laws.specs.Multiplex.{AreInSequence, AreNextCarriers, AreRecordedUnits, Carrier}
+use Rattle.mpeg_ts_laws.specs.Multiplex.{IsCarrier, IsNextCarrier, IsRecordedUnit, IsRecording}
+use Rattle.mpeg_ts_laws.specs.Multiplex.{IsSentPes, SentPes, announces, carriers_of}
+use Rattle.mpeg_ts_laws.specs.Multiplex.{items_of_carrier, items_of_multiplex, packet_in}
+use Rattle.mpeg_ts_laws.proofs.LossGoodLemmas.{AreRising, IsSomeLeft, carried-no_jump, good-left}
+use Rattle.mpeg_ts_laws.proofs.LossGoodLemmas.{left_goods, wrong_at_end}
+use Rattle.mpeg_ts_laws.proofs.LeadsLemmas.{Leads}
+use Rattle.mpeg_ts_laws.proofs.LossLemmas.{IsLeftPes}
+use Rattle.mpeg_ts_laws.proofs.StartingLemmas.{from_start}
+use Rattle.mpeg_ts_laws.proofs.LossNoteLemmas.{IsLeft, IsLeftCarrier, good-quiets-left, heard_left}
+use Rattle.mpeg_ts_laws.proofs.RecordingLemmas.{noted, notes-units}
+
+-- ---- the recording
+
+-- Where no unit was sent none is left.
+none-left : (fs : List Fated)
+    → map (λ (f : Fated). f.unit) fs ≡ []
+    → units_left fs ≡ []
+none-left [] none = refl
+none-left (f ∷ fs) none = absurd (cc)
+
+-- What is left of a unit is one.
+spoiled-unit : (distance number : ℕ) (unit other : List ℕ)
+    → IsRecordedUnit distance unit
+    → IsSpoiled distance number unit other
+    → IsRecordedUnit distance other
+spoiled-unit distance number unit other h spoiled = record {
+  long = rw (spoiled.size) h.long;
+  short = rw (spoiled.size) h.short;
+  sync = spoiled.sync;
+}
+
+-- Units in front of those that are left.
+left-unit : (distance number : ℕ) (unit : List ℕ) (fate : Fate) (sent left : List (List ℕ))
+    → IsFate distance number unit fate
+    → IsRecordedUnit distance unit
+    → (sent ≡ []) ⊎ (length unit ≡ distance)
+    → (sent ≡ [] → left ≡ [])
+    → AreRecordedUnits distance left
+    → AreRecordedUnits distance (left_of unit fate ++ left)
+left-unit distance number unit Kept sent left h is last none each =
+    (is, (elim last [ inl e ↦ inl (none e) | inr e ↦ inr e ]), each)
+left-unit distance number unit LeftOut sent left h is last none each = each
+left-unit distance number unit (MadeWrong other) sent left h is last none each = (
+  spoiled-unit distance number unit other is h,
+  (elim last [ inl e ↦ inl (none e) | inr e ↦ inr (h.size ∙ e) ]),
+  each,
+)
+
+-- The units that are left are those of a recording.
+left-units : (distance number : ℕ) (fs : List Fated)
+    → AreRecordedUnits distance (map (λ (f : Fated). f.unit) fs)
+    → AllByRecursion (λ (f : Fated). IsFate distance number f.unit f.fate) fs
+    → AreRecordedUnits distance (units_left fs)
+left-units distance number [] each fates = tt
+left-units distance number (f ∷ fs) each fates =
+    left-unit distance number f.unit f.fate (map (λ (f : Fated). f.unit) fs) (units_left fs) fates.0
+    each.0 each.1 (none-left fs) (left-units distance number fs each.2 fates.1)
+
+-- What is left of a unit is not longer.
+length-left_of : (distance number : ℕ) (unit : List ℕ) (fate : Fate)
+    → IsFate distance number unit fate
+    → length (concat (left_of unit fate)) ≤ length unit
+length-left_of distance number unit Kept h = omega (arith, length-append unit [])
+length-left_of distance number unit LeftOut h = omega arith
+length-left_of distance number unit (MadeWrong other) h =
+    let size = h.size in
+    omega (arith, length-append other [])
+
+-- Nor are all.
+length-left : (distance number : ℕ) (fs : List Fated)
+    → AllByRecursion (λ (f : Fated). IsFate distance number f.unit f.fate) fs
+    → length (concat (units_left fs)) ≤ length (concat (map (λ (f : Fated). f.unit) fs))
+length-left distance number [] fates = omega arith
+length-left distance number (f ∷ fs) fates =
+    let one = length-left_of distance number f.unit f.fate fates.0 in
+    let rest = length-left distance number fs fates.1 in
+    omega (
+      arith,
+      length-append f.unit (concat (map (λ (f : Fated). f.unit) fs)),
+      ap length (concat-append (left_of f.unit f.fate) (units_left fs)),
+      length-append (concat (left_of f.unit f.fate)) (concat (units_left fs)),
+    )
+
+-- What is noted of the units that are left.
+notes-left : (distance number : ℕ) (fs : List Fated)
+    → flat_map (λ u. noted number (packet_in distance u)) (units_left fs)
+    ≡ flat_map (heard_left distance number) fs
+notes-left distance number [] = refl
+notes-left distance number (f ∷ fs) =
+    flat_map-append (λ u. noted number (packet_in distance u)) (left_of f.unit f.fate)
+    (units_left fs)
+    ∙ ap (λ (ns : List Note). heard_left distance number f ++ ns) (notes-left distance number fs)
+
+-- ---- what is known of each unit
+
+module _ (distance number : ℕ) where
+  -- What became of each.
+  all-left : (fs : List Fated)
+      → AreRecordedUnits distance (map (λ (f : Fated). f.unit) fs)
+      → AllByRecursion (λ (f : Fated). IsFate distance number f.unit f.fate) fs
+      → AllByRecursion (λ f. announces number (sent_packet distance f) ≡ false) fs
+      → AllByRecursion (IsLeft distance number) fs
+  all-left [] each fates none = tt
+  all-left (f ∷ fs) each fates none = (
+    record { recorded = each.0; fate = fates.0; no_jump = none.0 },
+    all-left fs each.2 fates.1 none.1,
+  )
+
+  -- Of two lists, of the first,
+  all-first : (xs ys : List Fated)
+      → AllByRecursion (IsLeft distance number) (xs ++ ys)
+      → AllByRecursion (IsLeft distance number) xs
+  all-first [] ys each = tt
+  all-first (x ∷ xs) ys each = (each.0, all-first xs ys each.1)
+
+  -- and of the second.
+  all-second : (xs ys : List Fated)
+      → AllByRecursion (IsLeft distance number) (xs ++ ys)
+      → AllByRecursion (IsLeft distance number) ys
+  all-second [] ys each = each
+  all-second (x ∷ xs) ys each = all-second xs ys each.1
+
+  -- A carrier of which this is known.
+  left-carrier : (first : Bool) (c : Carrier Fated)
+      → IsCarrier (sent_packet distance) number first c
+      → AllByRecursion (IsLeft distance number) (items_of_carrier c)
+      → IsLeftCarrier distance number first c
+  left-carrier first c is each =
+      let again = option_to_list c.again in
+      let behind = all-second c.before (again ++ c.after) each.1 in
+      record {
+        is_carrier = is;
+        packet = each.0;
+        before = all-first c.before (again ++ c.after) each.1;
+        again = all-first again c.after behind;
+        after = all-second again c.after behind;
+      }
+
+  -- Carriers within a PES packet.
+  left-carriers : (cs : List (Carrier Fated)) (rest : List Fated)
+      → AllByRecursion (IsCarrier (sent_packet distance) number false) cs
+      → AllByRecursion (IsLeft distance number) (flat_map items_of_carrier cs ++ rest)
+      → AllByRecursion (IsLeftCarrier distance number false) cs
+      × AllByRecursion (IsLeft distance number) rest
+  left-carriers [] rest is each = (tt, each)
+  left-carriers (c ∷ cs) rest is each =
+      let all = subst (AllByRecursion (IsLeft distance number))
+      (append_assoc (items_of_carrier c) (flat_map items_of_carrier cs) rest) each in
+      let more = left-carriers cs rest is.1
+      (all-second (items_of_carrier c) (flat_map items_of_carrier cs ++ rest) all) in (
+        (
+          left-carrier false c is.0
+              (all-first (items_of_carrier c) (flat_map items_of_carrier cs ++ rest) all),
+          more.0,
+        ),
+        more.1,
+      )
+
+  -- PES packets.
+  left-pes : (sent : List (SentPes Fated))
+      → AllByRecursion (IsSentPes (sent_packet distance) number) sent
+      → AllByRecursion (IsLeft distance number) (flat_map items_of_carrier (carriers_of sent))
+      → AllByRecursion (IsLeftPes distance number) sent
+  left-pes [] is each = tt
+  left-pes (s ∷ more) is each =
+      let rest = flat_map items_of_carrier (carriers_of more) in
+      let behind = all-second (items_of_carrier s.first)
+      (flat_map items_of_carrier (s.others ++ carriers_of more)) each in
+      let others = left-carriers s.others rest is.0.others
+      (subst (AllByRecursion (IsLeft distance number))
+      (flat_map-append items_of_carrier s.others (carriers_of more)) behind) in (
+        record {
+          is_piece = is.0.is_piece;
+          first =
+              left-carrier true s.first is.0.first
+              (all-first (items_of_carrier s.first)
+              (flat_map items_of_carrier (s.others ++ carriers_of more)) each);
+          others = others.0;
+          joined = is.0.joined;
+        },
+        left-pes more is.1 others.1,
+      )
+
+  -- Some carriers and others.
+  some-left : (cs more : List (Carrier Fated))
+      → AllByRecursion (IsLeftCarrier distance number false) cs
+      → AllByRecursion (IsSomeLeft distance number) more
+      → AllByRecursion (IsSomeLeft distance number) (cs ++ more)
+  some-left [] more each rest = rest
+  some-left (c ∷ cs) more each rest = ((false, each.0), some-left cs more each.1 rest)
+
+  -- All carriers.
+  all-carriers-left : (sent : List (SentPes Fated))
+      → AllByRecursion (IsLeftPes distance number) sent
+      → AllByRecursion (IsSomeLeft distance number) (carriers_of sent)
+  all-carriers-left [] each = tt
+  all-carriers-left (s ∷ more) each = (
+    (true, each.0.first),
+    some-left s.others (carriers_of more) each.0.others (all-carriers-left more each.1),
+  )
+
+  -- ---- counters
+
+  -- No jump is announced in these.
+  none-announced : (fs : List Fated)
+      → AllByRecursion (IsLeft distance number) fs
+      → list_any (λ f. announces number (sent_packet distance f)) fs ≡ false
+  none-announced [] each = refl
+  none-announced (f ∷ fs) each =
+      ap (λ (b : Bool). b || list_any (λ f. announces number (sent_packet distance f)) fs)
+      each.0.no_jump
+      ∙ none-announced fs each.1
+
+  -- The number after next.
+  next-number : (a b j : ℕ) → a ≡ j % 16 → (b == (a + 1) % 16) ≡ true → b ≡ (j + 1) % 16
+  next-number a b j first on = grind (arith, nat_tests)
+
+  -- Where no jump is announced the counter is the next.
+  next-rises : (c d : Carrier Fated) (j : ℕ)
+      → IsSomeLeft distance number c
+      → IsSomeLeft distance number d
+      → IsNextCarrier (sent_packet distance) number c d
+      → counter (sent_packet distance c.packet) ≡ j % 16
+      → counter (sent_packet distance d.packet) ≡ (j + 1) % 16
+  next-rises c d j left_c left_d h first = elim h.counter [
+    | inl on ↦
+        next-number (counter (sent_packet distance c.packet))
+        (counter (sent_packet distance d.packet)) j first on
+    | inr jump ↦ elim jump [
+      | inl between ↦ absurd (cc (between, none-announced c.after left_c.1.after))
+      | inr here ↦
+          absurd
+          (cc (
+            here.0,
+            carried-no_jump number (sent_packet distance d.packet)
+                left_d.1.is_carrier.carries left_d.1.packet.no_jump,
+          ))
+    ]
+  ]
+
+  -- The counters rise behind a carrier.
+  next-rising : (c : Carrier Fated) (cs : List (Carrier Fated)) (j : ℕ)
+      → IsSomeLeft distance number c
+      → AllByRecursion (IsSomeLeft distance number) cs
+      → AreNextCarriers (sent_packet distance) number c cs
+      → counter (sent_packet distance c.packet) ≡ j % 16
+      → AreRising distance number (j + 1) cs
+  next-rising c [] j left_c each next first = tt
+  next-rising c (d ∷ cs) j left_c each next first =
+      let second = next-rises c d j left_c each.0 next.0 first in
+      (second, next-rising d cs (j + 1) each.0 each.1 next.1 second)
+
+  -- The number of the first carrier.
+  first_counter : List (Carrier Fated) → ℕ
+  first_counter [] = 0
+  first_counter (c ∷ cs) = counter (sent_packet distance c.packet)
+
+  -- A counter is less than 16.
+  counter-number : (a : ℕ) → a % 16 ≡ (15 + a % 16 + 1 + 0) % 16
+  counter-number a = omega arith
+
+  -- The counters of all rise from there on.
+  all-rising : (cs : List (Carrier Fated))
+      → AllByRecursion (IsSomeLeft distance number) cs
+      → AreInSequence (sent_packet distance) number cs
+      → AreRising distance number (15 + first_counter cs + 1 + 0) cs
+  unfolding first_counter
+  all-rising [] each linked = tt
+  all-rising (c ∷ cs) each linked =
+      let first = counter-number (slice_index (sent_packet distance c.packet) 3) in (
+        first,
+        next-rising c cs (15 + counter (sent_packet distance c.packet) + 1 + 0) each.0 each.1 linked
+            first,
+      )
+
+-- The law of losses.
+pub law_of_losses : LawOfLosses
+unfolding carried
+law_of_losses number distance m recording h = record {
+  is_marked = leads.is_marked;
+  after_one = leads.after_one;
+  bytes_are = all ∙ leads.bytes_are;
+}
+  where
+    fs : List Fated
+    fs = items_of_multiplex m
+
+    cs : List (Carrier Fated)
+    cs = carriers_of m.sent
+
+    left : AllByRecursion (IsLeft distance number) fs
+    left = all-left distance number fs h.is_recording.each h.fates h.no_jump
+
+    behind : List Fated
+    behind = flat_map items_of_carrier cs
+
+    pes : AllByRecursion (IsLeftPes distance number) m.sent
+    pes =
+        left-pes distance number m.sent h.is_multiplex.sent
+        (all-second distance number m.lead behind left)
+
+    some : AllByRecursion (IsSomeLeft distance number) cs
+    some = all-carriers-left distance number m.sent pes
+
+    wrong : Bool
+    wrong = any_wrong m.lead
+
+    j : ℕ
+    j = 15 + first_counter distance number cs
+
+    rising : AreRising distance number (j + 1 + 0) cs
+    rising = all-rising distance number cs some h.is_multiplex.linked
+
+    end : Bool
+    end = wrong_at_end distance number wrong cs
+
+    leads : Leads [] false false m.sent
+        (with_marks false false
+        (outcomes end (parts (left_goods distance number None wrong cs))))
+    leads = from_start distance number end m.sent wrong (j + 1 + 0) pes rising h.few
+
+    is_recording : IsRecording distance (units_left fs) recording
+    is_recording = record {
+      each = left-units distance number fs h.is_recording.each h.fates;
+      joined = h.left;
+      few =
+          let size = ap length h.left in
+          let sent = ap length h.is_recording.joined in
+          let few = h.is_recording.few in
+          let less = length-left distance number fs h.fates in
+          omega arith;
+    }
+
+    all : carried number distance recording
+        ≡ with_marks false false (outcomes end (parts (left_goods distance number None wrong cs)))
+    all =
+        ap (λ (ns : List Note).
+        with_marks false false (outcomes_of (good_after (nothing_since None) ns)))
+        (notes-units distance number (units_left fs) recording is_recording
+        ∙ notes-left distance number fs
+        ∙ flat_map-append (heard_left distance number) m.lead behind)
+        ∙ ap (λ (good : GoodPackets). with_marks false false (outcomes_of good))
+        (good-quiets-left distance number None false false m.lead
+        (flat_map (heard_left distance number) behind)
+        (all-first distance number m.lead behind left) h.is_multiplex.lead
+        ∙ good-left distance number None false wrong j 0 cs tt (omega arith) some rising h.few)

@@ -1,0 +1,374 @@
+-- What is noted of what is left of a carrier, and the good packet that it is, if it is there. Main
+-- lemma: good-left.
+use Rattle.std.proofs.Common.{◌≡◌, ℕ, inl, inr, Bool, true, false, ◌&&◌, ◌||◌, List, [], ◌∷◌, ◌++◌}
+use Rattle.std.proofs.Common.{Option, Some, None, refl, sym, ap, ap₂, ◌∙◌, arith, append_assoc}
+use Rattle.std.proofs.Common.{if◌then◌else◌}
+use Rattle.std.specs.List.{AllByRecursion, flat_map}
+use Rattle.std.specs.Option.{option_to_list}
+use Rattle.std.proofs.lemmas.Bool.{cases_Bool}
+use Rattle.std.proofs.lemmas.Bool.Decides.{nat_tests}
+use Rattle.std.proofs.lemmas.Grind.{flat_map-append}
+use Rattle.std.proofs.lemmas.List.{append-nil}
+use Rattle.std.proofs.lemmas.List.Folds.{list_any-append}
+use Rattle.mpeg_ts.specs.GoodPackets.{Note, Since, good_after, is_repeat, linked, with_good}
+use Rattle.mpeg_ts_laws.specs.Losses.{Fate, Fated, IsFate, Kept, LeftOut, MadeWrong, any_kept}
+use Rattle.mpeg_ts_laws.specs.Losses.{any_wrong, is_kept, is_made_wrong, is_there, left_of}
+use Rattle.mpeg_ts_laws.specs.Losses.{sent_packet, units_before, units_behind}
+use Rattle.mpeg_ts_laws.specs.Multiplex.{Carrier, IsCarrier, IsRepetition, announces, is_quiet}
+use Rattle.mpeg_ts_laws.specs.Multiplex.{IsRecordedUnit, items_of_carrier, packet_in}
+use Rattle.mpeg_ts_laws.proofs.CarrierLemmas.{good-packet, good-quiet, good-repeat, is_repeat-again}
+use Rattle.mpeg_ts_laws.proofs.CarrierLemmas.{since_quiet}
+use Rattle.mpeg_ts_laws.proofs.RecordingLemmas.{noted}
+
+-- What came since a good packet, where no jump is announced and nothing skipped.
+abbrev pub since_loss : Option (List ℕ) → Bool → Bool → Since
+since_loss good again wrong = record {
+  good = good;
+  has_repeat = again;
+  has_jump = false;
+  has_wrong = wrong;
+  has_hole = false;
+}
+
+-- Two tests in one.
+pub or-assoc : (a b c : Bool) → ((a || b) || c) ≡ (a || (b || c))
+or-assoc true b c = refl
+or-assoc false b c = refl
+
+-- No test more.
+pub or-false : (a : Bool) → (a || false) ≡ a
+or-false true = refl
+or-false false = refl
+
+-- A test that is passed.
+pub or-true : (a : Bool) → (a || true) ≡ true
+or-true true = refl
+or-true false = refl
+
+module _ (distance number : ℕ) where
+  -- What is noted of what is left of a unit.
+  abbrev pub heard_left : Fated → List Note
+  heard_left f = flat_map (λ u. noted number (packet_in distance u)) (left_of f.unit f.fate)
+
+  -- What is known of a unit: what may have become of it, and that no jump is announced in it.
+  pub record IsLeft (f : Fated) : Type 0 where
+    pub recorded : IsRecordedUnit distance f.unit
+    pub fate : IsFate distance number f.unit f.fate
+    pub no_jump : announces number (sent_packet distance f) ≡ false
+
+  -- A unit that is not there as it was sent: nothing, or a wrong packet.
+  good-lost : (good : Option (List ℕ)) (again wrong : Bool) (unit : List ℕ) (fate : Fate)
+      (ns : List Note)
+      → IsFate distance number unit fate
+      → is_kept fate ≡ false
+      → good_after (since_loss good again wrong)
+      (flat_map (λ u. noted number (packet_in distance u)) (left_of unit fate) ++ ns)
+      ≡ good_after (since_loss good again (wrong || is_made_wrong fate)) ns
+  unfolding good_after
+  good-lost good again wrong unit Kept ns h lost = grind arith
+  good-lost good again wrong unit LeftOut ns h lost =
+      ap (λ (w : Bool). good_after (since_loss good again w) ns) (sym (or-false wrong))
+  good-lost good again wrong unit (MadeWrong other) ns h lost =
+      rw (or-true wrong) (grind (arith, nat_tests, h.pid_after, h.wrong))
+
+  -- A quiet unit.
+  good-quiet-left : (good : Option (List ℕ)) (again wrong : Bool) (unit : List ℕ) (fate : Fate)
+      (ns : List Note)
+      → IsFate distance number unit fate
+      → announces number (packet_in distance unit) ≡ false
+      → is_quiet number (packet_in distance unit) ≡ true
+      → good_after (since_loss good again wrong)
+      (flat_map (λ u. noted number (packet_in distance u)) (left_of unit fate) ++ ns)
+      ≡ good_after (since_loss good again (wrong || is_made_wrong fate)) ns
+  good-quiet-left good again wrong unit Kept ns h none quiet =
+      let since = since_loss good again wrong in
+      let p = packet_in distance unit in
+      ap (λ (l : List Note). good_after since (l ++ ns)) (append-nil (noted number p))
+      ∙ good-quiet number since p ns quiet
+      ∙ ap (λ (j : Bool). good_after (since_quiet since j) ns) none
+      ∙ ap (λ (w : Bool). good_after (since_loss good again w) ns) (sym (or-false wrong))
+  good-quiet-left good again wrong unit LeftOut ns h none quiet =
+      good-lost good again wrong unit LeftOut ns h refl
+  good-quiet-left good again wrong unit (MadeWrong other) ns h none quiet =
+      good-lost good again wrong unit (MadeWrong other) ns h refl
+
+  -- Quiet units.
+  pub good-quiets-left : (good : Option (List ℕ)) (again wrong : Bool) (fs : List Fated)
+      (ns : List Note)
+      → AllByRecursion IsLeft fs
+      → AllByRecursion (λ f. is_quiet number (sent_packet distance f) ≡ true) fs
+      → good_after (since_loss good again wrong) (flat_map heard_left fs ++ ns)
+      ≡ good_after (since_loss good again (wrong || any_wrong fs)) ns
+  good-quiets-left good again wrong [] ns left quiet =
+      ap (λ (w : Bool). good_after (since_loss good again w) ns) (sym (or-false wrong))
+  good-quiets-left good again wrong (f ∷ fs) ns left quiet =
+      ap (good_after (since_loss good again wrong))
+      (append_assoc (heard_left f) (flat_map heard_left fs) ns)
+      ∙ good-quiet-left good again wrong f.unit f.fate (flat_map heard_left fs ++ ns) left.0.fate
+      left.0.no_jump quiet.0
+      ∙ good-quiets-left good again (wrong || is_made_wrong f.fate) fs ns left.1 quiet.1
+      ∙ ap (λ (w : Bool). good_after (since_loss good again w) ns)
+      (or-assoc wrong (is_made_wrong f.fate) (any_wrong fs))
+
+  -- What is noted of a unit that is there as it was sent.
+  heard-kept : (unit : List ℕ) (fate : Fate)
+      → is_kept fate ≡ true
+      → flat_map (λ u. noted number (packet_in distance u)) (left_of unit fate)
+      ≡ noted number (packet_in distance unit)
+  heard-kept unit Kept kept = append-nil (noted number (packet_in distance unit))
+  heard-kept unit LeftOut kept = grind arith
+  heard-kept unit (MadeWrong other) kept = grind arith
+
+  -- It was not made wrong.
+  kept-not_wrong : (fate : Fate) → is_kept fate ≡ true → is_made_wrong fate ≡ false
+  kept-not_wrong Kept kept = refl
+  kept-not_wrong LeftOut kept = refl
+  kept-not_wrong (MadeWrong other) kept = grind arith
+
+  -- The repeat of a packet that is there, if it has one.
+  good-again-left : (p : List ℕ) (wrong : Bool) (again : Option Fated) (ns : List Note)
+      → AllByRecursion IsLeft (option_to_list again)
+      → AllByRecursion (λ f. IsRepetition number p (sent_packet distance f)) (option_to_list again)
+      → good_after (since_loss (Some p) false wrong)
+      (flat_map heard_left (option_to_list again) ++ ns)
+      ≡ good_after
+      (since_loss (Some p) (any_kept (option_to_list again))
+      (wrong || any_wrong (option_to_list again))) ns
+  good-again-left p wrong None ns left sent =
+      ap (λ (w : Bool). good_after (since_loss (Some p) false w) ns) (sym (or-false wrong))
+  good-again-left p wrong (Some f) ns left sent = elim (cases_Bool (is_kept f.fate)) [
+    | inl kept ↦
+        ap (λ (l : List Note). good_after (since_loss (Some p) false wrong) (l ++ ns))
+        (append-nil (heard_left f) ∙ heard-kept f.unit f.fate kept)
+        ∙ good-repeat number (since_loss (Some p) false wrong) (sent_packet distance f) ns
+        sent.0.carries (is_repeat-again number p (sent_packet distance f) sent.0)
+        ∙ ap₂ (λ (r w : Bool). good_after (since_loss (Some p) r w) ns)
+        (sym (ap (λ (r : Bool). r || false) kept))
+        (sym (ap (λ (w : Bool). wrong || (w || false)) (kept-not_wrong f.fate kept)
+        ∙ or-false wrong))
+    | inr lost ↦
+        ap (λ (l : List Note). good_after (since_loss (Some p) false wrong) (l ++ ns))
+        (append-nil (heard_left f))
+        ∙ good-lost (Some p) false wrong f.unit f.fate ns left.0.fate lost
+        ∙ ap₂ (λ (r w : Bool). good_after (since_loss (Some p) r w) ns)
+        (sym (ap (λ (r : Bool). r || false) lost))
+        (ap (λ (w : Bool). wrong || w) (sym (or-false (is_made_wrong f.fate))))
+  ]
+
+  -- ---- carriers
+
+  -- The copy of a carrier's packet that is heard, where one is there.
+  abbrev pub copy_of : Option Fated → List ℕ → List ℕ
+  copy_of None p = p
+  copy_of (Some f) p = sent_packet distance f
+
+  -- The first copy of it that is there.
+  abbrev pub heard_packet : Carrier Fated → List ℕ
+  heard_packet c =
+      if is_kept c.packet.fate then sent_packet distance c.packet
+      else copy_of c.again (sent_packet distance c.packet)
+
+  -- Its repeat came too.
+  abbrev pub heard_again : Carrier Fated → Bool
+  heard_again c = is_kept c.packet.fate && any_kept (option_to_list c.again)
+
+  -- A carrier, and what may have become of its units.
+  pub record IsLeftCarrier (first : Bool) (c : Carrier Fated) : Type 0 where
+    pub is_carrier : IsCarrier (sent_packet distance) number first c
+    pub packet : IsLeft c.packet
+    pub before : AllByRecursion IsLeft c.before
+    pub again : AllByRecursion IsLeft (option_to_list c.again)
+    pub after : AllByRecursion IsLeft c.after
+
+  -- What is noted of a carrier, part by part.
+  heard-carrier : (c : Carrier Fated) (ns : List Note)
+      → flat_map heard_left (items_of_carrier c) ++ ns
+      ≡ heard_left c.packet ++ (flat_map heard_left c.before
+      ++ (flat_map heard_left (option_to_list c.again) ++ (flat_map heard_left c.after ++ ns)))
+  heard-carrier c ns = simp (flat_map-append, append_assoc)
+
+  -- What was made wrong of three lists.
+  wrong-of_three : (a b c : List Fated)
+      → any_wrong (a ++ (b ++ c)) ≡ ((any_wrong a || any_wrong b) || any_wrong c)
+  wrong-of_three a b c =
+      list_any-append (λ (f : Fated). is_made_wrong f.fate) a (b ++ c)
+      ∙ ap (λ (w : Bool). any_wrong a || w)
+      (list_any-append (λ (f : Fated). is_made_wrong f.fate) b c)
+      ∙ sym (or-assoc (any_wrong a) (any_wrong b) (any_wrong c))
+
+  -- A carrier whose packet is there.
+  good-first : (good : Option (List ℕ)) (again wrong first : Bool) (c : Carrier Fated)
+      (ns : List Note)
+      → IsLeftCarrier first c
+      → is_kept c.packet.fate ≡ true
+      → is_repeat (since_loss good again wrong) (sent_packet distance c.packet) ≡ false
+      → good_after (since_loss good again wrong) (flat_map heard_left (items_of_carrier c) ++ ns)
+      ≡ with_good (linked (since_loss good again wrong) (sent_packet distance c.packet))
+      (good_after
+      (since_loss (Some (sent_packet distance c.packet)) (any_kept (option_to_list c.again))
+      (any_wrong (c.before ++ (option_to_list c.again ++ c.after)))) ns)
+  good-first good again wrong first c ns h kept fresh =
+      ap (good_after since)
+      (heard-carrier c ns
+      ∙ ap (λ (l : List Note). l ++ rest) (heard-kept c.packet.unit c.packet.fate kept))
+      ∙ good-packet number since p rest h.is_carrier.carries fresh
+      ∙ ap (with_good (linked since p)) (
+      good-quiets-left (Some p) false false c.before rest2 h.before h.is_carrier.before
+      ∙ good-again-left p (any_wrong c.before) c.again rest3 h.again h.is_carrier.again
+      ∙ good-quiets-left (Some p) (any_kept (option_to_list c.again))
+      (any_wrong c.before || any_wrong (option_to_list c.again)) c.after ns h.after
+      h.is_carrier.after
+      ∙ ap (λ (w : Bool).
+      good_after (since_loss (Some p) (any_kept (option_to_list c.again)) w) ns)
+      (sym (wrong-of_three c.before (option_to_list c.again) c.after))
+      )
+    where
+      since : Since
+      since = since_loss good again wrong
+
+      p : List ℕ
+      p = sent_packet distance c.packet
+
+      rest3 : List Note
+      rest3 = flat_map heard_left c.after ++ ns
+
+      rest2 : List Note
+      rest2 = flat_map heard_left (option_to_list c.again) ++ rest3
+
+      rest : List Note
+      rest = flat_map heard_left c.before ++ rest2
+
+  -- What is known of it where its packet is not there.
+  good-no_first : (good : Option (List ℕ)) (again wrong first : Bool) (c : Carrier Fated)
+      (ns : List Note)
+      → IsLeftCarrier first c
+      → is_kept c.packet.fate ≡ false
+      → good_after (since_loss good again wrong) (flat_map heard_left (items_of_carrier c) ++ ns)
+      ≡ good_after (since_loss good again (wrong || any_wrong (c.packet ∷ c.before)))
+      (flat_map heard_left (option_to_list c.again) ++ (flat_map heard_left c.after ++ ns))
+  good-no_first good again wrong first c ns h lost =
+      ap (good_after (since_loss good again wrong)) (heard-carrier c ns)
+      ∙ good-lost good again wrong c.packet.unit c.packet.fate
+      (flat_map heard_left c.before ++ rest)
+      h.packet.fate lost
+      ∙ good-quiets-left good again (wrong || is_made_wrong c.packet.fate) c.before rest h.before
+      h.is_carrier.before
+      ∙ ap (λ (w : Bool). good_after (since_loss good again w) rest)
+      (or-assoc wrong (is_made_wrong c.packet.fate) (any_wrong c.before))
+    where
+      rest : List Note
+      rest = flat_map heard_left (option_to_list c.again) ++ (flat_map heard_left c.after ++ ns)
+
+  -- A repeat whose packet is not there.
+  good-second : (good : Option (List ℕ)) (again wrong : Bool) (p : List ℕ) (o : Option Fated)
+      (after : List Fated) (ns : List Note)
+      → AllByRecursion (λ f. IsRepetition number p (sent_packet distance f)) (option_to_list o)
+      → AllByRecursion IsLeft after
+      → AllByRecursion (λ f. is_quiet number (sent_packet distance f) ≡ true) after
+      → any_kept (option_to_list o) ≡ true
+      → is_repeat (since_loss good again wrong) (copy_of o p) ≡ false
+      → good_after (since_loss good again wrong)
+      (flat_map heard_left (option_to_list o) ++ (flat_map heard_left after ++ ns))
+      ≡ with_good (linked (since_loss good again wrong) (copy_of o p))
+      (good_after (since_loss (Some (copy_of o p)) false (any_wrong after)) ns)
+  good-second good again wrong p None after ns sent left quiet kept fresh = grind arith
+  good-second good again wrong p (Some f) after ns sent left quiet kept fresh =
+      ap (λ (l : List Note). good_after since (l ++ rest))
+      (append-nil (heard_left f)
+      ∙ heard-kept f.unit f.fate (sym (or-false (is_kept f.fate)) ∙ kept))
+      ∙ good-packet number since (sent_packet distance f) rest sent.0.carries fresh
+      ∙ ap (with_good (linked since (sent_packet distance f)))
+      (good-quiets-left (Some (sent_packet distance f)) false false after ns left quiet)
+    where
+      since : Since
+      since = since_loss good again wrong
+
+      rest : List Note
+      rest = flat_map heard_left after ++ ns
+
+  -- No repeat is there.
+  good-no_second : (good : Option (List ℕ)) (again wrong : Bool) (o : Option Fated)
+      (after : List Fated) (ns : List Note)
+      → AllByRecursion IsLeft (option_to_list o)
+      → AllByRecursion IsLeft after
+      → AllByRecursion (λ f. is_quiet number (sent_packet distance f) ≡ true) after
+      → any_kept (option_to_list o) ≡ false
+      → good_after (since_loss good again wrong)
+      (flat_map heard_left (option_to_list o) ++ (flat_map heard_left after ++ ns))
+      ≡ good_after
+      (since_loss good again ((wrong || any_wrong (option_to_list o)) || any_wrong after)) ns
+  good-no_second good again wrong None after ns left other quiet lost =
+      good-quiets-left good again wrong after ns other quiet
+      ∙ ap (λ (w : Bool). good_after (since_loss good again (w || any_wrong after)) ns)
+      (sym (or-false wrong))
+  good-no_second good again wrong (Some f) after ns left other quiet lost =
+      ap (λ (l : List Note). good_after (since_loss good again wrong) (l ++ rest))
+      (append-nil (heard_left f))
+      ∙ good-lost good again wrong f.unit f.fate rest left.0.fate
+      (sym (or-false (is_kept f.fate)) ∙ lost)
+      ∙ good-quiets-left good again (wrong || is_made_wrong f.fate) after ns other quiet
+      ∙ ap (λ (w : Bool). good_after (since_loss good again ((wrong || w) || any_wrong after)) ns)
+      (sym (or-false (is_made_wrong f.fate)))
+    where
+      rest : List Note
+      rest = flat_map heard_left after ++ ns
+
+  -- A carrier that is there, whatever follows it.
+  pub good-there : (good : Option (List ℕ)) (again wrong first : Bool) (c : Carrier Fated)
+      (ns : List Note)
+      → IsLeftCarrier first c
+      → is_there c ≡ true
+      → ((w : Bool) → is_repeat (since_loss good again w) (heard_packet c) ≡ false)
+      → good_after (since_loss good again wrong) (flat_map heard_left (items_of_carrier c) ++ ns)
+      ≡ with_good
+      (linked (since_loss good again (wrong || any_wrong (units_before c))) (heard_packet c))
+      (good_after
+      (since_loss (Some (heard_packet c)) (heard_again c) (any_wrong (units_behind c))) ns)
+  good-there good again wrong first c ns h there fresh = elim (cases_Bool (is_kept c.packet.fate)) [
+    | inl kept ↦
+        rw (kept, or-false wrong)
+        (good-first good again wrong first c ns h kept (rw kept at (fresh wrong)))
+    | inr lost ↦
+        rw lost
+        (good-no_first good again wrong first c ns h lost
+        ∙ good-second good again (wrong || any_wrong (c.packet ∷ c.before))
+        (sent_packet distance c.packet) c.again c.after ns h.is_carrier.again h.after
+        h.is_carrier.after (rw lost at there)
+        (rw lost at (fresh (wrong || any_wrong (c.packet ∷ c.before)))))
+  ]
+
+  -- A carrier that is gone.
+  pub good-gone : (good : Option (List ℕ)) (again wrong first : Bool) (c : Carrier Fated)
+      (ns : List Note)
+      → IsLeftCarrier first c
+      → is_there c ≡ false
+      → good_after (since_loss good again wrong) (flat_map heard_left (items_of_carrier c) ++ ns)
+      ≡ good_after (since_loss good again (wrong || any_wrong (items_of_carrier c))) ns
+  good-gone good again wrong first c ns h gone =
+      good-no_first good again wrong first c ns h lost
+      ∙ good-no_second good again (wrong || any_wrong (c.packet ∷ c.before)) c.again c.after ns
+      h.again
+      h.after h.is_carrier.after none
+      ∙ ap (λ (w : Bool). good_after (since_loss good again w) ns) all
+    where
+      lost : is_kept c.packet.fate ≡ false
+      lost = grind (arith, nat_tests)
+
+      none : any_kept (option_to_list c.again) ≡ false
+      none = grind (arith, nat_tests)
+
+      all : (((wrong || any_wrong (c.packet ∷ c.before)) || any_wrong (option_to_list c.again))
+          || any_wrong c.after)
+          ≡ (wrong || any_wrong (items_of_carrier c))
+      all =
+          or-assoc (wrong || any_wrong (c.packet ∷ c.before)) (any_wrong (option_to_list c.again))
+          (any_wrong c.after)
+          ∙ or-assoc wrong (any_wrong (c.packet ∷ c.before))
+          (any_wrong (option_to_list c.again) || any_wrong c.after)
+          ∙ ap (λ (w : Bool). wrong || w)
+          (or-assoc (is_made_wrong c.packet.fate) (any_wrong c.before)
+          (any_wrong (option_to_list c.again) || any_wrong c.after)
+          ∙ ap (λ (w : Bool). is_made_wrong c.packet.fate || w)
+          (sym (or-assoc (any_wrong c.before) (any_wrong (option_to_list c.again))
+          (any_wrong c.after))
+          ∙ sym (wrong-of_three c.before (option_to_list c.again) c.after)))

@@ -1,0 +1,37 @@
+-- Laws of what is carried, over plain bytes.
+use Rattle.std.specs.Prelude.{◌≡◌, ℕ, List, ◌++◌}
+use Rattle.std.specs.List.{AllByRecursion, concat}
+use Rattle.ttx_pes.specs.Pieces.{IsPiece}
+use Rattle.mpeg_ts.specs.Carried.{carried, mark}
+use Rattle.mpeg_ts_laws.specs.Losses.{AreArriving, Fated, IsLossy}
+use Rattle.mpeg_ts_laws.specs.Multiplex.{IsMultiplexed, Multiplex, pes_packets}
+
+-- What a multiplexer sent in packets of a PID is what they carry.
+-- So nothing that is recorded whole is lost, or marked as if something were.
+abbrev pub LawOfMultiplex : Type 0
+LawOfMultiplex =
+    (number distance : ℕ) (packets : List (List ℕ)) (recording : List ℕ)
+    → IsMultiplexed number distance packets recording
+    → carried number distance recording ≡ concat packets
+
+-- Where units are missing or wrong, the PES packets that arrive are carried as they were sent, in
+-- their order, and no other; a mark stands where one is missing between two.
+-- So no loss makes a PES packet, and none between two goes unseen.
+abbrev pub LawOfLosses : Type 0
+LawOfLosses =
+    (number distance : ℕ) (m : Multiplex Fated) (recording : List ℕ)
+    → IsLossy number distance m recording
+    → AreArriving m.sent (carried number distance recording)
+
+-- PES packets of what is carried, between which no mark stands, were sent one after another: of
+-- those that a multiplexer sent between the first and the last of them none is missing.
+-- So where nothing is refused as lost, all is recorded.
+abbrev pub LawOfNeighbours : Type 0
+LawOfNeighbours =
+    (number distance : ℕ) (m : Multiplex Fated) (recording : List ℕ)
+    (before run behind : List (List ℕ))
+    → IsLossy number distance m recording
+    → AllByRecursion IsPiece (before ++ (run ++ behind))
+    → carried number distance recording ≡ concat (before ++ (run ++ behind))
+    → AllByRecursion (λ p. p ≡ mark → ⊥) run
+    → (earlier later : List (List ℕ)) × (pes_packets m ≡ earlier ++ (run ++ later))

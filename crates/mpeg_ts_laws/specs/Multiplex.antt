@@ -1,0 +1,170 @@
+-- What a multiplexer sends of a PID: PES packets one after another, each in the payloads of packets
+-- that follow one another (ISO/IEC 13818-1, payload_unit_start_indicator, continuity_counter,
+-- discontinuity_indicator).
+--
+-- The items of a multiplex are units of a recording, or units with what became of them; `packet_of`
+-- is the packet of an item. So one grammar serves what was sent, and what is left of it.
+use Rattle.std.specs.Prelude.{◌≡◌, ◌⊎◌, ℕ, ◌+◌, ◌≤◌, ◌==◌, ◌&&◌, ◌||◌, not, Bool, true, false, List}
+use Rattle.std.specs.Prelude.{[], ◌∷◌, ◌++◌, length, map, take, drop, slice_index, Option, ⊤}
+use Rattle.std.specs.List.{AllByRecursion, concat, flat_map, list_any}
+use Rattle.std.specs.Option.{option_to_list, is_some}
+use Rattle.ttx_pes.specs.Pieces.{IsPiece}
+use Rattle.mpeg_ts.specs.GoodPackets.{counts_on, is_same}
+use Rattle.mpeg_ts.specs.PacketsInStep.{lead_size, most_bytes}
+use Rattle.mpeg_ts.specs.TransportPacket.{packet_size, sync_byte, pid, begins, is_wrong}
+use Rattle.mpeg_ts.specs.TransportPacket.{has_payload, announces_jump, payload}
+
+-- ---- packets of a PID
+
+-- A packet of another PID, or one that is not wrong and has no payload.
+abbrev pub is_quiet : ℕ → List ℕ → Bool
+is_quiet number p = not (pid p == number) || (not (is_wrong p) && not (has_payload p))
+
+-- A packet of the PID that is not wrong and has a payload.
+abbrev pub carries : ℕ → List ℕ → Bool
+carries number p = (pid p == number) && (not (is_wrong p) && has_payload p)
+
+-- A packet of the PID that announces a jump of the counter.
+abbrev pub announces : ℕ → List ℕ → Bool
+announces number p = (pid p == number) && announces_jump p
+
+-- The second packet repeats the first, and announces no jump that the first did not.
+pub record IsRepetition (number : ℕ) (p q : List ℕ) : Type 0 where
+  pub carries : carries number q ≡ true
+  pub same : is_same p q ≡ true
+  pub jump : announces_jump q ≡ true → announces_jump p ≡ true
+
+-- ---- the grammar
+
+-- A packet with a payload, and what is sent up to the next: quiet packets, and among them its
+-- repeat, if it has one.
+pub record Carrier (A : Type 0) : Type 0 where
+  pub packet : A
+  pub before : List A
+  pub again : Option A
+  pub after : List A
+
+-- A PES packet and its carriers, of which there is one at least.
+pub record SentPes (A : Type 0) : Type 0 where
+  pub bytes : List ℕ
+  pub first : Carrier A
+  pub others : List (Carrier A)
+
+-- What is sent: PES packets, and what comes before the first.
+pub record Multiplex (A : Type 0) : Type 0 where
+  pub lead : List A
+  pub sent : List (SentPes A)
+
+-- All carriers of a PES packet.
+abbrev pub carriers_of_pes : {A : Type 0} → SentPes A → List (Carrier A)
+carriers_of_pes s = s.first ∷ s.others
+
+-- All carriers, in order.
+abbrev pub carriers_of : {A : Type 0} → List (SentPes A) → List (Carrier A)
+carriers_of sent = flat_map carriers_of_pes sent
+
+-- All items of a carrier, in order.
+abbrev pub items_of_carrier : {A : Type 0} → Carrier A → List A
+items_of_carrier c = c.packet ∷ (c.before ++ (option_to_list c.again ++ c.after))
+
+-- All items of a multiplex, in order.
+abbrev pub items_of_multiplex : {A : Type 0} → Multiplex A → List A
+items_of_multiplex m = m.lead ++ flat_map items_of_carrier (carriers_of m.sent)
+
+-- A carrier of the PID, and whether a PES packet begins with it. No jump is announced between its
+-- packet and the repeat.
+pub record IsCarrier {A : Type 0} (packet_of : A → List ℕ) (number : ℕ) (first : Bool)
+    (c : Carrier A) : Type 0 where
+  pub carries : carries number (packet_of c.packet) ≡ true
+  pub begins : begins (packet_of c.packet) ≡ first
+  pub before : AllByRecursion (λ x. is_quiet number (packet_of x) ≡ true) c.before
+  pub no_jump : AllByRecursion (λ x. announces number (packet_of x) ≡ false) c.before
+  pub again :
+      AllByRecursion (λ x. IsRepetition number (packet_of c.packet) (packet_of x))
+      (option_to_list c.again)
+  pub after : AllByRecursion (λ x. is_quiet number (packet_of x) ≡ true) c.after
+
+-- A PES packet in its carriers: it begins with the first byte of the first one's payload, no other
+-- begins one, and it is their payloads, joined.
+pub record IsSentPes {A : Type 0} (packet_of : A → List ℕ) (number : ℕ) (s : SentPes A)
+    : Type 0 where
+  pub is_piece : IsPiece s.bytes
+  pub first : IsCarrier packet_of number true s.first
+  pub others : AllByRecursion (IsCarrier packet_of number false) s.others
+  pub joined : concat (map (λ c. payload (packet_of c.packet)) (carriers_of_pes s)) ≡ s.bytes
+
+-- A jump is announced between two carriers: by a quiet packet, or by the second one's packet. That
+-- one is not taken for a repeat of the first: the first has one, or is another packet.
+abbrev pub IsJump : {A : Type 0} → (A → List ℕ) → ℕ → Carrier A → Carrier A → Type 0
+IsJump packet_of number c d =
+    (list_any (λ x. announces number (packet_of x)) c.after ≡ true)
+    ⊎ ((announces_jump (packet_of d.packet) ≡ true)
+    × ((is_some c.again || not (is_same (packet_of c.packet) (packet_of d.packet))) ≡ true))
+
+-- The second carrier may follow the first: its counter is the next, or a jump is announced; and
+-- within a PES packet none is.
+pub record IsNextCarrier {A : Type 0} (packet_of : A → List ℕ) (number : ℕ) (c d : Carrier A)
+    : Type 0 where
+  pub counter :
+      (counts_on (packet_of c.packet) (packet_of d.packet) ≡ true) ⊎ IsJump packet_of number c d
+  pub within :
+      begins (packet_of d.packet) ≡ false
+      → (list_any (λ x. announces number (packet_of x)) c.after ≡ false)
+      × (announces_jump (packet_of d.packet) ≡ false)
+
+-- Each carrier may follow the one before it, the first of the list that one.
+abbrev pub AreNextCarriers : {A : Type 0} → (A → List ℕ) → ℕ → Carrier A → List (Carrier A) → Type 0
+AreNextCarriers packet_of number c [] = ⊤
+AreNextCarriers packet_of number c (d ∷ more) =
+    IsNextCarrier packet_of number c d × AreNextCarriers packet_of number d more
+
+-- Each carrier may follow the one before it.
+abbrev pub AreInSequence : {A : Type 0} → (A → List ℕ) → ℕ → List (Carrier A) → Type 0
+AreInSequence packet_of number [] = ⊤
+AreInSequence packet_of number (c ∷ more) = AreNextCarriers packet_of number c more
+
+-- PES packets as a multiplexer sends them.
+pub record IsMultiplex {A : Type 0} (packet_of : A → List ℕ) (number : ℕ) (m : Multiplex A)
+    : Type 0 where
+  pub lead : AllByRecursion (λ x. is_quiet number (packet_of x) ≡ true) m.lead
+  pub sent : AllByRecursion (IsSentPes packet_of number) m.sent
+  pub linked : AreInSequence packet_of number (carriers_of m.sent)
+
+-- The PES packets of a multiplex.
+abbrev pub pes_packets : {A : Type 0} → Multiplex A → List (List ℕ)
+pes_packets m = map (λ s. s.bytes) m.sent
+
+-- ---- as a recording has it
+
+-- The packet of a unit: 188 bytes, behind the time stamp where there is one.
+abbrev pub packet_in : ℕ → List ℕ → List ℕ
+packet_in distance unit = take packet_size (drop (lead_size distance) unit)
+
+-- A unit of a recording whose packets have that distance: a packet, and what stands before or
+-- behind it.
+pub record IsRecordedUnit (distance : ℕ) (unit : List ℕ) : Type 0 where
+  pub long : lead_size distance + packet_size ≤ length unit
+  pub short : length unit ≤ distance
+  pub sync : slice_index (packet_in distance unit) 0 ≡ sync_byte
+
+-- Units of a recording, one after another. What stands behind the last packet may be left out.
+abbrev pub AreRecordedUnits : ℕ → List (List ℕ) → Type 0
+AreRecordedUnits distance [] = ⊤
+AreRecordedUnits distance (unit ∷ more) =
+    IsRecordedUnit distance unit
+    × ((more ≡ []) ⊎ (length unit ≡ distance))
+    × AreRecordedUnits distance more
+
+-- These are the bytes of a recording of these units.
+pub record IsRecording (distance : ℕ) (units : List (List ℕ)) (recording : List ℕ) : Type 0 where
+  pub each : AreRecordedUnits distance units
+  pub joined : recording ≡ concat units
+  pub few : length recording ≤ most_bytes
+
+-- A recording of what a multiplexer sent: these PES packets in packets of the PID.
+pub record IsMultiplexed (number distance : ℕ) (packets : List (List ℕ)) (recording : List ℕ)
+    : Type 0 where
+  pub multiplex : Multiplex (List ℕ)
+  pub is_multiplex : IsMultiplex (packet_in distance) number multiplex
+  pub packets_are : pes_packets multiplex ≡ packets
+  pub is_recording : IsRecording distance (items_of_multiplex multiplex) recording

@@ -1,0 +1,23 @@
+//! What is carried of what a multiplexer sends.
+//!
+//! The functions do nothing: the contract of each is a law over the definitions of `specs/`.
+ghost use Rattle.mpeg_ts_laws.specs.Laws.{LawOfLosses, LawOfMultiplex, LawOfNeighbours};
+
+/// What a multiplexer sent in packets of a PID is what they carry.
+#[tactic(auto, using(crate::proofs::MultiplexLemmas::law_of_multiplex))]
+pub fn law_of_multiplex()
+    ensures { LawOfMultiplex }
+{}
+
+/// Where units are missing or wrong, the PES packets that arrive are carried as they were sent, in
+/// their order, and no other; a mark stands where one is missing between two.
+#[tactic(auto, using(crate::proofs::LossLaw::law_of_losses))]
+pub fn law_of_losses()
+    ensures { LawOfLosses }
+{}
+
+/// PES packets of what is carried, between which no mark stands, were sent one after another: none
+/// is missing between the first and the last of them.
+pub fn law_of_neighbours()
+    ensures { LawOfNeighbours }
+{}
