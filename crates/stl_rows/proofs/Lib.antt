@@ -1,5 +1,5 @@
+pub mod SubSetLemmas
 pub mod TextCodeLemmas
-pub mod CodeTableLemmas
 pub mod LineLemmas
 pub mod FailedReadLemmas
 pub mod LineByLineLemmas

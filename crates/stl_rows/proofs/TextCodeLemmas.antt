@@ -1,25 +1,55 @@
--- Two bytes of a text that are one text code: text_codes-pair.
-use Rattle.std.proofs.Common.{◌≡◌, ℕ, ◌+◌, ◌<◌, List, ◌∷◌, Some, length, get_or, drop, refl, arith}
+-- What is one text code of a text: text_codes-common, text_codes-pair. The cell of a text code is a
+-- code: code_before-small.
+use Rattle.std.proofs.Common.{◌≡◌, ℕ, ◌+◌, ◌<◌, List, ◌∷◌, Option, Some, length, get_or, drop}
+use Rattle.std.proofs.Common.{refl, arith, true}
 use Rattle.std.proofs.Common.{add-one, drop-cons}
 use Rattle.std.proofs.lemmas.Bool.Decides.{nat_tests}
+use Rattle.std.specs.Prelude.{IfSome}
+use Rattle.ttx_page.specs.Page.{IsCode}
 use Rattle.stl_rows.specs.declared.national.National.{National}
 use Rattle.stl_rows.specs.declared.text_code.TextCode.TheVariants.{Cell}
-use Rattle.stl_rows.specs.TextCode.{cell_of_pair, codes_after, first_of, text_codes}
+use Rattle.stl_rows.specs.TextCode.{HasSevenBits, cell_of, cell_of_pair, code_before}
+use Rattle.stl_rows.specs.TextCode.{code_of_other, first_of, is_common, text_codes}
+use Rattle.stl_rows.proofs.SubSetLemmas.{cell_in-small}
 
 -- A text from a place on begins with the byte there.
-cut_at : (text : List ℕ) (at : ℕ)
-    → at < length text
+cut_at : (text : List ℕ) (at : ℕ) → at < length text
     → drop at text ≡ get_or text at 0 ∷ drop (at + 1) text
 cut_at text at h = rw (add-one, drop-cons text at 0) refl
 
--- After a pair the text goes on two bytes further.
-after_pair : (n : National) (at : ℕ) (text : List ℕ)
-    → at + 1 < length text
-    → codes_after n (at + 1) 1 (drop (at + 1) text) ≡ text_codes n (at + 2) (drop (at + 2) text)
-after_pair n at text h = grind (arith, nat_tests, cut_at)
+-- A common byte is one text code: for `text_code_at`.
+pub text_codes-common : (n : National) (at : ℕ) (text : List ℕ) → at < length text
+    → is_common (get_or text at 0) ≡ true
+    → text_codes n at (drop at text)
+    ≡ (at, Cell (get_or text at 0)) ∷ text_codes n (at + 1) (drop (at + 1) text)
+unfolding cell_of cell_of_pair is_common
+text_codes-common n at text h e = grind (arith, nat_tests, cut_at)
 
 -- A pair of bytes is one text code: for `text_code_at`.
 pub text_codes-pair : (n : National) (at : ℕ) (text : List ℕ) (code : ℕ) → at + 1 < length text
     → Some code ≡ cell_of_pair n (get_or text at 0) (first_of (drop (at + 1) text))
     → text_codes n at (drop at text) ≡ (at, Cell code) ∷ text_codes n (at + 2) (drop (at + 2) text)
-text_codes-pair n at text code h e = grind (arith, nat_tests, cut_at, after_pair)
+text_codes-pair n at text code h e =
+    grind (arith, nat_tests, cut_at text at, cut_at text (at + 1))
+
+-- What a byte says that gives no cell has no cell that is no code.
+pub other-small : (byte : ℕ) → HasSevenBits (code_of_other byte)
+unfolding code_of_other
+other-small byte = grind (arith, nat_tests)
+
+-- The cell of a byte by itself is a code.
+pub cell_of-small : (n : National) (byte : ℕ) → IfSome (cell_of n byte) IsCode
+unfolding cell_of is_common
+cell_of-small n byte = grind (arith, nat_tests, cell_in-small)
+
+-- The cell of a pair is a code.
+pub cell_of_pair-small : (n : National) (byte : ℕ) (next : Option ℕ)
+    → IfSome (cell_of_pair n byte next) IsCode
+unfolding cell_of_pair
+cell_of_pair-small n byte next = grind (arith, nat_tests, cell_in-small)
+
+-- The cell of a text code is a code. For `text_code_at` and for due pages.
+pub code_before-small : (n : National) (b : ℕ) (bytes : List ℕ)
+    → HasSevenBits (code_before n b bytes).0
+code_before-small n b bytes =
+    grind (arith, nat_tests, cell_of_pair-small n b (first_of bytes), cell_of-small n b, other-small)

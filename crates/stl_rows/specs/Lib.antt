@@ -1,5 +1,5 @@
+pub mod SubSets
 pub mod TextCode
-pub mod CodeTable
 pub mod Line
 pub mod DrawnPage
 pub mod LineByLine

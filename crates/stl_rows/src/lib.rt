@@ -20,6 +20,7 @@ mod line;
 mod loading;
 mod national;
 mod programme;
+mod sub_sets;
 mod text_code;
 mod text_faults;
 mod times;
@@ -28,7 +29,7 @@ pub use drawing::draw;
 pub use every_fault::{load_all, load_all_in};
 pub use fault::{LoadFault, LoadFaultKind, RowFault, RowFaultKind};
 pub use loading::{law_of_loading, load, load_in};
-pub use national::National;
+pub use national::{National, NationalBits};
 pub use programme::{
     Programme, law_of_blank_pages, law_of_due_pages, law_of_due_subtitles, law_of_edges,
     law_of_last_row,

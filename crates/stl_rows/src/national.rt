@@ -1,27 +1,104 @@
 //! National options.
 
-ghost use Rattle.std.specs.Prelude.{◌≡◌, ◌↔◌, Some, codes};
+ghost use Rattle.std.specs.Prelude.{◌≡◌, ◌↔◌, Some, option_map};
+ghost use Rattle.std.specs.List.{find};
+ghost use Rattle.std.specs.Str.{bytes_eq};
+ghost use Rattle.stl_rows.specs.declared.sub_sets.SubSet.{SubSet};
+ghost use Rattle.stl_rows.specs.SubSets.{cell_in, has_bytes, option_named, sub_set};
+
+use crate::sub_sets::{NationalCharacter, SUB_SETS, SubSet};
 
 /// A national option character sub-set of EN 300 706 (header bits C12 to C14), and with it the
-/// table by which a text is read.
+/// table by which a text is read. It has the name of one of the languages that it serves.
 #[derive(Clone, Copy, Debug, PartialEq, Eq)]
 pub enum National {
-    /// C12, C13 and C14 are 0 0 0.
+    /// English.
     English,
-    /// C12, C13 and C14 are 0 0 1.
+    /// German.
     German,
+    /// Swedish, Finnish and Hungarian.
+    Swedish,
+    /// Italian.
+    Italian,
+    /// French.
+    French,
+    /// Portuguese and Spanish.
+    Spanish,
+    /// Czech and Slovak.
+    Czech,
+}
+
+/// The control bits of a page header that name its national option character sub-set.
+#[derive(Clone, Copy, Debug, PartialEq, Eq)]
+pub struct NationalBits {
+    /// The first of the three.
+    pub c12: bool,
+    /// The second.
+    pub c13: bool,
+    /// The third.
+    pub c14: bool,
 }
 
 impl National {
-    /// Reads an option's name: exactly `english` or `german`. `None` for any other text.
+    /// Reads an option's word, in small letters: `english`, `german`, `swedish`, `italian`,
+    /// `french`, `spanish` or `czech`. `None` for any other text.
+    #[tactic(auto, unfolding(crate::specs::SubSets::option_named, crate::specs::SubSets::sub_set))]
     pub fn parse(text: &str) -> Option<National>
-        ensures english { (result ≡ Some National.English) ↔ (text.now ≡ codes "english") }
-        ensures german { (result ≡ Some National.German) ↔ (text.now ≡ codes "german") }
+        ensures value { result ≡ option_named text.now }
+        ensures words { (n : National) → (result ≡ Some n) ↔ (text.now ≡ (sub_set n).word) }
     {
-        match text {
-            "english" => Some(National::English),
-            "german" => Some(National::German),
-            _ => None,
+        option_in(&SUB_SETS, text)
+    }
+
+    /// C12, C13 and C14 of the headers of a page in this option.
+    #[tactic(auto, unfolding(crate::specs::SubSets::sub_set))]
+    pub fn bits(self) -> NationalBits
+        ensures { result ≡ (sub_set self).bits }
+    {
+        SUB_SETS[self as usize].bits
+    }
+
+    /// The characters of the option, by their places in the code table.
+    #[tactic(auto, unfolding(crate::specs::SubSets::sub_set))]
+    pub(crate) fn characters(self) -> &'static [NationalCharacter]
+        ensures { result.now ≡ (sub_set self).characters }
+    {
+        SUB_SETS[self as usize].characters
+    }
+}
+
+impl NationalCharacter {
+    // Whether its bytes are this mark, or none, and this byte.
+    #[tactic(auto, unfolding(crate::specs::SubSets::has_bytes))]
+    fn has_bytes(&self, mark: Option<u8>, byte: u8) -> bool
+        ensures { result ≡ has_bytes mark byte self.now }
+    {
+        self.byte == byte && self.mark == mark
+    }
+}
+
+// The option of the first of these rows that has a text for its word.
+fn option_in(rows: &[SubSet], text: &str) -> Option<National>
+    ensures { result ≡ option_map (λ (r : SubSet). r.national)
+        (find (λ (r : SubSet). bytes_eq r.word.now text.now) rows.now) }
+{
+    for row in rows {
+        if row.word == text {
+            return Some(row.national);
         }
     }
+    None
+}
+
+/// The cell of the character that a byte gives, after a mark or by itself. `None` where there is no
+/// such character among these.
+pub(crate) fn cell_in(characters: &[NationalCharacter], mark: Option<u8>, byte: u8) -> Option<u8>
+    ensures { result ≡ cell_in characters.now mark byte }
+{
+    for character in characters {
+        if character.has_bytes(mark, byte) {
+            return Some(character.cell);
+        }
+    }
+    None
 }

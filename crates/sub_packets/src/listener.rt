@@ -380,15 +380,10 @@ impl Listener {
                 none.with_before(!is_subtitle_header(self.watched.national, &header))
             }
             PacketKind::EndsPage => none,
-            PacketKind::Row(row) => none
-                .with_before(self.has_changed(row, packet))
-                .with_before(self.has_even_row(packet))
-                .with_before(false),
-            PacketKind::Other => none
-                .with_before(self.is_enhanced(packet))
-                .with_before(false)
-                .with_before(false)
-                .with_before(false),
+            PacketKind::Row(row) => {
+                RuleSet::of_row(self.has_even_row(packet), self.has_changed(row, packet))
+            }
+            PacketKind::Other => RuleSet::of_enhancement(self.is_enhanced(packet)),
         }
     }
 

@@ -7,13 +7,13 @@ ghost use Rattle.ttx_packet.specs.RowPacket.{first_even_byte};
 ghost use Rattle.ttx_packet.specs.declared.header.Header.{Header};
 ghost use Rattle.ttx_page.specs.Page.{AreCodes};
 ghost use Rattle.sub_packets.specs.Listener.{is_of_mode};
-ghost use Rattle.sub_plan.specs.Sending.{has_c14};
+ghost use Rattle.sub_plan.specs.Sending.{national_bits};
 ghost use Rattle.sub_rules.specs.PacketRules.{codes_of};
 ghost use Rattle.sub_rules.specs.PacketTests.{are_code_words, is_of_enhancement, is_of_header};
 ghost use Rattle.sub_rules.specs.PacketTests.{is_other_mode, is_same_bit, is_subtitle_header};
 
 use bitflags::Flags;
-use stl_rows::National;
+use stl_rows::{National, NationalBits};
 use ttx_packet::{Control, Header, Packet, PageId};
 
 // Whether a packet is X/0.
@@ -90,13 +90,14 @@ fn is_bit(control: Control, flag: Control) -> bool
     control.contains(flag)
 }
 
-/// C14 of a national option.
-fn third_bit(national: National) -> bool
-    ensures { result ≡ has_c14 national }
+/// C12, C13 and C14 of a header, which name its national option.
+fn national_bits(header: &Header) -> NationalBits
+    ensures { result ≡ national_bits header.now }
 {
-    match national {
-        National::English => false,
-        National::German => true,
+    NationalBits {
+        c12: is_bit(header.control, Control::C12),
+        c13: is_bit(header.control, Control::C13),
+        c14: is_bit(header.control, Control::C14),
     }
 }
 
@@ -128,9 +129,7 @@ pub(crate) fn is_subtitle_header(national: National, header: &Header) -> bool
         && is_bit(control, Control::C6)
         && is_bit(control, Control::C7)
         && !is_bit(control, Control::C10)
-        && !is_bit(control, Control::C12)
-        && !is_bit(control, Control::C13)
-        && is_same_bit(is_bit(control, Control::C14), third_bit(national))
+        && national_bits(header) == national.bits()
 }
 
 /// Whether a packet is X/25 to X/28 of the page's magazine.

@@ -45,6 +45,22 @@ impl RuleSet {
         RuleSet(is_broken as u8 + 2 * self.0)
     }
 
+    /// Of the rules from Control on: those of a row.
+    #[inline(always)]
+    pub fn of_row(has_even_byte: bool, has_changed: bool) -> RuleSet
+        ensures { result.0 ≡ 2 * (if has_even_byte then 1 else 0) + 4 * (if has_changed then 1 else 0) }
+    {
+        RuleSet(2 * (has_even_byte as u8) + 4 * (has_changed as u8))
+    }
+
+    /// Of the rules from Control on: that of a packet X/25 to X/28, or none.
+    #[inline(always)]
+    pub fn of_enhancement(is_broken: bool) -> RuleSet
+        ensures { result.0 ≡ 8 * (if is_broken then 1 else 0) }
+    {
+        RuleSet(8 * (is_broken as u8))
+    }
+
     /// Whether it holds no rule.
     pub fn has_none(self) -> bool
         ensures { result ≡ (self.0 == 0) }

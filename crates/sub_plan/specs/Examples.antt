@@ -1,27 +1,38 @@
 -- Headers of a sending byte by byte.
-use Rattle.std.specs.Prelude.{◌≡◌, true, false, [], ◌∷◌, ◌++◌, replicate}
+use Rattle.std.specs.Prelude.{◌≡◌, ℕ, true, false, List, [], ◌∷◌, ◌++◌, replicate}
 use Rattle.ttx_packet.specs.PageHeader.{header_packet}
 use Rattle.ttx_packet.specs.PageId.{PageIdValue}
-use Rattle.stl_rows.specs.declared.national.National.TheVariants.{English, German}
+use Rattle.stl_rows.specs.declared.national.National.{National}
+use Rattle.stl_rows.specs.declared.national.National.TheVariants.{English, German, Swedish, Italian}
+use Rattle.stl_rows.specs.declared.national.National.TheVariants.{French, Spanish, Czech}
 use Rattle.sub_plan.specs.Sending.{watched_header, closing_header}
 
 -- Page 888: magazine 8 is sent as 0.
 abbrev pub page_888 : PageIdValue
 page_888 = record { magazine = 0; page = 0x88 }
 
--- The header of page 888: English in parallel mode, German in parallel mode, and German in serial
--- mode. C11 and C14 are the lowest and the highest data bit of byte 9.
+-- The ten coded bytes of a header of page 888 and 32 spaces, by its last coded byte.
+abbrev pub header_888 : ℕ → List ℕ
+header_888 last =
+    (0x15 ∷ 0x15 ∷ 0xD0 ∷ 0xD0 ∷ 0x15 ∷ 0xD0 ∷ 0x15 ∷ 0xD0 ∷ 0x02 ∷ last ∷ []) ++ replicate 32 0x20
+
+-- The header of page 888 in an option, in parallel and in serial mode: C11 to C14 are the four data
+-- bits of byte 9.
+abbrev pub HasLastBytes : National → ℕ → ℕ → Type 0
+HasLastBytes national parallel serial =
+    (header_packet 0 (watched_header page_888 national false) ≡ header_888 parallel)
+    × (header_packet 0 (watched_header page_888 national true) ≡ header_888 serial)
+
+-- That of each option.
 abbrev pub ExampleOfWatchedHeaders : Type 0
 ExampleOfWatchedHeaders =
-    (header_packet 0 (watched_header page_888 English false)
-    ≡ (0x15 ∷ 0x15 ∷ 0xD0 ∷ 0xD0 ∷ 0x15 ∷ 0xD0 ∷ 0x15 ∷ 0xD0 ∷ 0x02 ∷ 0x15 ∷ [])
-    ++ replicate 32 0x20)
-    × (header_packet 0 (watched_header page_888 German false)
-    ≡ (0x15 ∷ 0x15 ∷ 0xD0 ∷ 0xD0 ∷ 0x15 ∷ 0xD0 ∷ 0x15 ∷ 0xD0 ∷ 0x02 ∷ 0xD0 ∷ [])
-    ++ replicate 32 0x20)
-    × (header_packet 0 (watched_header page_888 German true)
-    ≡ (0x15 ∷ 0x15 ∷ 0xD0 ∷ 0xD0 ∷ 0x15 ∷ 0xD0 ∷ 0x15 ∷ 0xD0 ∷ 0x02 ∷ 0xC7 ∷ [])
-    ++ replicate 32 0x20)
+    HasLastBytes English 0x15 0x02
+    × HasLastBytes German 0xD0 0xC7
+    × HasLastBytes Swedish 0x64 0x73
+    × HasLastBytes Italian 0xA1 0xB6
+    × HasLastBytes French 0x49 0x5E
+    × HasLastBytes Spanish 0x8C 0x9B
+    × HasLastBytes Czech 0x38 0x2F
 
 -- The closing header of magazine 8, in parallel and in serial mode.
 abbrev pub ExampleOfClosingHeaders : Type 0

@@ -1,30 +1,34 @@
 -- The packets of one sending of a page (EN 300 706, page header and packets X/1 to X/24): its
 -- header, its rows, and a closing header, which ends the page (own).
-use Rattle.std.specs.Prelude.{ℕ, ◌+◌, ◌*◌, Bool, true, false, not, List, [], ◌∷◌, ◌++◌, ◌==◌, map}
+use Rattle.std.specs.Prelude.{ℕ, ◌+◌, ◌*◌, Bool, not, List, [], ◌∷◌, ◌++◌, ◌==◌, map}
 use Rattle.std.specs.Prelude.{filter}
 use Rattle.std.specs.List.{list_any, range_with_len}
 use Rattle.ttx_packet.specs.declared.header.Header.{Header}
-use Rattle.ttx_packet.specs.PageHeader.{bit, header_packet}
+use Rattle.ttx_packet.specs.PageHeader.{bit, c12, c13, c14, header_packet}
 use Rattle.ttx_packet.specs.PageId.{PageIdValue}
 use Rattle.ttx_packet.specs.RowPacket.{row_packet}
 use Rattle.ttx_page.specs.Page.{Rows, space, row_at}
 use Rattle.stl_rows.specs.declared.national.National.{National}
-use Rattle.stl_rows.specs.declared.national.National.TheVariants.{English, German}
+use Rattle.stl_rows.specs.declared.national.NationalBits.{NationalBits}
+use Rattle.stl_rows.specs.SubSets.{sub_set}
 
--- Of C12, C13 and C14, the national option character sub-set, only C14 tells German, 0 0 1, from
--- English, 0 0 0.
-abbrev pub has_c14 : National → Bool
-has_c14 English = false
-has_c14 German = true
+-- C12, C13 and C14 of a header, which name a national option character sub-set.
+abbrev pub national_bits : Header → NationalBits
+national_bits h = record { c12 = c12 h; c13 = c13 h; c14 = c14 h }
 
--- The header of the page. Of the control bits it has C4 erase page, C6 subtitle and C7 suppress
--- header; in serial mode C11, magazine serial; for German C14.
+-- The control bits of the header of the page: C4 erase page, C6 subtitle and C7 suppress header; in
+-- serial mode C11, magazine serial; and of C12 to C14 those of the national option.
+abbrev pub watched_control : Bool → NationalBits → ℕ
+watched_control serial bits =
+    0x0D + 0x80 * bit serial + 0x100 * bit bits.c12 + 0x200 * bit bits.c13 + 0x400 * bit bits.c14
+
+-- The header of the page.
 abbrev pub watched_header : PageIdValue → National → Bool → Header
 watched_header w national serial =
     record {
       page = w.page;
       subcode = 0x0000;
-      control = record { 0 = 0x0D + 0x80 * bit serial + 0x400 * bit (has_c14 national) };
+      control = record { 0 = watched_control serial (sub_set national).bits };
     }
 
 -- The closing header, a time filling header: no page has its number. Of the control bits it has C11

@@ -1,11 +1,12 @@
 //! The packets of one sending of a page.
 ghost use Rattle.std.specs.Prelude.{◌≡◌, ◌≤◌, ◌<◌, ◌↔◌, [], ◌∷◌, ◌++◌, IsTrue, length, replicate};
 ghost use Rattle.ttx_page.specs.Page.{space};
-ghost use Rattle.sub_plan.specs.Sending.{closing_header, is_sent_row, sending, watched_header};
+ghost use Rattle.sub_plan.specs.Sending.{closing_header, is_sent_row, sending, watched_control};
+ghost use Rattle.sub_plan.specs.Sending.{watched_header};
 
 use bitflags::Flags;
 use std::marker::Model;
-use stl_rows::National;
+use stl_rows::{National, NationalBits};
 use ttx_packet::{Control, Header, Packet, PageId};
 use ttx_page::Page;
 
@@ -96,25 +97,27 @@ fn is_sent_row(codes: &[u8; 40]) -> bool
     !is_blank(codes)
 }
 
+// The control bits of the header of the page.
+fn watched_control(serial: bool, bits: NationalBits) -> Control
+    ensures { result.0 ≡ watched_control serial bits }
+{
+    let mut control = Control::C4.union(Control::C6).union(Control::C7);
+    control.set(Control::C11, serial);
+    control.set(Control::C12, bits.c12);
+    control.set(Control::C13, bits.c13);
+    control.set(Control::C14, bits.c14);
+    control
+}
+
 // The header of the page.
 fn watched_header(watched: PageId, national: National, serial: bool) -> Header
     ensures value { result ≡ watched_header watched national serial }
     ensures subcode { result.subcode ≡ 0 }
 {
-    let control = Control::C4.union(Control::C6).union(Control::C7);
-    let control = if serial {
-        control.union(Control::C11)
-    } else {
-        control
-    };
-    let control = match national {
-        National::English => control,
-        National::German => control.union(Control::C14),
-    };
     Header {
         page: watched.page(),
         subcode: 0x0000,
-        control,
+        control: watched_control(serial, national.bits()),
     }
 }
 

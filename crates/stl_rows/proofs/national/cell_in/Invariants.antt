@@ -1,0 +1,9 @@
+-- None of the characters so far is given, so what is left decides.
+use Rattle.std.proofs.Common.{◌≡◌, drop}
+use Rattle.stl_rows.specs.SubSets.{cell_in}
+use Rattle.stl_rows.proofs.national.cell_in.Given as goal
+
+abbrev pub invariant-loop-character : goal.invariant-loop-character
+invariant-loop-character l =
+    cell_in l.characters l.mark l.byte
+    ≡ cell_in (drop l.character-index l.characters) l.mark l.byte

@@ -1,0 +1,187 @@
+-- The national option character sub-sets (EN 300 706), a row for each: the word for it, its three
+-- bits, and the bytes of a subtitle's text that give its characters (EBU Tech 3264, code table 00,
+-- which is Latin and has the bytes of ISO 6937).
+--
+-- Level 1 has 13 places in its code table that a sub-set fills. These are the sub-sets of the
+-- default region, 0000, where C12 to C14 name one each; 1 1 1 is reserved.
+use Rattle.std.specs.Prelude.{ℕ, Bool, ◌&&◌, ◌==◌, nat_eq, List, [], ◌∷◌, Option, Some, None}
+use Rattle.std.specs.Prelude.{codes, if◌then◌else◌}
+use Rattle.std.specs.List.{find}
+use Rattle.std.specs.Option.{option_eq}
+use Rattle.std.specs.Str.{bytes_eq}
+use Rattle.stl_rows.specs.declared.national.National.{National}
+use Rattle.stl_rows.specs.declared.national.National.TheVariants.{English, German, Swedish, Italian}
+use Rattle.stl_rows.specs.declared.national.National.TheVariants.{French, Spanish, Czech}
+use Rattle.stl_rows.specs.declared.national.NationalBits.{NationalBits}
+use Rattle.stl_rows.specs.declared.sub_sets.NationalCharacter.{NationalCharacter}
+
+-- What a row says.
+pub record SubSetValue : Type 0 where
+  -- The word for it (own).
+  pub word : List ℕ
+  -- C12, C13 and C14 of the headers of a page.
+  pub bits : NationalBits
+  -- Its characters by place. A place that is left out is reached by no text.
+  pub characters : List NationalCharacter
+
+-- C12, C13 and C14.
+abbrev pub three_bits : ℕ → ℕ → ℕ → NationalBits
+three_bits c12 c13 c14 = record { c12 = c12 == 1; c13 = c13 == 1; c14 = c14 == 1 }
+
+-- The character at a place, which a byte gives by itself.
+abbrev pub plain : ℕ → ℕ → NationalCharacter
+plain cell byte = record { cell = cell; mark = None; byte = byte }
+
+-- The character at a place, which a diacritical mark and the letter after it give.
+abbrev pub with_mark : ℕ → ℕ → ℕ → NationalCharacter
+with_mark cell mark letter = record { cell = cell; mark = Some mark; byte = letter }
+
+-- The rows.
+--
+-- (own) lenient: 24 is read as dollar beside A4, whatever an edition of the code table names it,
+-- since files from the field have it so; where a sub-set has no dollar, neither byte is read.
+unfoldable pub sub_set : National → SubSetValue
+sub_set English = record {
+  word = codes "english";
+  bits = three_bits 0 0 0;
+  characters =
+      plain 0x23 0xA3  -- £
+      ∷ plain 0x24 0x24  -- $
+      ∷ plain 0x24 0xA4  -- $
+      ∷ plain 0x40 0x40  -- @
+      ∷ plain 0x5F 0x23  -- #
+      ∷ [];
+}
+sub_set German = record {
+  word = codes "german";
+  bits = three_bits 0 0 1;
+  characters =
+      plain 0x23 0x23  -- #
+      ∷ plain 0x24 0x24  -- $
+      ∷ plain 0x24 0xA4  -- $
+      ∷ plain 0x40 0xA7  -- §
+      ∷ with_mark 0x5B 0xC8 0x41  -- Ä
+      ∷ with_mark 0x5C 0xC8 0x4F  -- Ö
+      ∷ with_mark 0x5D 0xC8 0x55  -- Ü
+      ∷ plain 0x60 0xB0  -- °
+      ∷ with_mark 0x7B 0xC8 0x61  -- ä
+      ∷ with_mark 0x7C 0xC8 0x6F  -- ö
+      ∷ with_mark 0x7D 0xC8 0x75  -- ü
+      ∷ plain 0x7E 0xFB  -- ß
+      ∷ [];
+}
+sub_set Swedish = record {
+  word = codes "swedish";
+  bits = three_bits 0 1 0;
+  characters =
+      plain 0x23 0x23  -- #
+      ∷ plain 0x24 0xA8  -- ¤
+      ∷ with_mark 0x40 0xC2 0x45  -- É
+      ∷ with_mark 0x5B 0xC8 0x41  -- Ä
+      ∷ with_mark 0x5C 0xC8 0x4F  -- Ö
+      ∷ with_mark 0x5D 0xCA 0x41  -- Å
+      ∷ with_mark 0x5E 0xC8 0x55  -- Ü
+      ∷ plain 0x5F 0x5F  -- _
+      ∷ with_mark 0x60 0xC2 0x65  -- é
+      ∷ with_mark 0x7B 0xC8 0x61  -- ä
+      ∷ with_mark 0x7C 0xC8 0x6F  -- ö
+      ∷ with_mark 0x7D 0xCA 0x61  -- å
+      ∷ with_mark 0x7E 0xC8 0x75  -- ü
+      ∷ [];
+}
+sub_set Italian = record {
+  word = codes "italian";
+  bits = three_bits 0 1 1;
+  characters =
+      plain 0x23 0xA3  -- £
+      ∷ plain 0x24 0x24  -- $
+      ∷ plain 0x24 0xA4  -- $
+      ∷ with_mark 0x40 0xC2 0x65  -- é
+      ∷ plain 0x5B 0xB0  -- °
+      ∷ with_mark 0x5C 0xCB 0x63  -- ç
+      ∷ plain 0x5D 0xAE  -- →
+      ∷ plain 0x5E 0xAD  -- ↑
+      ∷ plain 0x5F 0x23  -- #
+      ∷ with_mark 0x60 0xC1 0x75  -- ù
+      ∷ with_mark 0x7B 0xC1 0x61  -- à
+      ∷ with_mark 0x7C 0xC1 0x6F  -- ò
+      ∷ with_mark 0x7D 0xC1 0x65  -- è
+      ∷ with_mark 0x7E 0xC1 0x69  -- ì
+      ∷ [];
+}
+sub_set French = record {
+  word = codes "french";
+  bits = three_bits 1 0 0;
+  characters =
+      with_mark 0x23 0xC2 0x65  -- é
+      ∷ with_mark 0x24 0xC8 0x69  -- ï
+      ∷ with_mark 0x40 0xC1 0x61  -- à
+      ∷ with_mark 0x5B 0xC8 0x65  -- ë
+      ∷ with_mark 0x5C 0xC3 0x65  -- ê
+      ∷ with_mark 0x5D 0xC1 0x75  -- ù
+      ∷ with_mark 0x5E 0xC3 0x69  -- î
+      ∷ plain 0x5F 0x23  -- #
+      ∷ with_mark 0x60 0xC1 0x65  -- è
+      ∷ with_mark 0x7B 0xC3 0x61  -- â
+      ∷ with_mark 0x7C 0xC3 0x6F  -- ô
+      ∷ with_mark 0x7D 0xC3 0x75  -- û
+      ∷ with_mark 0x7E 0xCB 0x63  -- ç
+      ∷ [];
+}
+sub_set Spanish = record {
+  word = codes "spanish";
+  bits = three_bits 1 0 1;
+  characters =
+      with_mark 0x23 0xCB 0x63  -- ç
+      ∷ plain 0x24 0x24  -- $
+      ∷ plain 0x24 0xA4  -- $
+      ∷ plain 0x40 0xA1  -- ¡
+      ∷ with_mark 0x5B 0xC2 0x61  -- á
+      ∷ with_mark 0x5C 0xC2 0x65  -- é
+      ∷ with_mark 0x5D 0xC2 0x69  -- í
+      ∷ with_mark 0x5E 0xC2 0x6F  -- ó
+      ∷ with_mark 0x5F 0xC2 0x75  -- ú
+      ∷ plain 0x60 0xBF  -- ¿
+      ∷ with_mark 0x7B 0xC8 0x75  -- ü
+      ∷ with_mark 0x7C 0xC4 0x6E  -- ñ
+      ∷ with_mark 0x7D 0xC1 0x65  -- è
+      ∷ with_mark 0x7E 0xC1 0x61  -- à
+      ∷ [];
+}
+sub_set Czech = record {
+  word = codes "czech";
+  bits = three_bits 1 1 0;
+  characters =
+      plain 0x23 0x23  -- #
+      ∷ with_mark 0x24 0xCA 0x75  -- ů
+      ∷ with_mark 0x40 0xCF 0x63  -- č
+      ∷ with_mark 0x5B 0xCF 0x74  -- ť
+      ∷ with_mark 0x5C 0xCF 0x7A  -- ž
+      ∷ with_mark 0x5D 0xC2 0x79  -- ý
+      ∷ with_mark 0x5E 0xC2 0x69  -- í
+      ∷ with_mark 0x5F 0xCF 0x72  -- ř
+      ∷ with_mark 0x60 0xC2 0x65  -- é
+      ∷ with_mark 0x7B 0xC2 0x61  -- á
+      ∷ with_mark 0x7C 0xCF 0x65  -- ě
+      ∷ with_mark 0x7D 0xC2 0x75  -- ú
+      ∷ with_mark 0x7E 0xCF 0x73  -- š
+      ∷ [];
+}
+
+-- The options.
+abbrev pub options : List National
+options = English ∷ German ∷ Swedish ∷ Italian ∷ French ∷ Spanish ∷ Czech ∷ []
+
+-- The option that has this text for its word: exactly that, in small letters.
+unfoldable pub option_named : List ℕ → Option National
+option_named text = find (λ n. bytes_eq (sub_set n).word text) options
+
+-- The bytes of the character are this mark, or none, and this byte.
+unfoldable pub has_bytes : Option ℕ → ℕ → NationalCharacter → Bool
+has_bytes mark byte c = c.byte == byte && option_eq nat_eq c.mark mark
+
+-- The cell of the first of these characters that a byte gives, after a mark or by itself.
+abbrev pub cell_in : List NationalCharacter → Option ℕ → ℕ → Option ℕ
+cell_in [] mark byte = None
+cell_in (c ∷ characters) mark byte =
+    if has_bytes mark byte c then Some c.cell else cell_in characters mark byte

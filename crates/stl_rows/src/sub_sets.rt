@@ -1,0 +1,173 @@
+//! The table of the national options: a row for each.
+//!
+//! Level 1 of EN 300 706 has 13 places in its code table that a national option fills. These are
+//! the sub-sets of its default region, 0000, where C12 to C14 name one each; 1 1 1 is reserved.
+
+use crate::national::{National, NationalBits};
+
+/// A character of a sub-set: its place in the code table, and the bytes that give it in a text (EBU
+/// Tech 3264, code table 00, which is Latin and has the bytes of ISO 6937).
+#[derive(Clone, Copy, Debug)]
+pub(crate) struct NationalCharacter {
+    /// The code of its cell.
+    pub(crate) cell: u8,
+    /// The diacritical mark that stands before the byte, if there is one.
+    pub(crate) mark: Option<u8>,
+    /// The byte, after a mark that of a letter.
+    pub(crate) byte: u8,
+}
+
+/// A row of the table.
+#[derive(Clone, Copy, Debug)]
+pub(crate) struct SubSet {
+    /// The option.
+    pub(crate) national: National,
+    /// The word for it (own).
+    pub(crate) word: &'static str,
+    /// C12, C13 and C14 of its headers.
+    pub(crate) bits: NationalBits,
+    /// Its characters by place. A place that is left out is reached by no text.
+    pub(crate) characters: &'static [NationalCharacter],
+}
+
+/// The rows, in the order of the options. The check computes them and compares them with those of
+/// the definition.
+///
+/// (own) lenient: 24 is read as dollar beside A4, whatever an edition of the code table names it,
+/// since files from the field have it so; where a sub-set has no dollar, neither byte is read.
+#[rattlefmt::skip]
+pub(crate) const SUB_SETS: [SubSet; 7] = [
+    SubSet {
+        national: National::English,
+        word: "english",
+        bits: NationalBits { c12: false, c13: false, c14: false },
+        characters: &[
+            NationalCharacter { cell: 0x23, mark: None, byte: 0xA3 },       // £
+            NationalCharacter { cell: 0x24, mark: None, byte: 0x24 },       // $
+            NationalCharacter { cell: 0x24, mark: None, byte: 0xA4 },       // $
+            NationalCharacter { cell: 0x40, mark: None, byte: 0x40 },       // @
+            NationalCharacter { cell: 0x5F, mark: None, byte: 0x23 },       // #
+        ],
+    },
+    SubSet {
+        national: National::German,
+        word: "german",
+        bits: NationalBits { c12: false, c13: false, c14: true },
+        characters: &[
+            NationalCharacter { cell: 0x23, mark: None, byte: 0x23 },       // #
+            NationalCharacter { cell: 0x24, mark: None, byte: 0x24 },       // $
+            NationalCharacter { cell: 0x24, mark: None, byte: 0xA4 },       // $
+            NationalCharacter { cell: 0x40, mark: None, byte: 0xA7 },       // §
+            NationalCharacter { cell: 0x5B, mark: Some(0xC8), byte: 0x41 }, // Ä
+            NationalCharacter { cell: 0x5C, mark: Some(0xC8), byte: 0x4F }, // Ö
+            NationalCharacter { cell: 0x5D, mark: Some(0xC8), byte: 0x55 }, // Ü
+            NationalCharacter { cell: 0x60, mark: None, byte: 0xB0 },       // °
+            NationalCharacter { cell: 0x7B, mark: Some(0xC8), byte: 0x61 }, // ä
+            NationalCharacter { cell: 0x7C, mark: Some(0xC8), byte: 0x6F }, // ö
+            NationalCharacter { cell: 0x7D, mark: Some(0xC8), byte: 0x75 }, // ü
+            NationalCharacter { cell: 0x7E, mark: None, byte: 0xFB },       // ß
+        ],
+    },
+    SubSet {
+        national: National::Swedish,
+        word: "swedish",
+        bits: NationalBits { c12: false, c13: true, c14: false },
+        characters: &[
+            NationalCharacter { cell: 0x23, mark: None, byte: 0x23 },       // #
+            NationalCharacter { cell: 0x24, mark: None, byte: 0xA8 },       // ¤
+            NationalCharacter { cell: 0x40, mark: Some(0xC2), byte: 0x45 }, // É
+            NationalCharacter { cell: 0x5B, mark: Some(0xC8), byte: 0x41 }, // Ä
+            NationalCharacter { cell: 0x5C, mark: Some(0xC8), byte: 0x4F }, // Ö
+            NationalCharacter { cell: 0x5D, mark: Some(0xCA), byte: 0x41 }, // Å
+            NationalCharacter { cell: 0x5E, mark: Some(0xC8), byte: 0x55 }, // Ü
+            NationalCharacter { cell: 0x5F, mark: None, byte: 0x5F },       // _
+            NationalCharacter { cell: 0x60, mark: Some(0xC2), byte: 0x65 }, // é
+            NationalCharacter { cell: 0x7B, mark: Some(0xC8), byte: 0x61 }, // ä
+            NationalCharacter { cell: 0x7C, mark: Some(0xC8), byte: 0x6F }, // ö
+            NationalCharacter { cell: 0x7D, mark: Some(0xCA), byte: 0x61 }, // å
+            NationalCharacter { cell: 0x7E, mark: Some(0xC8), byte: 0x75 }, // ü
+        ],
+    },
+    SubSet {
+        national: National::Italian,
+        word: "italian",
+        bits: NationalBits { c12: false, c13: true, c14: true },
+        characters: &[
+            NationalCharacter { cell: 0x23, mark: None, byte: 0xA3 },       // £
+            NationalCharacter { cell: 0x24, mark: None, byte: 0x24 },       // $
+            NationalCharacter { cell: 0x24, mark: None, byte: 0xA4 },       // $
+            NationalCharacter { cell: 0x40, mark: Some(0xC2), byte: 0x65 }, // é
+            NationalCharacter { cell: 0x5B, mark: None, byte: 0xB0 },       // °
+            NationalCharacter { cell: 0x5C, mark: Some(0xCB), byte: 0x63 }, // ç
+            NationalCharacter { cell: 0x5D, mark: None, byte: 0xAE },       // →
+            NationalCharacter { cell: 0x5E, mark: None, byte: 0xAD },       // ↑
+            NationalCharacter { cell: 0x5F, mark: None, byte: 0x23 },       // #
+            NationalCharacter { cell: 0x60, mark: Some(0xC1), byte: 0x75 }, // ù
+            NationalCharacter { cell: 0x7B, mark: Some(0xC1), byte: 0x61 }, // à
+            NationalCharacter { cell: 0x7C, mark: Some(0xC1), byte: 0x6F }, // ò
+            NationalCharacter { cell: 0x7D, mark: Some(0xC1), byte: 0x65 }, // è
+            NationalCharacter { cell: 0x7E, mark: Some(0xC1), byte: 0x69 }, // ì
+        ],
+    },
+    SubSet {
+        national: National::French,
+        word: "french",
+        bits: NationalBits { c12: true, c13: false, c14: false },
+        characters: &[
+            NationalCharacter { cell: 0x23, mark: Some(0xC2), byte: 0x65 }, // é
+            NationalCharacter { cell: 0x24, mark: Some(0xC8), byte: 0x69 }, // ï
+            NationalCharacter { cell: 0x40, mark: Some(0xC1), byte: 0x61 }, // à
+            NationalCharacter { cell: 0x5B, mark: Some(0xC8), byte: 0x65 }, // ë
+            NationalCharacter { cell: 0x5C, mark: Some(0xC3), byte: 0x65 }, // ê
+            NationalCharacter { cell: 0x5D, mark: Some(0xC1), byte: 0x75 }, // ù
+            NationalCharacter { cell: 0x5E, mark: Some(0xC3), byte: 0x69 }, // î
+            NationalCharacter { cell: 0x5F, mark: None, byte: 0x23 },       // #
+            NationalCharacter { cell: 0x60, mark: Some(0xC1), byte: 0x65 }, // è
+            NationalCharacter { cell: 0x7B, mark: Some(0xC3), byte: 0x61 }, // â
+            NationalCharacter { cell: 0x7C, mark: Some(0xC3), byte: 0x6F }, // ô
+            NationalCharacter { cell: 0x7D, mark: Some(0xC3), byte: 0x75 }, // û
+            NationalCharacter { cell: 0x7E, mark: Some(0xCB), byte: 0x63 }, // ç
+        ],
+    },
+    SubSet {
+        national: National::Spanish,
+        word: "spanish",
+        bits: NationalBits { c12: true, c13: false, c14: true },
+        characters: &[
+            NationalCharacter { cell: 0x23, mark: Some(0xCB), byte: 0x63 }, // ç
+            NationalCharacter { cell: 0x24, mark: None, byte: 0x24 },       // $
+            NationalCharacter { cell: 0x24, mark: None, byte: 0xA4 },       // $
+            NationalCharacter { cell: 0x40, mark: None, byte: 0xA1 },       // ¡
+            NationalCharacter { cell: 0x5B, mark: Some(0xC2), byte: 0x61 }, // á
+            NationalCharacter { cell: 0x5C, mark: Some(0xC2), byte: 0x65 }, // é
+            NationalCharacter { cell: 0x5D, mark: Some(0xC2), byte: 0x69 }, // í
+            NationalCharacter { cell: 0x5E, mark: Some(0xC2), byte: 0x6F }, // ó
+            NationalCharacter { cell: 0x5F, mark: Some(0xC2), byte: 0x75 }, // ú
+            NationalCharacter { cell: 0x60, mark: None, byte: 0xBF },       // ¿
+            NationalCharacter { cell: 0x7B, mark: Some(0xC8), byte: 0x75 }, // ü
+            NationalCharacter { cell: 0x7C, mark: Some(0xC4), byte: 0x6E }, // ñ
+            NationalCharacter { cell: 0x7D, mark: Some(0xC1), byte: 0x65 }, // è
+            NationalCharacter { cell: 0x7E, mark: Some(0xC1), byte: 0x61 }, // à
+        ],
+    },
+    SubSet {
+        national: National::Czech,
+        word: "czech",
+        bits: NationalBits { c12: true, c13: true, c14: false },
+        characters: &[
+            NationalCharacter { cell: 0x23, mark: None, byte: 0x23 },       // #
+            NationalCharacter { cell: 0x24, mark: Some(0xCA), byte: 0x75 }, // ů
+            NationalCharacter { cell: 0x40, mark: Some(0xCF), byte: 0x63 }, // č
+            NationalCharacter { cell: 0x5B, mark: Some(0xCF), byte: 0x74 }, // ť
+            NationalCharacter { cell: 0x5C, mark: Some(0xCF), byte: 0x7A }, // ž
+            NationalCharacter { cell: 0x5D, mark: Some(0xC2), byte: 0x79 }, // ý
+            NationalCharacter { cell: 0x5E, mark: Some(0xC2), byte: 0x69 }, // í
+            NationalCharacter { cell: 0x5F, mark: Some(0xCF), byte: 0x72 }, // ř
+            NationalCharacter { cell: 0x60, mark: Some(0xC2), byte: 0x65 }, // é
+            NationalCharacter { cell: 0x7B, mark: Some(0xC2), byte: 0x61 }, // á
+            NationalCharacter { cell: 0x7C, mark: Some(0xCF), byte: 0x65 }, // ě
+            NationalCharacter { cell: 0x7D, mark: Some(0xC2), byte: 0x75 }, // ú
+            NationalCharacter { cell: 0x7E, mark: Some(0xCF), byte: 0x73 }, // š
+        ],
+    },
+];
