@@ -15,7 +15,7 @@ use Rattle.sub_plan.specs.FrameTime.{clock_of}
 use Rattle.sub_plan.specs.Options.{OptionsValue}
 use Rattle.sub_check.specs.FirstTold.{IsRuleFault, KeepsFirstFault, is_of_rule}
 use Rattle.sub_checker.specs.declared.telling.Accepted.{Accepted}
-use Rattle.sub_rules.specs.Events.{broken_cell, events, first_told, unread_fault}
+use Rattle.sub_rules.specs.Events.{broken_cell, first_told, unread_fault}
 use Rattle.sub_rules.specs.FrameRules.{Task, Unread, task_of}
 use Rattle.sub_rules.specs.FrameRules.Unread.{BadPacket, NoFrame}
 use Rattle.sub_rules.specs.PesReading.{file_at, pes_file_of}
@@ -33,6 +33,7 @@ use Rattle.sub_laws.proofs.FirstContentLemmas.{content_first}
 use Rattle.sub_laws.proofs.FrameByFrame.{AllOk, IsReadTo}
 use Rattle.sub_laws.proofs.ReadFileLemmas.{file_sound}
 use Rattle.sub_check.specs.CheckedFiles.{all_events_of}
+use Rattle.sub_rules.proofs.FrameEvents.{events}
 
 -- Each packet that is read is whole.
 pub each_whole :

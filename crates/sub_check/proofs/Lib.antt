@@ -1,3 +1,4 @@
+pub mod AcceptedWithinLemmas
 pub mod FilesLemmas
 pub mod FirstFaultLemmas
 pub mod FirstToldLemmas

@@ -9,17 +9,17 @@ use Rattle.sub_plan.specs.Options.{OptionsValue}
 use Rattle.sub_rules.specs.Events.{first_told}
 use Rattle.sub_rules.specs.FrameRules.{Unread, task_of}
 use Rattle.sub_rules.specs.PesReading.{ReadsAs, file_at}
-use Rattle.sub_rules.specs.PieceEvents.{events_of_pieces, marks_of_each}
+use Rattle.sub_rules.specs.PieceEvents.{marks_of_each}
 use Rattle.sub_rules.specs.Pieces.{PesFileValue, Piece, frames_of, piece_file_of, read_until_passed}
 use Rattle.sub_rules.specs.Pieces.Piece.{Passed, Sent}
 use Rattle.sub_rules.specs.Transmission.{Transmission}
-use Rattle.sub_rules.specs.Trusted.{no_trust, told_by}
 use Rattle.sub_rules.specs.declared.event.Event.{Event}
 use Rattle.sub_rules.specs.declared.fault.CheckFault.{CheckFault}
 use Rattle.sub_rules.proofs.MarkEventLemmas.{first_of_two}
 use Rattle.sub_rules.proofs.PieceEventLemmas.{announced_first}
 use Rattle.sub_laws.proofs.UntoldLemmas.{each_sent, first_none}
 use Rattle.sub_check.specs.CheckedFiles.{events_of_first_pieces}
+use Rattle.sub_rules.proofs.KeptTrust.{each_is, no_trust, told_by}
 
 -- Where pieces are read to their end, none of them is passed over.
 all_sent : (pieces : List Piece) (unread : Option Unread)
@@ -64,12 +64,12 @@ pub all_are_sent : (programme : ProgrammeValue) (options : OptionsValue) (bytes 
     → n ≤ length (piece_file_of (clock_of options) bytes).pieces
     → first_told (events_of_first_pieces programme options bytes n) ≡ None
     → length (frames_of (take n (piece_file_of (clock_of options) bytes).pieces)) ≡ n
-unfolding events_of_pieces
 all_are_sent programme options bytes n l none =
     let file = piece_file_of (clock_of options) bytes in
     let g = task_of programme options file.unread in
     let done = take n file.pieces in
     let marks = marks_of_each g [] 0 done in
     each_sent g [] 0 done
-    ((first_none no_trust marks).0 (sym (announced_first (told_by no_trust marks)) ∙ none))
+    ((first_none no_trust marks).0
+    (sym (ap first_told (each_is g done) ∙ announced_first (told_by no_trust marks)) ∙ none))
     ∙ length-take-le n file.pieces l

@@ -15,13 +15,12 @@ use Rattle.sub_rules.specs.Events.{packet_fault, rest_events, standing_at, unrea
 use Rattle.sub_rules.specs.Fault.{fault_at_pes}
 use Rattle.sub_rules.specs.FrameRules.{Task, Unread, end_frame, task_of}
 use Rattle.sub_rules.specs.FrameRules.Unread.{BadPacket, NoFrame}
-use Rattle.sub_rules.specs.PieceEvents.{all_of_pieces, closing_of_pieces, events_of_pieces}
+use Rattle.sub_rules.specs.PieceEvents.{all_of_pieces, closing_of_pieces}
 use Rattle.sub_rules.specs.PieceEvents.{marks_of_each, marks_of_pieces, sent_by_pieces}
 use Rattle.sub_rules.specs.PieceEvents.{told_of_pieces, told_of_unread}
 use Rattle.sub_rules.specs.Pieces.{Piece, PieceFileValue, piece_file_of}
 use Rattle.sub_rules.specs.Pieces.Piece.{Passed, Sent}
 use Rattle.sub_rules.specs.Transmission.{Transmission}
-use Rattle.sub_rules.specs.Trusted.{no_trust, told_by}
 use Rattle.sub_rules.specs.Trusted.Mark.{AtPes, Closes, Says}
 use Rattle.sub_rules.specs.declared.event.Event.{Event}
 use Rattle.sub_rules.specs.declared.event.Event.TheVariants.{Told}
@@ -35,6 +34,7 @@ use Rattle.sub_laws.proofs.ReadFileLemmas.{ArePiecesSound, IsOfBytes, IsSoundPie
 use Rattle.sub_laws.proofs.ReadFileLemmas.{file_pieces_sound}
 use Rattle.sub_check.specs.CheckedFiles.{all_events_of, events_of_first_pieces}
 use Rattle.sub_check.specs.FirstTold.{is_of_rule}
+use Rattle.sub_rules.proofs.KeptTrust.{all_is, each_is, no_trust, told_by}
 
 -- A refusal is of no rule.
 abbrev is_foreign : CheckFault → Bool
@@ -147,11 +147,11 @@ module _ (g : Task) (left : (f : PesFault) → g.unread ≡ Some (BadPacket f) �
 
   pieces_own : (pieces : List Piece) → AllByRecursion IsSoundPiece pieces
       → list_any foreign (told_of_pieces g pieces) ≡ false
-  unfolding told_of_pieces
   pieces_own pieces sound =
       let frames = sent_by_pieces g pieces in
       let closing = closing_of_pieces g frames (length pieces) (length frames) in
-      told_fine is_foreign at_any no_trust (marks_of_pieces g pieces)
+      ap (list_any foreign) (all_is g pieces)
+      ∙ told_fine is_foreign at_any no_trust (marks_of_pieces g pieces)
       (both_pass (says_bad is_foreign at_any)
       (before_passes (says_bad is_foreign at_any) g (frames_own g) pieces
       (λ pes. passed_own pes pieces sound))
@@ -191,7 +191,6 @@ module _ (programme : ProgrammeValue) (options : OptionsValue) (bytes : List ℕ
   pub front_of_rule : (n : ℕ) (f : CheckFault)
       → first_told (events_of_first_pieces programme options bytes n) ≡ Some f
       → is_of_rule f ≡ true
-  unfolding events_of_pieces
   front_of_rule n f is =
       let g = task_of programme options file.unread in
       let done = take n file.pieces in
@@ -201,4 +200,4 @@ module _ (programme : ProgrammeValue) (options : OptionsValue) (bytes : List ℕ
       (told_fine is_foreign at_any no_trust marks
       (each_passes (says_bad is_foreign at_any) g (frames_own g) [] 0 done
       (passed_own 0 done (first_sound n file.pieces sound.each))).none)
-      (sym (announced_first (told_by no_trust marks)) ∙ is))
+      (sym (ap first_told (each_is g done) ∙ announced_first (told_by no_trust marks)) ∙ is))

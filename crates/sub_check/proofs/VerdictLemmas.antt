@@ -47,7 +47,7 @@ use Rattle.sub_laws.proofs.ReadFileLemmas.{file_pieces_sound, sent_whole}
 use Rattle.sub_laws.proofs.RisingEndLemmas.{latest_at}
 use Rattle.sub_laws.proofs.RobustLemmas.{law_of_good}
 use Rattle.sub_laws.proofs.UntoldLemmas.{pieces_unrefused}
-use Rattle.sub_laws.proofs.ToldWithinLemmas.{law_of_nothing_told_within}
+use Rattle.sub_laws.proofs.ToldWithinLemmas.{none_told_within}
 use Rattle.sub_check.specs.CheckedFiles.{HasCounts, IsChecked, IsCheckedWithin, TellsEvents}
 use Rattle.sub_check.specs.CheckedFiles.{all_events_of, answer_by}
 use Rattle.sub_check.specs.CheckedFiles.{events_of_first_pieces, first_answer, frames_read}
@@ -108,7 +108,7 @@ module _ (programme : ProgrammeValue) (options : OptionsValue) (is : IsOptions o
   told_none =
       let none = pieces_unrefused g file.pieces in
       let law =
-      law_of_nothing_told_within programme options file.unread sent p is.least whole in (
+      none_told_within programme options file.unread sent p is.least whole in (
         λ e.
             let parts = none.0 e in
             let good = law.0 (none_refused g sent whole parts.1) in
@@ -304,15 +304,11 @@ module _ (programme : ProgrammeValue) (options : OptionsValue) (is : IsOptions o
               let good = accepted_is t result decides ((exact t).1 carries) ok in
               let both = (law_of_no_delay programme t options p none).0 good in
               (law_of_good programme t options both.0, both.1);
-          counts = λ t carries. within.counts t ((exact t).1 carries);
-          first = within.first;
-          read = within.read;
           content = λ frame row column e.
               subst
               (λ (t : Transmission). IsWrongEverywhere programme options t frame row column)
               (joined-within options.within (pes_file_of (clock_of options) bytes).frames none)
               (within.content frame row column e).wrong;
-          schedule = within.schedule;
         }
       where
         exact : (t : Transmission)

@@ -22,9 +22,8 @@ use Rattle.sub_rules.specs.PacketRules.{header_count}
 use Rattle.sub_rules.specs.Transmission.{SentFrame, first_frame, last_frame, Transmission}
 use Rattle.sub_rules.specs.declared.event.Event.{Event}
 use Rattle.sub_rules.specs.declared.event.Event.TheVariants.{Trusted}
-use Rattle.sub_laws.specs.PassedPackets.{PassedPackets, all_on_air}
-use Rattle.sub_laws.specs.TrustedFrames.{MayStay, rising_part}
-use Rattle.sub_laws.specs.TrustedWithDelay.{MayStayWithDelay}
+use Rattle.sub_trusted.specs.TrustedFrames.{MayStay, StaysAsRead}
+use Rattle.sub_trusted.specs.TrustedWithDelay.{MayStayWithDelay}
 use Rattle.sub_rules.specs.Fault.{is_failure, is_pes_read, is_subtitle_fault}
 use Rattle.sub_rules.specs.Good.{Good}
 use Rattle.sub_rules.specs.GoodWithin.{GoodWithin}
@@ -213,7 +212,7 @@ pub record IsCheckedWithin
       → IsOk answer
 
 -- What is answered where the page has to be whole at the end of each frame: in the words of the
--- seven rules.
+-- seven rules. All else that `IsCheckedWithin` says is said of that too.
 pub record IsChecked
     (programme : ProgrammeValue) (options : OptionsValue) (bytes : List ℕ)
     (answer : Result Accepted CheckFault)
@@ -236,23 +235,6 @@ pub record IsChecked
       → IsOk answer
       → HasPromises programme transmission options
       × (IsTrue options.asks_complete → Complete transmission options)
-  -- The counts of what is accepted are those of the transmission.
-  pub counts :
-      (transmission : Transmission)
-      → Carries options.origin bytes transmission
-      → IfOk answer (HasCounts options.page transmission)
-  -- A refusal is what is told first.
-  pub first :
-      failed is_subtitle_fault answer ≡ false
-      → failed is_pes_read answer ≡ false
-      → IfErr answer (λ f. first_told (all_events_of programme options bytes) ≡ Some f)
-  -- That the source failed is told at the PES packet that could not be read: those before it were
-  -- read, and no refusal is told of them.
-  pub read :
-      (pes : ℕ)
-      → answer ≡ Err (fault.Pes pes Read)
-      → (pes ≤ length (piece_file_of (clock_of options) bytes).pieces)
-      × (first_told (events_of_first_pieces programme options bytes pes) ≡ None)
   -- Where the page is refused at a cell, every receiver that starts at the first packet, with no
   -- bit wrong, shows another code there than is due.
   pub content :
@@ -260,14 +242,6 @@ pub record IsChecked
       → answer ≡ Err (fault.Content frame row column)
       → IsWrongEverywhere programme options (pes_file_of (clock_of options) bytes).frames frame row
       column
-  -- What `schedule` writes of the programme with the same options is accepted.
-  pub schedule :
-      (serial : Bool)
-      → bytes ≡ plan programme options serial
-      → programme.records ≢ []
-      → failed is_subtitle_fault answer ≡ false
-      → failed is_pes_read answer ≡ false
-      → IsOk answer
 
 -- What is told of the bytes of a subtitle file, and of those of a PES file where its source tells
 -- them.
@@ -302,27 +276,25 @@ answer_by (Some f) a = Err f
 abbrev pub first_answer : List Event → Accepted → Result Accepted CheckFault
 first_answer events a = answer_by (first_told events) a
 
--- What was on air by its pieces, where those that are passed over put these packets on air. Where
--- they put none on air it is the frames that are read.
-abbrev pub on_air_with : OptionsValue → List ℕ → List PassedPackets → Transmission
-on_air_with options bytes passed =
-    all_on_air options.within (piece_file_of (clock_of options) bytes).pieces passed
-
--- Frames that are told as trusted may stay on air as they are, whatever the pieces put on air that
--- are passed over: in the part of the transmission in which frames rise, receivers recover there.
+-- Frames that are told as trusted may stay on air as they are, whatever is on air elsewhere: in the
+-- part of the transmission in which frames rise, receivers recover there.
 abbrev pub TellsWhatMayStay : ProgrammeValue → OptionsValue → List ℕ → Type 0
 TellsWhatMayStay programme options bytes =
-    (passed : List PassedPackets) (from to : ℕ)
+    let file = piece_file_of (clock_of options) bytes in
+    (from to : ℕ)
     → Contains (all_events_of programme options bytes) (Trusted from to)
-    → MayStay programme (rising_part (on_air_with options bytes passed)) options from to
+    → StaysAsRead (task_of programme options file.unread) file.pieces from to
+    (λ on_air. MayStay programme on_air options from to)
 
 -- So they may within frames: receivers recover there with a delay, and one of the frames at least
 -- is finished.
 abbrev pub TellsWhatMayStayWithDelay : ProgrammeValue → OptionsValue → List ℕ → Type 0
 TellsWhatMayStayWithDelay programme options bytes =
-    (passed : List PassedPackets) (from to : ℕ)
+    let file = piece_file_of (clock_of options) bytes in
+    (from to : ℕ)
     → Contains (all_events_of programme options bytes) (Trusted from to)
-    → MayStayWithDelay programme (rising_part (on_air_with options bytes passed)) options from to
+    → StaysAsRead (task_of programme options file.unread) file.pieces from to
+    (λ on_air. MayStayWithDelay programme on_air options from to)
 
 -- What is told of its first pieces, wherever the source failed, begins what is told of all. So what
 -- is promised of trusted frames holds of those that were told before.

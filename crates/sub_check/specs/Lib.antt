@@ -1,3 +1,4 @@
+pub mod AcceptedWithin
 pub mod CheckedFiles
 pub mod FirstTold
 pub use Rattle.sub_rules.specs.Transmission
@@ -21,7 +22,7 @@ pub use Rattle.sub_laws.specs.Sufficient
 pub use Rattle.sub_laws.specs.Delay
 pub use Rattle.sub_laws.specs.DelayLaws
 pub use Rattle.sub_laws.specs.CleanStretch
-pub use Rattle.sub_laws.specs.TrustedFrames
+pub use Rattle.sub_trusted.specs.TrustedFrames
 pub use Rattle.sub_laws.specs.Laws
 pub use Rattle.sub_laws.specs.Planned
 pub use Rattle.sub_laws.specs.BrokenPlaces

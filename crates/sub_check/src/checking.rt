@@ -35,7 +35,10 @@ use ttx_pes::PesFault;
 /// at each frame before it `Content`, then `Gap`; its packets in order, `Address` to `Enhancement`;
 /// `NoFirstHeader` for the first; `Content`, `Gap`, and where complete pages are asked for
 /// `Incomplete`. At the end `Empty` or `Late`. `Pes` with `Read` where the source failed in this
-/// call, and only there.
+/// call, and only there. Within frames a frame ends where a PES packet of another one comes, or
+/// none; `Incomplete` is told only at an end by which the page had to be whole, and at another one
+/// `Content` only of a code that was not due within these frames. `Late` is also told where the
+/// page is not whole at the last end, and need not be by then.
 pub fn check<S: Source>(
     programme: &Programme,
     source: &mut S,
@@ -107,14 +110,15 @@ pub fn check_all<S: Source, A: LiveAudience<Event>>(
     ensures first_within { IfTold (S.remaining source.old) (λ bytes.
         IfOk result (λ counts. IfSome counts (λ a. IsCheckedWithin programme.now options.now bytes
         (first_answer (all_events_of programme.now options.now bytes) a)))) }
-    // What it is told as trusted may stay on air as it is, whatever the pieces put on air that are
-    // passed over.
+    // The next three are laws of what it is told: they name neither the answer nor the device, and
+    // stand here so that this call carries them.
+    // What is told as trusted may stay on air as it is, whatever is on air elsewhere.
     ensures trusted { options.now.within ≡ 0 → IfTold (S.remaining source.old) (λ bytes.
         TellsWhatMayStay programme.now options.now bytes) }
     // So it may, with a delay, within frames.
     ensures trusted_within { 0 < options.now.within → IfTold (S.remaining source.old) (λ bytes.
         TellsWhatMayStayWithDelay programme.now options.now bytes) }
-    // What was told where the source failed begins what is told of all.
+    // What is told where the source failed begins what is told of all.
     ensures begins { IfTold (S.remaining source.old) (λ bytes.
         BeginsWhatIsTold programme.now options.now bytes) }
     // Nothing is counted exactly where the device said stop.

@@ -1,10 +1,10 @@
 //! The exact checker of a PES file against a programme, and the headline: a good transmission of a
 //! programme is robust.
 //!
-//! Joins `sub_checker`, which tells all that is broken, and `sub_laws`, whose laws say what that
-//! means, and gives their names, those of `sub_rules`, and the law of `sub_packets`. `check`
-//! accepts exactly the good transmissions (`Good` of `sub_rules`), and answers for any other with
-//! the first fault that is told of it (`Events`):
+//! Joins `sub_checker`, which tells all that is broken, with `sub_laws` and `sub_trusted`, whose
+//! laws say what that means, and gives their names, those of `sub_rules`, and the law of
+//! `sub_packets`. `check` accepts exactly the good transmissions (`Good` of `sub_rules`), and
+//! answers for any other with the first fault that is told of it (`Events`):
 //!
 //! ```text
 //! check(&programme, &mut source, &options)?; // Accepted { frames: 51, transmissions: 2 }
@@ -16,19 +16,21 @@
 mod checking;
 mod files;
 mod first_fault;
+mod laws;
 
 pub use checking::{check, check_all};
 pub use files::check_files;
+pub use laws::law_of_accepted_within_more;
 pub use sub_checker::Accepted;
 pub use sub_laws::{
-    law_of_all_kept, law_of_all_trusted, law_of_all_trusted_with_delay, law_of_broken_places,
-    law_of_complete_plan, law_of_exact_frames, law_of_finished_stretch, law_of_first_told,
-    law_of_good, law_of_good_within, law_of_longer_delay, law_of_no_delay, law_of_nothing_told,
-    law_of_nothing_told_of_pieces, law_of_nothing_told_within, law_of_passed_packets,
-    law_of_pes_files, law_of_plan, law_of_plan_read, law_of_plan_within, law_of_stretch,
+    law_of_all_kept, law_of_broken_places, law_of_complete_plan, law_of_exact_frames,
+    law_of_finished_stretch, law_of_first_told, law_of_good, law_of_good_within,
+    law_of_longer_delay, law_of_longer_delay_of_files, law_of_no_delay, law_of_nothing_told,
+    law_of_nothing_told_within, law_of_plan, law_of_plan_read, law_of_plan_within, law_of_stretch,
     law_of_stretch_with_delay, law_of_sufficient_parts, law_of_sufficient_parts_with_delay,
-    law_of_trust_without_delay, law_of_trusted, law_of_trusted_with_delay, law_of_untold_stretch,
-    law_of_whole_recovery, law_of_whole_stretch, law_of_whole_stretch_with_delay, law_of_window,
+    law_of_trust_without_delay, law_of_untold_stretch, law_of_whole_recovery, law_of_whole_stretch,
+    law_of_whole_stretch_with_delay, law_of_window,
 };
 pub use sub_packets::law_of_sent_again;
 pub use sub_rules::{CheckFault, EndRule, Event, FaultPlace, PacketRule, Watched};
+pub use sub_trusted::{law_of_all_trusted, law_of_trusted, law_of_trusted_with_delay};

@@ -10,3 +10,4 @@ pub mod ReadsOnLemmas
 pub mod StageLemmas
 pub mod TakingLemmas
 pub mod TellingLemmas
+pub mod TrustLemmas

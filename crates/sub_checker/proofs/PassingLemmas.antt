@@ -11,18 +11,22 @@ use Rattle.sub_io.proofs.TellingLemmas.{Tells-none, Tells-one, Tells-trans, Tell
 use Rattle.sub_io.proofs.TellingLemmas.{TellsPrefix-second, TellsPrefix-whole}
 use Rattle.sub_io.proofs.TellingLemmas.{TellsUntilStopped-after}
 use Rattle.sub_rules.specs.PieceEvents.{all_announced, announced, passed_after, passed_after_all}
-use Rattle.sub_rules.specs.Trusted.{Mark, after_mark, at_pes, doubted, late_since, told_by}
-use Rattle.sub_rules.specs.Trusted.{told_with, trust_after, trusted_before}
+use Rattle.sub_rules.specs.Trusted.{Mark, at_pes}
 use Rattle.sub_rules.specs.Trusted.Mark.{AtEnd, AtPes, Begins, Closes, Ends, Says}
 use Rattle.sub_rules.specs.declared.event.Event.{Event}
-use Rattle.sub_rules.specs.declared.passed_run.PassedRun.{PassedRun}
-use Rattle.sub_rules.specs.declared.trust.Trust.{Trust}
+use Rattle.sub_rules.specs.PieceEvents.{PassedRun}
+use Rattle.sub_checker.specs.declared.trust.Trust.{Trust}
 use Rattle.sub_rules.proofs.PieceEventLemmas.{all_announced-append, passed_after-append}
-use Rattle.sub_rules.proofs.TrustedLemmas.{told_by-append, trust_after-append}
+use Rattle.sub_checker.specs.PassedPieces.{as_run, kept_run}
 use Rattle.sub_checker.specs.Passing.{Passes, PassesMarks, at_mark, passed_on}
+use Rattle.sub_checker.specs.declared.passed_run.PassedPieces.{PassedPieces}
 use Rattle.sub_checker.specs.Passing.{passing_after}
 use Rattle.sub_checker.specs.declared.passing.Passing.{Passing}
 use Rattle.sub_checker.specs.declared.passing.Stage.{Stage}
+use Rattle.sub_checker.proofs.TrustLemmas.{told_by-append, trust_after-append}
+use Rattle.sub_checker.specs.Trust.{after_mark, doubted, late_since, told_by, told_with}
+use Rattle.sub_checker.specs.Trust.{trust_after}
+use Rattle.sub_checker.specs.Trust.{trusted_before}
 
 -- ---- marks, one list after another
 
@@ -33,15 +37,15 @@ after-append p xs ys =
     rw (told_by-append p.trust xs ys, trust_after-append p.trust xs ys)
     (ap (λ (r : PassedRun). let q : Passing = record {
       trust = trust_after (trust_after p.trust xs) ys;
-      run = r;
-    } in q) (passed_after-append p.run (told_by p.trust xs) _))
+      run = kept_run r;
+    } in q) (passed_after-append (as_run p.run) (told_by p.trust xs) _))
 
 pub passed-append : (p : Passing) (xs ys : List Mark)
     → passed_on p (xs ++ ys) ≡ passed_on p xs ++ passed_on (passing_after p xs) ys
 unfolding passed_on passing_after
 passed-append p xs ys =
-    ap (all_announced p.run) (told_by-append p.trust xs ys)
-    ∙ all_announced-append p.run (told_by p.trust xs) _
+    ap (all_announced (as_run p.run)) (told_by-append p.trust xs ys)
+    ∙ all_announced-append (as_run p.run) (told_by p.trust xs) _
 
 pub after-none : (p : Passing) → passing_after p [] ≡ p
 unfolding passing_after trust_after told_by passed_after_all
@@ -105,20 +109,20 @@ module _ {D : Type 0} (IsTold : D → Event → D → Type 0) where
 -- ---- one mark
 
 one_told : (p : Passing) (m : Mark)
-    → passed_on p (m ∷ []) ≡ all_announced p.run (told_with m p.trust)
+    → passed_on p (m ∷ []) ≡ all_announced (as_run p.run) (told_with m p.trust)
 unfolding passed_on told_by
-one_told p m = ap (all_announced p.run) (append-nil (told_with m p.trust))
+one_told p m = ap (all_announced (as_run p.run)) (append-nil (told_with m p.trust))
 
 one_kept : (p : Passing) (m : Mark)
     → passing_after p (m ∷ []) ≡ record {
       trust = after_mark m p.trust;
-      run = passed_after_all p.run (told_with m p.trust);
+      run = kept_run (passed_after_all (as_run p.run) (told_with m p.trust));
     }
 unfolding passing_after told_by trust_after
 one_kept p m =
     ap (λ (es : List Event). let q : Passing = record {
       trust = after_mark m p.trust;
-      run = passed_after_all p.run es;
+      run = kept_run (passed_after_all (as_run p.run) es);
     } in q) (append-nil (told_with m p.trust))
 
 -- What is told with one, after a run of pieces that were passed over. For `close` and `pass`.
@@ -126,36 +130,37 @@ pub pass_one : {D X E : Type 0} (IsTold : D → Event → D → Type 0) (a b : D
     (m : Mark) (es : List Event) (r : Result X E)
     → es ≡ told_with m p.trust
     → then.trust ≡ after_mark m p.trust
-    → TellsUntilStopped IsTold a b (all_announced p.run es) r
-    → OnOk r (then.run ≡ passed_after_all p.run es)
+    → TellsUntilStopped IsTold a b (all_announced (as_run p.run) es) r
+    → OnOk r (then.run ≡ kept_run (passed_after_all (as_run p.run) es))
     → PassesMarks IsTold a p (m ∷ []) b then r
 pass_one IsTold a b p then m es (Ok x) is trust told run = record {
-  told = subst (Tells IsTold a b) (ap (all_announced p.run) is ∙ sym (one_told p m)) told;
+  told = subst (Tells IsTold a b) (ap (all_announced (as_run p.run)) is ∙ sym (one_told p m)) told;
   kept =
       rw (one_kept p m, trust, run, is) refl;
 }
 pass_one IsTold a b p then m es (Err x) is trust told run = record {
-  told = subst (TellsPrefix IsTold a b) (ap (all_announced p.run) is ∙ sym (one_told p m)) told;
+  told = subst (TellsPrefix IsTold a b) (ap (all_announced (as_run p.run)) is ∙ sym (one_told p m)) told;
   kept = tt;
 }
 
 -- One event after others. For `announce_both`.
-pub both_are : (run mid : PassedRun) (xs : List Event) (e : Event)
-    → mid ≡ passed_after_all run xs
-    → all_announced run (xs ++ e ∷ []) ≡ all_announced run xs ++ announced mid e
+pub both_are : (run : PassedRun) (mid : PassedPieces) (xs : List Event) (e : Event)
+    → mid ≡ kept_run (passed_after_all run xs)
+    → all_announced run (xs ++ e ∷ []) ≡ all_announced run xs ++ announced (as_run mid) e
 unfolding all_announced
 both_are run mid xs e is =
     all_announced-append run xs (e ∷ [])
     ∙ ap (λ (l : List Event). all_announced run xs ++ l)
     (append-nil (announced (passed_after_all run xs) e)
-    ∙ ap (λ (r : PassedRun). announced r e) (sym is))
+    ∙ ap (λ (r : PassedPieces). announced (as_run r) e) (sym is))
 
-pub both_kept : (run mid : PassedRun) (xs : List Event) (e : Event)
-    → mid ≡ passed_after_all run xs
-    → passed_after mid e ≡ passed_after_all run (xs ++ e ∷ [])
+pub both_kept : (run : PassedRun) (mid : PassedPieces) (xs : List Event) (e : Event)
+    → mid ≡ kept_run (passed_after_all run xs)
+    → kept_run (passed_after (as_run mid) e) ≡ kept_run (passed_after_all run (xs ++ e ∷ []))
 unfolding passed_after_all
 both_kept run mid xs e is =
-    ap (λ (r : PassedRun). passed_after r e) is ∙ sym (passed_after-append run xs (e ∷ []))
+    ap (λ (r : PassedPieces). kept_run (passed_after (as_run r) e)) is
+    ∙ sym (ap kept_run (passed_after-append run xs (e ∷ [])))
 
 -- What is told with an event. For `pass`.
 pub says_with : (t u : Trust) (e named : Event) (first : Option Event)
@@ -215,13 +220,13 @@ silent {D} IsTold s t m is none = record {
       subst (λ (d : D). Tells IsTold s.device.now d (passed_on s.passing (m ∷ [])))
       (sym (ap (λ (u : Stage D). u.device.now) is))
       (subst (Tells IsTold s.device.now s.device.now)
-      (sym (one_told s.passing m ∙ ap (all_announced s.passing.run) none))
+      (sym (one_told s.passing m ∙ ap (all_announced (as_run s.passing.run)) none))
       (Tells-none s.device.now));
   kept =
       ap (λ (u : Stage D). u.passing) is
       ∙ sym (one_kept s.passing m ∙ ap (λ (es : List Event). let q : Passing = record {
         trust = after_mark m s.passing.trust;
-        run = passed_after_all s.passing.run es;
+        run = kept_run (passed_after_all (as_run s.passing.run) es);
       } in q) none);
 }
 

@@ -15,14 +15,14 @@ use Rattle.sub_rules.specs.Events.{unread_fault}
 use Rattle.sub_rules.specs.FrameRules.{Task, Unread, task_of}
 use Rattle.sub_rules.specs.PacketRules.{packets_of_units}
 use Rattle.sub_rules.specs.PieceEvents.{all_announced, all_of_pieces, ended_run, events_of_pieces}
-use Rattle.sub_rules.specs.PieceEvents.{marks_of_closing, marks_of_each, marks_of_sent}
-use Rattle.sub_rules.specs.PieceEvents.{marks_of_waiting, sent_by_pieces}
-use Rattle.sub_rules.specs.PieceEvents.{told_of_pieces}
+use Rattle.sub_rules.specs.PieceEvents.{marks_of_closing, marks_of_each, marks_of_pieces}
+use Rattle.sub_rules.specs.PieceEvents.{marks_of_sent, marks_of_waiting, no_run, passed_after_all}
+use Rattle.sub_rules.specs.PieceEvents.{sent_by_pieces, told_of_pieces}
 use Rattle.sub_rules.specs.Pieces.{Piece, PieceFileValue, ReadsPiece, ReadsPieces, frames_of}
 use Rattle.sub_rules.specs.Pieces.{joined_after, piece_of, pieces_at, sent_after}
 use Rattle.sub_rules.specs.Pieces.Piece.{Passed, Sent}
 use Rattle.sub_rules.specs.Transmission.{SentFrame, Transmission}
-use Rattle.sub_rules.specs.Trusted.{Mark, told_by}
+use Rattle.sub_rules.specs.Trusted.{Mark, told_after}
 use Rattle.sub_rules.specs.Trusted.Mark.{AtPes, Says}
 use Rattle.sub_rules.specs.declared.event.Event.{Event}
 use Rattle.sub_rules.specs.declared.event.Event.TheVariants.{Told}
@@ -32,6 +32,7 @@ use Rattle.sub_rules.proofs.JoinedLemmas.{marks_of_each-append}
 use Rattle.sub_rules.proofs.PieceFileLemmas.{pieces_at-next, pieces_stop, reads_bad}
 use Rattle.sub_checker.specs.Checker.{CheckerValue}
 use Rattle.sub_checker.specs.Following.{Keeps, last_marks}
+use Rattle.sub_checker.specs.PassedPieces.{as_run}
 use Rattle.sub_checker.specs.Passing.{nothing_passed, passed_on, passing_after}
 use Rattle.sub_checker.specs.PieceTelling.{IsReadOn, TellsPieces, finished}
 use Rattle.sub_checker.specs.Steps.{FinishesTelling}
@@ -40,6 +41,7 @@ use Rattle.sub_checker.specs.declared.passing.Passing.{Passing}
 use Rattle.sub_checker.specs.declared.telling.Accepted.{Accepted}
 use Rattle.sub_checker.proofs.PassingLemmas.{after-append, after-none, passed-append}
 use Rattle.sub_checker.proofs.ReadsOnLemmas.{ReadsOn, reads_on_passed, reads_on_sent}
+use Rattle.sub_checker.proofs.TrustLemmas.{told_is}
 use Rattle.ttx_pes.proofs.ReaderLemmas.{answers_say}
 use Rattle.ttx_pes.specs.Fault.{is_of_piece}
 use Rattle.ttx_pes.specs.PesPacket.{IsPesValue, PesValue}
@@ -77,7 +79,7 @@ tracks_none g last c p keeps none = record {
 some_told : (g : Task) (done : List Piece)
     → events_of_pieces g done ≡ passed_on nothing_passed (each_marks g done)
 unfolding events_of_pieces passed_on
-some_told g done = refl
+some_told g done = ap (all_announced no_run) (told_is (each_marks g done))
 
 -- ---- one piece more
 
@@ -173,7 +175,9 @@ module _ (g : Task) (all : List Piece) where
   all_told : all_of_pieces g all ≡ finished nothing_passed (each_marks g all ++ closing)
   unfolding all_of_pieces told_of_pieces passed_on passing_after
   all_told =
-      ap (finished nothing_passed)
+      ap (λ (es : List Event). all_announced no_run es ++ ended_run (passed_after_all no_run es))
+      (told_is (marks_of_pieces g all))
+      ∙ ap (finished nothing_passed)
       (append_assoc (each_marks g all) (marks_of_waiting g (frames_sent g all))
       (marks_of_closing g (frames_sent g all) (length all) (length (frames_sent g all))))
 
@@ -185,10 +189,10 @@ module _ (g : Task) (all : List Piece) where
       let each = each_marks g all in
       let kept = passing_after nothing_passed each in
       all_told
-      ∙ ap (λ (l : List Event). l ++ ended_run (passing_after nothing_passed (each ++ closing)).run)
+      ∙ ap (λ (l : List Event). l ++ ended_run (as_run (passing_after nothing_passed (each ++ closing)).run))
       (passed-append nothing_passed each closing)
       ∙ ap (λ (p : Passing). (passed_on nothing_passed each ++ passed_on kept closing)
-      ++ ended_run p.run) (after-append nothing_passed each closing)
+      ++ ended_run (as_run p.run)) (after-append nothing_passed each closing)
       ∙ append_assoc (passed_on nothing_passed each) _ _
       ∙ ap (λ (l : List Event). l ++ finished kept closing) (sym (some_told g all))
 
@@ -259,7 +263,7 @@ rest_none clock n rest few reads = by (answer_at n rest) refl
 
 -- Nothing was told yet.
 pub none_of_pieces : (g : Task) → events_of_pieces g [] ≡ []
-unfolding events_of_pieces marks_of_each told_by all_announced
+unfolding events_of_pieces marks_of_each told_after all_announced
 none_of_pieces g = refl
 
 module _ (programme : ProgrammeValue) {options : OptionsValue} {bytes : List ℕ}

@@ -7,7 +7,7 @@ use Rattle.std.proofs.Common.{append_assoc}
 use Rattle.stl_file.specs.TimeCode.{day}
 use Rattle.sub_io.specs.Telling.{Tells, TellsPrefix, TellsSome}
 use Rattle.sub_io.proofs.TellingLemmas.{Tells-none, TellsSome-none, TellsSome-trans}
-use Rattle.sub_rules.specs.Trusted.{Mark, after_mark, told_with}
+use Rattle.sub_rules.specs.Trusted.{Mark}
 use Rattle.sub_rules.specs.Trusted.Mark.{AtEnd, AtPes, Begins, Closes, Ends, Says}
 use Rattle.sub_rules.specs.declared.event.Event.{Event}
 use Rattle.sub_checker.specs.Checker.{CheckerValue}
@@ -20,6 +20,7 @@ use Rattle.sub_checker.proofs.PassingLemmas.{begins_last, closes_last, ends_last
 use Rattle.sub_checker.proofs.PassingLemmas.{passed-none, passes_last, passes_prefix, passes_some}
 use Rattle.sub_checker.proofs.PassingLemmas.{passes_whole, pes_last, silent, silent_at_end}
 use Rattle.sub_checker.proofs.PassingLemmas.{stop_first, stop_then, whole_then}
+use Rattle.sub_checker.specs.Trust.{after_mark, told_with}
 
 -- ---- parts of what is passed on
 

@@ -1,7 +1,9 @@
 pub mod Checker
 pub mod Following
 pub mod Lending
+pub mod PassedPieces
 pub mod Passing
 pub mod PieceTelling
 pub mod Steps
 pub mod Telling
+pub mod Trust

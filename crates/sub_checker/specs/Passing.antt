@@ -5,25 +5,27 @@ use Rattle.std.specs.Prelude.{◌≡◌, ◌<◌, Bool, false, List, [], ◌∷�
 use Rattle.stl_file.specs.TimeCode.{day}
 use Rattle.sub_io.specs.Telling.{Tells, TellsPrefix, TellsSome, TellsUntilStopped}
 use Rattle.sub_rules.specs.PieceEvents.{all_announced, no_run, passed_after_all}
-use Rattle.sub_rules.specs.Trusted.{Mark, after_mark, no_trust, told_by, trust_after}
+use Rattle.sub_rules.specs.Trusted.{Mark}
 use Rattle.sub_rules.specs.Trusted.Mark.{Says}
 use Rattle.sub_rules.specs.declared.event.Event.{Event}
+use Rattle.sub_checker.specs.PassedPieces.{as_run, kept_run}
 use Rattle.sub_checker.specs.declared.passing.Passing.{Passing}
 use Rattle.sub_checker.specs.declared.passing.Stage.{Stage}
+use Rattle.sub_checker.specs.Trust.{after_mark, no_trust, told_by, trust_after}
 
 -- Nothing came yet.
 abbrev pub nothing_passed : Passing
-nothing_passed = record { trust = no_trust; run = no_run }
+nothing_passed = record { trust = no_trust; run = kept_run no_run }
 
 -- What is told with marks, one after another.
 unfoldable pub passed_on : Passing → List Mark → List Event
-passed_on p ms = all_announced p.run (told_by p.trust ms)
+passed_on p ms = all_announced (as_run p.run) (told_by p.trust ms)
 
 -- What is kept after them.
 unfoldable pub passing_after : Passing → List Mark → Passing
 passing_after p ms = record {
   trust = trust_after p.trust ms;
-  run = passed_after_all p.run (told_by p.trust ms);
+  run = kept_run (passed_after_all (as_run p.run) (told_by p.trust ms));
 }
 
 -- After a mark with which nothing is told.

@@ -13,6 +13,7 @@ use Rattle.sub_rules.specs.Trusted.{Mark}
 use Rattle.sub_rules.specs.declared.event.Event.{Event}
 use Rattle.sub_rules.specs.declared.fault.CheckFault.{CheckFault}
 use Rattle.sub_rules.specs.declared.fault.CheckFault.TheVariants as fault
+use Rattle.sub_checker.specs.PassedPieces.{as_run}
 use Rattle.sub_checker.specs.Passing.{passed_on, passing_after}
 use Rattle.sub_checker.specs.Telling.{AreTaken, AreWhole, CountsRead}
 use Rattle.sub_checker.specs.declared.passing.Passing.{Passing}
@@ -54,4 +55,4 @@ ending_at pes (Some f) = Some (fault_at_pes pes f)
 
 -- What is told with marks, and then up to which piece a run goes.
 abbrev pub finished : Passing → List Mark → List Event
-finished p marks = passed_on p marks ++ ended_run (passing_after p marks).run
+finished p marks = passed_on p marks ++ ended_run (as_run (passing_after p marks).run)

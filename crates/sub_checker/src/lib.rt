@@ -17,11 +17,13 @@ mod counts;
 mod ending;
 mod late_end;
 mod lending;
+mod passed_run;
 mod passing;
 mod standing;
 mod taking;
 mod telling;
 mod telling_pieces;
+mod trust;
 
 pub use telling::Accepted;
 pub use telling_pieces::tell_pieces;

@@ -7,10 +7,13 @@ ghost use Rattle.sub_io.specs.Telling.{TellsUntilStopped, first_alone};
 ghost use Rattle.sub_rules.specs.PieceEvents.{all_announced, announced, passed_after};
 ghost use Rattle.sub_rules.specs.PieceEvents.{passed_after_all};
 ghost use Rattle.sub_rules.specs.Trusted.Mark.{AtEnd, AtPes, Begins, Closes, Ends, Says};
+ghost use Rattle.sub_checker.specs.PassedPieces.{as_run, kept_run};
 ghost use Rattle.sub_checker.specs.Passing.{Passes, PassesMarks, at_mark, nothing_passed};
 
+use crate::passed_run::PassedPieces;
+use crate::trust::Trust;
 use sub_io::{Audience, Stopped};
-use sub_rules::{Event, PassedRun, Trust};
+use sub_rules::Event;
 
 /// What is kept from one mark to the next.
 #[derive(Clone, Copy)]
@@ -18,7 +21,7 @@ pub(crate) struct Passing {
     /// The frames that may be trusted.
     pub trust: Trust,
     /// The pieces that were passed over last.
-    pub run: PassedRun,
+    pub run: PassedPieces,
 }
 
 /// Stands between the checker and a device.
@@ -37,7 +40,7 @@ impl Passing {
     {
         Passing {
             trust: Trust::new(),
-            run: PassedRun::new(),
+            run: PassedPieces::new(),
         }
     }
 }
@@ -130,15 +133,15 @@ impl<A: Audience<Event>> Audience<Event> for Stage<'_, A> {
 fn announce_both<A: Audience<Event>>(
     first: Option<Event>,
     event: Event,
-    run: &mut PassedRun,
+    run: &mut PassedPieces,
     audience: &mut A,
 ) -> Result<(), Stopped>
     requires goes_on { A.has_stopped audience.old ≡ false }
     ensures stopped { A.has_stopped audience.new ≡ is_err result }
     ensures told { TellsUntilStopped A.is_told audience.old audience.new
-        (all_announced run.old (first_alone first ++ event ∷ [])) result }
+        (all_announced (as_run run.old) (first_alone first ++ event ∷ [])) result }
     ensures kept { OnOk result
-        (run.new ≡ passed_after_all run.old (first_alone first ++ event ∷ [])) }
+        (run.new ≡ kept_run (passed_after_all (as_run run.old) (first_alone first ++ event ∷ []))) }
 {
     announce_some(first, run, audience)?;
     announce(event, run, audience)
@@ -148,14 +151,14 @@ fn announce_both<A: Audience<Event>>(
 #[tactic(auto, unfolding(sub_rules::specs::PieceEvents::all_announced, sub_rules::specs::PieceEvents::passed_after_all))]
 fn announce_some<A: Audience<Event>>(
     event: Option<Event>,
-    run: &mut PassedRun,
+    run: &mut PassedPieces,
     audience: &mut A,
 ) -> Result<(), Stopped>
     requires goes_on { A.has_stopped audience.old ≡ false }
     ensures stopped { A.has_stopped audience.new ≡ is_err result }
     ensures told { TellsUntilStopped A.is_told audience.old audience.new
-        (all_announced run.old (first_alone event)) result }
-    ensures kept { run.new ≡ passed_after_all run.old (first_alone event) }
+        (all_announced (as_run run.old) (first_alone event)) result }
+    ensures kept { run.new ≡ kept_run (passed_after_all (as_run run.old) (first_alone event)) }
 {
     match event {
         Some(event) => announce(event, run, audience),
@@ -167,14 +170,14 @@ fn announce_some<A: Audience<Event>>(
 #[tactic(auto, using(sub_io::proofs::TellingLemmas::tellings), unfolding(sub_rules::specs::PieceEvents::announced))]
 fn announce<A: Audience<Event>>(
     event: Event,
-    run: &mut PassedRun,
+    run: &mut PassedPieces,
     audience: &mut A,
 ) -> Result<(), Stopped>
     requires goes_on { A.has_stopped audience.old ≡ false }
     ensures stopped { A.has_stopped audience.new ≡ is_err result }
     ensures told { TellsUntilStopped A.is_told audience.old audience.new
-        (announced run.old event) result }
-    ensures kept { run.new ≡ passed_after run.old event }
+        (announced (as_run run.old) event) result }
+    ensures kept { run.new ≡ kept_run (passed_after (as_run run.old) event) }
 {
     let before = *run;
     *run = before.after(&event);

@@ -8,12 +8,12 @@ use Rattle.std.proofs.lemmas.List.{get_or_past}
 use Rattle.stl_rows.specs.Programme.{ProgrammeValue}
 use Rattle.sub_plan.specs.Options.{OptionsValue}
 use Rattle.ttx_packet.specs.PacketAddress.{IsPacket}
-use Rattle.sub_rules.specs.Events.{events}
 use Rattle.sub_rules.specs.FrameRules.{task_of}
 use Rattle.sub_rules.specs.Good.{Good}
 use Rattle.sub_rules.specs.Transmission.{Transmission}
 use Rattle.sub_rules.proofs.TestLemmas.{all_below, below, each_packet, packets_decided}
-use Rattle.sub_laws.proofs.EventLemmas.{law_of_nothing_told}
+use Rattle.sub_laws.proofs.EventLemmas.{none_told}
+use Rattle.sub_rules.proofs.FrameEvents.{events}
 
 -- A packet has 42 bytes.
 abbrev is_packet : List ℕ → Bool
@@ -49,4 +49,4 @@ pub good_by_events :
     → Good programme frames o
 good_by_events programme frames o at_once some whole quiet =
     let packets = (packets_decided is_packet IsPacket packet_decided frames).0 whole in
-    ((law_of_nothing_told programme o None frames at_once some packets).0 quiet).0
+    ((none_told programme o None frames at_once some packets).0 quiet).0

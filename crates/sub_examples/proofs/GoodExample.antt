@@ -10,7 +10,7 @@ use Rattle.ttx_packet.specs.Parity.{is_odd}
 use Rattle.ttx_page.specs.Page.{blank, blank_row}
 use Rattle.sub_rules.specs.PacketTests.{are_code_words, is_word_below}
 use Rattle.sub_rules.specs.PacketTests.{breaks, broken_rules, packet_rules}
-use Rattle.sub_rules.specs.Events.{events, events_of_first, frame_events, order_events, gap_events}
+use Rattle.sub_rules.specs.Events.{order_events}
 use Rattle.sub_rules.specs.Events.{gap_length, packets_told, rules_told, first_header_events}
 use Rattle.sub_rules.specs.Events.{is_late, is_pending, standing_at, standing_before, end_events}
 use Rattle.sub_rules.specs.Events.{since_frames, since_in_gap, unfinished_since, wrong_after}
@@ -20,9 +20,11 @@ use Rattle.ttx_page.specs.PacketKind.{kind}
 use Rattle.stl_rows.specs.DrawnPage.{drawn, page_of_lines, line_fault_kinds}
 use Rattle.stl_rows.specs.DuePage.{due}
 use Rattle.stl_rows.specs.Line.{is_boxed, is_double, prepared, row_of}
-use Rattle.stl_rows.specs.TextCode.{cell_of, cell_of_pair}
+use Rattle.stl_rows.specs.SubSets.{sub_set}
+use Rattle.stl_rows.specs.TextCode.{cell_of, cell_of_pair, is_common}
 use Rattle.sub_examples.specs.Examples.{ExampleOfGood}
 use Rattle.sub_examples.proofs.ExampleLemmas.{good_by_events}
+use Rattle.sub_rules.proofs.FrameEvents.{events, events_of_first, frame_events, gap_events}
 
 pub example_of_good : ExampleOfGood
 unfolding events events_of_first frame_events order_events gap_events gap_length
@@ -32,5 +34,5 @@ unfolding events events_of_first frame_events order_events gap_events gap_length
     are_code_words is_word_below first_even_byte kind address
     header coded_header decoded is_near is_odd count_ones ones_in due blank
     blank_row drawn page_of_lines row_of line_fault_kinds prepared is_boxed is_double
-    cell_of cell_of_pair
+    is_common cell_of cell_of_pair sub_set
 example_of_good = good_by_events _ _ _ refl (omega arith) refl refl

@@ -4,3 +4,4 @@ pub mod NotRobust
 pub mod RobustTests
 pub mod ScreenTests
 pub mod StretchExample
+pub mod TrustedRows

@@ -16,6 +16,7 @@ use Rattle.sub_rules.specs.Events.{first_cell, is_gap, is_incomplete, is_late, s
 use Rattle.sub_rules.specs.Events.{wrong_after}
 use Rattle.ttx_page.specs.PacketKind.{kind}
 use Rattle.stl_rows.specs.DuePage.{due}
+use Rattle.stl_rows.specs.SubSets.{sub_set}
 use Rattle.sub_examples.specs.Examples.{ExamplesOfNeededParts, closing, header_888}
 use Rattle.sub_examples.specs.Examples.{header_without_c4, row_1, x0}
 use Rattle.sub_examples.proofs.RobustTests.{needed}
@@ -39,7 +40,7 @@ pub examples_of_needed_parts : ExamplesOfNeededParts
 unfolding are_code_words is_word_below first_even_byte breaks columns_differing is_gap
     packet_rules standing_at is_late wrong_after first_cell is_incomplete
     kind address header coded_header decoded is_near is_odd count_ones ones_in due blank
-    blank_row
+    blank_row sub_set
 examples_of_needed_parts = record {
   -- Frames 900000 and 900001 are got as they were sent.
   frames_rise = needed 62 _ _ 900000 0 900001 (header_888 ∷ row_1 0xA1 ∷ []) refl;

@@ -14,7 +14,7 @@ use Rattle.ttx_page.specs.declared.packet_kind.PacketKind.TheVariants.{ThisPage,
 use Rattle.ttx_page.specs.Page.{Rows, blank, blank_row}
 use Rattle.sub_rules.specs.PacketTests.{are_code_words, is_word_below}
 use Rattle.sub_rules.specs.PacketTests.{breaks, broken_rules, packet_rules}
-use Rattle.sub_rules.specs.Events.{events, events_of_first, frame_events, order_events, gap_events}
+use Rattle.sub_rules.specs.Events.{order_events}
 use Rattle.sub_rules.specs.Events.{gap_length, packets_told, rules_told, first_header_events}
 use Rattle.sub_rules.specs.Events.{is_late, is_pending, standing_at, standing_before, end_events}
 use Rattle.sub_rules.specs.Events.{since_frames, since_in_gap, unfinished_since, wrong_after}
@@ -29,11 +29,13 @@ use Rattle.sub_plan.specs.Examples.{page_888}
 use Rattle.sub_examples.specs.Examples.{header_888, row_22, closing, one_frame, each, no_subtitles}
 use Rattle.sub_rules.specs.Good.{Good}
 use Rattle.stl_rows.specs.DuePage.{due}
+use Rattle.stl_rows.specs.SubSets.{sub_set}
 use Rattle.ttx_packet.specs.declared.header.Header.{Header}
 use Rattle.sub_examples.specs.ScreenExamples.{unheard, ExampleOfEndedPage, ExampleOfPageNotEnded}
 use Rattle.sub_examples.specs.ScreenExamples.{ExampleOfPageBegunAgain, ExampleOfNoEnd}
 use Rattle.sub_rules.specs.Transmission.{Transmission}
 use Rattle.sub_examples.proofs.ExampleLemmas.{good_by_events}
+use Rattle.sub_rules.proofs.FrameEvents.{events, events_of_first, frame_events, gap_events}
 
 -- ---- packets
 
@@ -139,7 +141,7 @@ unfolding events events_of_first frame_events order_events gap_events gap_length
     closing_events is_pending unfinished_since since_in_gap since_frames
     are_code_words is_word_below first_even_byte kind address
     header coded_header decoded is_near is_odd count_ones ones_in
-    due blank blank_row
+    due blank blank_row sub_set
 no_end_is_good = good_by_events _ _ _ refl (omega arith) refl refl
 
 -- It holds a header of the page, which none ends.

@@ -20,7 +20,8 @@ use Rattle.ttx_page.proofs.NoiseLaws.{all_kept, may_all}
 use Rattle.stl_rows.specs.DrawnPage.{drawn, page_of_lines, line_fault_kinds}
 use Rattle.stl_rows.specs.DuePage.{due}
 use Rattle.stl_rows.specs.Line.{is_boxed, is_double, prepared, row_of}
-use Rattle.stl_rows.specs.TextCode.{cell_of, cell_of_pair}
+use Rattle.stl_rows.specs.SubSets.{sub_set}
+use Rattle.stl_rows.specs.TextCode.{cell_of, cell_of_pair, is_common}
 use Rattle.sub_laws.specs.CleanStretch.{IsUntold}
 use Rattle.sub_examples.specs.Examples.{ExampleOfCleanStretch, closing, damaged_first, each}
 use Rattle.sub_examples.specs.Examples.{header_888, later_subtitle, row_22}
@@ -44,13 +45,13 @@ unfolding are_code_words is_word_below first_even_byte breaks columns_differing 
     packet_rules standing_at is_late wrong_after first_cell is_incomplete
     kind address header coded_header decoded is_near is_odd count_ones ones_in due blank
     blank_row drawn page_of_lines row_of line_fault_kinds prepared is_boxed is_double
-    cell_of cell_of_pair
+    is_common cell_of cell_of_pair sub_set
 clean = untold_by_test _ _ _ _ refl
 
 pub example_of_clean_stretch : ExampleOfCleanStretch
 unfolding kind address header coded_header decoded is_near is_odd count_ones ones_in due blank
     blank_row drawn page_of_lines row_of line_fault_kinds prepared is_boxed is_double
-    cell_of cell_of_pair
+    is_common cell_of cell_of_pair sub_set
 example_of_clean_stretch = record {
   refused = refused;
   clean = clean;

@@ -4,6 +4,7 @@
 //! They show that the definitions of `specs/` say what they are to say. The functions do nothing.
 ghost use Rattle.sub_examples.specs.Examples.{ExampleOfCleanStretch, ExampleOfGood};
 ghost use Rattle.sub_examples.specs.Examples.{ExamplesOfNeededParts};
+ghost use Rattle.sub_examples.specs.TrustedExamples.{ExamplesOfTrusted};
 
 /// A good transmission: one subtitle in one frame, and in the next frame the page without it.
 #[tactic(auto, using(crate::proofs::GoodExample::example_of_good))]
@@ -22,4 +23,10 @@ pub fn examples_of_needed_parts()
 #[tactic(auto, using(crate::proofs::StretchExample::example_of_clean_stretch))]
 pub fn example_of_clean_stretch()
     ensures { ExampleOfCleanStretch }
+{}
+
+/// Which frames are told as trusted of what comes of a file, and before what.
+#[tactic(auto, using(crate::proofs::TrustedRows::examples_of_trusted))]
+pub fn examples_of_trusted()
+    ensures { ExamplesOfTrusted }
 {}

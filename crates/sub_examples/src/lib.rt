@@ -12,5 +12,7 @@
 mod examples;
 mod screen_examples;
 
-pub use examples::{example_of_clean_stretch, example_of_good, examples_of_needed_parts};
+pub use examples::{
+    example_of_clean_stretch, example_of_good, examples_of_needed_parts, examples_of_trusted,
+};
 pub use screen_examples::{example_of_no_end, examples_of_screens};

@@ -1,3 +1,4 @@
+-- For what is told and what may stay.
 -- The rules of a packet, as tests decide them: `rule_decided`; all of them: `clean_decided`.
 use Rattle.std.proofs.Common.{◌≡◌, ℕ, zero, suc, ◌<◌, ◌≤◌, inl, inr, Bool, true, false, not}
 use Rattle.std.proofs.Common.{◌&&◌, List, [], ◌∷◌, Option, Some, None, option_map, refl, sym, ◌∙◌}
@@ -39,7 +40,7 @@ use Rattle.sub_rules.specs.declared.packet_rule.PacketRule.TheVariants as rule
 use Rattle.sub_rules.specs.declared.packet_rule.Watched.{Watched}
 use Rattle.sub_laws.specs.BrokenPlaces.{IsComparable}
 use Rattle.sub_laws.proofs.PlaceLemmas.{clean_spans}
-use Rattle.sub_rules.proofs.TestLemmas.{below_none, fails, holds, same_bit}
+use Rattle.sub_rules.proofs.TestLemmas.{below_none, fails, holds, same_option}
 use Rattle.sub_rules.proofs.CodesLemmas.{same_packet}
 use Rattle.sub_rules.proofs.PacketLists.{Each-find, Each-join, Each-map, Each-none, Each-push}
 use Rattle.sub_rules.proofs.PacketLists.{no_row}
@@ -76,12 +77,20 @@ one_mode this first = grind (arith, nat_tests, mode-none)
 subtitle_header : (national : National) (h : Header)
     → Decides (is_subtitle_header national h) (IsSubtitleHeader national h)
 subtitle_header national h =
-    grind (arith, nat_tests, Decides-like, is_subtitle_header, Decides-and, holds, fails, same_bit)
+    grind (arith, nat_tests, Decides-like, is_subtitle_header, Decides-and, holds, fails, same_option)
+
+-- What is asked of a header of the page alone.
+of_this_page : (P : Header → Type 0) (b : Bool) (this : Header) → Decides b (P this)
+    → Refutes (not b) ((h : Header) → ThisPage this ≡ ThisPage h → P h)
+of_this_page P b this d = grind (arith, nat_tests)
 
 pub controlled : (national : National) (k : PacketKind)
     → Refutes (is_wrong_header national k)
     ((h : Header) → k ≡ ThisPage h → IsSubtitleHeader national h)
-controlled national k = grind (arith, nat_tests, subtitle_header)
+controlled national (ThisPage h) =
+    of_this_page (IsSubtitleHeader national) (is_subtitle_header national h) h
+    (subtitle_header national h)
+controlled national k = grind (arith, nat_tests)
 
 -- The text's parity.
 pub odd_text : (p : List ℕ) → Refutes (is_some (first_even_byte p)) (HasOddText p)

@@ -1,3 +1,4 @@
+-- For what is told and what may stay.
 -- Spans packet by packet: `clean_cuts`, `last_clean`.
 use Rattle.std.proofs.lemmas.Bool.Decides.{nat_tests}
 use Rattle.std.proofs.Common.{◌≡◌, ℕ, zero, suc, ◌<◌, inl, inr, Bool, true, false, not, ◌&&◌, cond}

@@ -1,3 +1,4 @@
+-- For `law_of_trusted` and `law_of_untold_stretch`.
 -- A clean stretch has what suffices: `law_of_untold_stretch`.
 use Rattle.std.proofs.lemmas.Bool.Decides.{nat_tests}
 use Rattle.std.proofs.Common.{◌≡◌, ℕ}

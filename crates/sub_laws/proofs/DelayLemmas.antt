@@ -1,3 +1,4 @@
+-- For the headline, what may be late, schedules and what may stay.
 -- What may be trusted of a stretch of frames that may be late: `law_of_stretch_with_delay`; and
 -- where the page that is due is shown it is what may be trusted of one that is not:
 -- `served_at_once`, `law_of_finished_stretch`, `law_of_trust_without_delay`.

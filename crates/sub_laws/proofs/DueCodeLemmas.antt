@@ -1,3 +1,4 @@
+-- For `law_of_nothing_told_within` and `law_of_trusted_with_delay`.
 -- A code that was due at a cell within some frames: `was_due_at`, `due_was`; the first cell that
 -- shows none of these, `none_undue`, `undue_none`, `undue_found`; and the subtitle whose TCO a
 -- frame is, `ending_is`, `ending_at`.

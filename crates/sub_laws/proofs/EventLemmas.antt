@@ -1,3 +1,4 @@
+-- For what is told.
 -- Nothing is told exactly where all that is asked holds, and what is told first is a refusal:
 -- `all_told`. Part by part, `law_of_broken_places`; and of the whole, `law_of_nothing_told`.
 use Rattle.std.proofs.Common.{◌≡◌, ℕ, zero, suc, ◌+◌, ◌-◌, ◌<◌, ◌≤◌, ◌⊎◌, inl, inr, Bool, true}
@@ -10,10 +11,10 @@ use Rattle.std.proofs.lemmas.Bool.Decides.{nat_tests, Decides-ltb}
 use Rattle.std.proofs.lemmas.List.{append-nil}
 use Rattle.std.proofs.lemmas.Option.{none-some, same_Some}
 use Rattle.ttx_packet.specs.PacketAddress.{IsPacket}
-use Rattle.sub_rules.specs.Events.{broken_cell, closing_events, end_before, end_events, events}
-use Rattle.sub_rules.specs.Events.{events_at_end, events_of_first, first_header_events}
+use Rattle.sub_rules.specs.Events.{broken_cell, closing_events, end_before, end_events}
+use Rattle.sub_rules.specs.Events.{events_at_end, first_header_events}
 use Rattle.sub_rules.specs.Events.{first_told}
-use Rattle.sub_rules.specs.Events.{frame_events, gap_events, gap_length, is_gap, is_incomplete}
+use Rattle.sub_rules.specs.Events.{gap_length, is_gap, is_incomplete}
 use Rattle.sub_rules.specs.Events.{is_late, is_pending, is_short, latest, late_events}
 use Rattle.sub_rules.specs.Events.{nothing_stands, order_events, packet_events, packet_fault}
 use Rattle.sub_rules.specs.Events.{packets_told, rest_events, rules_told, standing_at}
@@ -28,7 +29,7 @@ use Rattle.sub_rules.specs.declared.fault.CheckFault.{CheckFault}
 use Rattle.sub_rules.specs.declared.fault.CheckFault.TheVariants as fault
 use Rattle.sub_rules.specs.declared.packet_rule.PacketRule.{PacketRule}
 use Rattle.sub_rules.proofs.EndLemmas.{gap_length-is, standing_before_is}
-use Rattle.sub_laws.specs.BrokenPlaces.{LawOfBrokenPlaces, LawOfNothingTold}
+use Rattle.sub_laws.specs.BrokenPlaces.{TellsBroken}
 use Rattle.sub_laws.proofs.BrokenRuleLemmas.{clean_decided, refuted, rule_decided}
 use Rattle.sub_laws.proofs.FirstFoundLemmas.{Finds, Finds-append, Finds-like, Finds-none}
 use Rattle.sub_laws.proofs.FirstFoundLemmas.{first_found, found_so_far, packet_found}
@@ -40,6 +41,14 @@ use Rattle.sub_laws.proofs.PrefixLemmas.{EachAfter-push, IsInGap, at_start, befo
 use Rattle.sub_laws.proofs.PrefixLemmas.{each_at, each_from, packet_at}
 use Rattle.sub_laws.proofs.RisingEndLemmas.{latest_at}
 use Rattle.sub_laws.proofs.StandingLemmas.{stands_broken}
+use Rattle.sub_rules.proofs.FrameEvents.{events, events_of_first, frame_events, gap_events}
+use Rattle.std.proofs.Common.{IsTrue, map}
+use Rattle.stl_rows.specs.Programme.{ProgrammeValue}
+use Rattle.sub_plan.specs.Options.{OptionsValue}
+use Rattle.sub_rules.specs.Good.{Good}
+use Rattle.sub_rules.specs.PieceEvents.{all_of_pieces}
+use Rattle.sub_rules.specs.Pieces.Piece.{Sent}
+use Rattle.sub_laws.specs.OnScreen.{Complete}
 
 -- ---- what is told first
 
@@ -437,20 +446,21 @@ module _ (g : Task) (frames : Transmission) (Named : CheckFault → Type 0)
 abbrev Any : CheckFault → Type 0
 Any f = Unit {0}
 
-pub law_of_broken_places : LawOfBrokenPlaces
+-- Part by part, where anything that is told begins with a refusal.
+pub broken_places : (g : Task) (frames : Transmission) → g.within ≡ 0
+    → (EachPacket IsPacket frames
+    → first_told (all_of_pieces g (map Sent frames)) ≡ None
+    → all_of_pieces g (map Sent frames) ≡ [])
+    → TellsBroken g frames
 unfolding order_events first_header_events
-law_of_broken_places g frames at_once = record {
+broken_places g frames at_once refused = record {
   start = grind (arith, nat_tests, same_Some);
   order = λ i. grind (arith, nat_tests);
   rules = λ r before p comparable. refuted _ (rule_decided g.watched before p r comparable);
   header = grind (arith, nat_tests);
   ends = λ n f l. stands_broken g frames n f at_once l;
   late = let none = none_pending g frames at_once in grind (arith, nat_tests, same_Some);
-  first = λ event rest whole is.
-      let told =
-      all_told g frames Any (λ f e. tt) (λ u e. tt) (λ n f x read wrong. tt) whole in
-      let (f, named, any) = told.at event (rw is refl) in
-      (f, named);
+  first = refused;
 }
 
 -- Nothing is told exactly where all that is asked holds.
@@ -480,8 +490,17 @@ pub sizes_of : (frames : Transmission) → EachPacket IsPacket frames
     → EachPacket (λ packet. length packet ≡ 42) frames
 sizes_of frames whole = grind (arith, nat_tests, each_from, each_at)
 
-pub law_of_nothing_told : LawOfNothingTold
-law_of_nothing_told programme options unread frames at_once some whole =
+-- Nothing is told of frames exactly where they are good.
+pub none_told : (programme : ProgrammeValue) (options : OptionsValue) (unread : Option Unread)
+    (frames : Transmission)
+    → options.within ≡ 0
+    → 0 < options.every
+    → EachPacket IsPacket frames
+    → (events (task_of programme options unread) frames ≡ [])
+    ↔ (Good programme frames options
+    × (IsTrue options.asks_complete → Complete frames options)
+    × (unread ≡ None))
+none_told programme options unread frames at_once some whole =
     let told = nothing_told (task_of programme options unread) frames whole in (
       λ none.
           let h = told.0 none in (

@@ -1,3 +1,4 @@
+-- For `check`.
 -- Where a wrong cell is told first of the pieces of a PES file, it is told first of the frames that
 -- are sent by those before the first one that is passed over. Main lemma: `content_first`.
 use Rattle.std.proofs.lemmas.Bool.Decides.{nat_tests}
@@ -5,7 +6,7 @@ use Rattle.std.proofs.Common.{◌≡◌, ℕ, suc, ◌⊎◌, inl, inr, List, []
 use Rattle.std.proofs.Common.{None, refl, sym, ap, ◌∙◌, arith, append_assoc}
 use Rattle.std.proofs.lemmas.Option.{same_Some}
 use Rattle.std.specs.Option.{option_or}
-use Rattle.sub_rules.specs.Events.{events, first_told}
+use Rattle.sub_rules.specs.Events.{first_told}
 use Rattle.sub_rules.specs.Fault.{fault_at_pes}
 use Rattle.sub_rules.specs.FrameRules.{Task, Unread}
 use Rattle.sub_rules.specs.FrameRules.Unread.{BadPacket, NoFrame}
@@ -15,7 +16,6 @@ use Rattle.sub_rules.specs.PieceEvents.{sent_by_pieces, told_of_pieces}
 use Rattle.sub_rules.specs.Pieces.{Piece, frames_of, joined, read_until_passed, sent_after}
 use Rattle.sub_rules.specs.Pieces.Piece.{Passed, Sent}
 use Rattle.sub_rules.specs.Transmission.{SentFrame, Transmission}
-use Rattle.sub_rules.specs.Trusted.{Mark, at_pes, no_trust, told_by}
 use Rattle.sub_rules.specs.Trusted.Mark.{AtEnd, AtPes, Begins, Closes, Ends, Says}
 use Rattle.sub_rules.specs.declared.event.Event.{Event}
 use Rattle.sub_rules.specs.declared.event.Event.TheVariants.{Ended, PassedUntil, Told, Trusted}
@@ -24,6 +24,9 @@ use Rattle.sub_rules.specs.declared.fault.CheckFault.TheVariants as fault
 use Rattle.sub_rules.proofs.MarkEventLemmas.{first_of_two, marks_first, said_by}
 use Rattle.sub_rules.proofs.PieceEventLemmas.{all_first}
 use Rattle.sub_laws.proofs.SaidLemmas.{pieces_said, said, said-append}
+use Rattle.sub_rules.specs.Trusted.{Mark, at_pes}
+use Rattle.sub_rules.proofs.KeptTrust.{all_is, no_trust}
+use Rattle.sub_rules.proofs.FrameEvents.{events}
 
 -- ---- pieces
 
@@ -185,7 +188,7 @@ module _ (frame row column : ℕ) where
     -- that is passed over. For `check`.
     pub content_first : (pieces : List Piece) → IsFirst (all_of_pieces g pieces)
         → IsFirst (events g (joined g.within (read_until_passed pieces g.unread).frames))
-    unfolding all_of_pieces told_of_pieces
+    unfolding all_of_pieces
     content_first pieces e =
         ap first_told
         (ap (λ (fs : Transmission). events g (joined g.within fs))
@@ -198,7 +201,11 @@ module _ (frame row column : ℕ) where
         told =
             let marks = marks_of_pieces g pieces in
             said_first 0 marks
-            (sym (all_first (told_by no_trust marks) ∙ marks_first no_trust marks) ∙ e)
+            (sym
+            (all_first (told_of_pieces g pieces)
+            ∙ ap first_told (all_is g pieces)
+            ∙ marks_first no_trust marks)
+            ∙ e)
 
         of_front : (front pieces ≡ pieces) ⊎ IsFirst (said (marks_of_each g [] 0 (front pieces)))
             → IsFirst (said (marks_of_pieces g (front pieces)))

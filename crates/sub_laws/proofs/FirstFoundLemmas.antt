@@ -1,3 +1,4 @@
+-- For what is told and what may stay.
 -- What is found first in a list of events, whatever is looked for in them, and where it is nothing:
 -- `Finds`. Of one list after another, `Finds-append`; of lists that grow, `found_so_far`; and of
 -- what is told of a packet, `packet_found`.

@@ -1,3 +1,4 @@
+-- For what is told and what may stay.
 -- What is asked of a transmission, frame by frame of the list.
 use Rattle.std.proofs.Common.{◌≡◌, ℕ, ◌+◌, ◌-◌, ◌<◌, ◌≤◌, ◌⊎◌, length, Some, None, IsFalse}
 use Rattle.ttx_page.specs.Page.{IsCell}

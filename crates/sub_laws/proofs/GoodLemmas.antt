@@ -1,3 +1,4 @@
+-- For what may be late, schedules, what is told and what may stay.
 -- What holds of each packet of a transmission, and the headers of frames of the list and of frames
 -- of the day: `each_packet`, `any_sent`, `sent_any`.
 use Rattle.std.proofs.Common.{◌≡◌, ℕ, zero, suc, ◌+◌, ◌-◌, ◌<◌, inl, inr, Bool, true, cond, ◌&&◌}

@@ -1,3 +1,4 @@
+-- For what may be late, schedules and what is told.
 -- A transmission that is good within some frames has what suffices, `suffices_with_delay`, and so
 -- all that is promised of it, `law_of_good_within`. Within none that is what is good,
 -- `law_of_no_delay`; within more it stays so, `law_of_longer_delay`; and a schedule is good within

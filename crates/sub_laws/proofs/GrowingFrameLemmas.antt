@@ -1,3 +1,4 @@
+-- For what is told and what may stay.
 -- The frames that are sent so far, of all frames that are sent by PES packets: these are more
 -- packets of the last of them, and more frames, `grows`. So what comes of them so far goes by all
 -- frames.

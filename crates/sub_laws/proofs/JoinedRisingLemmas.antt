@@ -1,3 +1,4 @@
+-- For `check`.
 -- Of frames that rise each is sent as one, within however many frames: `joined-rising`.
 use Rattle.std.proofs.lemmas.Bool.Decides.{nat_tests}
 use Rattle.std.proofs.Common.{◌≡◌, ℕ, zero, suc, ◌-◌, ◌<◌, ◌==◌, ◌&&◌, Bool, false, not}

@@ -1,3 +1,4 @@
+-- For `law_of_all_trusted` and `law_of_nothing_told_of_pieces`.
 -- A test of marks that none of these passes that come of pieces: `before_passes`. What is told with
 -- such marks: `told_passes`, `announced_passes`.
 use Rattle.std.proofs.lemmas.Bool.Decides.{nat_tests}
@@ -24,15 +25,16 @@ use Rattle.sub_rules.specs.PieceEvents.{marks_of_waiting, sent_by_pieces}
 use Rattle.sub_rules.specs.Pieces.{Piece, goes_on_with, sent_after}
 use Rattle.sub_rules.specs.Pieces.Piece.{Passed, Sent}
 use Rattle.sub_rules.specs.Transmission.{SentFrame, Transmission}
-use Rattle.sub_rules.specs.Trusted.{Mark, after_mark, at_pes, closing_frame, doubted, late_since}
-use Rattle.sub_rules.specs.Trusted.{told_by, told_with, trusted, trusted_before}
 use Rattle.sub_rules.specs.Trusted.Mark.{AtEnd, AtPes, Begins, Closes, Ends, Says}
 use Rattle.sub_rules.specs.declared.event.Event.{Event}
 use Rattle.sub_rules.specs.declared.event.Event.TheVariants.{Ended, PassedUntil, Told, Trusted}
 use Rattle.sub_rules.specs.declared.fault.CheckFault.{CheckFault}
-use Rattle.sub_rules.specs.declared.trust.Trust.{Trust}
 use Rattle.sub_rules.specs.declared.packet_rule.PacketRule.{PacketRule}
 use Rattle.sub_rules.specs.declared.packet_rule.Watched.{Watched}
+use Rattle.sub_rules.proofs.KeptTrust.{Trust, after_mark, closing_frame, late_since, told_by}
+use Rattle.sub_rules.proofs.KeptTrust.{told_with}
+use Rattle.sub_rules.specs.Trusted.{Mark, at_pes, trusted}
+use Rattle.sub_rules.proofs.KeptTrust.{doubted, trusted_before}
 
 module _ (test : Mark → Bool) where
   -- An event passes where it is said.

@@ -1,6 +1,8 @@
+-- For what is told and what may stay.
 -- What comes of pieces, followed mark after mark: with the frames that they send, each of which
--- ends, and with those that are passed over. Main lemmas: `each_piece`, and `waits`, of the last
--- frame.
+-- ends, and with those that are passed over. What is kept meanwhile is any value, X, and what it is
+-- once what follows is told of another PES packet, `told_of`. Main lemmas: `each_piece`, and
+-- `waits`, of the last frame.
 use Rattle.std.proofs.Common.{◌≡◌, ℕ, suc, ◌-◌, ◌<◌, ◌⊎◌, inl, inr, Bool, true, false, ◌==◌}
 use Rattle.std.proofs.Common.{List, [], ◌∷◌, ◌++◌, length, map, Some, refl, sym, ap, ◌∙◌, subst}
 use Rattle.std.proofs.Common.{arith, append-nil, cond, length-append, if◌then◌else◌}
@@ -16,16 +18,15 @@ use Rattle.sub_rules.specs.Pieces.{Piece, frames_of, goes_on_with, joined_after,
 use Rattle.sub_rules.specs.Pieces.{with_packets}
 use Rattle.sub_rules.specs.Pieces.Piece.{Passed, Sent}
 use Rattle.sub_rules.specs.Transmission.{SentFrame, Transmission}
-use Rattle.sub_rules.specs.Trusted.{Mark, after_mark, told_with}
 use Rattle.sub_rules.specs.Trusted.Mark.{AtPes, Says}
 use Rattle.sub_rules.specs.declared.event.Event.{Event}
 use Rattle.sub_rules.specs.declared.event.Event.TheVariants.{Told}
-use Rattle.sub_rules.specs.declared.trust.Trust.{Trust}
 use Rattle.sub_rules.proofs.JoinedLemmas.{with_packets-last, with_packets-length}
 use Rattle.sub_rules.proofs.PrefixEventLemmas.{packets_of_frame-prefix}
 use Rattle.sub_laws.proofs.GrowingFrameLemmas.{Grows, arrival_is, before_is, end_is, ending_is}
 use Rattle.sub_laws.proofs.GrowingFrameLemmas.{frame_is, goes_on_some, grown, grows, grows_before}
 use Rattle.sub_laws.proofs.GrowingFrameLemmas.{long, packets_are, so_far, whole_at_once}
+use Rattle.sub_rules.specs.Trusted.{Mark}
 
 -- So many packets of the last frame are there in the end, and more.
 packets_grow : (g : Task) (sent frames : Transmission) (is : Grows sent frames) (n : ℕ)
@@ -45,10 +46,10 @@ EachPassed within Q sent [] = ⊤
 EachPassed within Q sent (Sent s ∷ ahead) = EachPassed within Q (sent_after within sent s) ahead
 EachPassed within Q sent (Passed u ∷ ahead) = Q sent × EachPassed within Q sent ahead
 
-module _ (g : Task) (frames : Transmission)
-    (T : (Trust → Type 0) → Trust → List Mark → Type 0)
-    (C : ℕ → Trust → Type 0)
-    (O : ℕ → List (List ℕ) → Trust → Type 0)
+module _ (X : Type 0) (told_of : ℕ → X → X) (g : Task) (frames : Transmission)
+    (T : (X → Type 0) → X → List Mark → Type 0)
+    (C : ℕ → X → Type 0)
+    (O : ℕ → List (List ℕ) → X → Type 0)
     (Q : Transmission → Type 0)
   where
     -- What is told of a piece that is passed over.
@@ -59,18 +60,18 @@ module _ (g : Task) (frames : Transmission)
     -- where the next one is sent, O, and these packets in it, to its end; and with a piece that is
     -- passed over where frames were sent as asked, Q.
     pub record Steps : Type 0 where
-      pub at_ended : (n pes : ℕ) (t : Trust) → C n t → C n (after_mark (AtPes pes) t)
+      pub at_ended : (n pes : ℕ) (t : X) → C n t → C n (told_of pes t)
       pub at_open :
-          (n pes : ℕ) (packets : List (List ℕ)) (t : Trust)
+          (n pes : ℕ) (packets : List (List ℕ)) (t : X)
           → O n packets t
-          → O n packets (after_mark (AtPes pes) t)
+          → O n packets (told_of pes t)
       pub arrival :
-          (n : ℕ) (t : Trust)
+          (n : ℕ) (t : X)
           → n < length frames
           → C n t
           → T (O n []) t (marks_of_arrival g frames n)
       pub more :
-          (n : ℕ) (packets more rest : List (List ℕ)) (t : Trust)
+          (n : ℕ) (packets more rest : List (List ℕ)) (t : X)
           → n < length frames
           → packets_of_frame frames n ≡ packets ++ more ++ rest
           → O n packets t
@@ -79,18 +80,18 @@ module _ (g : Task) (frames : Transmission)
           (packets_told g.watched (frame_at frames n) (length packets)
           (packets_before frames n ++ packets) more (length more)))
       pub ending :
-          (n : ℕ) (t : Trust)
+          (n : ℕ) (t : X)
           → n < length frames
           → O n (packets_of_frame frames n) t
           → T (C (suc n)) t (marks_of_ending g frames n)
       pub passed_ended :
-          (sent : Transmission) (pes : ℕ) (u : Unread) (t : Trust)
+          (sent : Transmission) (pes : ℕ) (u : Unread) (t : X)
           → Grows sent frames
           → Q sent
           → C (length sent) t
           → T (C (length sent)) t (passed_marks pes u)
       pub passed_open :
-          (sent : Transmission) (n pes : ℕ) (u : Unread) (t : Trust)
+          (sent : Transmission) (n pes : ℕ) (u : Unread) (t : X)
           → Grows sent frames
           → length sent ≡ suc n
           → Q sent
@@ -99,7 +100,7 @@ module _ (g : Task) (frames : Transmission)
 
     -- What is kept while these frames are sent so far: all have ended, as each does at once, or
     -- none was sent; or the last one may go on.
-    abbrev pub Sends : Transmission → Trust → Type 0
+    abbrev pub Sends : Transmission → X → Type 0
     Sends sent t =
         ((((g.within == 0) ≡ true) ⊎ (length sent ≡ 0)) × C (length sent) t)
         ⊎ (((g.within == 0) ≡ false)
@@ -107,19 +108,18 @@ module _ (g : Task) (frames : Transmission)
         × (length sent ≡ suc n)
         × O n (packets_of_frame sent n) t)
 
-    module _ (nil : (S : Trust → Type 0) (t : Trust) → S t → T S t [])
-        (cons : (S : Trust → Type 0) (t : Trust) (m : Mark) (ms : List Mark)
-        → told_with m t ≡ []
-        → T S (after_mark m t) ms
-        → T S t (m ∷ ms))
-        (append : (S U : Trust → Type 0) (t : Trust) (xs ys : List Mark)
+    module _ (nil : (S : X → Type 0) (t : X) → S t → T S t [])
+        (at_pes : (S : X → Type 0) (t : X) (pes : ℕ) (ms : List Mark)
+        → T S (told_of pes t) ms
+        → T S t (AtPes pes ∷ ms))
+        (append : (S U : X → Type 0) (t : X) (xs ys : List Mark)
         → T S t xs
-        → ((u : Trust) → S u → T U u ys)
+        → ((u : X) → S u → T U u ys)
         → T U t (xs ++ ys))
         (steps : Steps)
       where
-        and_so : (S U : Trust → Type 0) (t : Trust) (ms : List Mark) → T S t ms
-            → ((u : Trust) → S u → U u)
+        and_so : (S U : X → Type 0) (t : X) (ms : List Mark) → T S t ms
+            → ((u : X) → S u → U u)
             → T U t ms
         and_so S U t ms is so =
             subst (T U t) (append-nil ms) (append S U t ms [] is (λ u s. nil U u (so u s)))
@@ -127,7 +127,7 @@ module _ (g : Task) (frames : Transmission)
         -- ---- a PES packet that is sent
 
         -- It goes on with the last frame.
-        on_more : (sent : Transmission) (s : SentFrame) (t : Trust) (n : ℕ) → length sent ≡ suc n
+        on_more : (sent : Transmission) (s : SentFrame) (t : X) (n : ℕ) → length sent ≡ suc n
             → Grows sent frames
             → Grows (with_packets s.packets sent) frames
             → O n (packets_of_frame sent n) t
@@ -158,7 +158,7 @@ module _ (g : Task) (frames : Transmission)
             open_here))
 
         -- The last frame ends.
-        ends : (sent more : Transmission) (t : Trust) → frames ≡ sent ++ more
+        ends : (sent more : Transmission) (t : X) → frames ≡ sent ++ more
             → (n : ℕ) → length sent ≡ suc n
             → O n (packets_of_frame sent n) t
             → T (C (length sent)) t (marks_of_ending g sent n)
@@ -173,7 +173,7 @@ module _ (g : Task) (frames : Transmission)
             (packets_are g sent more frames whole n (omega arith)) open_here)))
 
         -- Within some frames it does where another one comes, or none.
-        pub waits : (sent more : Transmission) (t : Trust) → frames ≡ sent ++ more → Sends sent t
+        pub waits : (sent more : Transmission) (t : X) → frames ≡ sent ++ more → Sends sent t
             → T (C (length sent)) t (marks_of_waiting g sent)
         unfolding marks_of_waiting
         waits [] more t whole (inl (ended, closed)) = nil (C 0) t closed
@@ -193,7 +193,7 @@ module _ (g : Task) (frames : Transmission)
             (ends (s ∷ sent) more t whole n size open_here))
 
         -- Another frame comes.
-        on_next : (sent more : Transmission) (s : SentFrame) (t : Trust)
+        on_next : (sent more : Transmission) (s : SentFrame) (t : X)
             → Grows (sent ++ s ∷ []) frames
             → ((g.within == 0) ≡ true → frames ≡ (sent ++ s ∷ []) ++ more)
             → C (length sent) t
@@ -227,7 +227,7 @@ module _ (g : Task) (frames : Transmission)
             (steps.more n [] packets is.rest u there (packets_grow g all frames is n size) so)))
             (λ u so. go (g.within == 0) refl u size so)
           where
-            go : (at_once : Bool) → (g.within == 0) ≡ at_once → (u : Trust)
+            go : (at_once : Bool) → (g.within == 0) ≡ at_once → (u : X)
                 → length (sent ++ s ∷ []) ≡ suc (length sent)
                 → O (length sent) (packets_of_frame (sent ++ s ∷ []) (length sent)) u
                 → T (Sends (sent ++ s ∷ [])) u
@@ -240,11 +240,11 @@ module _ (g : Task) (frames : Transmission)
             go false later u size so =
                 nil (Sends (sent ++ s ∷ [])) u (inr (later, length sent, size, so))
 
-        sent_step : (sent more : Transmission) (pes : ℕ) (s : SentFrame) (t : Trust)
+        sent_step : (sent more : Transmission) (pes : ℕ) (s : SentFrame) (t : X)
             → joined_after g.within (sent_after g.within sent s) more ≡ frames
             → Sends sent t
             → T (Sends (sent_after g.within sent s)) t (marks_of_sent g sent pes s)
-        unfolding marks_of_sent told_with
+        unfolding marks_of_sent
         sent_step sent more pes s t all sends =
             go (goes_on_with g.within sent s) refl
             (subst (Grows (sent_after g.within sent s)) all
@@ -273,10 +273,10 @@ module _ (g : Task) (frames : Transmission)
                 (λ (b : Bool). Grows (cond b (with_packets s.packets sent) (sent ++ s ∷ [])) frames)
                 (sym e) is) in
                 let all : Transmission = with_packets s.packets sent in
-                cons (Sends all) t (AtPes pes) (marks_of_more g sent s.packets) refl
-                (and_so (O n (packets_of_frame all n)) (Sends all) (after_mark (AtPes pes) t)
+                at_pes (Sends all) t pes (marks_of_more g sent s.packets)
+                (and_so (O n (packets_of_frame all n)) (Sends all) (told_of pes t)
                 (marks_of_more g sent s.packets)
-                (on_more sent s (after_mark (AtPes pes) t) n size before is
+                (on_more sent s (told_of pes t) n size before is
                 (steps.at_open n pes (packets_of_frame sent n) t open_here))
                 (λ u so. inr (later, n, with_packets-length s.packets sent ∙ size, so)))
             go false e is whole sends =
@@ -284,34 +284,33 @@ module _ (g : Task) (frames : Transmission)
                 append (C (length sent)) (Sends (sent ++ s ∷ [])) t (marks_of_waiting g sent)
                 (AtPes pes ∷ marks_of_next g sent s) (waits sent all.0 t all.1 sends)
                 (λ u closed.
-                cons (Sends (sent ++ s ∷ [])) u (AtPes pes) (marks_of_next g sent s) refl
-                (on_next sent more s (after_mark (AtPes pes) u) is whole
+                at_pes (Sends (sent ++ s ∷ [])) u pes (marks_of_next g sent s)
+                (on_next sent more s (told_of pes u) is whole
                 (steps.at_ended (length sent) pes u closed)))
 
         -- ---- a piece that is passed over
 
-        passed_step : (sent : Transmission) (pes : ℕ) (u : Unread) (t : Trust) → Grows sent frames
+        passed_step : (sent : Transmission) (pes : ℕ) (u : Unread) (t : X) → Grows sent frames
             → Q sent
             → Sends sent t
             → T (Sends sent) t (AtPes pes ∷ passed_marks pes u)
-        unfolding told_with
         passed_step sent pes u t is asked (inl (ended, closed)) =
-            cons (Sends sent) t (AtPes pes) (passed_marks pes u) refl
-            (and_so (C (length sent)) (Sends sent) (after_mark (AtPes pes) t) (passed_marks pes u)
-            (steps.passed_ended sent pes u (after_mark (AtPes pes) t) is asked
+            at_pes (Sends sent) t pes (passed_marks pes u)
+            (and_so (C (length sent)) (Sends sent) (told_of pes t) (passed_marks pes u)
+            (steps.passed_ended sent pes u (told_of pes t) is asked
             (steps.at_ended (length sent) pes t closed))
             (λ v so. inl (ended, so)))
         passed_step sent pes u t is asked (inr (later, n, size, open_here)) =
-            cons (Sends sent) t (AtPes pes) (passed_marks pes u) refl
-            (and_so (O n (packets_of_frame sent n)) (Sends sent) (after_mark (AtPes pes) t)
+            at_pes (Sends sent) t pes (passed_marks pes u)
+            (and_so (O n (packets_of_frame sent n)) (Sends sent) (told_of pes t)
             (passed_marks pes u)
-            (steps.passed_open sent n pes u (after_mark (AtPes pes) t) is size asked
+            (steps.passed_open sent n pes u (told_of pes t) is size asked
             (steps.at_open n pes (packets_of_frame sent n) t open_here))
             (λ v so. inr (later, n, size, so)))
 
         -- ---- pieces
 
-        pub each_piece : (sent : Transmission) (pes : ℕ) (t : Trust) (pieces : List Piece)
+        pub each_piece : (sent : Transmission) (pes : ℕ) (t : X) (pieces : List Piece)
             → joined_after g.within sent (frames_of pieces) ≡ frames
             → EachPassed g.within Q sent pieces
             → Sends sent t

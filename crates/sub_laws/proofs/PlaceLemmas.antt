@@ -1,3 +1,4 @@
+-- For what is told and what may stay.
 -- A transmission keeps the rules of all but what is shown, and nothing stands broken at its ends,
 -- exactly where all that is asked of it holds: `Rules-from_holds`, `holds-from_rules`. Within 0
 -- frames it is good then, of complete pages where these are asked for: `Good-from_holds`,

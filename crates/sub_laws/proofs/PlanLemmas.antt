@@ -1,3 +1,4 @@
+-- For schedules.
 -- A schedule is a good transmission, and its bytes are read to their end as it: `law_of_plan`,
 -- `law_of_plan_read`.
 use Rattle.sub_plan.proofs.ScheduleBases.{range_split, last_sending, sending_in_gap, sends-first}
@@ -9,7 +10,7 @@ use Rattle.std.proofs.Common.{◌≡◌, ℕ, suc, ◌+◌, ◌-◌, ◌<◌, �
 use Rattle.std.proofs.Common.{length, map, filter, take, flat_map, All, refl, sym, ap, ap₂, ◌∙◌}
 use Rattle.std.proofs.Common.{subst, arith, IsTrue, append-nil, Option, Some, None, ◌*◌, lit<}
 use Rattle.std.specs.List.{range_with_len, AllByRecursion}
-use Rattle.std.specs.Prelude.{IfSome}
+use Rattle.std.specs.Prelude.{IfSome, bit_and, ◌==◌}
 use Rattle.std.proofs.lemmas.Option.{same_Some}
 use Rattle.ttx_packet.specs.declared.header.Header.{Header}
 use Rattle.ttx_packet.specs.PacketAddress.{IsPacket}
@@ -23,12 +24,14 @@ use Rattle.ttx_page.specs.PacketKind.{kind}
 use Rattle.ttx_page.specs.Span.{holds_header, is_unended, span}
 use Rattle.ttx_page.specs.Shown.{shown}
 use Rattle.stl_rows.specs.declared.national.National.{National}
+use Rattle.stl_rows.specs.declared.national.NationalBits.{NationalBits}
+use Rattle.stl_rows.specs.SubSets.{sub_set}
 use Rattle.stl_rows.specs.Programme.{first_in, last_out, IsProgramme, ProgrammeValue}
 use Rattle.stl_rows.proofs.PageShapeLemmas.{due_is_page}
 use Rattle.sub_plan.specs.Options.{IsOptions, IsWatchable, OptionsValue}
 use Rattle.sub_plan.specs.Schedule.{due_in, is_sending, sendings_from, pes_value, plan_frames}
 use Rattle.sub_plan.specs.Schedule.{sendings_at, sendings_between}
-use Rattle.sub_plan.specs.Sending.{sending, watched_header}
+use Rattle.sub_plan.specs.Sending.{sending, watched_control, watched_header}
 use Rattle.sub_plan.specs.Laws.{AreRowsOfOnePage, IsLastSending, IsRowOf, IsSentPacket}
 use Rattle.sub_plan.proofs.SentPackets.{kind_row, made_row, row_of}
 use Rattle.sub_plan.proofs.SendingLemmas.{all_sent, ended_after, law_of_cut_sendings, sending_holds}
@@ -92,10 +95,33 @@ module _ (w : PageIdValue) (ok : IsWatchable w) where
   clean_rows : (packets : List (List ℕ)) → AreRowsOfOnePage w packets → IsCleanSpan w packets
   clean_rows packets are = grind (arith, nat_tests, All-weaker, odd_row, same_row, no_enhancement)
 
+-- A bit is set in a number.
+abbrev has_bit : ℕ → ℕ → Bool
+has_bit flag n = bit_and n flag == flag
+
+-- Of control bits that are made, C12 to C14 are those that they were made with.
+made_c12 : (serial : Bool) (b : NationalBits) → has_bit 0x100 (watched_control serial b) ≡ b.c12
+made_c12 serial b = grind (arith, nat_tests)
+
+made_c13 : (serial : Bool) (b : NationalBits) → has_bit 0x200 (watched_control serial b) ≡ b.c13
+made_c13 serial b = grind (arith, nat_tests)
+
+made_c14 : (serial : Bool) (b : NationalBits) → has_bit 0x400 (watched_control serial b) ≡ b.c14
+made_c14 serial b = grind (arith, nat_tests)
+
 -- The header of a sending has the control bits of a subtitle's.
 subtitle_header : (w : PageIdValue) (national : National) (serial : Bool)
     → IsSubtitleHeader national (watched_header w national serial)
-subtitle_header w national serial = grind (arith, nat_tests)
+subtitle_header w national serial =
+    let b : NationalBits = (sub_set national).bits in
+    record {
+      erases = grind (arith, nat_tests);
+      no_newsflash = grind (arith, nat_tests);
+      subtitle = grind (arith, nat_tests);
+      suppressed = grind (arith, nat_tests);
+      displayed = grind (arith, nat_tests);
+      option = rw (made_c12 serial b, made_c13 serial b, made_c14 serial b) refl;
+    }
 
 -- ---- the schedule
 

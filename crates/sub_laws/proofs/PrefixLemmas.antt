@@ -1,3 +1,4 @@
+-- For what may be late, schedules, what is told and what may stay.
 -- The lists of packets that a transmission begins with, and where a frame falls.
 use Rattle.std.proofs.lemmas.Bool.Decides.{nat_tests}
 use Rattle.std.proofs.Common.{◌≡◌, ℕ, zero, suc, ◌+◌, ◌-◌, ◌<◌, ◌≤◌, ◌⊎◌, inl, inr, ◌&&◌, nat_le}

@@ -1,3 +1,4 @@
+-- For `check`.
 -- What is read of any bytes: packets are whole, and no fault is a device's. Main lemmas:
 -- `file_pieces_sound`, `sent_whole`, `file_sound`.
 use Rattle.std.proofs.lemmas.Bool.Decides.{nat_tests}

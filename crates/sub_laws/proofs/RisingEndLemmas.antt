@@ -1,3 +1,4 @@
+-- For what is told and what may stay.
 -- The latest of frames that rise: `latest_at`.
 use Rattle.std.proofs.lemmas.Bool.Decides.{nat_tests}
 use Rattle.std.proofs.Common.{◌≡◌, ℕ, zero, suc, ◌-◌, ◌<◌, arith}

@@ -1,3 +1,4 @@
+-- For the headline and what may be late.
 -- A good transmission is sound, `sound_stretch`, and has what suffices, `suffices`, and so all that
 -- is promised of it: the laws of the headline.
 use Rattle.std.proofs.Common.{arith, ℕ, ◌+◌, List, length, subst, le_refl}

@@ -1,35 +1,30 @@
+-- For `law_of_nothing_told_of_pieces`.
 -- What is said by the marks of pieces: where each is sent it is what is told of the frames that
 -- they send. Main lemma: `pieces_said`.
-use Rattle.std.proofs.Common.{◌≡◌, ℕ, zero, suc, ◌+◌, ◌-◌, ◌<◌, ◌≤◌, ◌==◌, Bool, true, false, List}
-use Rattle.std.proofs.Common.{[], ◌∷◌, ◌++◌, length, map, take, refl, sym, ap, ◌∙◌, arith}
-use Rattle.std.proofs.Common.{append_assoc, if◌then◌else◌, length-append}
+use Rattle.std.proofs.Common.{◌≡◌, ℕ, zero, suc, ◌+◌, ◌<◌, ◌≤◌, ◌==◌, Bool, true, false, List}
+use Rattle.std.proofs.Common.{[], ◌∷◌, ◌++◌, length, map, refl, sym, ap, ap₂, ◌∙◌, subst, arith}
+use Rattle.std.proofs.Common.{append_assoc, if◌then◌else◌, inl, inr, length-append}
 use Rattle.std.proofs.lemmas.List.{append-nil}
-use Rattle.sub_rules.specs.Events.{closing_events, events, events_at_end, events_of_first}
-use Rattle.sub_rules.specs.Events.{first_header_events, frame_events, gap_events, gap_length}
+use Rattle.sub_rules.specs.Events.{closing_events, events_at_end}
+use Rattle.sub_rules.specs.Events.{first_header_events, gap_length}
 use Rattle.sub_rules.specs.Events.{is_late, latest, order_events, packet_events, packets_told}
 use Rattle.sub_rules.specs.Events.{unfinished_since}
-use Rattle.sub_rules.specs.FrameRules.{Task, frame_at, packets_before, packets_of_frame}
+use Rattle.sub_rules.specs.FrameRules.{Task, frame_at, packets_before}
 use Rattle.sub_rules.specs.PieceEvents.{closing_of_pieces, marks_at_end, marks_of_arrival}
 use Rattle.sub_rules.specs.PieceEvents.{marks_of_closing, marks_of_each, marks_of_ending}
-use Rattle.sub_rules.specs.PieceEvents.{marks_of_gap, marks_of_more, marks_of_next}
-use Rattle.sub_rules.specs.PieceEvents.{marks_of_packets, marks_of_pieces, marks_of_sent}
-use Rattle.sub_rules.specs.PieceEvents.{marks_of_waiting, sent_by_pieces}
+use Rattle.sub_rules.specs.PieceEvents.{marks_of_gap, marks_of_pieces, marks_of_waiting}
+use Rattle.sub_rules.specs.PieceEvents.{sent_by_pieces}
 use Rattle.sub_rules.specs.Pieces.{Piece, frames_of, goes_on_with, joined_after, sent_after}
 use Rattle.sub_rules.specs.Pieces.{with_packets}
 use Rattle.sub_rules.specs.Pieces.Piece.{Passed, Sent}
 use Rattle.sub_rules.specs.Transmission.{SentFrame, Transmission}
-use Rattle.sub_rules.specs.Trusted.{Mark}
-use Rattle.sub_rules.specs.Trusted.Mark.{AtEnd, AtPes, Begins, Says}
+use Rattle.sub_rules.specs.Trusted.Mark.{AtEnd, Begins, Says}
 use Rattle.sub_rules.specs.declared.event.Event.{Event}
-use Rattle.sub_rules.proofs.FirstFrameLemmas.{events_at_end-same, frame_at-same, gap_events-same}
-use Rattle.sub_rules.proofs.FirstFrameLemmas.{gap_length-same, order_events-same}
-use Rattle.sub_rules.proofs.FirstFrameLemmas.{packets_before-same}
-use Rattle.sub_rules.proofs.FrameLists.{joined_more}
-use Rattle.sub_rules.proofs.JoinedLemmas.{packets_told-append, with_packets-frames}
-use Rattle.sub_rules.proofs.JoinedLemmas.{with_packets-last, with_packets-length}
-use Rattle.sub_rules.proofs.JoinedLemmas.{with_packets-packets, with_packets-take}
-use Rattle.sub_rules.proofs.PrefixEventLemmas.{frame_events-prefix}
+use Rattle.sub_rules.proofs.JoinedLemmas.{packets_told-append, with_packets-length}
 use Rattle.sub_laws.proofs.GrowingFrameLemmas.{goes_on_some}
+use Rattle.sub_laws.proofs.PieceWalkLemmas.{EachPassed, Sends, Steps, each_piece, waits}
+use Rattle.sub_rules.specs.Trusted.{Mark}
+use Rattle.sub_rules.proofs.FrameEvents.{events, events_of_first, frame_events, gap_events}
 
 -- ---- what marks say
 
@@ -83,12 +78,6 @@ module _ (g : Task) where
       ∙ said-append order gap
       ∙ rw (said-says (order_events g frames i), said_gap frames i (gap_length frames i)) refl
 
-  -- What is told of its packets.
-  abbrev packets_of : Transmission → ℕ → List Event
-  packets_of frames i =
-      packet_events g.watched (frame_at frames i) (packets_before frames i)
-      (packets_of_frame frames i) (length (packets_of_frame frames i))
-
   -- And at its end.
   abbrev ending : Transmission → ℕ → List Event
   ending frames i =
@@ -108,256 +97,13 @@ module _ (g : Task) where
             (frame_at frames i),
       ) refl
 
-  -- ---- so far
-
-  -- What is told of the first frames and, of the next one, up to its end.
-  abbrev begun : Transmission → ℕ → List Event
-  begun frames i =
-      events_of_first g frames i
-      ++ (order_events g frames i ++ gap_events g frames i (gap_length frames i))
-      ++ packets_of frames i
-
-  begun_all : (frames : Transmission) (i : ℕ)
-      → begun frames i ++ ending frames i ≡ events_of_first g frames (suc i)
-  unfolding events_of_first frame_events
-  begun_all frames i = grind (arith, append_assoc)
-
-  -- What is told where these frames were sent so far: within frames the last one has not ended.
-  abbrev so_far_to : Transmission → ℕ → List Event
-  so_far_to frames zero = []
-  so_far_to frames (suc i) =
-      if g.within == 0 then events_of_first g frames (suc i) else begun frames i
-
-  abbrev so_far : Transmission → List Event
-  so_far frames = so_far_to frames (length frames)
-
-  -- With what comes at the end of the last one.
-  pub so_far-ended : (sent : Transmission)
-      → so_far sent ++ said (marks_of_waiting g sent) ≡ events_of_first g sent (length sent)
-  unfolding marks_of_waiting events_of_first
-  so_far-ended [] = refl
-  so_far-ended (s ∷ sent) = go (g.within == 0)
-    where
-      go : (b : Bool)
-          → (if b
-          then events_of_first g (s ∷ sent) (suc (length sent))
-          else begun (s ∷ sent) (length sent))
-          ++ said (if b then [] else marks_of_ending g (s ∷ sent) (length sent))
-          ≡ events_of_first g (s ∷ sent) (suc (length sent))
-      go true = append-nil (events_of_first g (s ∷ sent) (suc (length sent)))
-      go false =
-          ap (λ (es : List Event). begun (s ∷ sent) (length sent) ++ es)
-          (said_ending (s ∷ sent) (length sent))
-          ∙ begun_all (s ∷ sent) (length sent)
-
-  -- ---- another frame
-
-  -- What is told of the first frames is told by them alone.
-  first_same : (done more : Transmission) (n : ℕ) → n ≤ length done
-      → events_of_first g (done ++ more) n ≡ events_of_first g done n
-  unfolding events_of_first
-  first_same done more zero l = refl
-  first_same done more (suc n) l =
-      rw (first_same done more n (omega arith), frame_events-prefix g g.unread done more n l) refl
-
-  -- What comes of a frame up to its end.
-  said_begun : (frames : Transmission) (i : ℕ)
-      → said (marks_of_arrival g frames i ++ marks_of_packets g frames i)
-      ≡ order_events g frames i ++ gap_events g frames i (gap_length frames i)
-      ++ packets_of frames i
-  said_begun frames i =
-      said-append (marks_of_arrival g frames i) (marks_of_packets g frames i)
-      ∙ rw (said_arrival frames i, said-says (packets_of frames i)) refl
-
-  next_by : (frames : Transmission) (i : ℕ) (b : Bool)
-      → events_of_first g frames i
-      ++ said (marks_of_arrival g frames i ++ marks_of_packets g frames i
-      ++ (if b then marks_of_ending g frames i else []))
-      ≡ (if b then events_of_first g frames (suc i) else begun frames i)
-  next_by frames i true =
-      let first = events_of_first g frames i in
-      let marks = marks_of_arrival g frames i ++ marks_of_packets g frames i in
-      let own = order_events g frames i ++ gap_events g frames i (gap_length frames i)
-      ++ packets_of frames i in
-      let joined : first ++ own ≡ begun frames i =
-      sym (append_assoc first _ (packets_of frames i)) in
-      ap (λ (es : List Event). first ++ es) (said-append marks (marks_of_ending g frames i))
-      ∙ rw (said_begun frames i, said_ending frames i)
-      (sym (append_assoc first own (ending frames i))
-      ∙ ap (λ (es : List Event). es ++ ending frames i) joined
-      ∙ begun_all frames i)
-  next_by frames i false =
-      let first = events_of_first g frames i in
-      let marks = marks_of_arrival g frames i ++ marks_of_packets g frames i in
-      ap (λ (es : List Event). first ++ es)
-      (ap said (append-nil marks) ∙ said_begun frames i)
-      ∙ sym (append_assoc first _ (packets_of frames i))
-
-  so_far-next : (sent : Transmission) (s : SentFrame)
-      → events_of_first g sent (length sent) ++ said (marks_of_next g sent s)
-      ≡ so_far (sent ++ s ∷ [])
-  so_far-next sent s =
-      let frames : Transmission = sent ++ s ∷ [] in
-      let size : length frames ≡ suc (length sent) =
-      length-append sent (s ∷ []) ∙ omega arith in
-      ap (λ (es : List Event). es ++ said (marks_of_next g sent s))
-      (sym (first_same sent (s ∷ []) (length sent) (omega arith)))
-      ∙ next_by frames (length sent) (g.within == 0)
-      ∙ ap (so_far_to frames) (sym size)
-
-  -- ---- more of the last frame
-
-  module _ (sent : Transmission) (packets : List (List ℕ)) (i : ℕ) (size : length sent ≡ suc i)
-    where
-      abbrev longer : Transmission
-      longer = with_packets packets sent
-
-      abbrev numbers : map (λ (s : SentFrame). s.frame) longer
-          ≡ map (λ (s : SentFrame). s.frame) sent
-      numbers = with_packets-frames packets sent
-
-      abbrev front : take i longer ≡ take i sent
-      front = with_packets-take packets sent i (omega (arith, size))
-
-      -- The frames before the last one are as they were.
-      header_same : (k : ℕ) → k < i → first_header_events g longer k ≡ first_header_events g sent k
-      unfolding first_header_events
-      header_same zero l =
-          rw (
-            with_packets-packets packets sent 0 (omega (arith, size)),
-            frame_at-same g longer sent i numbers front 0,
-          ) refl
-      header_same (suc k) l = refl
-
-      frame_same : (k : ℕ) → k < i → frame_events g longer k ≡ frame_events g sent k
-      unfolding frame_events
-      frame_same k l =
-          rw (
-            order_events-same g longer sent i numbers front k,
-            gap_length-same g longer sent i numbers front k,
-            gap_events-same g longer sent i numbers front k (gap_length sent k) (omega arith),
-            frame_at-same g longer sent i numbers front k,
-            packets_before-same g longer sent i numbers front k (omega arith),
-            with_packets-packets packets sent k (omega (arith, size)),
-            header_same k l,
-            events_at_end-same g longer sent i numbers front k (suc k) (frame_at sent k)
-                (omega arith) (omega arith),
-          ) refl
-
-      earlier_same : (k : ℕ) → k ≤ i → events_of_first g longer k ≡ events_of_first g sent k
-      unfolding events_of_first
-      earlier_same zero l = refl
-      earlier_same (suc k) l = rw (earlier_same k (omega arith), frame_same k l) refl
-
-      -- What is told of the last one, with its packets.
-      more_of_last : packets_of longer i
-          ≡ packets_of sent i
-          ++ packets_told g.watched (frame_at sent i) (length (packets_of_frame sent i))
-          (packets_before sent (suc i)) packets (length packets)
-      more_of_last =
-          let next : i + 1 ≡ suc i = omega arith in
-          let before : packets_before sent (suc i)
-          ≡ packets_before sent i ++ packets_of_frame sent i =
-          ap (packets_before sent) (sym next) ∙ joined_more sent i (omega (arith, size)) in
-          let from : 0 + length (packets_of_frame sent i) ≡ length (packets_of_frame sent i) =
-          omega arith in
-          rw (
-            frame_at-same g longer sent i numbers front i,
-            packets_before-same g longer sent i numbers front i (omega arith),
-            with_packets-last packets sent i (sym size),
-            before,
-            packets_told-append g.watched (frame_at sent i) 0 (packets_before sent i)
-                (packets_of_frame sent i) packets,
-            from,
-          ) refl
-
-      begun_more : begun longer i
-          ≡ begun sent i
-          ++ packets_told g.watched (frame_at sent i) (length (packets_of_frame sent i))
-          (packets_before sent (suc i)) packets (length packets)
-      begun_more =
-          rw (
-            earlier_same i (omega arith),
-            order_events-same g longer sent i numbers front i,
-            gap_length-same g longer sent i numbers front i,
-            gap_events-same g longer sent i numbers front i (gap_length sent i) (omega arith),
-            more_of_last,
-          )
-          (sym
-          (append_assoc (events_of_first g sent i
-          ++ (order_events g sent i ++ gap_events g sent i (gap_length sent i)))
-          (packets_of sent i) _))
-
-      said_more : said (marks_of_more g sent packets)
-          ≡ packets_told g.watched (frame_at sent i) (length (packets_of_frame sent i))
-          (packets_before sent (suc i)) packets (length packets)
-      said_more =
-          let last : length sent - 1 ≡ i = omega (arith, size) in
-          said-says _ ∙ rw (last, size) refl
-
-      more_by : (b : Bool) → b ≡ false
-          → (if b then events_of_first g sent (suc i) else begun sent i)
-          ++ said (marks_of_more g sent packets)
-          ≡ (if b then events_of_first g longer (suc i) else begun longer i)
-      more_by true is = cc
-      more_by false is =
-          ap (λ (es : List Event). begun sent i ++ es) said_more ∙ sym begun_more
-
-      so_far-more : (g.within == 0) ≡ false
-          → so_far sent ++ said (marks_of_more g sent packets) ≡ so_far longer
-      so_far-more within =
-          ap (λ (k : ℕ). so_far_to sent k ++ said (marks_of_more g sent packets)) size
-          ∙ more_by (g.within == 0) within
-          ∙ ap (so_far_to longer) (sym (with_packets-length packets sent ∙ size))
-
-  -- ---- one PES packet
-
-  so_far-sent : (sent : Transmission) (pes : ℕ) (s : SentFrame)
-      → so_far sent ++ said (marks_of_sent g sent pes s) ≡ so_far (sent_after g.within sent s)
-  unfolding marks_of_sent
-  so_far-sent sent pes s = go (goes_on_with g.within sent s) refl
-    where
-      go : (b : Bool) → goes_on_with g.within sent s ≡ b
-          → so_far sent
-          ++ said (if b
-          then AtPes pes ∷ marks_of_more g sent s.packets
-          else marks_of_waiting g sent ++ AtPes pes ∷ marks_of_next g sent s)
-          ≡ so_far (if b then with_packets s.packets sent else sent ++ s ∷ [])
-      go true is =
-          let parts = goes_on_some g.within sent s is in
-          so_far-more sent s.packets (length sent - 1) (omega (arith, parts.1)) parts.0
-      go false is =
-          let waiting = marks_of_waiting g sent in
-          ap (λ (es : List Event). so_far sent ++ es) (said-append waiting _)
-          ∙ sym (append_assoc (so_far sent) (said waiting) (said (marks_of_next g sent s)))
-          ∙ ap (λ (es : List Event). es ++ said (marks_of_next g sent s)) (so_far-ended sent)
-          ∙ so_far-next sent s
-
-  -- ---- pieces
+  -- ---- how many are sent
 
   few_sent : (pieces : List Piece) → length (frames_of pieces) ≤ length pieces
   unfolding frames_of
   few_sent [] = omega arith
   few_sent (Sent s ∷ pieces) = let rest = few_sent pieces in omega arith
   few_sent (Passed u ∷ pieces) = let rest = few_sent pieces in omega arith
-
-  so_far-each : (sent : Transmission) (pes : ℕ) (pieces : List Piece)
-      → length (frames_of pieces) ≡ length pieces
-      → so_far sent ++ said (marks_of_each g sent pes pieces)
-      ≡ so_far (joined_after g.within sent (frames_of pieces))
-  unfolding marks_of_each frames_of joined_after
-  so_far-each sent pes [] all = append-nil (so_far sent)
-  so_far-each sent pes (Sent s ∷ pieces) all =
-      let one = marks_of_sent g sent pes s in
-      let next = sent_after g.within sent s in
-      ap (λ (es : List Event). so_far sent ++ es)
-      (said-append one (marks_of_each g next (suc pes) pieces))
-      ∙ sym (append_assoc (so_far sent) (said one) _)
-      ∙ ap (λ (es : List Event). es ++ said (marks_of_each g next (suc pes) pieces))
-      (so_far-sent sent pes s)
-      ∙ so_far-each next (suc pes) pieces (omega (arith, all))
-  so_far-each sent pes (Passed u ∷ pieces) all =
-      let few = few_sent pieces in absurd (omega (arith, all))
 
   -- Some frame is sent where one was before.
   sent_some : (sent : Transmission) (s : SentFrame) → 0 < length (sent_after g.within sent s)
@@ -395,20 +141,114 @@ module _ (g : Task) where
   closing_all (Passed u ∷ pieces) all =
       let few = few_sent pieces in absurd (omega (arith, all))
 
+-- ---- so far
+
+module _ (g : Task) (frames : Transmission) where
+  -- What is told of the first n frames and before the packets of the next one.
+  abbrev arrived : ℕ → List Event
+  arrived n =
+      events_of_first g frames n
+      ++ (order_events g frames n ++ gap_events g frames n (gap_length frames n))
+
+  -- With these packets so far.
+  abbrev begun : ℕ → List (List ℕ) → List Event
+  begun n packets =
+      arrived n
+      ++ packet_events g.watched (frame_at frames n) (packets_before frames n) packets
+      (length packets)
+
+  -- What was said so far is that, or what is told of the first n frames.
+  abbrev Ended : ℕ → List Event → Type 0
+  Ended n so_far = so_far ≡ events_of_first g frames n
+
+  abbrev Begun : ℕ → List (List ℕ) → List Event → Type 0
+  Begun n packets so_far = so_far ≡ begun n packets
+
+  -- What is so of what was said so far is so with what marks say.
+  abbrev SaysOn : (List Event → Type 0) → List Event → List Mark → Type 0
+  SaysOn S so_far ms = S (so_far ++ said ms)
+
+  abbrev same : ℕ → List Event → List Event
+  same pes so_far = so_far
+
+  -- No piece is passed over.
+  abbrev NonePassed : Transmission → Type 0
+  NonePassed sent = ⊥
+
+  says-nil : (S : List Event → Type 0) (so_far : List Event) → S so_far → SaysOn S so_far []
+  says-nil S so_far so = subst S (sym (append-nil so_far)) so
+
+  says-append : (S U : List Event → Type 0) (so_far : List Event) (xs ys : List Mark)
+      → SaysOn S so_far xs
+      → ((es : List Event) → S es → SaysOn U es ys)
+      → SaysOn U so_far (xs ++ ys)
+  says-append S U so_far xs ys one rest =
+      subst U
+      (append_assoc so_far (said xs) (said ys)
+      ∙ ap (λ (es : List Event). so_far ++ es) (sym (said-append xs ys)))
+      (rest (so_far ++ said xs) one)
+
+  steps : Steps (List Event) same g frames SaysOn Ended Begun NonePassed
+  unfolding packets_told events_of_first frame_events
+  steps = record {
+    at_ended = λ n pes so_far is. is;
+    at_open = λ n pes packets so_far is. is;
+    arrival = λ n so_far there is.
+        ap₂ ◌++◌ is (said_arrival g frames n)
+        ∙ sym (append-nil (arrived n));
+    more = λ n packets more rest so_far there whole is.
+        let from : 0 + length packets ≡ length packets = omega arith in
+        let all =
+        packets_told-append g.watched (frame_at frames n) 0 (packets_before frames n) packets more
+        in
+        ap₂ ◌++◌ is (said-says _)
+        ∙ append_assoc (arrived n) _ _
+        ∙ ap (λ (es : List Event). arrived n ++ es) (sym (rw from at all));
+    ending = λ n so_far there is.
+        ap₂ ◌++◌ is (said_ending g frames n)
+        ∙ grind (arith, append_assoc);
+    passed_ended = λ sent pes u so_far is none closed. absurd none;
+    passed_open = λ sent n pes u so_far is size none opens. absurd none;
+  }
+
+  none_passed : (sent : Transmission) (pieces : List Piece)
+      → length (frames_of pieces) ≡ length pieces
+      → EachPassed g.within NonePassed sent pieces
+  unfolding frames_of
+  none_passed sent [] all = tt
+  none_passed sent (Sent s ∷ pieces) all =
+      none_passed (sent_after g.within sent s) pieces (omega (arith, all))
+  none_passed sent (Passed u ∷ pieces) all =
+      let few = few_sent g pieces in absurd (omega (arith, all))
+
+  -- What is said before the file ends.
+  before_said : (pieces : List Piece) → length (frames_of pieces) ≡ length pieces
+      → sent_by_pieces g pieces ≡ frames
+      → said (marks_of_each g [] 0 pieces ++ marks_of_waiting g frames)
+      ≡ events_of_first g frames (length frames)
+  unfolding events_of_first
+  before_said pieces all is =
+      says-append (Sends (List Event) same g frames SaysOn Ended Begun NonePassed frames)
+      (Ended (length frames)) [] (marks_of_each g [] 0 pieces) (marks_of_waiting g frames)
+      (each_piece (List Event) same g frames SaysOn Ended Begun NonePassed says-nil
+      (λ S so_far pes ms so. so) says-append steps [] 0 [] pieces is (none_passed [] pieces all)
+      (inl (inr refl, refl)))
+      (λ so_far so.
+      waits (List Event) same g frames SaysOn Ended Begun NonePassed says-nil
+      (λ S so_far pes ms so. so) says-append steps frames [] so_far (sym (append-nil frames)) so)
+
+-- ---- pieces
+
+module _ (g : Task) where
   -- Where each piece is sent the marks say what is told of the frames that they send.
   pub pieces_said : (pieces : List Piece) → length (frames_of pieces) ≡ length pieces
       → said (marks_of_pieces g pieces) ≡ events g (sent_by_pieces g pieces)
   unfolding events
   pieces_said pieces all =
       let frames = sent_by_pieces g pieces in
-      let each = marks_of_each g [] 0 pieces in
-      let waiting = marks_of_waiting g frames in
+      let before = marks_of_each g [] 0 pieces ++ marks_of_waiting g frames in
       let closing = marks_of_closing g frames (length pieces) (length frames) in
-      said-append (each ++ waiting) closing
-      ∙ ap (λ (es : List Event). es ++ said closing)
-      (said-append each waiting
-      ∙ ap (λ (es : List Event). es ++ said waiting) (so_far-each [] 0 pieces all)
-      ∙ so_far-ended frames)
-      ∙ ap (λ (es : List Event). events_of_first g frames (length frames) ++ es)
+      said-append before closing
+      ∙ ap₂ ◌++◌ (before_said g frames pieces all refl)
       (said-says (closing_of_pieces g frames (length pieces) (length frames))
-      ∙ closing_all pieces all)
+      ∙ closing_all g pieces all)

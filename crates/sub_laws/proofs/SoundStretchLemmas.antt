@@ -1,3 +1,4 @@
+-- For the headline, what may be late, what is told and what may stay.
 -- What receivers make of a sound stretch of frames, whatever is shown in it: `window`, `sound`,
 -- `shown_so_far`, `ended`; and what one has come to, wherever it starts and stops there: `heard_as`
 -- and `afresh`.

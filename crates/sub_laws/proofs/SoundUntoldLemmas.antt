@@ -1,3 +1,4 @@
+-- For what is told and what may stay.
 -- A stretch of which nothing is told that a receiver depends on is sound, within however many
 -- frames: `sound_untold`. Where it may be late it has what suffices, `enough_with_delay`.
 use Rattle.std.proofs.lemmas.Bool.Decides.{nat_tests}

@@ -1,3 +1,4 @@
+-- For what is told and what may stay.
 -- What stands broken at an end: its first wrong cell, `first_wrong`, `none_wrong`; whether the
 -- repeat bound has passed, `gap_decided`; whether the page is open, `incomplete_decided`; and
 -- whether anything stands broken, `quiet_decided`.

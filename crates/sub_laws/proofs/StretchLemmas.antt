@@ -1,3 +1,4 @@
+-- For the headline, what may be late and what may stay.
 -- What may be trusted of a stretch of frames that has what suffices, `law_of_stretch`; and of all
 -- frames that is what is promised of a transmission, `law_of_whole_stretch`. With all packets kept,
 -- robust to lost rows is robust: `law_of_all_kept`. And of all frames with a delay:

@@ -1,3 +1,4 @@
+-- For `law_of_nothing_told_within` and `law_of_trusted_with_delay`.
 -- What frames that may be late show and finish, where what is asked of their ends holds: `codes`,
 -- `again`, `subtitle`. So a stretch of which nothing is told that a receiver depends on has what
 -- suffices: `enough_with_delay`.

@@ -1,3 +1,4 @@
+-- For `law_of_nothing_told_within`.
 -- Nothing is told of a transmission exactly where it is good within the frames that are allowed:
 -- `law_of_nothing_told_within`.
 use Rattle.std.proofs.lemmas.Bool.Decides.{nat_tests}
@@ -17,7 +18,6 @@ use Rattle.sub_rules.specs.FrameRules.{Task, Unread, end_frame, frame_at, packet
 use Rattle.sub_rules.specs.Good.{KeepsRules}
 use Rattle.sub_rules.specs.GoodWithin.{GoodWithin, IsDueWithin, IsFinished, SomeFinished}
 use Rattle.sub_rules.specs.Transmission.{EachPacket, Transmission, first_frame, last_frame}
-use Rattle.sub_laws.specs.BrokenPlaces.{LawOfNothingToldWithin}
 use Rattle.sub_laws.specs.CleanStretch.{IsEnd}
 use Rattle.sub_laws.proofs.DueCodeLemmas.{MayShow, ending_at, none_undue}
 use Rattle.sub_laws.proofs.EventLemmas.{nothing_told, sizes_of}
@@ -32,6 +32,8 @@ use Rattle.sub_laws.proofs.SufficientDelayLemmas.{HoldsAtEnds, again, calm, code
 use Rattle.sub_laws.proofs.UnfinishedLemmas.{since_after, since_some, unfinished_at}
 use Rattle.sub_laws.proofs.FinishedLemmas.{at_finished, finished_of, late_is, no_since, none_is}
 use Rattle.sub_laws.proofs.FinishedLemmas.{of_finished, since_is, since_no}
+use Rattle.std.proofs.Common.{◌↔◌, []}
+use Rattle.sub_rules.proofs.FrameEvents.{events}
 
 -- ---- the law, one way
 
@@ -278,8 +280,15 @@ module _ (programme : ProgrammeValue) (options : OptionsValue) (t : Transmission
 
 -- ---- the law
 
-pub law_of_nothing_told_within : LawOfNothingToldWithin
-law_of_nothing_told_within programme options unread frames is every whole =
+-- Nothing is told of frames exactly where they are good within some.
+pub none_told_within : (programme : ProgrammeValue) (options : OptionsValue)
+    (unread : Option Unread) (frames : Transmission)
+    → IsProgramme programme.national programme.records
+    → 0 < options.every
+    → EachPacket IsPacket frames
+    → (events (task_of programme options unread) frames ≡ [])
+    ↔ (GoodWithin programme frames options × (unread ≡ None))
+none_told_within programme options unread frames is every whole =
     let told = nothing_told (task_of programme options unread) frames whole in (
       λ none.
           let h = told.0 none in

@@ -1,3 +1,4 @@
+-- For the headline, what may be late, schedules, what is told and what may stay.
 -- The packets of frames, split and joined: `packets_between-split`; and the frames of a range that
 -- pass a test, as a transmission: `sent_at`, `sent_none`, `rises`.
 use Rattle.std.proofs.Common.{◌≡◌, ℕ, zero, suc, ◌+◌, ◌<◌, ◌≤◌, inl, inr, Bool, true, false, ◌&&◌}

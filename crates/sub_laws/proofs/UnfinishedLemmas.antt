@@ -1,3 +1,4 @@
+-- For what is told and what may stay.
 -- Since which frame the ends are unfinished: of tests one after another, `Since`; and where frames
 -- rise, of their ends, `since_end`.
 use Rattle.std.proofs.lemmas.Bool.Decides.{nat_tests}

@@ -1,13 +1,15 @@
+-- For `law_of_all_trusted` and `law_of_nothing_told_of_pieces`.
 -- Nothing is told of pieces exactly where each is sent and nothing is told of what they send,
 -- `pieces_untold`; and so it is of refusals, `pieces_unrefused`. Of marks: `first_none`,
 -- `each_sent`.
 use Rattle.std.proofs.lemmas.Bool.Decides.{nat_tests}
-use Rattle.std.proofs.Common.{◌≡◌, ◌↔◌, ℕ, suc, Bool, true, false, not, List, [], ◌∷◌, ◌++◌, length}
+use Rattle.std.proofs.Common.{subst, ◌≡◌, ◌↔◌, ℕ, suc, Bool, true, false, not, List, [], ◌∷◌, ◌++◌}
+use Rattle.std.proofs.Common.{length}
 use Rattle.std.proofs.Common.{map, Option, None, refl, sym, ap, ◌∙◌, arith}
 use Rattle.std.proofs.lemmas.Bool.{true≢false}
 use Rattle.std.specs.List.{list_any}
 use Rattle.std.specs.Option.{option_or}
-use Rattle.sub_rules.specs.Events.{end_events, events, first_header_events, first_told}
+use Rattle.sub_rules.specs.Events.{end_events, first_header_events, first_told}
 use Rattle.sub_rules.specs.Events.{order_events}
 use Rattle.sub_rules.specs.FrameRules.{Task}
 use Rattle.sub_rules.specs.PieceEvents.{all_announced, all_of_pieces, closing_of_pieces, announced}
@@ -17,18 +19,20 @@ use Rattle.sub_rules.specs.PieceEvents.{passed_after_all, sent_by_pieces, told_o
 use Rattle.sub_rules.specs.Pieces.{Piece, frames_of, sent_after}
 use Rattle.sub_rules.specs.Pieces.Piece.{Passed, Sent}
 use Rattle.sub_rules.specs.Transmission.{Transmission}
-use Rattle.sub_rules.specs.Trusted.{Mark, after_mark, at_pes, doubted, late_since, no_trust}
-use Rattle.sub_rules.specs.Trusted.{tells_none, told_by, told_with, trust_after, trusted_before}
 use Rattle.sub_rules.specs.Trusted.Mark.{AtEnd, AtPes, Begins, Closes, Ends, Says}
 use Rattle.sub_rules.specs.declared.event.Event.{Event}
 use Rattle.sub_rules.specs.declared.event.Event.TheVariants.{Ended, PassedUntil, Told, Trusted}
 use Rattle.sub_rules.specs.declared.fault.CheckFault.{CheckFault}
-use Rattle.sub_rules.specs.declared.trust.Trust.{Trust}
 use Rattle.sub_laws.proofs.MarkTestLemmas.{PassedPass, Passes, before_passes}
 use Rattle.sub_rules.proofs.MarkEventLemmas.{marks_first, said_by, first_of_two}
 use Rattle.sub_rules.proofs.PieceEventLemmas.{all_first}
 use Rattle.sub_rules.proofs.TrustedLemmas.{told_by-append}
 use Rattle.sub_laws.proofs.SaidLemmas.{pieces_said, said, said-append, said-says}
+use Rattle.sub_rules.proofs.KeptTrust.{all_is, Trust, after_mark, late_since, no_trust, told_by}
+use Rattle.sub_rules.proofs.KeptTrust.{told_with, trust_after}
+use Rattle.sub_rules.specs.Trusted.{Mark, at_pes, tells_none}
+use Rattle.sub_rules.proofs.KeptTrust.{doubted, trusted_before}
+use Rattle.sub_rules.proofs.FrameEvents.{events}
 
 -- ---- what is told first
 
@@ -185,8 +189,10 @@ module _ (g : Task) where
 
   told_none : (pieces : List Piece)
       → (told_of_pieces g pieces ≡ []) ↔ (said (marks_of_pieces g pieces) ≡ [])
-  unfolding told_of_pieces
-  told_none pieces = (said_none no_trust (marks_of_pieces g pieces), quiet)
+  told_none pieces =
+      subst
+      (λ (es : List Event). (es ≡ []) ↔ (said (marks_of_pieces g pieces) ≡ []))
+      (sym (all_is g pieces)) (said_none no_trust (marks_of_pieces g pieces), quiet)
     where
       quiet : said (marks_of_pieces g pieces) ≡ []
           → told_by no_trust (marks_of_pieces g pieces) ≡ []
@@ -273,9 +279,9 @@ module _ (g : Task) where
       → (first_told (all_of_pieces g pieces) ≡ None)
       ↔ ((length (frames_of pieces) ≡ length pieces)
       × (first_told (events g (sent_by_pieces g pieces)) ≡ None))
-  unfolding all_of_pieces told_of_pieces
+  unfolding all_of_pieces
   pieces_unrefused pieces =
-      let all = all_first (told_by no_trust (marks_of_pieces g pieces)) in
+      let all = all_first (told_of_pieces g pieces) ∙ ap first_told (all_is g pieces) in
       let said_first = first_none no_trust (marks_of_pieces g pieces) in (
         λ none.
             let quiet = said_first.0 (sym all ∙ none) in

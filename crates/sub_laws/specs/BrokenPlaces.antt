@@ -1,25 +1,23 @@
 -- What is told of a transmission, place by place: it is told exactly where what is asked is broken.
--- The list `events` has the places in their order.
-use Rattle.std.specs.Prelude.{◌≡◌, ◌↔◌, ℕ, suc, ◌<◌, ◌≤◌, List, [], ◌∷◌, length, Option}
+-- The list `all_of_pieces` has the places in their order.
+use Rattle.std.specs.Prelude.{◌≡◌, ◌↔◌, ℕ, suc, ◌<◌, ◌≤◌, List, [], length, map, Option}
 use Rattle.std.specs.Prelude.{Some, None, IsTrue, IsFalse}
 use Rattle.ttx_packet.specs.PacketAddress.{IsPacket}
 use Rattle.ttx_page.specs.Page.{IsCell}
 use Rattle.stl_rows.specs.Programme.{IsProgramme, ProgrammeValue}
 use Rattle.sub_plan.specs.Options.{OptionsValue}
-use Rattle.sub_rules.specs.Events.{events, first_header_events, late_events, order_events}
+use Rattle.sub_rules.specs.Events.{first_header_events, first_told, late_events, order_events}
 use Rattle.sub_rules.specs.Events.{standing_at}
 use Rattle.sub_rules.specs.FrameRules.{HasHeader, IsCovered, IsEnded, ShowsDue, Task, Unread}
 use Rattle.sub_rules.specs.FrameRules.{end_frame, frame_at, task_of}
 use Rattle.sub_rules.specs.Good.{Good}
 use Rattle.sub_rules.specs.GoodWithin.{GoodWithin}
-use Rattle.sub_rules.specs.PieceEvents.{all_of_pieces, sent_by_pieces}
-use Rattle.sub_rules.specs.Pieces.{Piece, frames_of}
+use Rattle.sub_rules.specs.PieceEvents.{all_of_pieces}
+use Rattle.sub_rules.specs.Pieces.{Piece, frames_of, joined}
+use Rattle.sub_rules.specs.Pieces.Piece.{Sent}
 use Rattle.sub_rules.specs.PacketRules.{AreClean, KeepsRule}
 use Rattle.sub_rules.specs.PacketTests.{breaks}
 use Rattle.sub_rules.specs.Transmission.{EachPacket, Transmission}
-use Rattle.sub_rules.specs.declared.event.Event.{Event}
-use Rattle.sub_rules.specs.declared.event.Event.TheVariants.{Told}
-use Rattle.sub_rules.specs.declared.fault.CheckFault.{CheckFault}
 use Rattle.sub_rules.specs.declared.packet_rule.PacketRule.{PacketRule}
 use Rattle.sub_rules.specs.declared.packet_rule.PacketRule.TheVariants as rule
 use Rattle.sub_rules.specs.declared.packet_rule.Watched.{Watched}
@@ -76,48 +74,43 @@ pub record TellsBroken (g : Task) (frames : Transmission) : Type 0 where
   pub late :
       (late_events g frames ≡ [])
       ↔ ((last : ℕ) → g.last_out ≡ Some last → last ≤ end_frame frames)
-  -- Of whole packets what is told first is a refusal.
+  -- Where anything is told of whole packets, a refusal is.
   pub first :
-      (event : Event) (rest : List Event)
-      → EachPacket IsPacket frames
-      → events g frames ≡ event ∷ rest
-      → (f : CheckFault) × (event ≡ Told f)
+      EachPacket IsPacket frames
+      → first_told (all_of_pieces g (map Sent frames)) ≡ None
+      → all_of_pieces g (map Sent frames) ≡ []
 
 -- So what is told first is the first place that is broken.
 abbrev pub LawOfBrokenPlaces : Type 0
 LawOfBrokenPlaces = (g : Task) (frames : Transmission) → g.within ≡ 0 → TellsBroken g frames
 
--- Nothing is told of a transmission exactly where it is good, of complete pages where these are
--- asked for, and the PES file was read to its end.
+-- Nothing is told of the pieces of a PES file exactly where each of them is sent, none being passed
+-- over, what they send is good, of complete pages where these are asked for, and the PES file was
+-- read to its end.
 abbrev pub LawOfNothingTold : Type 0
 LawOfNothingTold =
     (programme : ProgrammeValue) (options : OptionsValue) (unread : Option Unread)
-    (frames : Transmission)
+    (pieces : List Piece)
     → options.within ≡ 0
     → 0 < options.every
-    → EachPacket IsPacket frames
-    → (events (task_of programme options unread) frames ≡ [])
-    ↔ (Good programme frames options
-    × (IsTrue options.asks_complete → Complete frames options)
+    → EachPacket IsPacket (frames_of pieces)
+    → (all_of_pieces (task_of programme options unread) pieces ≡ [])
+    ↔ ((length (frames_of pieces) ≡ length pieces)
+    × Good programme (frames_of pieces) options
+    × (IsTrue options.asks_complete → Complete (frames_of pieces) options)
     × (unread ≡ None))
 
--- Within however many frames, nothing is told of a transmission exactly where it is good within
--- these, and the PES file was read to its end.
+-- Within however many frames, it is so exactly where each is sent, what they send is good within
+-- these, and the PES file was read to its end. PES packets of one frame that follow one another are
+-- one there.
 abbrev pub LawOfNothingToldWithin : Type 0
 LawOfNothingToldWithin =
     (programme : ProgrammeValue) (options : OptionsValue) (unread : Option Unread)
-    (frames : Transmission)
+    (pieces : List Piece)
     → IsProgramme programme.national programme.records
     → 0 < options.every
-    → EachPacket IsPacket frames
-    → (events (task_of programme options unread) frames ≡ [])
-    ↔ (GoodWithin programme frames options × (unread ≡ None))
-
--- Nothing is told of the pieces of a PES file exactly where each of them is sent, none being passed
--- over, and nothing is told of the frames that they send.
--- So a file that is read on is accepted exactly where one is that is read to its end.
-abbrev pub LawOfNothingToldOfPieces : Type 0
-LawOfNothingToldOfPieces =
-    (g : Task) (pieces : List Piece)
-    → (all_of_pieces g pieces ≡ [])
-    ↔ ((length (frames_of pieces) ≡ length pieces) × (events g (sent_by_pieces g pieces) ≡ []))
+    → EachPacket IsPacket (joined options.within (frames_of pieces))
+    → (all_of_pieces (task_of programme options unread) pieces ≡ [])
+    ↔ ((length (frames_of pieces) ≡ length pieces)
+    × GoodWithin programme (joined options.within (frames_of pieces)) options
+    × (unread ≡ None))

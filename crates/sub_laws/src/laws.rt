@@ -1,24 +1,21 @@
 //! A good transmission is robust, and its rules packet by packet.
 //!
 //! The functions do nothing: the contract of each is a law over the definitions of `specs/`.
-ghost use Rattle.sub_laws.specs.AllTrustedWithDelay.{LawOfAllTrustedWithDelay};
 ghost use Rattle.sub_laws.specs.BrokenPlaces.{LawOfBrokenPlaces, LawOfNothingTold};
-ghost use Rattle.sub_laws.specs.BrokenPlaces.{LawOfNothingToldOfPieces, LawOfNothingToldWithin};
+ghost use Rattle.sub_laws.specs.BrokenPlaces.{LawOfNothingToldWithin};
 ghost use Rattle.sub_laws.specs.CleanStretch.{LawOfUntoldStretch};
 ghost use Rattle.sub_laws.specs.DelayLaws.{LawOfFinishedStretch, LawOfGoodWithin, LawOfLongerDelay};
 ghost use Rattle.sub_laws.specs.DelayLaws.{LawOfNoDelay, LawOfPlanWithin, LawOfStretchWithDelay};
 ghost use Rattle.sub_laws.specs.DelayLaws.{LawOfSufficientPartsWithDelay, LawOfTrustWithoutDelay};
 ghost use Rattle.sub_laws.specs.DelayLaws.{LawOfWholeStretchWithDelay};
+ghost use Rattle.sub_laws.specs.DelayOfFiles.{LawOfLongerDelayOfFiles};
 ghost use Rattle.sub_laws.specs.Laws.{LawOfAllKept, LawOfGood, LawOfWindow};
 ghost use Rattle.sub_laws.specs.OnScreen.{LawOfCompletePlan};
-ghost use Rattle.sub_rules.specs.PesReading.{LawOfExactFrames, LawOfPesFiles};
+ghost use Rattle.sub_rules.specs.PesReading.{LawOfExactFrames};
 ghost use Rattle.sub_rules.specs.PieceEvents.{LawOfFirstTold};
-ghost use Rattle.sub_laws.specs.PassedPackets.{LawOfPassedPackets};
 ghost use Rattle.sub_laws.specs.Planned.{LawOfPlan, LawOfPlanRead};
 ghost use Rattle.sub_laws.specs.Stretch.{LawOfWholeRecovery, LawOfWholeStretch};
 ghost use Rattle.sub_laws.specs.Sufficient.{LawOfStretch, LawOfSufficientParts};
-ghost use Rattle.sub_laws.specs.TrustedFrames.{LawOfAllTrusted, LawOfTrusted};
-ghost use Rattle.sub_laws.specs.TrustedWithDelay.{LawOfTrustedWithDelay};
 
 /// A start at any packet of a good transmission meets a header of the page within the repeat bound.
 #[tactic(auto, using(crate::proofs::RobustLemmas::law_of_window))]
@@ -100,6 +97,12 @@ pub fn law_of_longer_delay()
     ensures { LawOfLongerDelay }
 {}
 
+/// Bytes that carry within some frames a transmission that is good within these carry it within
+/// more, where it is good too.
+pub fn law_of_longer_delay_of_files()
+    ensures { LawOfLongerDelayOfFiles }
+{}
+
 /// The schedule of a programme that has a subtitle is good within any number of frames, in both
 /// modes.
 pub fn law_of_plan_within()
@@ -111,40 +114,6 @@ pub fn law_of_plan_within()
 /// complete.
 pub fn law_of_untold_stretch()
     ensures { LawOfUntoldStretch }
-{}
-
-/// What is on air of a PES file is what is sent, and in its place what each piece put on air that
-/// is passed over.
-#[tactic(auto, using(crate::proofs::PassedPacketLemmas::law_of_passed_packets))]
-pub fn law_of_passed_packets()
-    ensures { LawOfPassedPackets }
-{}
-
-/// Frames that are told as trusted of a PES file may stay on air as they are, whatever is broken
-/// elsewhere, and whatever packets its pieces put on air that are passed over: the first one holds
-/// a header of the page, and from it on receivers recover there.
-pub fn law_of_trusted()
-    ensures { LawOfTrusted }
-{}
-
-/// So may those that are told as trusted of one that may be late, by at least one frame: receivers
-/// recover there with a delay, and one of the frames at least is finished.
-pub fn law_of_trusted_with_delay()
-    ensures { LawOfTrustedWithDelay }
-{}
-
-/// No frame that may stay is left out: where anything is told of a PES file, each stretch of which
-/// nothing is told that a receiver depends on, and in which no piece may have been sent that is
-/// passed over, is told as trusted, from its first header of the page on.
-#[tactic(auto, using(crate::proofs::AllTrustedDelayLemmas::law_of_all_trusted))]
-pub fn law_of_all_trusted()
-    ensures { LawOfAllTrusted }
-{}
-
-/// Nor is one left out of a PES file that may be late, by at least one frame, whose last frame is
-/// finished: it is told as trusted, from its first header of the page on.
-pub fn law_of_all_trusted_with_delay()
-    ensures { LawOfAllTrustedWithDelay }
 {}
 
 /// Where receivers recover in all frames of a transmission it is robust, with lost rows too.
@@ -181,14 +150,8 @@ pub fn law_of_plan_read()
     ensures { LawOfPlanRead }
 {}
 
-/// What is read packet by packet as frames that rise is a PES file of the grammar that is sent as
-/// these frames, and the other way round. So it is within frames too, where PES packets of one
-/// frame are sent as one.
-pub fn law_of_pes_files()
-    ensures { LawOfPesFiles }
-{}
-
-/// Within 0 frames these are the transmissions that the bytes carry by the PTS of each frame.
+/// Within 0 frames the transmissions that the bytes carry by the clock of the options are those
+/// that they carry by the PTS of each frame: so what is said within frames is said of these too.
 pub fn law_of_exact_frames()
     ensures { LawOfExactFrames }
 {}
@@ -206,23 +169,16 @@ pub fn law_of_first_told()
     ensures { LawOfFirstTold }
 {}
 
-/// Nothing is told of a transmission exactly where it is good, of complete pages where these are
-/// asked for, and the PES file was read to its end.
-#[tactic(auto, using(crate::proofs::EventLemmas::law_of_nothing_told))]
+/// Nothing is told of the pieces of a PES file exactly where none of them is passed over, what they
+/// send is good, of complete pages where these are asked for, and the file was read to its end.
+#[tactic(auto, using(crate::proofs::NothingToldLemmas::law_of_nothing_told))]
 pub fn law_of_nothing_told()
     ensures { LawOfNothingTold }
 {}
 
-/// Within however many frames, nothing is told of a transmission exactly where it is good within
-/// these, and the PES file was read to its end.
-#[tactic(auto, using(crate::proofs::ToldWithinLemmas::law_of_nothing_told_within))]
+/// Within however many frames, it is so exactly where none is passed over, what they send is good
+/// within these, and the file was read to its end.
+#[tactic(auto, using(crate::proofs::NothingToldLemmas::law_of_nothing_told_within))]
 pub fn law_of_nothing_told_within()
     ensures { LawOfNothingToldWithin }
-{}
-
-/// Nothing is told of the pieces of a PES file exactly where none of them is passed over, and
-/// nothing is told of the frames that they send.
-#[tactic(auto, using(crate::proofs::UntoldLemmas::pieces_untold))]
-pub fn law_of_nothing_told_of_pieces()
-    ensures { LawOfNothingToldOfPieces }
 {}

@@ -8,17 +8,18 @@ use Rattle.std.specs.List.{list_any}
 use Rattle.std.proofs.lemmas.Bool.{or_parts}
 use Rattle.std.proofs.lemmas.List.Folds.{list_any-append}
 use Rattle.sub_rules.specs.Events.{Standing, closing_events, end_events, endings}
-use Rattle.sub_rules.specs.Events.{first_header_events, frame_events, gap_events, nothing_stands}
+use Rattle.sub_rules.specs.Events.{first_header_events, nothing_stands}
 use Rattle.sub_rules.specs.Events.{order_events, packet_fault, packets_told, rest_events}
 use Rattle.sub_rules.specs.Events.{rules_told, standing_at}
 use Rattle.sub_rules.specs.FrameRules.{Task, Unread, end_frame}
 use Rattle.sub_rules.specs.Transmission.{Transmission}
-use Rattle.sub_rules.specs.Trusted.{at_pes}
 use Rattle.sub_rules.specs.declared.event.Event.{Event}
 use Rattle.sub_rules.specs.declared.event.Event.TheVariants.{Told, Trusted}
 use Rattle.sub_rules.specs.declared.fault.CheckFault.TheVariants as fault
 use Rattle.sub_rules.specs.declared.packet_rule.PacketRule.{PacketRule}
 use Rattle.sub_rules.specs.declared.packet_rule.Watched.{Watched}
+use Rattle.sub_rules.specs.Trusted.{at_pes}
+use Rattle.sub_rules.proofs.FrameEvents.{frame_events, gap_events}
 
 -- ---- a test of each event
 

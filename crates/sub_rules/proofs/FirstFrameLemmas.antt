@@ -3,11 +3,11 @@
 -- told before its end.
 use Rattle.std.proofs.Common.{◌≡◌, ℕ, zero, suc, ◌+◌, ◌-◌, ◌≤◌, map, take}
 use Rattle.std.proofs.Common.{Option, refl, sym, ap, ◌∙◌, arith, take-take}
-use Rattle.sub_rules.specs.Events.{end_before, events_at_end, gap_events, gap_length, is_gap}
+use Rattle.sub_rules.specs.Events.{end_before, events_at_end, gap_length, is_gap}
 use Rattle.sub_rules.specs.Events.{is_incomplete, is_late, is_unfinished, latest, order_events}
 use Rattle.sub_rules.specs.Events.{since_frames, since_in_gap, standing_at, standing_before}
 use Rattle.sub_rules.specs.Events.{unfinished_since}
-use Rattle.sub_rules.specs.FrameRules.{Task, frame_at, packets_before}
+use Rattle.sub_rules.specs.FrameRules.{Task, frame_at}
 use Rattle.sub_rules.specs.PieceEvents.{marks_at_end, marks_of_arrival, marks_of_gap}
 use Rattle.sub_rules.specs.Transmission.{SentFrame, Transmission}
 
@@ -42,9 +42,6 @@ module _ (g : Task) (xs ys : Transmission) (n : ℕ)
 
     frames_same : (k : ℕ) → k ≤ n → take k xs ≡ take k ys
     frames_same k l = sym (take-take k n xs l) ∙ ap (take k) first ∙ take-take k n ys l
-
-    pub packets_before-same : (k : ℕ) → k ≤ n → packets_before xs k ≡ packets_before ys k
-    packets_before-same k l = rw (frames_same k l) refl
 
     unfinished_same : (k f : ℕ) → k ≤ n → is_unfinished g xs k f ≡ is_unfinished g ys k f
     unfolding is_incomplete
@@ -103,16 +100,6 @@ module _ (g : Task) (xs ys : Transmission) (n : ℕ)
         → events_at_end g xs i k f ≡ events_at_end g ys i k f
     events_at_end-same i k f l m =
         rw (standing_before-same i f l, end_same i f, standing_at-same k f m) refl
-
-    pub gap_events-same : (i m : ℕ) → i ≤ n → gap_events g xs i m ≡ gap_events g ys i m
-    unfolding gap_events
-    gap_events-same i zero l = refl
-    gap_events-same i (suc m) l =
-        rw (
-          gap_events-same i m l,
-          events_at_end-same i i (latest xs i + suc m) l l,
-          latest-same i,
-        ) refl
 
     -- ---- marks
 

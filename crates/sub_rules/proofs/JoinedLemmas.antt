@@ -5,22 +5,20 @@
 -- `packets_told-append`.
 use Rattle.std.proofs.lemmas.Bool.Decides.{nat_tests}
 use Rattle.std.proofs.Common.{◌≡◌, ℕ, zero, suc, ◌+◌, ◌<◌, ◌≤◌, true, false, List, [], ◌∷◌}
-use Rattle.std.proofs.Common.{◌++◌, length, map, take, All, refl, sym, ap, ◌∙◌, arith}
+use Rattle.std.proofs.Common.{◌++◌, length, map, take, refl, sym, ap, ◌∙◌, arith}
 use Rattle.std.proofs.Common.{append_assoc, cond, length-append, Bool}
 use Rattle.std.proofs.Math.Seq.{take-append-add}
 use Rattle.std.proofs.lemmas.List.{append-nil, get_or_append_left, get_or-append-add}
-use Rattle.std.proofs.lemmas.List.Elements.{All-append, All-cons, All-head, All-nil}
-use Rattle.std.proofs.lemmas.List.Elements.{All-tail}
 use Rattle.std.specs.List.{AllByRecursion}
 use lib.Seq.{take-append-le}
 use Rattle.sub_rules.specs.Events.{packets_told}
-use Rattle.sub_rules.specs.FrameRules.{Task, end_frame, frame_at, packets_before}
+use Rattle.sub_rules.specs.FrameRules.{Task, frame_at, packets_before}
 use Rattle.sub_rules.specs.FrameRules.{packets_of_frame}
 use Rattle.sub_rules.specs.PieceEvents.{marks_of_each}
 use Rattle.sub_rules.specs.Pieces.{Piece, frames_of, goes_on_with, joined, joined_after, sent_after}
 use Rattle.sub_rules.specs.Pieces.{with_packets}
 use Rattle.sub_rules.specs.Pieces.Piece.{Passed, Sent}
-use Rattle.sub_rules.specs.Transmission.{EachPacket, SentFrame, Transmission}
+use Rattle.sub_rules.specs.Transmission.{SentFrame, Transmission}
 use Rattle.sub_rules.specs.declared.packet_rule.Watched.{Watched}
 use Rattle.sub_rules.proofs.PacketLists.{Each-append}
 
@@ -118,11 +116,6 @@ pub with_packets-frame_at : (packets : List (List ℕ)) (sent : Transmission) (i
     → frame_at (with_packets packets sent) i ≡ frame_at sent i
 with_packets-frame_at packets sent i = rw (with_packets-frames packets sent) refl
 
-pub with_packets-end_frame : (packets : List (List ℕ)) (sent : Transmission)
-    → end_frame (with_packets packets sent) ≡ end_frame sent
-with_packets-end_frame packets sent =
-    rw (with_packets-frames packets sent, with_packets-length packets sent) refl
-
 -- The frames before the last one stay.
 pub with_packets-take : (packets : List (List ℕ)) (sent : Transmission) (n : ℕ)
     → n < length sent
@@ -138,16 +131,6 @@ pub with_packets-before : (packets : List (List ℕ)) (sent : Transmission) (n :
     → n < length sent
     → packets_before (with_packets packets sent) n ≡ packets_before sent n
 with_packets-before packets sent n l = rw (with_packets-take packets sent n l) refl
-
-pub with_packets-packets : (packets : List (List ℕ)) (sent : Transmission) (i : ℕ)
-    → suc i < length sent
-    → packets_of_frame (with_packets packets sent) i ≡ packets_of_frame sent i
-unfolding with_packets
-with_packets-packets packets [] i l = absurd (omega arith)
-with_packets-packets packets (s ∷ []) i l = absurd (omega arith)
-with_packets-packets packets (s ∷ next ∷ frames) zero l = refl
-with_packets-packets packets (s ∷ next ∷ frames) (suc i) l =
-    with_packets-packets packets (next ∷ frames) i (omega arith)
 
 -- The last frame has these too, and so have all.
 pub with_packets-last : (packets : List (List ℕ)) (sent : Transmission) (i : ℕ)
@@ -176,41 +159,6 @@ with_packets-all packets (s ∷ next ∷ frames) l =
 -- ---- what holds of each packet
 
 module _ (P : List ℕ → Type 0) where
-  -- It holds of each packet of a frame.
-  abbrev Of : SentFrame → Type 0
-  Of s = All P s.packets
-
-  each_with : (packets : List (List ℕ)) (sent : Transmission) → EachPacket P sent → All P packets
-      → EachPacket P (with_packets packets sent)
-  unfolding with_packets
-  each_with packets [] each more = each
-  each_with packets (s ∷ []) each more =
-      All-cons Of (with_more packets s) []
-      (All-append P s.packets packets (All-head Of s [] each) more) (All-tail Of s [] each)
-  each_with packets (s ∷ next ∷ frames) each more =
-      All-cons Of s (with_packets packets (next ∷ frames)) (All-head Of s (next ∷ frames) each)
-      (each_with packets (next ∷ frames) (All-tail Of s (next ∷ frames) each) more)
-
-  -- It holds of what is sent one PES packet on.
-  pub sent_after-each : (within : ℕ) (sent : Transmission) (s : SentFrame) → EachPacket P sent
-      → All P s.packets
-      → EachPacket P (sent_after within sent s)
-  sent_after-each within sent s each more = go (goes_on_with within sent s)
-    where
-      go : (same : Bool)
-          → EachPacket P (cond same (with_packets s.packets sent) (sent ++ s ∷ []))
-      go true = each_with s.packets sent each more
-      go false = All-append Of sent (s ∷ []) each (All-cons Of s [] more (All-nil Of))
-
-  pub joined_after-each : (within : ℕ) (sent frames : Transmission) → EachPacket P sent
-      → EachPacket P frames
-      → EachPacket P (joined_after within sent frames)
-  unfolding joined_after
-  joined_after-each within sent [] each more = each
-  joined_after-each within sent (s ∷ frames) each more =
-      joined_after-each within (sent_after within sent s) frames
-      (sent_after-each within sent s each (All-head Of s frames more)) (All-tail Of s frames more)
-
   -- The property holds of each packet, as is told of those of a file that was read.
   abbrev pub EachRead : Transmission → Type 0
   EachRead frames = AllByRecursion (λ (s : SentFrame). AllByRecursion P s.packets) frames

@@ -3,9 +3,11 @@ pub mod CodeWordLemmas
 pub mod CodesLemmas
 pub mod EndLemmas
 pub mod FirstFrameLemmas
+pub mod FrameEvents
 pub mod FrameLists
 pub mod GrowingLists
 pub mod JoinedLemmas
+pub mod KeptTrust
 pub mod MarkEventLemmas
 pub mod PacketLists
 pub mod PesReadingLemmas

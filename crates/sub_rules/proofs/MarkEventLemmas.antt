@@ -8,8 +8,8 @@ use Rattle.std.proofs.Common.{arith, append_assoc, if◌then◌else◌}
 use Rattle.std.proofs.lemmas.Bool.{true≢false}
 use Rattle.std.proofs.lemmas.List.{map-append}
 use Rattle.std.specs.Option.{option_or}
-use Rattle.sub_rules.specs.Events.{events_at_end, first_header_events, first_told, frame_events}
-use Rattle.sub_rules.specs.Events.{gap_events, gap_length, is_late, latest, order_events}
+use Rattle.sub_rules.specs.Events.{events_at_end, first_header_events, first_told}
+use Rattle.sub_rules.specs.Events.{gap_length, is_late, latest, order_events}
 use Rattle.sub_rules.specs.Events.{packet_events, standing_at, unfinished_since}
 use Rattle.sub_rules.specs.FrameRules.{Task, frame_at, packets_before, packets_of_frame}
 use Rattle.sub_rules.specs.PieceEvents.{marks_at_end, marks_of_arrival, marks_of_ending}
@@ -17,16 +17,18 @@ use Rattle.sub_rules.specs.PieceEvents.{marks_of_gap, marks_of_more, marks_of_ne
 use Rattle.sub_rules.specs.PieceEvents.{marks_of_packets, marks_of_sent, marks_of_waiting}
 use Rattle.sub_rules.specs.Pieces.{goes_on_with}
 use Rattle.sub_rules.specs.Transmission.{SentFrame, Transmission}
-use Rattle.sub_rules.specs.Trusted.{Mark, after_mark, at_pes, closing_frame, doubted, late_since}
-use Rattle.sub_rules.specs.Trusted.{stands_none, told_by, told_with, trusted, trusted_before}
 use Rattle.sub_rules.specs.Trusted.Mark.{AtEnd, AtPes, Begins, Closes, Ends, Says}
 use Rattle.sub_rules.specs.declared.event.Event.{Event}
 use Rattle.sub_rules.specs.declared.event.Event.TheVariants.{Ended, PassedUntil, Told, Trusted}
-use Rattle.sub_rules.specs.declared.trust.Trust.{Trust}
 use Rattle.ttx_page.specs.PacketKind.{kind}
 use Rattle.ttx_page.specs.Span.{holds_header}
 use Rattle.sub_rules.proofs.AnyToldLemmas.{own_frame, own_names}
 use Rattle.sub_rules.proofs.JoinedLemmas.{goes_on-none}
+use Rattle.sub_rules.proofs.KeptTrust.{Trust, after_mark, closing_frame, late_since, told_by}
+use Rattle.sub_rules.proofs.KeptTrust.{told_with}
+use Rattle.sub_rules.specs.Trusted.{Mark, at_pes, stands_none, trusted}
+use Rattle.sub_rules.proofs.KeptTrust.{doubted, trusted_before}
+use Rattle.sub_rules.proofs.FrameEvents.{frame_events, gap_events}
 
 -- ---- what is told first of two lists
 

@@ -5,8 +5,8 @@ use Rattle.std.proofs.Common.{None, refl, sym, ap, ◌∙◌, arith, append_asso
 use Rattle.std.proofs.lemmas.Bool.Decides.{nat_tests}
 use Rattle.std.proofs.lemmas.List.{append-nil}
 use Rattle.std.specs.Option.{option_or}
-use Rattle.sub_rules.specs.Events.{Standing, closing_events, end_events, endings, events}
-use Rattle.sub_rules.specs.Events.{events_of_first, first_told, frame_events, unread_fault}
+use Rattle.sub_rules.specs.Events.{Standing, closing_events, end_events, endings}
+use Rattle.sub_rules.specs.Events.{first_told, unread_fault}
 use Rattle.sub_rules.specs.Fault.{fault_at_pes}
 use Rattle.sub_rules.specs.FrameRules.{Task, Unread}
 use Rattle.sub_rules.specs.PieceEvents.{LawOfFirstTold, all_announced, announced, all_of_pieces}
@@ -17,16 +17,19 @@ use Rattle.sub_rules.specs.PieceEvents.{passed_after_all, until_passed}
 use Rattle.sub_rules.specs.Pieces.{Piece, frames_of, read_until_passed, sent_after}
 use Rattle.sub_rules.specs.Pieces.Piece.{Passed, Sent}
 use Rattle.sub_rules.specs.Transmission.{Transmission}
-use Rattle.sub_rules.specs.Trusted.{Mark, no_trust, told_by, at_pes}
 use Rattle.sub_rules.specs.declared.event.Event.{Event}
 use Rattle.sub_rules.specs.declared.event.Event.TheVariants.{Ended, PassedUntil, Told, Trusted}
-use Rattle.sub_rules.specs.declared.passed_run.PassedRun.{PassedRun}
+use Rattle.sub_rules.specs.PieceEvents.{PassedRun}
 use Rattle.sub_rules.proofs.PrefixEventLemmas.{frame_events-prefix}
 use Rattle.sub_rules.proofs.AnyToldLemmas.{own_closing, own_names}
 use Rattle.sub_rules.proofs.JoinedLemmas.{joined-within, sent_after-none}
 use Rattle.sub_rules.proofs.MarkEventLemmas.{marks_first, none_waits, said_by, said_says, said_sent}
 use Rattle.sub_rules.proofs.MarkEventLemmas.{first_of_two}
 use Rattle.sub_rules.proofs.PacketLists.{or-none}
+use Rattle.sub_rules.specs.Trusted.{Mark, at_pes, told_after}
+use Rattle.sub_rules.proofs.KeptTrust.{no_trust, told_is}
+use Rattle.sub_rules.proofs.FrameEvents.{events, events_of_first, frame_events}
+use Rattle.sub_rules.specs.Pieces.{PesFileValue}
 
 -- ---- what is told first
 
@@ -147,16 +150,19 @@ closing_same g frames n h1 =
     let same = own_names n (closing_events g frames n) (own_closing g frames n h1) in
     grind (arith, nat_tests)
 
--- The refusal that is told first: the law.
-pub first_told_is : LawOfFirstTold
+-- The refusal that is told first, of the frames up to there.
+told_of_frames : (g : Task) (pieces : List Piece) → g.within ≡ 0
+    → first_told (all_of_pieces g pieces)
+    ≡ first_told (events (until_passed g pieces) (read_until_passed pieces g.unread).frames)
 unfolding all_of_pieces told_of_pieces events events_of_first
-first_told_is g pieces at_once =
+told_of_frames g pieces at_once =
     let frames = frames_of pieces in
     let stop = read_until_passed pieces g.unread in
     let h : Task = until_passed g pieces in
-    let told : List Event = told_by no_trust (marks_of_pieces g pieces) in
+    let told : List Event = told_after [] (marks_of_pieces g pieces) in
     let each : List Mark = marks_of_each g [] 0 pieces in
     all_first told
+    ∙ ap first_told (told_is (marks_of_pieces g pieces))
     ∙ marks_first no_trust (marks_of_pieces g pieces)
     ∙ ap (λ (fs : Transmission). first_told (said_by 0
     (each ++ marks_of_waiting g fs ++ marks_of_closing g fs (length pieces) (length fs))))
@@ -183,6 +189,28 @@ first_told_is g pieces at_once =
         ∙ said_says (length pieces) (closing_of_pieces g frames (length pieces) (length frames))
         ∙ ap (λ (k : ℕ). map (at_pes k) (closing_of_pieces g frames k (length frames))) (sym all)
         ∙ closing_same g frames (length frames) refl
+
+-- Frames that are sent, a piece each, are read to the end.
+read_sent : (frames : Transmission) (unread : Option Unread)
+    → read_until_passed (map Sent frames) unread ≡ record { frames = frames; unread = unread }
+unfolding read_until_passed
+read_sent [] unread = refl
+read_sent (s ∷ frames) unread =
+    ap (λ (f : PesFileValue). let r : PesFileValue = record {
+      frames = s ∷ f.frames;
+      unread = f.unread;
+    } in r) (read_sent frames unread)
+
+-- It is that of these frames, a piece each: the law.
+pub first_told_is : LawOfFirstTold
+first_told_is g pieces at_once =
+    let stop = read_until_passed pieces g.unread in
+    let h : Task = until_passed g pieces in
+    told_of_frames g pieces at_once
+    ∙ sym
+    (told_of_frames h (map Sent stop.frames) at_once
+    ∙ ap (λ (f : PesFileValue). first_told (events (record h { unread = f.unread }) f.frames))
+    (read_sent stop.frames h.unread))
 
 -- ---- one list after another, for a device that hands them on
 

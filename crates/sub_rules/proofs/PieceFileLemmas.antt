@@ -2,7 +2,7 @@
 -- `reads_sent`, `reads_off`, `reads_bad`, `pieces_end`; and a file up to the first piece that is
 -- passed over, one PES packet on: `file_at-next`.
 use Rattle.std.proofs.lemmas.Bool.Decides.{nat_tests}
-use Rattle.std.proofs.Common.{◌≡◌, ◌≢◌, ℕ, zero, suc, ◌+◌, ◌<◌, ◌≤◌, true, false, List, []}
+use Rattle.std.proofs.Common.{◌≡◌, ℕ, zero, suc, ◌+◌, ◌<◌, ◌≤◌, true, false, List, []}
 use Rattle.std.proofs.Common.{◌∷◌, ◌++◌, length-append, Option, Some, None, Result, Ok, Err, refl}
 use Rattle.std.proofs.Common.{sym, ap, ◌∙◌, arith, cond}
 use Rattle.std.proofs.KnownBytes.{Consumes-nil, Consumes-trans}
@@ -44,14 +44,6 @@ clock-below (suc n) origin pts frame is = grind (arith, nat_tests)
 pub clock_in_day :
     (o : OptionsValue) (pts frame : ℕ) → clock_of o pts ≡ Some frame → frame < day
 clock_in_day o pts frame is = clock-below o.within o.origin pts frame is
-
--- A PES packet is read only after fewer than the most.
-pub reads-below :
-    (given : ℕ) (bytes : List ℕ) (v : PesValue)
-    → answer_at given bytes ≡ Ok (Some v)
-    → given ≢ most_packets
-unfolding answer_at
-reads-below given bytes v e at = grind arith
 
 -- ---- the value of a file, one piece on
 

@@ -7,14 +7,15 @@ use Rattle.std.proofs.Common.{length, get_or, Option, refl, arith}
 use Rattle.std.proofs.lemmas.List.{get_or_append_left, length-map, map-append}
 use lib.Seq.{take-append-le}
 use Rattle.sub_rules.specs.Events.{end_before, events_at_end}
-use Rattle.sub_rules.specs.Events.{first_header_events, frame_events, gap_events, gap_length}
+use Rattle.sub_rules.specs.Events.{first_header_events, gap_length}
 use Rattle.sub_rules.specs.Events.{is_gap, is_incomplete, is_late, is_unfinished, latest}
 use Rattle.sub_rules.specs.Events.{order_events, since_frames, since_in_gap}
 use Rattle.sub_rules.specs.Events.{standing_at, standing_before, unfinished_since}
 use Rattle.sub_rules.specs.FrameRules.{Task, Unread, frame_at, packets_before, packets_of_frame}
 use Rattle.sub_rules.specs.PieceEvents.{marks_at_end, marks_of_arrival, marks_of_ending}
-use Rattle.sub_rules.specs.PieceEvents.{marks_of_gap, marks_of_packets}
+use Rattle.sub_rules.specs.PieceEvents.{marks_of_gap}
 use Rattle.sub_rules.specs.Transmission.{Transmission}
+use Rattle.sub_rules.proofs.FrameEvents.{frame_events, gap_events}
 
 -- Frames, more of them, and a task with another end of reading.
 module _ (g : Task) (u : Option Unread) (done more : Transmission) where
@@ -178,15 +179,6 @@ module _ (g : Task) (u : Option Unread) (done more : Transmission) where
         gap_length-prefix i l,
         marks_of_gap-prefix i (gap_length done i) (omega arith) (omega arith),
         frame_at-prefix i l,
-      ) refl
-
-  pub marks_of_packets-prefix : (i : ℕ) → i < length done
-      → marks_of_packets g all i ≡ marks_of_packets h done i
-  marks_of_packets-prefix i l =
-      rw (
-        frame_at-prefix i l,
-        packets_of_frame-prefix i l,
-        take-append-le i done more (omega arith),
       ) refl
 
   pub marks_of_ending-prefix : (i : ℕ) → i < length done

@@ -10,7 +10,8 @@ use Rattle.std.proofs.lemmas.Bool.Decides.{Decides-by_and, Decides-below_and}
 use Rattle.std.proofs.lemmas.Bool.Decides.{nat_tests}
 use Rattle.ttx_packet.proofs.OneBitLemmas.{first_below_is}
 use Rattle.ttx_packet.specs.OneBit.{first_below}
-use Rattle.sub_rules.specs.PacketTests.{is_same_bit}
+use Rattle.stl_rows.specs.declared.national.NationalBits.{NationalBits}
+use Rattle.sub_rules.specs.PacketTests.{is_same_bit, is_same_option}
 use Rattle.sub_rules.specs.Transmission.{SentFrame, Transmission, EachPacket}
 
 -- ---- tests and what they decide
@@ -23,6 +24,10 @@ implied a b p q = grind arith
 -- Two truth values are equal.
 pub same_bit : (a b : Bool) → Decides (is_same_bit a b) (a ≡ b)
 same_bit a b = grind arith
+
+-- C12 to C14 are equal.
+pub same_option : (a b : NationalBits) → Decides (is_same_option a b) (a ≡ b)
+same_option a b = grind arith
 
 -- A truth value is true.
 pub holds : (a : Bool) → Decides a (a ≡ true)

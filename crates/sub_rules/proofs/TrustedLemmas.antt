@@ -3,9 +3,9 @@
 use Rattle.std.proofs.lemmas.Bool.Decides.{nat_tests}
 use Rattle.std.proofs.Common.{◌≡◌, ◌&&◌, List, [], ◌∷◌, ◌++◌, refl, sym, ap, ◌∙◌, append_assoc}
 use Rattle.std.proofs.Common.{arith}
-use Rattle.sub_rules.specs.Trusted.{Mark, after_mark, tells_none, told_by, told_with, trust_after}
 use Rattle.sub_rules.specs.declared.event.Event.{Event}
-use Rattle.sub_rules.specs.declared.trust.Trust.{Trust}
+use Rattle.sub_rules.specs.Trusted.{Mark, tells_none}
+use Rattle.sub_rules.proofs.KeptTrust.{Trust, after_mark, told_by, told_with, trust_after}
 
 -- Nothing is told by two lists exactly where nothing is by either.
 pub tells_none-two : (xs ys : List Event) → tells_none (xs ++ ys) ≡ (tells_none xs && tells_none ys)

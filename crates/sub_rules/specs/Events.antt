@@ -219,12 +219,6 @@ abbrev pub events_at_end : Task → Transmission → ℕ → ℕ → ℕ → Lis
 events_at_end g frames i n f =
     end_events (standing_before g frames i f) (end_before frames i f) (standing_at g frames n f) f
 
--- What is told at the ends of the first n of these.
-unfoldable pub gap_events : Task → Transmission → ℕ → ℕ → List Event
-gap_events g frames i zero = []
-gap_events g frames i (suc n) =
-    gap_events g frames i n ++ events_at_end g frames i i (latest frames i + suc n)
-
 -- ---- a PES packet
 
 -- A subtitle is due before this frame.
@@ -279,23 +273,7 @@ first_header_events g frames zero =
     else Told (fault.NoFirstHeader (frame_at frames 0)) ∷ []
 first_header_events g frames (suc i) = []
 
--- What is told of frame i of the list: of its number, of the frames of the day before it, of its
--- packets, and at its end.
-unfoldable pub frame_events : Task → Transmission → ℕ → List Event
-frame_events g frames i =
-    order_events g frames i
-    ++ gap_events g frames i (gap_length frames i)
-    ++ packet_events g.watched (frame_at frames i) (packets_before frames i)
-    (packets_of_frame frames i) (length (packets_of_frame frames i))
-    ++ first_header_events g frames i
-    ++ events_at_end g frames i (suc i) (frame_at frames i)
-
 -- ---- the whole
-
--- What is told of the first n frames of the list.
-unfoldable pub events_of_first : Task → Transmission → ℕ → List Event
-events_of_first g frames zero = []
-events_of_first g frames (suc n) = events_of_first g frames n ++ frame_events g frames n
 
 -- What stands broken at the last end has ended there.
 abbrev pub endings : Standing → ℕ → List Event
@@ -339,11 +317,6 @@ closing_events g frames zero = Told (unread_fault 0 g.unread) ∷ []
 closing_events g frames (suc n) =
     endings (standing_at g frames (suc n) (end_frame frames)) (end_frame frames)
     ++ rest_events g frames g.unread
-
--- All that is told of a transmission.
-unfoldable pub events : Task → Transmission → List Event
-events g frames =
-    events_of_first g frames (length frames) ++ closing_events g frames (length frames)
 
 -- The fault that is told first.
 abbrev pub first_told : List Event → Option CheckFault

@@ -4,7 +4,7 @@ use Rattle.std.specs.Prelude.{All, IfSome, IsTrue, IsFalse}
 use Rattle.ttx_packet.specs.declared.header.Header.{Header}
 use Rattle.ttx_packet.specs.PacketAddress.{PacketAddress, address}
 use Rattle.ttx_packet.specs.PageHeader.{header, HasExactWords}
-use Rattle.ttx_packet.specs.PageHeader.{c4, c5, c6, c7, c10, c11, c12, c13, c14}
+use Rattle.ttx_packet.specs.PageHeader.{c4, c5, c6, c7, c10, c11}
 use Rattle.ttx_packet.specs.PageId.{PageIdValue}
 use Rattle.ttx_page.specs.declared.packet_kind.PacketKind.TheVariants.{ThisPage}
 use Rattle.ttx_page.specs.Noise.{IsOddRow, IsSameRow}
@@ -13,10 +13,11 @@ use Rattle.ttx_page.specs.PacketKind.{kind}
 use Rattle.ttx_page.specs.Shown.{shown}
 use Rattle.ttx_page.specs.Span.{holds_header, span}
 use Rattle.stl_rows.specs.declared.national.National.{National}
+use Rattle.stl_rows.specs.SubSets.{sub_set}
 use Rattle.stl_rows.specs.Programme.{ProgrammeValue, first_in, last_out}
 use Rattle.sub_plan.specs.Options.{OptionsValue}
 use Rattle.sub_plan.specs.Schedule.{due_in}
-use Rattle.sub_plan.specs.Sending.{has_c14}
+use Rattle.sub_plan.specs.Sending.{national_bits}
 use Rattle.sub_rules.specs.Transmission.{Transmission, IsRising, EachPacket, first_frame}
 use Rattle.sub_rules.specs.Transmission.{last_frame, packets_of, on_air_until}
 
@@ -36,9 +37,7 @@ pub record IsSubtitleHeader (national : National) (h : Header) : Type 0 where
   pub subtitle : IsTrue (c6 h)
   pub suppressed : IsTrue (c7 h)
   pub displayed : IsFalse (c10 h)
-  pub option_1 : IsFalse (c12 h)
-  pub option_2 : IsFalse (c13 h)
-  pub option_3 : c14 h ≡ has_c14 national
+  pub option : national_bits h ≡ (sub_set national).bits
 
 -- Where the packet is a header of the page, it is a subtitle's.
 abbrev pub IsControlled : National → PageIdValue → List ℕ → Type 0

@@ -6,7 +6,7 @@ use Rattle.std.specs.Prelude.{◌∷◌, Option, Some, None, option_map, is_some
 use Rattle.std.specs.List.{filter, find}
 use Rattle.ttx_packet.specs.Hamming84.{code_word}
 use Rattle.ttx_packet.specs.PacketAddress.{PacketAddress, address}
-use Rattle.ttx_packet.specs.PageHeader.{c4, c5, c6, c7, c10, c11, c12, c13, c14, header}
+use Rattle.ttx_packet.specs.PageHeader.{c4, c5, c6, c7, c10, c11, header}
 use Rattle.ttx_packet.specs.PageId.{PageIdValue}
 use Rattle.ttx_packet.specs.RowPacket.{first_even_byte}
 use Rattle.ttx_packet.specs.declared.header.Header.{Header}
@@ -16,7 +16,9 @@ use Rattle.ttx_page.specs.Span.{is_open_after, span}
 use Rattle.ttx_page.specs.declared.packet_kind.PacketKind.{PacketKind}
 use Rattle.ttx_page.specs.declared.packet_kind.PacketKind.TheVariants.{Row, ThisPage}
 use Rattle.stl_rows.specs.declared.national.National.{National}
-use Rattle.sub_plan.specs.Sending.{has_c14}
+use Rattle.stl_rows.specs.declared.national.NationalBits.{NationalBits}
+use Rattle.stl_rows.specs.SubSets.{sub_set}
+use Rattle.sub_plan.specs.Sending.{national_bits}
 use Rattle.sub_rules.specs.PacketRules.{codes_of, first_header}
 use Rattle.sub_rules.specs.declared.packet_rule.PacketRule.{PacketRule}
 use Rattle.sub_rules.specs.declared.packet_rule.PacketRule.TheVariants as rule
@@ -50,11 +52,16 @@ abbrev pub is_same_bit : Bool → Bool → Bool
 is_same_bit true b = b
 is_same_bit false b = not b
 
+-- C12, C13 and C14 are the same.
+abbrev pub is_same_option : NationalBits → NationalBits → Bool
+is_same_option one other =
+    is_same_bit one.c12 other.c12 && is_same_bit one.c13 other.c13 && is_same_bit one.c14 other.c14
+
 -- The control bits are a subtitle's, of the national option.
 abbrev pub is_subtitle_header : National → Header → Bool
 is_subtitle_header national h =
-    c4 h && not (c5 h) && c6 h && c7 h && not (c10 h) && not (c12 h) && not (c13 h)
-    && is_same_bit (c14 h) (has_c14 national)
+    c4 h && not (c5 h) && c6 h && c7 h && not (c10 h)
+    && is_same_option (national_bits h) (sub_set national).bits
 
 -- A header of the page, and no subtitle's.
 abbrev pub is_wrong_header : National → PacketKind → Bool

@@ -1,13 +1,12 @@
 -- A PES file as one value: the frames that its bytes are read as, by the PTS of frame 0 (EN 300
 -- 472, PTS), and what keeps it from being read to its end.
-use Rattle.std.specs.Prelude.{◌≡◌, ◌↔◌, ℕ, List, Option, None}
-use Rattle.sub_io.specs.Reading.{AreBytes}
+use Rattle.std.specs.Prelude.{◌≡◌, ◌↔◌, ℕ, List, Option}
 use Rattle.sub_rules.specs.FrameRules.{Unread}
 use Rattle.sub_plan.specs.FrameTime.{Clock, clock_of}
 use Rattle.sub_plan.specs.Options.{OptionsValue}
 use Rattle.sub_rules.specs.PesFrames.{Carries, CarriesBy}
-use Rattle.sub_rules.specs.Pieces.{PesFileValue, joined, pieces_at, until_passed_over}
-use Rattle.sub_rules.specs.Transmission.{IsRising, Transmission}
+use Rattle.sub_rules.specs.Pieces.{PesFileValue, pieces_at, until_passed_over}
+use Rattle.sub_rules.specs.Transmission.{Transmission}
 
 -- What the bytes that are left after `given` PES packets are read as: up to the first piece that is
 -- passed over where reading goes on.
@@ -23,20 +22,9 @@ abbrev pub ReadsAs : Clock → ℕ → List ℕ → Transmission → Option Unre
 ReadsAs clock given bytes frames unread =
     file_at clock given bytes ≡ record { frames = frames; unread = unread }
 
--- Bytes are read to their end as frames that rise, exactly where they are a PES file that carries
--- these frames.
--- So what is read packet by packet is what the grammar says of the whole file.
-abbrev pub LawOfPesFiles : Type 0
-LawOfPesFiles =
-    (clock : Clock) (within : ℕ) (bytes : List ℕ) (frames : Transmission)
-    → AreBytes bytes
-    → (((pes_file_of clock bytes).unread ≡ None)
-    × (frames ≡ joined within (pes_file_of clock bytes).frames)
-    × IsRising frames)
-    ↔ CarriesBy clock within bytes frames
-
--- Within 0 frames these are the transmissions that the bytes carry by the PTS of each frame of the
--- day.
+-- Within 0 frames the transmissions that the bytes carry by the clock of the options are those that
+-- they carry by the PTS of each frame of the day.
+-- So what is said within frames is said of these too.
 abbrev pub LawOfExactFrames : Type 0
 LawOfExactFrames =
     (options : OptionsValue) (bytes : List ℕ) (frames : Transmission)

@@ -10,7 +10,7 @@ use Rattle.std.specs.Prelude.{ℕ, zero, suc, ◌+◌, ◌-◌, ◌&&◌, ◌==�
 use Rattle.std.specs.Prelude.{◌∷◌, ◌++◌, length, map, Option, Some, None, is_some, if◌then◌else◌}
 use Rattle.ttx_page.specs.PacketKind.{kind}
 use Rattle.ttx_page.specs.Span.{holds_header}
-use Rattle.sub_rules.specs.Events.{closing_events, events, events_at_end, first_header_events}
+use Rattle.sub_rules.specs.Events.{closing_events, events_at_end, first_header_events}
 use Rattle.sub_rules.specs.Events.{first_told, gap_length, is_late, latest, order_events}
 use Rattle.sub_rules.specs.Events.{packet_events, packets_told, standing_at, unfinished_since}
 use Rattle.sub_rules.specs.Events.{unread_fault}
@@ -21,14 +21,13 @@ use Rattle.sub_rules.specs.Pieces.{Piece, frames_of, goes_on_with, joined, read_
 use Rattle.sub_rules.specs.Pieces.{sent_after}
 use Rattle.sub_rules.specs.Pieces.Piece.{Passed, Sent}
 use Rattle.sub_rules.specs.Transmission.{SentFrame, Transmission}
-use Rattle.sub_rules.specs.Trusted.{Mark, no_trust, stands_none, tells_none, told_by}
+use Rattle.sub_rules.specs.Trusted.{Mark, stands_none, tells_none, told_after}
 use Rattle.sub_rules.specs.Trusted.Mark.{AtEnd, AtPes, Begins, Closes, Ends, Says}
 use Rattle.sub_rules.specs.declared.event.Event.{Event}
 use Rattle.sub_rules.specs.declared.event.Event.TheVariants.{PassedUntil, Told}
 use Rattle.sub_rules.specs.declared.fault.CheckFault.{CheckFault}
 use Rattle.sub_rules.specs.declared.fault_place.FaultPlace.{FaultPlace}
 use Rattle.sub_rules.specs.declared.fault_place.FaultPlace.TheVariants as place
-use Rattle.sub_rules.specs.declared.passed_run.PassedRun.{PassedRun}
 
 -- ---- ends
 
@@ -159,6 +158,12 @@ goes_on last refusal =
     && is_behind (place_of last) (place_of refusal)
     && ((check_code refusal).number == (check_code last).number)
 
+-- Pieces that were passed over last, one directly after the other, for faults of one number: the
+-- fault of the last of them, where one was passed over last, and whether there are more than one.
+pub record PassedRun : Type 0 where
+  pub last : Option CheckFault
+  pub many : Bool
+
 -- No piece was passed over.
 abbrev pub no_run : PassedRun
 no_run = record { last = None; many = false }
@@ -213,11 +218,11 @@ passed_after_all run (e ∷ es) = passed_after_all (passed_after run e) es
 
 -- What is told of pieces, where nothing is told after them.
 unfoldable pub events_of_pieces : Task → List Piece → List Event
-events_of_pieces g pieces = all_announced no_run (told_by no_trust (marks_of_each g [] 0 pieces))
+events_of_pieces g pieces = all_announced no_run (told_after [] (marks_of_each g [] 0 pieces))
 
 -- What is told of each piece, and after the last one.
 unfoldable pub told_of_pieces : Task → List Piece → List Event
-told_of_pieces g pieces = told_by no_trust (marks_of_pieces g pieces)
+told_of_pieces g pieces = told_after [] (marks_of_pieces g pieces)
 
 -- All that is told of a PES file that is read on after the pieces that are passed over.
 unfoldable pub all_of_pieces : Task → List Piece → List Event
@@ -239,4 +244,6 @@ LawOfFirstTold =
     (g : Task) (pieces : List Piece)
     → g.within ≡ 0
     → first_told (all_of_pieces g pieces)
-    ≡ first_told (events (until_passed g pieces) (read_until_passed pieces g.unread).frames)
+    ≡ first_told
+    (all_of_pieces (until_passed g pieces)
+    (map Sent (read_until_passed pieces g.unread).frames))

@@ -1,5 +1,9 @@
 -- Which frames may stay on air as they are, told beside all that is broken (own).
 --
+-- What comes of a file comes one mark after another: what is told, and where a piece of the file,
+-- the packets of a frame and its end are. All here is said of the marks that came so far, `past`,
+-- the latest first.
+--
 -- A frame is quiet when nothing of which a receiver depends is told of its packets, and nothing
 -- stands broken at its end. Where frames do not rise, none is quiet from there on; and what comes
 -- then, or stands in bytes that can't be read on, may have been sent in the last frame before it:
@@ -8,87 +12,16 @@
 --
 -- Where the page need not be whole at each end, what is trusted is so only where it was at one of
 -- them; and where a run is over at a late end, those are not since which the page is not whole.
---
--- So what is told of a file is passed on one mark after another: what is told, and where a piece of
--- the file, the packets of a frame and its end are. From each mark to the next it is kept which
--- frames may be trusted.
 use Rattle.std.specs.Prelude.{ℕ, suc, ◌-◌, ◌&&◌, ◌||◌, Bool, true, false, not, List, [], ◌∷◌}
-use Rattle.std.specs.Prelude.{◌++◌, Option, Some, None, is_none, is_some, nat_lt, unwrap_or}
+use Rattle.std.specs.Prelude.{◌++◌, Option, Some, None, is_none, nat_lt, unwrap_or}
 use Rattle.std.specs.Prelude.{if◌then◌else◌}
+use Rattle.std.specs.List.{list_any}
+use Rattle.std.specs.Option.{option_or}
 use Rattle.sub_rules.specs.Events.{Standing}
 use Rattle.sub_rules.specs.Fault.{doubted_frame, fault_at_pes, fault_row}
 use Rattle.sub_rules.specs.declared.event.Event.{Event}
 use Rattle.sub_rules.specs.declared.event.Event.TheVariants.{Told, Trusted}
 use Rattle.sub_rules.specs.declared.fault.CheckFault.TheVariants as fault
-use Rattle.sub_rules.specs.declared.trust.Trust.{Trust}
-
--- ---- what ends a run of quiet frames
-
--- The first frame that is trusted no more where this event is told, after a PES packet of frame
--- `last`: a refusal may end a run, nothing else. What is told at a late end ends it with the frame
--- since which the page is not whole.
-unfoldable pub doubted : ℕ → Option ℕ → Event → Option ℕ
-doubted last late (Told f) = doubted_frame last late (fault_row f).doubts (fault_row f).place
-doubted last late event = None
-
--- It tells that the frames do not rise.
-unfoldable pub is_order : Event → Bool
-is_order (Told (fault.Order pes)) = true
-is_order event = false
-
--- ---- a run that is over
-
--- The frames from that of the run's first header up to the one before frame f are trusted: where
--- the page was whole at the end of one of them, the first of which is this one.
-abbrev pub trusted : Option ℕ → Option ℕ → ℕ → List Event
-trusted (Some from) (Some whole) f = if nat_lt whole f then Trusted from (f - 1) ∷ [] else []
-trusted run whole f = []
-
--- What is told where a frame is trusted no more, if one is.
-abbrev pub trusted_before : Option ℕ → Option ℕ → Option ℕ → List Event
-trusted_before run whole None = []
-trusted_before run whole (Some f) = trusted run whole f
-
--- What is left of the run then.
-abbrev pub kept : Option ℕ → Option ℕ → Option ℕ
-kept run None = run
-kept run (Some f) = None
-
--- ---- quiet frames
-
--- Nothing stands broken at an end.
-abbrev pub stands_none : Standing → Bool
-stands_none s = is_none s.content && not s.gap && not s.incomplete
-
--- The run goes on; else it begins with this frame, where that has a header of the page.
-abbrev pub begun : Option ℕ → Bool → ℕ → Option ℕ
-begun (Some from) has_header f = Some from
-begun None has_header f = if has_header then Some f else None
-
--- The first frame of the run at whose end the page was whole, where this frame is one of it: since
--- which frame the ends up to its own are unfinished says whether it was whole here.
-abbrev pub first_whole : Option ℕ → Option ℕ → ℕ → Option ℕ
-first_whole (Some whole) since f = Some whole
-first_whole None None f = Some f
-first_whole None (Some since) f = None
-
--- It, at the end of a frame of a run that goes on or begins here.
-abbrev pub whole_in : Option ℕ → Option ℕ → Option ℕ → ℕ → Option ℕ
-whole_in None whole since f = first_whole None since f
-whole_in (Some from) whole since f = first_whole whole since f
-
--- Nothing is told.
-abbrev pub tells_none : List Event → Bool
-tells_none [] = true
-tells_none (e ∷ es) = false
-
--- ---- one mark after another
-
--- What is told of a frame, told of PES packet `pes`, which sends it: pieces that are passed over
--- are counted too.
-unfoldable pub at_pes : ℕ → Event → Event
-at_pes pes (Told refusal) = Told (fault_at_pes pes refusal)
-at_pes pes event = event
 
 -- What follows is told of this PES packet; this is told; the packets of a frame with this number
 -- follow; what follows is told at the end of a frame, up to which the ends are unfinished since
@@ -103,65 +36,130 @@ pub data Mark : Type 0 where
   Ends : ℕ → Bool → Bool → Mark
   Closes : Bool → Bool → Mark
 
--- The frame since which the page is not whole, where what is told now is told at a late end.
-abbrev pub late_since : Trust → Option ℕ
-late_since t = if t.is_late then t.since else None
+-- ---- where the file has come to
+
+-- The PES packet of which is told.
+unfoldable pub pes_of : List Mark → ℕ
+pes_of [] = 0
+pes_of (AtPes pes ∷ past) = pes
+pes_of (m ∷ past) = pes_of past
+
+-- The frame of the last PES packet; 0 before the first one.
+unfoldable pub last_of : List Mark → ℕ
+last_of [] = 0
+last_of (Begins f ∷ past) = f
+last_of (m ∷ past) = last_of past
+
+-- The first of the frames up to the last end at whose ends the page is not whole.
+unfoldable pub since_of : List Mark → Option ℕ
+since_of [] = None
+since_of (AtEnd f since late ∷ past) = since
+since_of (m ∷ past) = since_of past
+
+-- That, where the last end is late.
+unfoldable pub late_of : List Mark → Option ℕ
+late_of [] = None
+late_of (AtEnd f since late ∷ past) = if late then since else None
+late_of (m ∷ past) = late_of past
+
+-- Something was told.
+abbrev pub is_said : Mark → Bool
+is_said (Says e) = true
+is_said m = false
+
+-- ---- when a frame is quiet
+
+-- The first frame that is trusted no more where this event is told: a refusal may be of a frame,
+-- nothing else. What is told at a late end is of the frame since which the page is not whole.
+unfoldable pub doubted_by : List Mark → Event → Option ℕ
+doubted_by past (Told f) =
+    doubted_frame (last_of past) (late_of past) (fault_row f).doubts (fault_row f).place
+doubted_by past event = None
+
+-- It is told that a frame is not after the one before.
+unfoldable pub tells_fall : Mark → Bool
+tells_fall (Says (Told (fault.Order pes))) = true
+tells_fall m = false
+
+-- The last frame is quiet so far: frames rose up to it, and since it began nothing is told that
+-- doubts a frame.
+unfoldable pub is_quiet : List Mark → Bool
+is_quiet [] = true
+is_quiet (Begins f ∷ past) = not (list_any tells_fall past)
+is_quiet (Says e ∷ past) = is_quiet past && is_none (doubted_by past e)
+is_quiet (m ∷ past) = is_quiet past
+
+-- Nothing stands broken at an end.
+abbrev pub stands_none : Standing → Bool
+stands_none s = is_none s.content && not s.gap && not s.incomplete
+
+-- ---- a run of quiet frames
+
+-- The run of quiet frames that goes on here, by the first of them that has a header of the page, if
+-- one has. A frame without a PES packet goes with those around it: what is told at its end may end
+-- the run.
+unfoldable pub run_of : List Mark → Option ℕ
+run_of [] = None
+run_of (Says e ∷ past) = if is_none (doubted_by past e) then run_of past else None
+run_of (Ends f has_header none ∷ past) =
+    if is_quiet past && none
+    then option_or (run_of past) (if has_header then Some f else None)
+    else None
+run_of (Closes are_left more ∷ past) = None
+run_of (m ∷ past) = run_of past
+
+-- This is an end of a frame at which the page was whole.
+abbrev pub whole_at : Mark → List Mark → Option ℕ
+whole_at (AtEnd f None late) past = Some f
+whole_at (Ends f has_header none) past = if is_none (since_of past) then Some f else None
+whole_at m past = None
+
+-- The first frame, from that with the header on, at whose end the page was whole.
+unfoldable pub whole_of : List Mark → Option ℕ
+whole_of [] = None
+whole_of (m ∷ past) =
+    if is_none (run_of (m ∷ past)) then None else option_or (whole_of past) (whole_at m past)
+
+-- ---- what is trusted, and before what it is told
+
+-- The frames from that of a run's first header up to the one before frame f are trusted: where the
+-- page was whole at the end of one of them, the first of which is this one.
+abbrev pub trusted : Option ℕ → Option ℕ → ℕ → List Event
+trusted (Some from) (Some whole) f = if nat_lt whole f then Trusted from (f - 1) ∷ [] else []
+trusted run whole f = []
+
+-- What is told where a frame is trusted no more, if one is.
+abbrev pub trusted_up_to : List Mark → Option ℕ → List Event
+trusted_up_to past None = []
+trusted_up_to past (Some f) = trusted (run_of past) (whole_of past) f
 
 -- The first frame that is not trusted at the end of the file: that since which the page is not
 -- whole at the last end; else the last frame, where bytes are left that may have been sent in it.
-abbrev pub closing_frame : Trust → Bool → ℕ
-closing_frame t are_left = unwrap_or t.since (if are_left then t.last else suc t.last)
+abbrev pub closing_at : List Mark → Bool → ℕ
+closing_at past left =
+    unwrap_or (since_of past) (if left then last_of past else suc (last_of past))
 
--- What is told with a mark. At the end of the file what is trusted of the last run is told only
--- where anything else is.
-unfoldable pub told_with : Mark → Trust → List Event
-told_with (Says e) t =
-    trusted_before t.run t.whole (doubted t.last (late_since t) e) ++ at_pes t.pes e ∷ []
-told_with (Closes are_left more) t =
-    if t.told || more then trusted t.run t.whole (closing_frame t are_left) else []
-told_with mark t = []
+-- What is told of a frame, told of PES packet `pes`, which sends it: pieces that are passed over
+-- are counted too.
+unfoldable pub at_pes : ℕ → Event → Event
+at_pes pes (Told refusal) = Told (fault_at_pes pes refusal)
+at_pes pes event = event
 
--- What is kept after it.
-unfoldable pub after_mark : Mark → Trust → Trust
-after_mark (AtPes pes) t = record t { pes = pes }
-after_mark (Says e) t = record t {
-  run = kept t.run (doubted t.last (late_since t) e);
-  rises = t.rises && not (is_order e);
-  is_clean = t.is_clean && is_none (doubted t.last (late_since t) e);
-  told = true;
-}
-after_mark (Begins f) t = record t { last = f; is_clean = t.rises }
-after_mark (AtEnd f since late) t = record t {
-  since = since;
-  is_late = late;
-  whole = if is_some t.run then first_whole t.whole since f else t.whole;
-}
-after_mark (Ends f has_header none) t = record t {
-  run = if t.is_clean && none then begun t.run has_header f else None;
-  whole = whole_in t.run t.whole t.since f;
-}
-after_mark (Closes are_left more) t = record t { run = None }
+-- Nothing is told.
+abbrev pub tells_none : List Event → Bool
+tells_none [] = true
+tells_none (e ∷ es) = false
 
--- Before the first mark.
-abbrev pub no_trust : Trust
-no_trust = record {
-  pes = 0;
-  run = None;
-  whole = None;
-  last = 0;
-  rises = true;
-  is_clean = true;
-  since = None;
-  is_late = false;
-  told = false;
-}
+-- What is told with a mark: an event, and before it the frames that are trusted up to the first one
+-- that it tells of. At the end of the file what is trusted of the last run is told only where
+-- anything else is.
+unfoldable pub told_at : List Mark → Mark → List Event
+told_at past (Says e) = trusted_up_to past (doubted_by past e) ++ at_pes (pes_of past) e ∷ []
+told_at past (Closes left more) =
+    if list_any is_said past || more then trusted_up_to past (Some (closing_at past left)) else []
+told_at past m = []
 
--- What is told with marks, one after another, and what is kept after them.
-unfoldable pub told_by : Trust → List Mark → List Event
-told_by t [] = []
-told_by t (m ∷ ms) = told_with m t ++ told_by (after_mark m t) ms
-
--- What is kept after marks, one after another.
-unfoldable pub trust_after : Trust → List Mark → Trust
-trust_after t [] = t
-trust_after t (m ∷ ms) = trust_after (after_mark m t) ms
+-- What is told with marks, one after another, where these came before.
+unfoldable pub told_after : List Mark → List Mark → List Event
+told_after past [] = []
+told_after past (m ∷ ms) = told_at past m ++ told_after (m ∷ past) ms

@@ -97,7 +97,9 @@ pub enum CheckFault {
         /// The first frame.
         frame: u32,
     },
-    /// A cell of the page differs from the page that is due.
+    /// A cell of the page differs from the page that is due. Where frames are allowed within which
+    /// the page has to be whole, that is asked at an end by which it had to be; at another one a
+    /// cell shows a space, or a code that was due within these frames.
     Content {
         /// The frame.
         frame: u32,
@@ -112,12 +114,14 @@ pub enum CheckFault {
         frame: u32,
     },
     /// Complete pages are asked for, and the page is open at the end of a frame: no header after
-    /// its last one has ended it.
+    /// its last one has ended it. Where frames are allowed, only an end counts by which the page
+    /// had to be whole.
     Incomplete {
         /// The frame.
         frame: u32,
     },
-    /// The last TCO is after the last frame.
+    /// The last TCO is after the last frame. Where frames are allowed, also that the page was not
+    /// whole at the end of the last frame, before they were over.
     Late {
         /// The last frame.
         frame: u32,

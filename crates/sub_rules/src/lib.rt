@@ -18,10 +18,8 @@ mod fault;
 mod fault_place;
 mod fault_row;
 mod packet_rule;
-mod passed_run;
 mod piece;
 mod sending;
-mod trust;
 
 pub use end_rule::EndRule;
 pub use event::Event;
@@ -29,7 +27,5 @@ pub use fault::CheckFault;
 pub use fault_place::FaultPlace;
 pub use fault_row::FaultRow;
 pub use packet_rule::{PacketRule, Watched};
-pub use passed_run::PassedRun;
 pub use piece::{NextPiece, next_piece};
 pub use sending::{Sending, units_of};
-pub use trust::Trust;

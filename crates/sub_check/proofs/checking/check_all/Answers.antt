@@ -7,7 +7,7 @@ use Rattle.sub_rules.specs.Pieces.{piece_file_of}
 use Rattle.sub_checker.proofs.PieceWaysLemmas.{front_of}
 use Rattle.sub_check.proofs.VerdictLemmas.{answers_at_once, answers_within, checked_first}
 use Rattle.sub_check.proofs.VerdictLemmas.{tells_events}
-use Rattle.sub_laws.proofs.TrustedOnAirLemmas.{law_of_trusted, law_of_trusted_with_delay}
+use Rattle.sub_trusted.proofs.TrustedOnAirLemmas.{law_of_trusted, law_of_trusted_with_delay}
 use Rattle.sub_check.proofs.checking.check_all.Goals as goal
 
 pub returns-clause-told : goal.returns-clause-told
@@ -30,12 +30,12 @@ returns-clause-first_within g c = λ bytes told.
     (λ pieces unread reads. c.tell_pieces.ensures.exact pieces unread bytes told reads))
 
 pub returns-clause-trusted : goal.returns-clause-trusted
-returns-clause-trusted g c = λ none bytes told passed from to there.
-    law_of_trusted c.args.programme.now c.args.options.now _ _ passed from to none there
+returns-clause-trusted g c = λ none bytes told from to there.
+    law_of_trusted c.args.programme.now c.args.options.now _ _ from to none there
 
 pub returns-clause-trusted_within : goal.returns-clause-trusted_within
-returns-clause-trusted_within g c = λ some bytes told passed from to there.
-    law_of_trusted_with_delay c.args.programme.now c.args.options.now _ _ passed from to
+returns-clause-trusted_within g c = λ some bytes told from to there.
+    law_of_trusted_with_delay c.args.programme.now c.args.options.now _ _ from to
     c.tell_pieces.ensures.programme some there
 
 pub returns-clause-begins : goal.returns-clause-begins

@@ -1,0 +1,25 @@
+-- What is accepted within some frames is accepted within more.
+use Rattle.std.specs.Prelude.{◌≡◌, ℕ, ◌^◌, ◌<◌, ◌≤◌, List, false, IsOk, Result}
+use Rattle.sub_io.specs.Device.{failed}
+use Rattle.stl_rows.specs.declared.national.National.{National}
+use Rattle.sub_plan.specs.Options.{OptionsValue}
+use Rattle.sub_rules.specs.Fault.{is_failure}
+use Rattle.sub_rules.specs.declared.fault.CheckFault.{CheckFault}
+use Rattle.sub_laws.specs.DelayOfFiles.{within_frames}
+use Rattle.sub_checker.specs.declared.telling.Accepted.{Accepted}
+use Rattle.sub_check.specs.CheckedFiles.{AreAcceptedWithin}
+
+-- Where the bytes of a subtitle file and of a PES file are accepted within some frames, or within
+-- none, and are checked within more, they are accepted there too, but for sources that failed and
+-- memory that was refused.
+abbrev pub LawOfAcceptedWithinMore : Type 0
+LawOfAcceptedWithinMore =
+    (national : National) (options : OptionsValue) (more : ℕ) (stl pes : List ℕ)
+    (answer later : Result Accepted CheckFault)
+    → options.origin < 2 ^ 33
+    → options.within ≤ more
+    → AreAcceptedWithin national options stl pes answer
+    → AreAcceptedWithin national (within_frames more options) stl pes later
+    → failed is_failure later ≡ false
+    → IsOk answer
+    → IsOk later

@@ -1,0 +1,111 @@
+-- What the checker keeps of the frames that may stay on air as they are, from one mark to the next.
+-- Private functions alone cite this.
+use Rattle.std.specs.Prelude.{ℕ, suc, ◌&&◌, ◌||◌, true, false, not, Bool, List, [], ◌∷◌, ◌++◌}
+use Rattle.std.specs.Prelude.{Option, Some, None, is_none, is_some, unwrap_or, if◌then◌else◌}
+use Rattle.sub_rules.specs.Fault.{doubted_frame, fault_row}
+use Rattle.sub_rules.specs.Trusted.{Mark, at_pes, trusted}
+use Rattle.sub_rules.specs.Trusted.Mark.{AtEnd, AtPes, Begins, Closes, Ends, Says}
+use Rattle.sub_rules.specs.declared.event.Event.{Event}
+use Rattle.sub_rules.specs.declared.event.Event.TheVariants.{Told}
+use Rattle.sub_rules.specs.declared.fault.CheckFault.TheVariants as fault
+use Rattle.sub_checker.specs.declared.trust.Trust.{Trust}
+
+-- The first frame that is trusted no more where this event is told, after a PES packet of frame
+-- `last`; at a late end the one since which the page is not whole.
+unfoldable pub doubted : ℕ → Option ℕ → Event → Option ℕ
+doubted last late (Told f) = doubted_frame last late (fault_row f).doubts (fault_row f).place
+doubted last late event = None
+
+-- It tells that the frames do not rise.
+unfoldable pub is_order : Event → Bool
+is_order (Told (fault.Order pes)) = true
+is_order event = false
+
+-- What is told where a frame is trusted no more, if one is.
+abbrev pub trusted_before : Option ℕ → Option ℕ → Option ℕ → List Event
+trusted_before run whole None = []
+trusted_before run whole (Some f) = trusted run whole f
+
+-- A run goes on; else it begins with this frame, where that has a header of the page.
+abbrev pub begun : Option ℕ → Bool → ℕ → Option ℕ
+begun (Some from) has_header f = Some from
+begun None has_header f = if has_header then Some f else None
+
+-- What is left of the run where a frame is doubted.
+abbrev pub kept : Option ℕ → Option ℕ → Option ℕ
+kept run None = run
+kept run (Some f) = None
+
+-- The first frame of the run at whose end the page was whole, where this frame is one of it: since
+-- which frame the ends up to its own are unfinished says whether it was whole here.
+abbrev pub first_whole : Option ℕ → Option ℕ → ℕ → Option ℕ
+first_whole (Some whole) since f = Some whole
+first_whole None None f = Some f
+first_whole None (Some since) f = None
+
+-- It, at the end of a frame of a run that goes on or begins here.
+abbrev pub whole_in : Option ℕ → Option ℕ → Option ℕ → ℕ → Option ℕ
+whole_in None whole since f = first_whole None since f
+whole_in (Some from) whole since f = first_whole whole since f
+
+-- The frame since which the page is not whole, where what is told now is told at a late end.
+abbrev pub late_since : Trust → Option ℕ
+late_since t = if t.is_late then t.since else None
+
+-- The first frame that is not trusted at the end of the file.
+abbrev pub closing_frame : Trust → Bool → ℕ
+closing_frame t are_left = unwrap_or t.since (if are_left then t.last else suc t.last)
+
+-- What is told with a mark. At the end of the file what is trusted of the last run is told only
+-- where anything else is.
+unfoldable pub told_with : Mark → Trust → List Event
+told_with (Says e) t =
+    trusted_before t.run t.whole (doubted t.last (late_since t) e) ++ at_pes t.pes e ∷ []
+told_with (Closes are_left more) t =
+    if t.told || more then trusted t.run t.whole (closing_frame t are_left) else []
+told_with mark t = []
+
+-- What is kept after it.
+unfoldable pub after_mark : Mark → Trust → Trust
+after_mark (AtPes pes) t = record t { pes = pes }
+after_mark (Says e) t = record t {
+  run = kept t.run (doubted t.last (late_since t) e);
+  rises = t.rises && not (is_order e);
+  is_clean = t.is_clean && is_none (doubted t.last (late_since t) e);
+  told = true;
+}
+after_mark (Begins f) t = record t { last = f; is_clean = t.rises }
+after_mark (AtEnd f since late) t = record t {
+  since = since;
+  is_late = late;
+  whole = if is_some t.run then first_whole t.whole since f else t.whole;
+}
+after_mark (Ends f has_header none) t = record t {
+  run = if t.is_clean && none then begun t.run has_header f else None;
+  whole = whole_in t.run t.whole t.since f;
+}
+after_mark (Closes are_left more) t = record t { run = None }
+
+-- Before the first mark.
+abbrev pub no_trust : Trust
+no_trust = record {
+  pes = 0;
+  run = None;
+  whole = None;
+  last = 0;
+  rises = true;
+  is_clean = true;
+  since = None;
+  is_late = false;
+  told = false;
+}
+
+-- What is told with marks, one after another, and what is kept after them.
+unfoldable pub told_by : Trust → List Mark → List Event
+told_by t [] = []
+told_by t (m ∷ ms) = told_with m t ++ told_by (after_mark m t) ms
+
+-- What is kept after marks, one after another.
+unfoldable pub trust_after : Trust → List Mark → Trust
+trust_after t [] = t
+trust_after t (m ∷ ms) = trust_after (after_mark m t) ms

@@ -1,0 +1,107 @@
+-- For `law_of_longer_delay_of_files`: what is carried within some frames is carried within more,
+-- `carries_longer`.
+use Rattle.std.proofs.lemmas.Bool.Decides.{nat_tests}
+use Rattle.std.proofs.Common.{◌≡◌, ℕ, zero, suc, ◌^◌, ◌<◌, ◌≤◌, ◌==◌, false, List, [], ◌∷◌, Some}
+use Rattle.std.proofs.Common.{refl, sym, ap, ◌∙◌, subst, arith}
+use Rattle.std.specs.List.{AllZip}
+use Rattle.ttx_pes.specs.PesPacket.{PesValue}
+use Rattle.sub_plan.specs.FrameTime.{clock}
+use Rattle.sub_plan.proofs.ClockLemmas.{law_of_clock, law_of_exact_clock}
+use Rattle.sub_rules.specs.PesFrames.{CarriesBy, IsReadAs}
+use Rattle.sub_rules.specs.Pieces.{joined, joined_after, sent_after}
+use Rattle.sub_rules.specs.Transmission.{IsRising, SentFrame, Transmission}
+use Rattle.sub_rules.proofs.JoinedLemmas.{joined-none}
+use Rattle.sub_laws.specs.DelayOfFiles.{LawOfLongerDelayOfFiles}
+use Rattle.sub_laws.proofs.GoodWithinLemmas.{law_of_longer_delay}
+use Rattle.sub_laws.proofs.JoinedRisingLemmas.{joined-rising}
+
+-- A PTS that is read as a frame is read as that one where more frames are allowed.
+clock_longer :
+    (within more origin pts frame : ℕ)
+    → origin < 2 ^ 33
+    → within ≤ more
+    → clock within origin pts ≡ Some frame
+    → clock more origin pts ≡ Some frame
+unfolding clock
+clock_longer zero zero origin pts frame low longer is = is
+clock_longer zero (suc more) origin pts frame low longer is =
+    let exact = (law_of_exact_clock origin pts frame).0 is in
+    subst (λ (p : ℕ). clock (suc more) origin p ≡ Some frame) exact.1
+    (law_of_clock (suc more) origin frame low exact.0)
+clock_longer (suc within) zero origin pts frame low longer is = absurd (omega arith)
+clock_longer (suc within) (suc more) origin pts frame low longer is = is
+
+-- So are PES packets.
+read_longer :
+    (within more origin : ℕ)
+    → origin < 2 ^ 33
+    → within ≤ more
+    → (values : List PesValue) (frames : Transmission)
+    → AllZip (IsReadAs (clock within origin)) values frames
+    → AllZip (IsReadAs (clock more origin)) values frames
+read_longer within more origin low longer [] [] each = tt
+read_longer within more origin low longer [] (s ∷ frames) each = elim each [ ]
+read_longer within more origin low longer (v ∷ values) [] each = elim each [ ]
+read_longer within more origin low longer (v ∷ values) (s ∷ frames) each = (
+  record {
+    frame = clock_longer within more origin v.pts s.frame low longer each.0.frame;
+    packets = each.0.packets;
+  },
+  read_longer within more origin low longer values frames each.1,
+)
+
+-- PES packets of one frame are sent as one within any frames but 0.
+some_frames : (n : ℕ) → (suc n == 0) ≡ false
+some_frames n = grind (arith, nat_tests)
+
+sent_alike : (within more : ℕ) (sent : Transmission) (s : SentFrame)
+    → sent_after (suc within) sent s ≡ sent_after (suc more) sent s
+sent_alike within more [] s = refl
+sent_alike within more (first ∷ sent) s = rw (some_frames within, some_frames more) refl
+
+joined_alike : (within more : ℕ) (sent frames : Transmission)
+    → joined_after (suc within) sent frames ≡ joined_after (suc more) sent frames
+unfolding joined_after
+joined_alike within more sent [] = refl
+joined_alike within more sent (s ∷ frames) =
+    joined_alike within more (sent_after (suc within) sent s) frames
+    ∙ ap (λ (x : Transmission). joined_after (suc more) x frames) (sent_alike within more sent s)
+
+-- Frames that rise, and are what PES packets are sent as, are so within more frames.
+joined_longer :
+    (within more : ℕ) (sendings frames : Transmission)
+    → within ≤ more
+    → IsRising frames
+    → frames ≡ joined within sendings
+    → frames ≡ joined more sendings
+joined_longer zero zero sendings frames longer rising are = are
+joined_longer zero (suc more) sendings frames longer rising are =
+    let each = are ∙ joined-none sendings in
+    each ∙ sym (joined-rising (suc more) sendings (subst IsRising each rising))
+joined_longer (suc within) zero sendings frames longer rising are = absurd (omega arith)
+joined_longer (suc within) (suc more) sendings frames longer rising are =
+    are ∙ joined_alike within more [] sendings
+
+pub carries_longer :
+    (within more origin : ℕ) (bytes : List ℕ) (frames : Transmission)
+    → origin < 2 ^ 33
+    → within ≤ more
+    → CarriesBy (clock within origin) within bytes frames
+    → CarriesBy (clock more origin) more bytes frames
+carries_longer within more origin bytes frames low longer is = record {
+  values = is.values;
+  packets = is.packets;
+  sendings = is.sendings;
+  each = is.each;
+  few = is.few;
+  is_whole = is.is_whole;
+  read = read_longer within more origin low longer is.values is.sendings is.read;
+  are = joined_longer within more is.sendings frames longer is.rising is.are;
+  rising = is.rising;
+}
+
+pub law_of_longer_delay_of_files : LawOfLongerDelayOfFiles
+law_of_longer_delay_of_files programme options more bytes transmission low longer carries good = (
+  carries_longer options.within more options.origin bytes transmission low longer carries,
+  law_of_longer_delay programme transmission options more longer good,
+)

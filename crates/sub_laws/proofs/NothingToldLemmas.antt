@@ -1,0 +1,66 @@
+-- For `law_of_broken_places`, `law_of_nothing_told` and `law_of_nothing_told_within`.
+-- What is told of pieces goes by what is told of the frames that they send: the laws.
+use Rattle.std.proofs.Common.{◌≡◌, List, [], ◌∷◌, map, refl, sym, ap, ◌∙◌, subst}
+use Rattle.ttx_packet.specs.PacketAddress.{IsPacket}
+use Rattle.sub_rules.specs.FrameRules.{Task, task_of}
+use Rattle.sub_rules.specs.PieceEvents.{sent_by_pieces}
+use Rattle.sub_rules.specs.Pieces.{Piece, frames_of}
+use Rattle.sub_rules.specs.Pieces.Piece.{Sent}
+use Rattle.sub_rules.specs.Transmission.{EachPacket, Transmission}
+use Rattle.sub_rules.proofs.FrameEvents.{events}
+use Rattle.sub_rules.proofs.JoinedLemmas.{joined-within}
+use Rattle.sub_laws.specs.BrokenPlaces.{LawOfBrokenPlaces, LawOfNothingTold}
+use Rattle.sub_laws.specs.BrokenPlaces.{LawOfNothingToldWithin}
+use Rattle.sub_laws.proofs.EventLemmas.{broken_places, none_refused, none_told}
+use Rattle.sub_laws.proofs.ToldWithinLemmas.{none_told_within}
+use Rattle.sub_laws.proofs.UntoldLemmas.{pieces_unrefused, pieces_untold}
+
+sent_frames : (frames : Transmission) → frames_of (map Sent frames) ≡ frames
+unfolding frames_of
+sent_frames [] = refl
+sent_frames (s ∷ frames) = ap (λ (fs : Transmission). s ∷ fs) (sent_frames frames)
+
+pub law_of_broken_places : LawOfBrokenPlaces
+law_of_broken_places g frames at_once =
+    let pieces : List Piece = map Sent frames in
+    let same : sent_by_pieces g pieces ≡ frames =
+    joined-within g.within (frames_of pieces) at_once ∙ sent_frames frames in
+    broken_places g frames at_once
+    (λ whole none.
+    let parts = (pieces_unrefused g pieces).0 none in
+    (pieces_untold g pieces).1 (
+      parts.0,
+      none_refused g (sent_by_pieces g pieces) (subst (EachPacket IsPacket) (sym same) whole)
+          parts.1,
+    ))
+
+pub law_of_nothing_told : LawOfNothingTold
+law_of_nothing_told programme options unread pieces at_once some whole =
+    let g : Task = task_of programme options unread in
+    let told = pieces_untold g pieces in
+    let same : sent_by_pieces g pieces ≡ frames_of pieces =
+    joined-within g.within (frames_of pieces) at_once in
+    let law = none_told programme options unread (frames_of pieces) at_once some whole in (
+      λ none.
+          let parts = told.0 none in
+          let good = law.0 (subst (λ (fs : Transmission). events g fs ≡ []) same parts.1) in
+          (parts.0, good.0, good.1, good.2),
+      λ all.
+          told.1 (
+            all.0,
+            subst (λ (fs : Transmission). events g fs ≡ []) (sym same)
+                (law.1 (all.1, all.2, all.3)),
+          ),
+    )
+
+pub law_of_nothing_told_within : LawOfNothingToldWithin
+law_of_nothing_told_within programme options unread pieces is every whole =
+    let g : Task = task_of programme options unread in
+    let told = pieces_untold g pieces in
+    let law = none_told_within programme options unread (sent_by_pieces g pieces) is every whole in (
+      λ none.
+          let parts = told.0 none in
+          let good = law.0 parts.1 in
+          (parts.0, good.0, good.1),
+      λ all. told.1 (all.0, law.1 (all.1, all.2)),
+    )

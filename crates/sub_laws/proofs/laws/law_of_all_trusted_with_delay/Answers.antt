@@ -1,6 +1,0 @@
--- The law: AllTrustedDelayLemmas.
-use Rattle.sub_laws.proofs.AllTrustedDelayLemmas.{law_of_all_trusted_with_delay}
-use Rattle.sub_laws.proofs.laws.law_of_all_trusted_with_delay.Goals as goal
-
-pub returns : goal.returns
-returns c = law_of_all_trusted_with_delay

@@ -1,6 +1,0 @@
--- The law: TrustedOnAirLemmas.
-use Rattle.sub_laws.proofs.TrustedOnAirLemmas.{law_of_trusted}
-use Rattle.sub_laws.proofs.laws.law_of_trusted.Goals as goal
-
-pub returns : goal.returns
-returns c = law_of_trusted

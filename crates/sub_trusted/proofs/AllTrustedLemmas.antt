@@ -1,0 +1,172 @@
+-- For `law_of_all_trusted`.
+-- Each stretch that can stay is told as trusted from a header of the page in it on:
+-- `law_of_all_trusted`.
+use Rattle.std.proofs.lemmas.Bool.Decides.{nat_tests}
+use Rattle.std.proofs.Common.{◌≡◌, ◌≢◌, ℕ, ◌<◌, ◌≤◌, ◌⊎◌, inl, inr, Bool, true}
+use Rattle.std.proofs.Common.{false, ◌||◌, not, List, [], ◌∷◌, ◌++◌, Contains}
+use Rattle.std.proofs.Common.{length, refl, sym, ap, ◌∙◌, subst, arith}
+use Rattle.std.proofs.lemmas.Bool.{or_parts}
+use Rattle.std.proofs.lemmas.List.Elements.{Contains-append_left}
+use Rattle.ttx_page.specs.PacketKind.{kind}
+use Rattle.ttx_page.specs.Span.{holds_header}
+use Rattle.sub_rules.specs.FrameRules.{Task, Unread, end_frame}
+use Rattle.sub_rules.specs.PieceEvents.{all_announced, all_of_pieces, closing_of_pieces, ended_run}
+use Rattle.sub_rules.specs.PieceEvents.{marks_of_closing, marks_of_each, marks_of_waiting, no_run}
+use Rattle.sub_rules.specs.PieceEvents.{passed_after_all, sent_by_pieces, told_of_pieces}
+use Rattle.sub_rules.specs.Pieces.{Piece, frames_of, joined_after, sent_after}
+use Rattle.sub_rules.specs.Pieces.Piece.{Passed, Sent}
+use Rattle.sub_rules.specs.Transmission.{Transmission}
+use Rattle.sub_rules.specs.declared.event.Event.{Event}
+use Rattle.sub_rules.specs.declared.event.Event.TheVariants.{Trusted}
+use Rattle.sub_rules.proofs.TrustedLemmas.{told_by-append}
+use Rattle.sub_trusted.specs.TrustedFrames.{CanStay, LawOfAllTrusted}
+use Rattle.sub_trusted.proofs.DoubtLemmas.{contains-announced}
+use Rattle.sub_trusted.proofs.AllTrustedStretchLemmas.{Fits, fits}
+use Rattle.sub_trusted.proofs.AllTrustedLeadLemmas.{IsTold, Leads, told_left, told_right}
+use Rattle.sub_laws.proofs.PrefixLemmas.{frame_at-take, last-same, packets-take}
+use Rattle.sub_trusted.proofs.AllTrustedEndingLemmas.{closing_told}
+use Rattle.sub_trusted.proofs.AllTrustedMarkLemmas.{top}
+use Rattle.sub_trusted.proofs.AllTrustedPieceLemmas.{Outside, PastAt, pieces_lead}
+use Rattle.sub_laws.proofs.PieceWalkLemmas.{EachPassed}
+use Rattle.sub_trusted.proofs.TrustedFrameLemmas.{part_length, risen}
+use Rattle.sub_laws.proofs.UntoldLemmas.{before_open, silent}
+use Rattle.sub_rules.specs.Trusted.{Mark, tells_none}
+use Rattle.sub_rules.proofs.KeptTrust.{all_is, Trust, after_mark, no_trust, told_by}
+use Rattle.sub_rules.proofs.KeptTrust.{told_with, trust_after}
+
+-- ---- anything is told
+
+nothing_of : (told : List Event) → told ≡ []
+    → all_announced no_run told ++ ended_run (passed_after_all no_run told) ≡ []
+unfolding all_announced passed_after_all
+nothing_of told none = grind (arith, nat_tests)
+
+-- Of the closing nothing is told where nothing was told and nothing follows.
+closing_silent : (g : Task) (frames : Transmission) (pes n : ℕ) (t : Trust)
+    → (t.told || not (tells_none (closing_of_pieces g frames pes n))) ≡ false
+    → told_by t (marks_of_closing g frames pes n) ≡ []
+unfolding told_by told_with after_mark
+closing_silent g frames pes n t e = grind (arith, nat_tests)
+
+module _ (g : Task) (pieces : List Piece) (a b i : ℕ)
+    (can : CanStay g pieces a b) (fit : Fits g (sent_by_pieces g pieces) a b i) where
+  abbrev frames : Transmission
+  frames = sent_by_pieces g pieces
+
+  -- No piece is passed over that may have been sent in the stretch: said piece by piece.
+  outside_of : (sent : Transmission) (ahead : List Piece)
+      → ((earlier later : List Piece) (u : Unread)
+      → ahead ≡ earlier ++ Passed u ∷ later
+      → 0 < length (joined_after g.within sent (frames_of earlier))
+      → length (joined_after g.within sent (frames_of earlier)) ≤ risen frames
+      → (end_frame (joined_after g.within sent (frames_of earlier)) < a)
+      ⊎ (b < end_frame (joined_after g.within sent (frames_of earlier))))
+      → EachPassed g.within (Outside g frames a b i fit) sent ahead
+  unfolding frames_of joined_after
+  outside_of sent [] h = tt
+  outside_of sent (Sent s ∷ ahead) h =
+      outside_of (sent_after g.within sent s) ahead
+      (λ earlier later u e.
+      h (Sent s ∷ earlier) later u (ap (λ (l : List Piece). Sent s ∷ l) e))
+  outside_of sent (Passed u ∷ ahead) h = (
+    h [] ahead u refl,
+    outside_of sent ahead
+        (λ earlier later v e.
+        h (Passed u ∷ earlier) later v (ap (λ (l : List Piece). Passed u ∷ l) e)),
+  )
+
+  outside : EachPassed g.within (Outside g frames a b i fit) [] pieces
+  outside =
+      outside_of [] pieces
+      (λ earlier later u e more few.
+      let all = part_length frames in
+      let last = last-same (sent_by_pieces g earlier) in
+      subst (λ (f : ℕ). (f < a) ⊎ (b < f)) last
+      (can.passed earlier later u e more (omega arith)))
+
+  abbrev Among : List Event → Type 0
+  Among es = IsTold (top g frames a b i fit) b es
+
+  abbrev marks : List Mark
+  marks = marks_of_each g [] 0 pieces ++ marks_of_waiting g frames
+
+  abbrev close : List Mark
+  close = marks_of_closing g frames (length pieces) (length frames)
+
+  -- What comes of the pieces.
+  goes : Leads (top g frames a b i fit) b (PastAt g frames a b i fit (length frames))
+      no_trust marks
+  goes = pieces_lead g frames a b i fit pieces refl outside
+
+  -- Something is told, or was.
+  any_told : (t : Trust) → trust_after no_trust marks ≡ t → told_by no_trust (marks ++ close) ≢ []
+      → (t.told || not (tells_none (closing_of_pieces g frames (length pieces) (length frames))))
+      ≡ true
+  any_told t after something = go (t.told || not (tells_none es)) refl
+    where
+      es : List Event
+      es = closing_of_pieces g frames (length pieces) (length frames)
+
+      go : (c : Bool) → (t.told || not (tells_none es)) ≡ c → (t.told || not (tells_none es)) ≡ true
+      go true e = e
+      go false e =
+          let none : told_by t close ≡ [] =
+          closing_silent g frames (length pieces) (length frames) t e in
+          let before : t.told ≡ false = (or_parts t.told (not (tells_none es)) e).0 in
+          let first : told_by no_trust marks ≡ [] =
+          (silent no_trust marks (before_open g pieces).none
+          (ap (λ (u : Trust). u.told) after ∙ before)).1 in
+          let rest : told_by (trust_after no_trust marks) close ≡ [] =
+          ap (λ (u : Trust). told_by u close) after ∙ none in
+          absurd (something (told_by-append no_trust marks close ∙ rw (first, rest) refl))
+
+  all_marks : told_by no_trust (marks ++ close) ≢ [] → Among (told_by no_trust (marks ++ close))
+  all_marks something =
+      subst Among (sym (told_by-append no_trust marks close)) (of_goes goes)
+    where
+      of_goes : Leads (top g frames a b i fit) b
+          (PastAt g frames a b i fit (length frames)) no_trust marks
+          → Among (told_by no_trust marks ++ told_by (trust_after no_trust marks) close)
+      of_goes (inl told) =
+          told_left (top g frames a b i fit) b (told_by no_trust marks)
+          (told_by (trust_after no_trust marks) close) told
+      of_goes (inr past) =
+          told_right (top g frames a b i fit) b (told_by no_trust marks)
+          (told_by (trust_after no_trust marks) close)
+          (closing_told g frames a b i fit (length pieces) (trust_after no_trust marks) past
+          (any_told (trust_after no_trust marks) refl something))
+
+  pub all_told : all_of_pieces g pieces ≢ [] → Among (all_of_pieces g pieces)
+  unfolding all_of_pieces
+  all_told something =
+      let told : List Event = told_of_pieces g pieces in
+      let same : told ≡ told_by no_trust (marks ++ close) = all_is g pieces in
+      let (from, to, low, high, c) =
+      all_marks (λ none. something (nothing_of told (same ∙ none))) in (
+        from,
+        to,
+        low,
+        high,
+        Contains-append_left (all_announced no_run told) _ _
+            (contains-announced no_run told from to
+            (subst (λ (l : List Event). Contains l (Trusted from to)) (sym same) c)),
+      )
+
+-- ---- the law
+
+pub law_of_all_trusted : LawOfAllTrusted
+law_of_all_trusted g pieces a b i can there low high header something =
+    let frames : Transmission = sent_by_pieces g pieces in
+    let inside : i < risen frames =
+    let all = part_length (sent_by_pieces g pieces) in omega arith in
+    let at = frame_at-take frames (risen frames) i inside in
+    let ps = packets-take frames (risen frames) i inside in
+    let holds = ap (holds_header (kind g.watched.page)) (sym ps) ∙ header in
+    let fit : Fits g frames a b i =
+    fits g pieces a b can i inside (omega arith) (omega arith) holds in
+    subst (λ (f : ℕ). (from : ℕ)
+    × (to : ℕ)
+    × (from ≤ f)
+    × (b ≤ to)
+    × Contains (all_of_pieces g pieces) (Trusted from to)) (sym at)
+    (all_told g pieces a b i can fit something)

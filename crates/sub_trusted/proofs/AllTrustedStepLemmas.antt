@@ -1,0 +1,425 @@
+-- For `law_of_all_trusted`.
+-- What comes of a frame, mark after mark, while the frames of a stretch that can stay go by: before
+-- its packets, `arrival_leads`, of its packets, `more_leads`, and of a piece that is passed over,
+-- `passed_leads`.
+use Rattle.std.proofs.lemmas.Bool.Decides.{nat_tests}
+use Rattle.std.proofs.Common.{◌≡◌, ℕ, zero, suc, ◌+◌, ◌-◌, ◌<◌, ◌≤◌, ◌⊎◌, inl, inr, Bool, true}
+use Rattle.std.proofs.Common.{false, List, [], ◌∷◌, ◌++◌, length, map, take, get_or, Option, Some}
+use Rattle.std.proofs.Common.{None, refl, sym, ap, ◌∙◌, subst, arith, le_refl, append_assoc}
+use Rattle.std.proofs.Common.{length-append, ◌&&◌, is_none}
+use Rattle.std.proofs.Math.Seq.{take-append-add}
+use Rattle.std.proofs.lemmas.Bool.{cases_lt}
+use Rattle.std.proofs.lemmas.List.{get_or-append-add, get_or_append_left, take-append-le}
+use Rattle.std.proofs.lemmas.List.Folds.{list_any-append}
+use Rattle.std.proofs.lemmas.Option.{none-some, same_Some}
+use Rattle.std.specs.List.{list_any}
+use Rattle.sub_rules.specs.Events.{gap_length, latest, order_events, packet_fault, packets_told}
+use Rattle.sub_rules.specs.Events.{rules_told, unread_fault}
+use Rattle.sub_rules.specs.FrameRules.{Task, Unread, frame_at, packets_before, packets_of_frame}
+use Rattle.sub_rules.specs.PieceEvents.{marks_at_end, marks_of_arrival, marks_of_gap}
+use Rattle.sub_rules.specs.Transmission.{Transmission}
+use Rattle.sub_rules.specs.Trusted.Mark.{Begins, Says}
+use Rattle.sub_rules.specs.declared.event.Event.{Event}
+use Rattle.sub_rules.specs.declared.event.Event.TheVariants.{Told}
+use Rattle.sub_rules.specs.declared.packet_rule.PacketRule.{PacketRule}
+use Rattle.sub_rules.specs.declared.packet_rule.Watched.{Watched}
+use Rattle.sub_trusted.proofs.TrustedKeptLemmas.{Arrives, Closed, Keeps, Opens, Up, run_rises}
+use Rattle.sub_trusted.proofs.TrustedKeptLemmas.{up_of}
+use Rattle.sub_trusted.proofs.TrustedStepLemmas.{begins, gap_step, more_sent, order_step, passed}
+use Rattle.sub_trusted.proofs.TrustedStepLemmas.{passed_ended}
+use Rattle.sub_trusted.proofs.AllTrustedStretchLemmas.{Fits, gap_in}
+use Rattle.sub_trusted.proofs.LateDoubtLemmas.{KeepsAll, order_at, packets_doubt, passed_at}
+use Rattle.sub_trusted.proofs.AllTrustedLeadLemmas.{Leads, Leads-append, Leads-both, Leads-cons}
+use Rattle.sub_trusted.proofs.AllTrustedLeadLemmas.{Leads-nil}
+use Rattle.sub_laws.proofs.PrefixLemmas.{RiseTo, rises_to}
+use Rattle.sub_laws.proofs.RisingEndLemmas.{latest_at}
+use Rattle.sub_trusted.proofs.SayMarkLemmas.{doubt_of, said}
+use Rattle.sub_trusted.proofs.AllTrustedMarkLemmas.{Follows, doubt_told, end_leads, follows_said}
+use Rattle.sub_trusted.proofs.AllTrustedMarkLemmas.{follows_says, follows_to, top}
+use Rattle.sub_trusted.proofs.TrustedFrameLemmas.{count_most, part_rises, risen}
+use Rattle.sub_rules.proofs.KeptTrust.{Trust, after_mark, late_since, trust_after}
+use Rattle.sub_rules.specs.Trusted.{Mark}
+use Rattle.sub_rules.proofs.KeptTrust.{is_order}
+
+-- ---- events that do not tell of the order
+
+rule_order : (frame k : ℕ) (r : PacketRule) → is_order (Told (packet_fault r frame k)) ≡ false
+unfolding is_order
+rule_order frame k r = grind (arith, nat_tests)
+
+rules_orders : (frame k : ℕ) (rs : List PacketRule)
+    → list_any is_order (map (λ (r : PacketRule). Told (packet_fault r frame k)) rs) ≡ false
+rules_orders frame k [] = refl
+rules_orders frame k (r ∷ rs) = rw (rule_order frame k r) (rules_orders frame k rs)
+
+pub packets_orders : (w : Watched) (frame from : ℕ) (before packets : List (List ℕ)) (n : ℕ)
+    → list_any is_order (packets_told w frame from before packets n) ≡ false
+unfolding packets_told rules_told
+packets_orders w frame from before packets zero = refl
+packets_orders w frame from before packets (suc n) =
+    list_any-append is_order (packets_told w frame from before packets n) _
+    ∙ rw (packets_orders w frame from before packets n) (rules_orders frame (from + n) _)
+
+pub passed_orders : (pes : ℕ) (u : Unread)
+    → list_any is_order (Told (unread_fault pes (Some u)) ∷ []) ≡ false
+unfolding is_order
+passed_orders pes u = grind (arith, nat_tests)
+
+-- Of frames that rise nothing is told of the order, nor is one doubted.
+order_orders : (g : Task) (frames : Transmission) (n : ℕ)
+    → (0 < n → frame_at frames (n - 1) < frame_at frames n)
+    → list_any is_order (order_events g frames n) ≡ false
+unfolding order_events is_order
+order_orders g frames n up = grind (arith, nat_tests)
+
+order_silent : (g : Task) (frames : Transmission) (n : ℕ) → 0 < n
+    → frame_at frames (n - 1) < frame_at frames n
+    → order_events g frames n ≡ []
+unfolding order_events
+order_silent g frames n some up = grind (arith, nat_tests)
+
+-- A frame is clean while none is doubted.
+pub clean_still : (clean : Bool) (d : Option ℕ) → clean ≡ true → d ≡ None
+    → (clean && is_none d) ≡ true
+clean_still clean d is none = rw (is, none) refl
+
+-- ---- packets of a frame
+
+-- Some packets, sent after the first of a frame and before the rest of it.
+keeps_part : (w : Watched) (before xs ys zs : List (List ℕ))
+    → KeepsAll w before (xs ++ ys ++ zs)
+    → KeepsAll w (before ++ xs) ys
+keeps_part w before xs ys zs all k l r needed =
+    let size = length-append xs (ys ++ zs) in
+    let more = length-append ys zs in
+    let assoc = append_assoc xs ys zs in
+    let at : get_or (xs ++ ys ++ zs) (length xs + k) [] ≡ get_or ys k [] =
+    ap (λ (ps : List (List ℕ)). get_or ps (length xs + k) []) assoc
+    ∙ get_or-append-add xs (ys ++ zs) k []
+    ∙ get_or_append_left ys zs [] k l in
+    let front : take (length xs + k) (xs ++ ys ++ zs) ≡ xs ++ take k ys =
+    ap (take (length xs + k)) assoc
+    ∙ take-append-add xs (ys ++ zs) k
+    ∙ ap (λ (ps : List (List ℕ)). xs ++ ps) (take-append-le k ys zs (omega arith)) in
+    let few : length xs + k < length (xs ++ ys ++ zs) =
+    let whole = ap (λ (ps : List (List ℕ)). length ps) assoc in omega arith in
+    rw (append_assoc before xs (take k ys), sym at, sym front)
+    (all (length xs + k) few r needed)
+
+module _ (g : Task) (frames : Transmission) (a b i : ℕ)
+    (fits : Fits g frames a b i) where
+  abbrev Follow : ℕ → ℕ → Trust → Type 0
+  Follow n p t = Follows g frames a b i fits n p t
+
+  abbrev Lead : (Trust → Type 0) → Trust → List Mark → Type 0
+  Lead S t ms = Leads (top g frames a b i fits) b S t ms
+
+  -- ---- the ends of frames of the day before a frame
+
+  -- The run that is there is one of frames that rise up to frame n.
+  up_here : (n x p : ℕ) (t : Trust) → Keeps g frames 0 n x t
+      → (t.rises ≡ true → RiseTo frames (suc n))
+      → Follow n p t
+      → i < n
+      → Up g frames n
+  up_here n x p t keeps rises follows l =
+      let (from, low, run) = follows.run l in up_of g frames 0 n x from t keeps rises run
+
+  pub in_part : (n : ℕ) → n < length frames → Up g frames n → n < risen frames
+  in_part n there h =
+      let most = count_most frames (length frames) (suc n) (omega arith) h.rises in omega arith
+
+  pub after_top : (n : ℕ) → Up g frames n → i < n → a ≤ frame_at frames (n - 1)
+  after_top n h l =
+      let up = rises_to frames (suc n) h.rises i (n - 1) (omega arith) (omega arith) in
+      let low = fits.low in
+      omega arith
+
+  gap_leads : (n k : ℕ) (t : Trust) → n < length frames → k < gap_length frames n
+      → Arrives g frames 0 n k t
+      → Follow n (latest frames n + suc k) t
+      → Lead (λ u. Arrives g frames 0 n (suc k) u × Follow n (latest frames n + suc (suc k)) u) t
+      (marks_at_end g frames n n (latest frames n + suc k))
+  gap_leads n k t there l arrives follows =
+      let f : ℕ = latest frames n + suc k in
+      let q : ℕ = latest frames n + suc (suc k) in
+      Leads-both (top g frames a b i fits) b (Arrives g frames 0 n (suc k)) (Follow n q) t
+      (marks_at_end g frames n n f) (gap_step g frames 0 n k t there l arrives).after
+      (end_leads g frames a b i fits n n f q t arrives.keeps.at_once (omega arith) follows
+      (λ below.
+      let h = up below in
+      let first = h.some in
+      let last = h.last in
+      let long = h.long in
+      gap_in frames n f first (in_part n there h) (omega arith) (omega arith))
+      (λ below.
+      let h = up below in
+      let low = after_top n h below in
+      let last = h.last in
+      omega arith))
+    where
+      up : i < n → Up g frames n
+      up below =
+          up_here n (latest frames n + suc k) (latest frames n + suc k) t arrives.keeps
+          arrives.rises follows below
+
+  -- The first k of them have been.
+  abbrev Arriving : ℕ → ℕ → Trust → Type 0
+  Arriving n k u = Arrives g frames 0 n k u × Follow n (latest frames n + suc k) u
+
+  gaps_lead : (n k : ℕ) (t : Trust) → n < length frames → k ≤ gap_length frames n
+      → Arriving n 0 t
+      → Lead (Arriving n k) t (marks_of_gap g frames n k)
+  unfolding marks_of_gap
+  gaps_lead n zero t there l arriving =
+      Leads-nil (top g frames a b i fits) b (Arriving n 0) t arriving
+  gaps_lead n (suc k) t there l arriving =
+      Leads-append (top g frames a b i fits) b (Arriving n k) (Arriving n (suc k)) t
+      (marks_of_gap g frames n k) (marks_at_end g frames n n (latest frames n + suc k))
+      (gaps_lead n k t there (omega arith) arriving)
+      (λ u so. gap_leads n k u there (omega arith) so.0 so.1)
+
+  -- ---- before the packets of a frame
+
+  -- The first n frames have ended.
+  abbrev pub Past : ℕ → Trust → Type 0
+  Past n u = Closed g frames 0 n u × Follow n (frame_at frames (n - 1) + 1) u
+
+  order_leads : (n : ℕ) (t : Trust) → n < length frames → Past n t
+      → Lead (Arriving n 0) t (map Says (order_events g frames n))
+  order_leads n t there (closed, follows) =
+      Leads-both (top g frames a b i fits) b (Arrives g frames 0 n 0)
+      (Follow n (latest frames n + suc 0)) t (map Says (order_events g frames n))
+      (order_step g frames 0 n t there closed).after
+      (follows_says g frames a b i fits n (latest frames n + suc 0) t
+      (order_events g frames n) (follows_to g frames a b i fits n
+      (frame_at frames (n - 1) + 1) (latest frames n + suc 0) t follows (λ from is.
+      let run = closed.keeps.run from is in
+      let below = run.below in
+      let last = latest_at frames n run.rises (omega arith) in
+      omega arith))
+      (λ early.
+      order_orders g frames n
+      (λ first. part_rises frames n first (let in_it = fits.there in omega arith)))
+      (λ l x doubt. past l x doubt))
+    where
+      past : i < n → (x : ℕ) → doubt_of t (order_events g frames n) ≡ Some x
+          → (b < x) × (b < latest frames n + suc 0)
+      past l x doubt =
+          let (from, low, is) = follows.run l in
+          let run = closed.keeps.run from is in
+          let most = count_most frames (length frames) n (omega arith) run.rises in
+          let last = latest_at frames n run.rises (omega arith) in
+          let at : x ≡ t.last = order_at t.last (late_since t) g frames n x doubt in
+          let here = closed.last (omega arith) in
+          elim (cases_lt n (risen frames)) [
+            | inl more ↦
+                let none =
+                order_silent g frames n (omega arith) (part_rises frames n (omega arith) more) in
+                let nothing : doubt_of t [] ≡ Some x =
+                subst (λ (es : List Event). doubt_of t es ≡ Some x) none doubt in
+                absurd (none-some x nothing)
+            | inr all ↦
+                let same : risen frames ≡ n = omega arith in
+                let fall : b < frame_at frames (risen frames - 1) = fits.fall (omega arith) in
+                let back : frame_at frames (risen frames - 1) ≡ frame_at frames (n - 1) =
+                ap (λ (k : ℕ). frame_at frames (k - 1)) same in
+                (omega arith, omega arith)
+          ]
+
+  -- Frame n is sent.
+  pub record Sending (n : ℕ) (t : Trust) : Type 0 where
+    pub follows : Follow n (frame_at frames n) t
+    pub clean : i ≤ n → t.is_clean ≡ true
+
+  -- So are these packets in it so far.
+  abbrev pub Open : ℕ → List (List ℕ) → Trust → Type 0
+  Open n packets u = Opens g frames 0 n packets u × Sending n u
+
+  begins_open : (n : ℕ) (t : Trust) → n < length frames → Arriving n (gap_length frames n) t
+      → Open n [] (after_mark (Begins (frame_at frames n)) t)
+  unfolding after_mark
+  begins_open n t there (arrives, follows) =
+      let now : Follow n (frame_at frames n) t =
+      follows_to g frames a b i fits n (latest frames n + suc (gap_length frames n))
+      (frame_at frames n) t follows (λ from is.
+      (up_of g frames 0 n (latest frames n + suc (gap_length frames n)) from t arrives.keeps
+      arrives.rises is).long) in (
+        begins g frames 0 n t there arrives,
+        record {
+          follows = record {
+            rises = now.rises;
+            run = now.run;
+            low = now.low;
+            whole = now.whole;
+            since = now.since;
+          };
+          clean = λ l. elim (cases_lt i n) [
+            | inl below ↦
+                let (from, low, is) = follows.run below in
+                run_rises t.rises t.run from arrives.keeps.falls is
+            | inr not_yet ↦ follows.rises (omega arith)
+          ];
+        },
+      )
+
+  pub arrival_leads : (n : ℕ) (t : Trust) → n < length frames → Past n t
+      → Lead (Open n []) t (marks_of_arrival g frames n)
+  arrival_leads n t there past =
+      Leads-append (top g frames a b i fits) b (Arriving n (gap_length frames n)) (Open n []) t
+      (map Says (order_events g frames n) ++ marks_of_gap g frames n (gap_length frames n))
+      (Begins (frame_at frames n) ∷ [])
+      (Leads-append (top g frames a b i fits) b (Arriving n 0)
+      (Arriving n (gap_length frames n)) t (map Says (order_events g frames n))
+      (marks_of_gap g frames n (gap_length frames n)) (order_leads n t there past)
+      (λ u so. gaps_lead n (gap_length frames n) u there (le_refl (gap_length frames n)) so))
+      (λ v here.
+      Leads-cons (top g frames a b i fits) b (Open n []) v (Begins (frame_at frames n)) []
+      (Leads-nil (top g frames a b i fits) b (Open n [])
+      (after_mark (Begins (frame_at frames n)) v) (begins_open n v there here)))
+
+  -- ---- while it is sent
+
+  pub sending_says : (n : ℕ) (t : Trust) (es : List Event) → Sending n t
+      → list_any is_order es ≡ false
+      → (i ≡ n → doubt_of t es ≡ None)
+      → (i < n → (x : ℕ) → doubt_of t es ≡ Some x → (b < x) × (b < frame_at frames n))
+      → Lead (Sending n) t (map Says es)
+  sending_says n t es sending orders calm past = go (doubt_of t es) refl
+    where
+      follow : (i < n → doubt_of t es ≡ None)
+          → Follow n (frame_at frames n) (trust_after t (map Says es))
+      follow none =
+          follows_said g frames a b i fits n (frame_at frames n) t
+          (trust_after t (map Says es)) es sending.follows (said t es) (λ l. orders) none
+
+      go : (o : Option ℕ) → doubt_of t es ≡ o → Lead (Sending n) t (map Says es)
+      go None is =
+          inr
+          (record {
+            follows = follow (λ l. is);
+            clean = λ l.
+                (said t es).clean_is ∙ clean_still t.is_clean (doubt_of t es) (sending.clean l) is;
+          })
+      go (Some x) is = elim (cases_lt i n) [
+        | inl l ↦
+            doubt_told g frames a b i fits n (frame_at frames n) t es x sending.follows l is
+            (past l x is) (Sending n)
+        | inr not_yet ↦
+            inr
+            (record {
+              follows = follow (λ l. absurd (omega arith));
+              clean = λ l.
+                  let none = calm (omega arith) in absurd (none-some x (sym none ∙ is));
+            })
+      ]
+
+  -- What is so of a frame that is sent after the one with the header.
+  pub later_in : (n : ℕ) (packets : List (List ℕ)) (t : Trust) → n < length frames
+      → Open n packets t
+      → i < n
+      → (n < risen frames) × (a ≤ frame_at frames n)
+  later_in n packets t there (opens, sending) l =
+      let h =
+      up_here n (frame_at frames n) (frame_at frames n) t opens.keeps opens.rises sending.follows
+      l in
+      let low = after_top n h l in
+      let up = h.up in
+      (in_part n there h, omega arith)
+
+  pub more_leads : (n : ℕ) (packets more rest : List (List ℕ)) (t : Trust) → n < length frames
+      → packets_of_frame frames n ≡ packets ++ more ++ rest
+      → Open n packets t
+      → Lead (Open n (packets ++ more)) t
+      (map Says
+      (packets_told g.watched (frame_at frames n) (length packets)
+      (packets_before frames n ++ packets) more (length more)))
+  more_leads n packets more rest t there whole (opens, sending) =
+      let so_far : List (List ℕ) = packets_before frames n ++ packets in
+      let es : List Event =
+      packets_told g.watched (frame_at frames n) (length packets) so_far more (length more) in
+      let finds =
+      packets_doubt t.last (late_since t) g.watched (frame_at frames n) (length packets) so_far
+      more in
+      Leads-both (top g frames a b i fits) b (Opens g frames 0 n (packets ++ more)) (Sending n) t
+      (map Says es) (more_sent g frames 0 n packets more t there opens).after
+      (sending_says n t es sending
+      (packets_orders g.watched (frame_at frames n) (length packets) so_far more (length more))
+      (λ same.
+      let here : frame_at frames i ≡ frame_at frames n = ap (frame_at frames) same in
+      let low = fits.low in
+      let high = fits.high in
+      let in_it = fits.there in
+      finds.calm (keeps (omega arith) (omega arith) (omega arith)))
+      (λ l x doubt.
+      let (in_it, low) = later_in n packets t there (opens, sending) l in
+      let at : x ≡ frame_at frames n = finds.at x doubt in
+      elim (cases_lt b (frame_at frames n)) [
+        | inl past ↦ (omega arith, past)
+        | inr not_past ↦
+            let none = finds.calm (keeps in_it low (omega arith)) in
+            absurd (none-some x (sym none ∙ doubt))
+      ]))
+    where
+      keeps : n < risen frames → a ≤ frame_at frames n → frame_at frames n ≤ b
+          → KeepsAll g.watched (packets_before frames n ++ packets) more
+      keeps in_it low high =
+          keeps_part g.watched (packets_before frames n) packets more rest
+          (subst (λ (ps : List (List ℕ)). KeepsAll g.watched (packets_before frames n) ps) whole
+          (fits.packets n in_it low high))
+
+  -- A piece is passed over before the next frame comes.
+  pub passed_past : (n pes : ℕ) (u : Unread) (t : Trust) → n ≤ length frames
+      → (0 < n → n ≤ risen frames → (frame_at frames (n - 1) < a) ⊎ (b < frame_at frames (n - 1)))
+      → Past n t
+      → Lead (Past n) t (map Says (Told (unread_fault pes (Some u)) ∷ []))
+  passed_past n pes u t within outside (closed, follows) =
+      let es : List Event = Told (unread_fault pes (Some u)) ∷ [] in
+      let p : ℕ = frame_at frames (n - 1) + 1 in
+      Leads-both (top g frames a b i fits) b (Closed g frames 0 n) (Follow n p) t (map Says es)
+      (passed_ended g frames 0 n pes u t within closed).after
+      (follows_says g frames a b i fits n p t es follows (λ early. passed_orders pes u)
+      (λ l x doubt.
+      let (from, low, run) = follows.run l in
+      let most = count_most frames (length frames) n within (closed.keeps.run from run).rises in
+      let up = rises_to frames n (closed.keeps.run from run).rises i (n - 1) (omega arith)
+      (omega arith) in
+      let from_low = fits.low in
+      let is : Some t.last ≡ Some x = sym (passed_at t.last (late_since t) pes u) ∙ doubt in
+      let same : t.last ≡ x = same_Some t.last x is in
+      let last = closed.last (omega arith) in
+      elim (outside (omega arith) most) [
+        | inl before ↦ absurd (omega arith)
+        | inr after ↦ (omega arith, omega arith)
+      ]))
+
+  -- Or while one is sent.
+  pub passed_leads : (n pes : ℕ) (packets : List (List ℕ)) (u : Unread) (t : Trust)
+      → n < length frames
+      → (n < risen frames → (frame_at frames n < a) ⊎ (b < frame_at frames n))
+      → Open n packets t
+      → Lead (Open n packets) t (map Says (Told (unread_fault pes (Some u)) ∷ []))
+  passed_leads n pes packets u t there outside (opens, sending) =
+      let es : List Event = Told (unread_fault pes (Some u)) ∷ [] in
+      Leads-both (top g frames a b i fits) b (Opens g frames 0 n packets) (Sending n) t
+      (map Says es) (passed g frames 0 n pes packets u t there opens).after
+      (sending_says n t es sending (passed_orders pes u)
+      (λ same.
+      let here : frame_at frames i ≡ frame_at frames n = ap (frame_at frames) same in
+      let low = fits.low in
+      let high = fits.high in
+      let in_it = fits.there in
+      elim (outside (omega arith)) [
+        | inl before ↦ absurd (omega arith)
+        | inr after ↦ absurd (omega arith)
+      ])
+      (λ l x doubt.
+      let (in_it, low) = later_in n packets t there (opens, sending) l in
+      let is : Some t.last ≡ Some x =
+      sym (passed_at t.last (late_since t) pes u) ∙ doubt in
+      let same : t.last ≡ x = same_Some t.last x is in
+      let last = opens.last in
+      elim (outside in_it) [
+        | inl before ↦ absurd (omega arith)
+        | inr after ↦ (omega arith, after)
+      ]))

@@ -1,0 +1,229 @@
+-- For what may stay.
+-- Which frame is trusted no more by what is told of a frame's packets, `packets_doubt`, of its
+-- number, `order_at`, and at an end, which may be late, `end_doubt`; and since which frame an end
+-- is unfinished: none after it, `seen_low`.
+use Rattle.std.proofs.lemmas.Bool.Decides.{nat_tests}
+use Rattle.std.proofs.Common.{◌≡◌, ℕ, zero, suc, ◌+◌, ◌-◌, ◌<◌, ◌≤◌, Bool, true, false, cond, List}
+use Rattle.std.proofs.Common.{[], ◌∷◌, ◌++◌, map, take, get_or, length, max, Option, Some, None}
+use Rattle.std.proofs.Common.{refl, sym, subst, arith, append_assoc, length-append, le_refl, inl}
+use Rattle.std.proofs.Common.{inr, unwrap_or, if◌then◌else◌, ◌==◌}
+use Rattle.std.proofs.Math.Seq.{take-append-add}
+use Rattle.std.proofs.lemmas.Bool.{cases_lt}
+use Rattle.std.proofs.lemmas.List.{get_or-append-add, get_or_append_left, take-append-le}
+use Rattle.std.proofs.lemmas.List.Elements.{All-append, All-cons, All-nil}
+use Rattle.std.proofs.lemmas.Option.{none-some}
+use Rattle.std.specs.List.{list_any}
+use Rattle.sub_rules.specs.Events.{Standing, end_events, first_header_events, gap_length}
+use Rattle.sub_rules.specs.Events.{is_unfinished, latest, order_events, packet_fault, packets_told}
+use Rattle.sub_rules.specs.Events.{rules_told, since_frames, since_in_gap, unfinished_from}
+use Rattle.sub_rules.specs.Events.{unfinished_since, unread_fault}
+use Rattle.sub_rules.specs.FrameRules.{Task, Unread, frame_at}
+use Rattle.sub_rules.specs.PacketTests.{breaks}
+use Rattle.sub_rules.specs.Transmission.{Transmission}
+use Rattle.sub_rules.specs.declared.event.Event.TheVariants.{Told}
+use Rattle.sub_rules.specs.declared.packet_rule.PacketRule.{PacketRule}
+use Rattle.sub_rules.specs.declared.packet_rule.Watched.{Watched}
+use Rattle.sub_laws.specs.CleanStretch.{is_needed}
+use Rattle.sub_trusted.proofs.DoubtLemmas.{EachTrusted, OnTrusted, each-own}
+use Rattle.sub_laws.proofs.FirstFoundLemmas.{Finds, Finds-like, first_found, found_so_far}
+use Rattle.sub_laws.proofs.FirstFoundLemmas.{packet_found}
+use Rattle.sub_rules.proofs.KeptTrust.{doubted}
+use Rattle.sub_rules.specs.Trusted.{stands_none}
+use Rattle.sub_rules.proofs.KeptTrust.{is_order}
+
+-- ---- packets
+
+-- Packets, sent after these, break no rule on which a receiver depends.
+abbrev pub KeepsEach : Watched → List (List ℕ) → List (List ℕ) → ℕ → Type 0
+KeepsEach w before packets k =
+    (r : PacketRule)
+    → is_needed r ≡ true
+    → breaks r w (before ++ take k packets) (get_or packets k []) ≡ false
+
+abbrev pub KeepsAll : Watched → List (List ℕ) → List (List ℕ) → Type 0
+KeepsAll w before packets = (k : ℕ) → k < length packets → KeepsEach w before packets k
+
+-- Some packets, and then others.
+pub keeps_joined : (w : Watched) (before xs ys : List (List ℕ))
+    → KeepsAll w before xs
+    → KeepsAll w (before ++ xs) ys
+    → KeepsAll w before (xs ++ ys)
+keeps_joined w before xs ys one two k l r needed = elim (cases_lt k (length xs)) [
+  | inl early ↦
+      rw (take-append-le k xs ys (omega arith), get_or_append_left xs ys [] k early)
+      (one k early r needed)
+  | inr late ↦
+      let i : ℕ = k - length xs in
+      let at : length xs + i ≡ k = omega arith in
+      let few : i < length ys = omega (arith, l, length-append xs ys) in
+      subst (λ j. breaks r w (before ++ take j (xs ++ ys)) (get_or (xs ++ ys) j []) ≡ false) at
+      (rw (
+        take-append-add xs ys i,
+        get_or-append-add xs ys i [],
+        sym (append_assoc before xs (take i ys)),
+      ) (two i few r needed))
+]
+
+module _ (last : ℕ) (late : Option ℕ) (w : Watched) (frame from : ℕ)
+    (before packets : List (List ℕ))
+  where
+    -- The frame of a packet is trusted no more exactly by the rules on which a receiver depends.
+    rule_doubt : (k : ℕ) (r : PacketRule)
+        → doubted last late (Told (packet_fault r frame k)) ≡ cond (is_needed r) (Some frame) None
+    unfolding doubted
+    rule_doubt k r = grind (arith, nat_tests)
+
+    packet_doubt : (k : ℕ)
+        → Finds (doubted last late) (λ x. x ≡ frame) (KeepsEach w before packets k)
+        (KeepsEach w before packets k)
+        (rules_told w frame (from + k) (before ++ take k packets) (get_or packets k []))
+    packet_doubt k =
+        Finds-like
+        (λ keeps r passes.
+        let is = rule_doubt (from + k) r in let keep = keeps r in grind (arith, nat_tests))
+        (λ none r needed.
+        let is = rule_doubt (from + k) r in let silent = none r in grind (arith, nat_tests))
+        (packet_found (doubted last late) (λ x. x ≡ frame) frame (from + k)
+        (λ r x e. let is = rule_doubt (from + k) r in grind (arith, nat_tests)) w _ _)
+
+    -- What is told of packets doubts their frame, exactly where they break one.
+    pub packets_doubt :
+        Finds (doubted last late) (λ x. x ≡ frame) (KeepsAll w before packets)
+        (KeepsAll w before packets)
+        (packets_told w frame from before packets (length packets))
+    unfolding packets_told
+    packets_doubt =
+        found_so_far (packets_told w frame from before packets)
+        (λ k. rules_told w frame (from + k) (before ++ take k packets) (get_or packets k []))
+        (KeepsEach w before packets) (length packets) refl (λ k. refl)
+        (λ k l past. packet_doubt k)
+
+module _ (P : ℕ → ℕ → Type 0) where
+  -- None of it tells what is trusted.
+  rules_own : (frame k : ℕ) (rs : List PacketRule)
+      → EachTrusted P (map (λ (r : PacketRule). Told (packet_fault r frame k)) rs)
+  rules_own frame k [] = All-nil (OnTrusted P)
+  rules_own frame k (r ∷ rs) = All-cons (OnTrusted P) _ _ tt (rules_own frame k rs)
+
+  pub packets_own : (w : Watched) (frame from : ℕ) (before packets : List (List ℕ)) (n : ℕ)
+      → EachTrusted P (packets_told w frame from before packets n)
+  unfolding packets_told rules_told
+  packets_own w frame from before packets zero = All-nil (OnTrusted P)
+  packets_own w frame from before packets (suc n) =
+      All-append (OnTrusted P) (packets_told w frame from before packets n) _
+      (packets_own w frame from before packets n) (rules_own frame (from + n) _)
+
+  pub end_own : (old : Standing) (before : ℕ) (new : Standing) (f : ℕ)
+      → EachTrusted P (end_events old before new f)
+  unfolding end_events
+  end_own old before new f =
+      each-own P 0 (end_events old before new f) (grind (arith, nat_tests))
+
+  pub order_own : (g : Task) (frames : Transmission) (i : ℕ)
+      → EachTrusted P (order_events g frames i)
+  unfolding order_events
+  order_own g frames i = each-own P i (order_events g frames i) (grind (arith, nat_tests))
+
+  pub header_own : (g : Task) (frames : Transmission) (i : ℕ)
+      → EachTrusted P (first_header_events g frames i)
+  unfolding first_header_events
+  header_own g frames i =
+      each-own P i (first_header_events g frames i) (grind (arith, nat_tests))
+
+-- ---- numbers, and the first header
+
+module _ (last : ℕ) (late : Option ℕ) (g : Task) (frames : Transmission) where
+  pub order_at : (i x : ℕ) → first_found (doubted last late) (order_events g frames i) ≡ Some x
+      → x ≡ last
+  unfolding order_events doubted
+  order_at i x e = grind (arith, nat_tests)
+
+  pub header_none : (i : ℕ)
+      → first_found (doubted last late) (first_header_events g frames i) ≡ None
+  unfolding first_header_events doubted
+  header_none i = grind (arith, nat_tests)
+
+-- Where nothing is told of the order a frame is after the one before.
+pub order_rises : (g : Task) (frames : Transmission) (i : ℕ)
+    → list_any is_order (order_events g frames i) ≡ false
+    → 0 < i
+    → frame_at frames (i - 1) < frame_at frames i
+unfolding order_events is_order
+order_rises g frames i none some = grind (arith, nat_tests)
+
+-- A piece that is passed over doubts the frame before it.
+pub passed_at : (last : ℕ) (late : Option ℕ) (pes : ℕ) (u : Unread)
+    → first_found (doubted last late) (Told (unread_fault pes (Some u)) ∷ []) ≡ Some last
+unfolding doubted
+passed_at last late pes u = grind (arith, nat_tests)
+
+-- ---- an end
+
+-- What is told at an end doubts its frame, or at a late end the one since which the page is not
+-- whole; where it does not, nothing stands that did not stand before.
+pub end_doubt : (last before f : ℕ) (late : Option ℕ) (old new : Standing)
+    → Finds (doubted last late) (λ x. x ≡ unwrap_or late f) (stands_none new ≡ true)
+    (stands_none old ≡ true → stands_none new ≡ true) (end_events old before new f)
+unfolding end_events doubted
+end_doubt last before f late old new = grind (arith, nat_tests)
+
+-- That is not after it.
+pub late_low : (late : Bool) (since : Option ℕ) (f : ℕ)
+    → ((r : ℕ) → since ≡ Some r → r ≤ f)
+    → unwrap_or (if late then since else None) f ≤ f
+late_low late since f h = grind (arith, nat_tests)
+
+module _ (g : Task) (frames : Transmission) where
+  bound : (b : ℕ) (since : Option ℕ) (un : Bool) (f r : ℕ) → unfinished_from since un f ≡ Some r
+      → f ≤ b
+      → ((s : ℕ) → since ≡ Some s → s ≤ b)
+      → r ≤ b
+  bound b since un f r e l h = grind (arith, nat_tests)
+
+  in_gap : (n : ℕ) (since : Option ℕ) (k r : ℕ) → since_in_gap g frames n since k ≡ Some r
+      → ((s : ℕ) → since ≡ Some s → s ≤ latest frames n)
+      → r ≤ latest frames n + k
+  unfolding since_in_gap
+  in_gap n since zero r e h = let low = h r e in omega arith
+  in_gap n since (suc k) r e h =
+      bound (latest frames n + suc k) (since_in_gap g frames n since k)
+      (is_unfinished g frames n (latest frames n + suc k)) (latest frames n + suc k) r e
+      (le_refl (latest frames n + suc k))
+      (λ s is. let low = in_gap n since k s is h in omega arith)
+
+  gap_bound : (i : ℕ)
+      → latest frames i + gap_length frames i ≤ max (latest frames i) (frame_at frames i)
+  unfolding gap_length
+  gap_bound i = grind (arith, nat_tests)
+
+  in_frames : (n r : ℕ) → since_frames g frames n ≡ Some r → r ≤ latest frames n
+  unfolding since_frames latest
+  in_frames zero r e = absurd (none-some r e)
+  in_frames (suc i) r e =
+      let own : frame_at frames i ≤ max (latest frames i) (frame_at frames i) =
+      grind (arith, nat_tests) in
+      bound (max (latest frames i) (frame_at frames i))
+      (since_in_gap g frames i (since_frames g frames i) (gap_length frames i))
+      (is_unfinished g frames (suc i) (frame_at frames i)) (frame_at frames i) r e own
+      (λ s is.
+      let low = in_gap i (since_frames g frames i) (gap_length frames i) s is (in_frames i) in
+      let high = gap_bound i in
+      omega arith)
+
+  -- The first of the unfinished ends up to one is not after it.
+  since_low : (n f r : ℕ) → unfinished_since g frames n f ≡ Some r → latest frames n ≤ f → r ≤ f
+  unfolding unfinished_since
+  since_low n f r e l =
+      let low = in_gap n (since_frames g frames n) (f - latest frames n) r e (in_frames n) in
+      omega arith
+
+  -- It, where ends are looked at: within some frames.
+  abbrev pub seen_since : ℕ → ℕ → Option ℕ
+  seen_since n f = if g.within == 0 then None else unfinished_since g frames n f
+
+  -- If there is one, it is that one.
+  pub seen_is : (n f r : ℕ) → seen_since n f ≡ Some r → unfinished_since g frames n f ≡ Some r
+  seen_is n f r e = grind (arith, nat_tests)
+
+  pub seen_low : (n f r : ℕ) → seen_since n f ≡ Some r → latest frames n ≤ f → r ≤ f
+  seen_low n f r e l = since_low n f r (seen_is n f r e) l

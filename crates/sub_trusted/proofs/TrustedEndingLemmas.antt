@@ -1,0 +1,232 @@
+-- For what may stay.
+-- What comes at the end of a frame: `ending`. What is told as trusted with it is so.
+use Rattle.std.proofs.lemmas.Bool.Decides.{nat_tests}
+use Rattle.std.proofs.Common.{◌≡◌, ℕ, suc, ◌-◌, ◌<◌, ◌≤◌, ◌⊎◌, inl, inr, Bool, true, false, ◌&&◌}
+use Rattle.std.proofs.Common.{List, [], ◌∷◌, ◌++◌, length, map, Option, Some, None, is_some, refl}
+use Rattle.std.proofs.Common.{sym, ap, ◌∙◌, subst, arith, if◌then◌else◌}
+use Rattle.std.proofs.lemmas.Bool.{true≢false}
+use Rattle.std.proofs.lemmas.Option.{none-some}
+use Rattle.ttx_page.specs.PacketKind.{kind}
+use Rattle.ttx_page.specs.Span.{holds_header}
+use Rattle.sub_rules.specs.Events.{events_at_end, first_header_events, latest, standing_at}
+use Rattle.sub_rules.specs.FrameRules.{Task, end_frame, frame_at, packets_of_frame}
+use Rattle.sub_rules.specs.PieceEvents.{marks_at_end, marks_of_ending}
+use Rattle.sub_rules.specs.Transmission.{Transmission}
+use Rattle.sub_rules.specs.Trusted.Mark.{Ends, Says}
+use Rattle.sub_rules.specs.declared.event.Event.{Event}
+use Rattle.sub_trusted.proofs.TrustedKeptLemmas.{Closed, IsAbove, IsWhole, Opens, Quiet, may_before}
+use Rattle.sub_trusted.proofs.TrustedKeptLemmas.{opens_said, run_more, run_new, run_low, run_of}
+use Rattle.sub_trusted.proofs.TrustedKeptLemmas.{run_rises, up_of, whole_ended, whole_some}
+use Rattle.sub_trusted.proofs.LateDoubtLemmas.{header_none, header_own, seen_low, seen_since}
+use Rattle.sub_laws.proofs.PrefixLemmas.{before, rises_to}
+use Rattle.sub_laws.proofs.RisingEndLemmas.{latest_at}
+use Rattle.sub_trusted.proofs.SayMarkLemmas.{Goes-append, Goes-cons, Goes-nil, Goes-says}
+use Rattle.sub_trusted.proofs.TrustedRunLemmas.{Run}
+use Rattle.sub_trusted.proofs.TrustedStepLemmas.{HasEnd, Passes, Tells, at_end, end_tells}
+use Rattle.sub_trusted.proofs.TrustedStepLemmas.{keeps_end}
+use Rattle.sub_rules.proofs.KeptTrust.{Trust, after_mark, late_since, told_with, whole_in}
+use Rattle.sub_rules.specs.Trusted.{Mark, stands_none}
+use Rattle.sub_rules.proofs.KeptTrust.{begun}
+
+module _ (g : Task) (frames : Transmission) (base : ℕ) where
+  -- All packets of frame n were sent, and its end was looked at.
+  record Ending (n : ℕ) (t : Trust) : Type 0 where
+    opens : Opens g frames base n (packets_of_frame frames n) t
+    since_is : t.since ≡ seen_since g frames (suc n) (frame_at frames n)
+    since : t.rises ≡ true → (r : ℕ) → t.since ≡ Some r → r ≤ frame_at frames n
+
+  -- It has a header, and nothing stands at its end.
+  abbrev has : ℕ → Bool
+  has n = holds_header (kind g.watched.page) (packets_of_frame frames n)
+
+  abbrev quiet : ℕ → Bool
+  quiet n = stands_none (standing_at g frames (suc n) (frame_at frames n))
+
+  -- It ends.
+  ended : (n : ℕ) (t : Trust) → n < length frames → Ending n t
+      → Closed g frames base (suc n)
+      (after_mark
+      (Ends (frame_at frames n) (holds_header (kind g.watched.page) (packets_of_frame frames n))
+      (stands_none (standing_at g frames (suc n) (frame_at frames n)))) t)
+  unfolding after_mark
+  ended n t there ending = record {
+    keeps = record {
+      run = run_then;
+      ends = λ from is m e end few low high. (run_then from is).ends m e end few low high;
+      whole = whole_then;
+      above = above_then;
+      falls = λ e. falls_then e t.is_clean refl;
+      at_once = λ e.
+          let none = ending.opens.keeps.at_once e in
+          record {
+            since = none.since;
+            late = none.late;
+            whole = λ there. whole_some t.run t.whole t.since (frame_at frames n) none.since;
+          };
+    };
+    floor = ending.opens.floor;
+    last = λ some. ending.opens.last ∙ ap (frame_at frames) (omega arith);
+    rises = ending.opens.rises;
+    since = λ r from is e.
+        let (clean, none, was) = kept from is in
+        let low = ending.since (ending.opens.clean clean).0 r e in
+        let back : frame_at frames n ≡ frame_at frames (suc n - 1) =
+        ap (frame_at frames) (omega arith) in
+        omega arith;
+  }
+    where
+      kept : (from : ℕ)
+          → (if t.is_clean && quiet n then begun t.run (has n) (frame_at frames n) else None)
+          ≡ Some from
+          → (t.is_clean ≡ true) × (quiet n ≡ true)
+          × ((t.run ≡ Some from)
+          ⊎ ((t.run ≡ None) × ((has n) ≡ true) × (frame_at frames n ≡ from)))
+      kept from is = run_of t.is_clean (quiet n) t.run (has n) (frame_at frames n) from is
+
+      quiet_is : t.is_clean ≡ true → quiet n ≡ true → Quiet g frames n
+      quiet_is clean none =
+          let both = ending.opens.clean clean in
+          record { rises = ending.opens.rises both.0; kept = both.1; none = none }
+
+      run_then : (from : ℕ)
+          → (if t.is_clean && quiet n then begun t.run (has n) (frame_at frames n) else None)
+          ≡ Some from
+          → Run g frames (suc n) from
+      run_then from is =
+          let (clean, none, was) = kept from is in
+          elim was [
+            | inl before ↦
+                run_more g frames n from (quiet_is clean none) (ending.opens.keeps.run from before)
+                (ending.opens.keeps.ends from before)
+            | inr (gone, header, here) ↦
+                subst (Run g frames (suc n)) here (run_new g frames n (quiet_is clean none) header)
+          ]
+
+      whole_then : (from w : ℕ)
+          → (if t.is_clean && quiet n then begun t.run (has n) (frame_at frames n) else None)
+          ≡ Some from
+          → whole_in t.run t.whole t.since (frame_at frames n) ≡ Some w
+          → IsWhole g frames from w
+      whole_then from w is whole =
+          let (clean, none, was) = kept from is in
+          let low =
+          run_low g frames (suc n) from (run_then from is) in
+          let back : frame_at frames (suc n - 1) ≡ frame_at frames n =
+          ap (frame_at frames) (omega arith) in
+          elim (whole_ended t.run t.whole t.since (frame_at frames n) w whole) [
+            | inl (since, here) ↦
+                subst (IsWhole g frames from) here (record {
+                  low = omega arith;
+                  n = suc n;
+                  end = (omega arith, omega arith, inl (sym back));
+                  rises = ending.opens.rises (ending.opens.clean clean).0;
+                  finished = sym ending.since_is ∙ since;
+                })
+            | inr (earlier, some_run) ↦ elim was [
+              | inl before ↦ ending.opens.keeps.whole from w before earlier
+              | inr (gone, header, here) ↦ absurd (no_run t.run gone some_run)
+            ]
+          ]
+        where
+          no_run : (run : Option ℕ) → run ≡ None → is_some run ≡ true → ⊥
+          no_run run gone e = grind (arith, nat_tests)
+
+      above_then : (from : ℕ)
+          → (if t.is_clean && quiet n then begun t.run (has n) (frame_at frames n) else None)
+          ≡ Some from
+          → IsAbove g frames base from
+      above_then from is i under =
+          let (clean, none, was) = kept from is in
+          let rises = ending.opens.rises (ending.opens.clean clean).0 in
+          let low = ending.opens.fresh clean in
+          let before = rises_to frames (suc n) rises i (n - 1) (omega arith) (omega arith) in
+          let own = rises n (omega arith) (omega arith) in
+          elim was [
+            | inl earlier ↦ ending.opens.keeps.above from earlier i under
+            | inr (gone, header, here) ↦ omega arith
+          ]
+
+      falls_then : t.rises ≡ false → (clean : Bool) → t.is_clean ≡ clean
+          → (if clean && quiet n then begun t.run (has n) (frame_at frames n) else None) ≡ None
+      falls_then falls false is = refl
+      falls_then falls true is = absurd (true≢false (sym (ending.opens.clean is).0 ∙ falls))
+
+  pub ending : (n : ℕ) (t : Trust) → n < length frames
+      → Opens g frames base n (packets_of_frame frames n) t
+      → Tells g frames base (Closed g frames base (suc n)) t (marks_of_ending g frames n)
+  unfolding told_with after_mark
+  ending n t there opens =
+      let f : ℕ = frame_at frames n in
+      let packets : List (List ℕ) = packets_of_frame frames n in
+      let last : Mark =
+      Ends f (holds_header (kind g.watched.page) packets)
+      (stands_none (standing_at g frames (suc n) f)) in
+      Goes-append (Passes g frames base) (Ending n) (Closed g frames base (suc n)) t
+      (map Says (first_header_events g frames n) ++ marks_at_end g frames n (suc n) f) (last ∷ [])
+      (Goes-append (Passes g frames base) (Opens g frames base n packets) (Ending n) t
+      (map Says (first_header_events g frames n)) (marks_at_end g frames n (suc n) f) (header opens)
+      (λ u so. at_its_end u so))
+      (λ v so.
+      Goes-cons (Passes g frames base) (Closed g frames base (suc n)) v last [] refl
+      (Goes-nil (Passes g frames base) (Closed g frames base (suc n)) (after_mark last v)
+      (ended n v there so)))
+    where
+      header : Opens g frames base n (packets_of_frame frames n) t
+          → Tells g frames base (Opens g frames base n (packets_of_frame frames n)) t
+          (map Says (first_header_events g frames n))
+      header opens =
+          let es : List Event = first_header_events g frames n in
+          let none = header_none t.last (late_since t) g frames n in
+          Goes-says (Passes g frames base) (Opens g frames base n (packets_of_frame frames n)) t es
+          (header_own (Passes g frames base) g frames n)
+          (λ x from w doubt run whole l. absurd (none-some x (sym none ∙ doubt)))
+          (λ u said.
+          opens_said g frames base n (packets_of_frame frames n) (packets_of_frame frames n) t u es
+          opens said (λ quiet kept. kept))
+
+      top : (u : Trust) → Opens g frames base n (packets_of_frame frames n) u → u.rises ≡ true
+          → latest frames (suc n) ≤ frame_at frames n
+      top u so rises =
+          let last = latest_at frames (suc n) (so.rises rises) (omega arith) in
+          let back : frame_at frames (suc n - 1) ≡ frame_at frames n =
+          ap (frame_at frames) (omega arith) in
+          omega arith
+
+      at_its_end : (u : Trust) → Opens g frames base n (packets_of_frame frames n) u
+          → Tells g frames base (Ending n) u (marks_at_end g frames n (suc n) (frame_at frames n))
+      at_its_end u so =
+          let f : ℕ = frame_at frames n in
+          let es : List Event = events_at_end g frames n (suc n) f in
+          let low : (from : ℕ) → u.run ≡ Some from → HasEnd g frames (suc n) f from =
+          (λ from is.
+          let h = up_of g frames base n f from u so.keeps so.rises is in
+          let first = run_low g frames n from (so.keeps.run from is) in
+          let up = h.up in
+          let back : frame_at frames n ≡ frame_at frames (suc n - 1) =
+          ap (frame_at frames) (omega arith) in
+          (omega arith, (omega arith, omega arith, inl back), h.rises)) in
+          let now : Trust = after_mark (at_end g frames (suc n) f) u in
+          end_tells g frames base n (suc n) f u now (Ending n) refl
+          (λ from is. top u so (run_rises u.rises u.run from so.keeps.falls is)) so.keeps low
+          (λ from is. may_before g frames base n (packets_of_frame frames n) u there so from is
+          (end_frame frames))
+          (λ v said.
+          let so_now : Opens g frames base n (packets_of_frame frames n) now =
+          record {
+            keeps = keeps_end g frames base n f (suc n) f u so.keeps low;
+            floor = so.floor;
+            last = so.last;
+            rises = so.rises;
+            clean = so.clean;
+            fresh = so.fresh;
+          } in
+          record {
+            opens =
+                opens_said g frames base n (packets_of_frame frames n) (packets_of_frame frames n)
+                now v es so_now said (λ quiet kept. kept);
+            since_is = said.since_is;
+            since = λ rises r is.
+                let rises_is = said.rises_is in
+                let was : u.rises ≡ true = grind (arith, nat_tests) in
+                seen_low g frames (suc n) f r (sym said.since_is ∙ is) (top u so was);
+          })

@@ -1,0 +1,96 @@
+-- For `law_of_trusted_with_delay`.
+-- One of the frames at least that are told as trusted within some frames is finished:
+-- `finished_there`.
+use Rattle.std.proofs.Common.{◌≡◌, ℕ, ◌-◌, ◌<◌, ◌≤◌, ◌==◌, inl, inr, false, None, length, drop}
+use Rattle.std.proofs.Common.{Option, sym, ap, ◌∙◌, arith}
+use Rattle.std.proofs.lemmas.Bool.{cases_lt}
+use Rattle.std.proofs.lemmas.List.{take-append-drop}
+use Rattle.stl_rows.specs.Programme.{ProgrammeValue}
+use Rattle.sub_plan.specs.Options.{OptionsValue}
+use Rattle.sub_rules.specs.Events.{unfinished_since}
+use Rattle.sub_rules.specs.FrameRules.{Task, Unread, task_of}
+use Rattle.sub_rules.specs.GoodWithin.{SomeFinished}
+use Rattle.sub_rules.specs.Transmission.{Transmission}
+use Rattle.sub_rules.proofs.PrefixEventLemmas.{unfinished_since-prefix}
+use Rattle.sub_laws.specs.CleanStretch.{IsEnd}
+use Rattle.sub_trusted.specs.TrustedFrames.{rising_part}
+use Rattle.sub_trusted.proofs.TrustedKeptLemmas.{MayStand}
+use Rattle.sub_laws.proofs.FinishedLemmas.{finished_of, since_no}
+use Rattle.sub_laws.proofs.PrefixLemmas.{RiseTo, frame_at-take, take_rises}
+use Rattle.sub_trusted.proofs.TrustedFrameLemmas.{count_most, part_last}
+use Rattle.sub_trusted.proofs.TrustedFrameLemmas.{part_length, part_rises, risen, risen_low, untold}
+
+module _ (programme : ProgrammeValue) (options : OptionsValue) (unread : Option Unread)
+    (frames : Transmission) (from to : ℕ)
+    (may : MayStand (task_of programme options unread) frames from to)
+  where
+    abbrev g : Task
+    g = task_of programme options unread
+
+    abbrev part : Transmission
+    part = rising_part frames
+
+    part_long : length part ≡ risen frames
+    part_long = part_length frames
+
+    up : RiseTo part (length part)
+    up = take_rises frames (risen frames) (risen_low frames) (part_rises frames)
+
+    -- The frames that count at its end are some of those that rise.
+    few : may.whole.n ≤ risen frames
+    few =
+        count_most frames (length frames) may.whole.n (may.whole.end).1 may.whole.rises
+
+    end_in_part : IsEnd part may.whole.n may.w
+    end_in_part =
+        let end = may.whole.end in
+        let long = part_long in
+        let l = few in
+        let some = end.0 in (
+          some,
+          omega arith,
+          elim end.2 [
+            | inl own ↦
+                inl
+                (own ∙ sym (frame_at-take frames (risen frames) (may.whole.n - 1) (omega arith)))
+            | inr (there, later, earlier) ↦
+                let stretch = (untold g frames from to may.stays).stretch in
+                let last = part_last frames (omega arith) in
+                let high = may.high in
+                let top = stretch.to in
+                let more : may.whole.n < risen frames =
+                elim (cases_lt may.whole.n (risen frames)) [
+                  | inl less ↦ less
+                  | inr all ↦
+                      let after = earlier (risen frames - 1) (omega arith) in absurd (omega arith)
+                ] in
+                inr (
+                  omega arith,
+                  (let at = frame_at-take frames (risen frames) may.whole.n more in omega arith),
+                  λ i below.
+                      let at = frame_at-take frames (risen frames) i (omega arith) in
+                      let before = earlier i below in
+                      omega arith,
+                )
+          ],
+        )
+
+    since_none : (g.within == 0) ≡ false → unfinished_since g part may.whole.n may.w ≡ None
+    since_none some =
+        let seen = may.whole.finished in
+        sym
+        (unfinished_since-prefix g g.unread part (drop (risen frames) frames) may.whole.n may.w
+        (omega (arith, few, part_long)))
+        ∙ ap (λ (fs : Transmission). unfinished_since g fs may.whole.n may.w)
+        (take-append-drop (risen frames) frames)
+        ∙ rw some at seen
+
+    pub finished_there : (g.within == 0) ≡ false → SomeFinished programme part options from to
+    finished_there some = (
+      may.w,
+      may.whole.low,
+      may.high,
+      finished_of programme options unread part up may.whole.n may.w end_in_part
+          (since_no programme options unread part up may.whole.n may.w end_in_part
+          (since_none some)),
+    )

@@ -1,0 +1,202 @@
+-- For what may stay.
+-- Of frames that are told as trusted nothing is told that a receiver depends on, in the part in
+-- which frames rise: `untold`; nor is the page open at an end of them, `closed`, and the first one
+-- has a header of the page, `header_there`.
+use Rattle.std.proofs.lemmas.Bool.Decides.{nat_tests}
+use Rattle.std.specs.Bool.{Decides}
+use Rattle.std.proofs.Common.{◌≡◌, ℕ, zero, suc, ◌+◌, ◌-◌, ◌<◌, ◌≤◌, inl, inr, true, false, length}
+use Rattle.std.proofs.Common.{take, drop, None, ap, sym, ◌∙◌, arith, IsFalse}
+use Rattle.std.proofs.lemmas.Bool.{cases_lt, cases_eq}
+use Rattle.std.proofs.lemmas.List.{length-take-le, take-append-drop, take-take}
+use Rattle.ttx_page.specs.PacketKind.{kind}
+use Rattle.ttx_page.specs.Span.{holds_header}
+use Rattle.sub_rules.specs.Events.{Standing, standing_at}
+use Rattle.sub_rules.specs.FrameRules.{Task, frame_at, packets_of_frame}
+use Rattle.sub_rules.specs.PacketTests.{breaks}
+use Rattle.sub_rules.specs.Transmission.{Transmission, last_frame, packets_of}
+use Rattle.sub_rules.specs.declared.packet_rule.PacketRule.{PacketRule}
+use Rattle.sub_rules.proofs.PrefixEventLemmas.{standing_at-prefix}
+use Rattle.sub_laws.specs.CleanStretch.{AtEnds, IsEnd, IsStretch, IsUntold, is_needed}
+use Rattle.sub_trusted.specs.TrustedFrames.{rises_at, rising_count, rising_part}
+use Rattle.sub_laws.proofs.GoodLemmas.{any_sent}
+use Rattle.sub_laws.proofs.PrefixLemmas.{RiseTo, before, first-same, frame_at-take, packet_at}
+use Rattle.sub_laws.proofs.PrefixLemmas.{packets-take, rises_to, take_last, take_rising}
+use Rattle.sub_trusted.proofs.TrustedRunLemmas.{StaysTo}
+use Rattle.sub_rules.specs.Trusted.{stands_none}
+
+-- ---- the rising part
+
+module _ (frames : Transmission) where
+  -- A frame is after the one before.
+  rises_is : (i : ℕ) → 0 < i
+      → Decides (rises_at frames i) (frame_at frames (i - 1) < frame_at frames i)
+  unfolding rises_at
+  rises_is i h1 = grind (arith, nat_tests)
+
+  -- The last of the first n frames is.
+  rises_last : (n : ℕ) → RiseTo frames (suc n) → rises_at frames n ≡ true
+  unfolding rises_at
+  rises_last n h1 = grind (arith, nat_tests, rises_is)
+
+  -- How many of the first n frames come before the first one that is not.
+  pub count_low : (n : ℕ) → rising_count frames n ≤ n
+  unfolding rising_count
+  count_low zero = omega arith
+  count_low (suc n) = let rest = count_low n in grind (arith, nat_tests)
+
+  -- These rise.
+  pub count_rises : (n : ℕ) → RiseTo frames (rising_count frames n)
+  unfolding rising_count
+  count_rises zero i a l = absurd (omega arith)
+  count_rises (suc n) i a l = elim (cases_eq i n) [
+    | inl here ↦ let is = rises_is i a in let rest = count_rises n i a in grind (arith, nat_tests)
+    | inr other ↦ let rest = count_rises n i a in grind (arith, nat_tests)
+  ]
+
+  -- And no more do.
+  pub count_most : (n k : ℕ) → k ≤ n → RiseTo frames k → k ≤ rising_count frames n
+  unfolding rising_count
+  count_most zero k l rises = omega arith
+  count_most (suc n) k l rises = elim (cases_lt n k) [
+    | inl whole ↦
+        let all = count_most n n (omega arith) (λ i a b. rises i a (omega arith)) in
+        grind (arith, nat_tests, count_low, rises_last)
+    | inr less ↦
+        let rest = count_most n k (omega arith) rises in
+        grind (arith, nat_tests, count_low)
+  ]
+
+  -- How many frames rise.
+  abbrev pub risen : ℕ
+  risen = rising_count frames (length frames)
+
+  -- No more than there are.
+  pub risen_low : risen ≤ length frames
+  risen_low = count_low (length frames)
+
+  -- So many are in the rising part.
+  pub part_length : length (rising_part frames) ≡ risen
+  part_length = length-take-le risen frames risen_low
+
+  -- And they do.
+  pub part_rises : RiseTo frames risen
+  part_rises = count_rises (length frames)
+
+  -- Where the next frame is after the first n, which rise, it does too.
+  pub rises_more : (n : ℕ) → n < length frames → RiseTo frames n
+      → frame_at frames (n - 1) < frame_at frames n
+      → n < risen
+  rises_more n there rises up = grind (arith, nat_tests, count_most, cases_lt)
+
+-- The last frame of the rising part.
+pub part_last : (frames : Transmission) → 0 < risen frames
+    → last_frame (rising_part frames) ≡ frame_at frames (risen frames - 1)
+part_last frames some = take_last frames (risen frames) (risen_low frames) some
+
+-- What stands broken at an end depends on the frames that count alone.
+pub standing-take : (g : Task) (frames : Transmission) (m n f : ℕ) → 0 < m → m ≤ length frames
+    → n ≤ m
+    → standing_at g (take m frames) n f ≡ standing_at g frames n f
+standing-take g frames m n f some fits l =
+    let size = length-take-le m frames fits in
+    sym
+    (standing_at-prefix g g.unread (take m frames) (drop m frames) n f (omega arith) (omega arith))
+    ∙ ap (λ fs. standing_at g fs n f) (take-append-drop m frames)
+
+-- Where nothing stands none of the three does.
+pub none_of_three : (s : Standing) → stands_none s ≡ true
+    → (s.content ≡ None) × (s.gap ≡ false) × (s.incomplete ≡ false)
+none_of_three s e = grind (arith, nat_tests)
+
+module _ (g : Task) (frames : Transmission) (from to : ℕ) (stays : StaysTo g frames from to) where
+  abbrev m : ℕ
+  m = risen frames
+
+  abbrev part : Transmission
+  part = rising_part frames
+
+  -- The run's frames are among them.
+  n_low : stays.n ≤ m
+  n_low = count_most frames (length frames) stays.n stays.within stays.run.rises
+
+  some : 0 < m
+  some = let below = stays.run.below in let l = n_low in omega arith
+
+  order : (i j : ℕ) → i ≤ j → j < m → frame_at frames i ≤ frame_at frames j
+  order = rises_to frames m (part_rises frames)
+
+  -- Frames after the run are not before its end.
+  later : (i : ℕ) → stays.n ≤ i → i < m → to + 1 ≤ frame_at frames i
+  later i l high = grind (arith, nat_tests, risen_low, order, part_rises, before)
+
+  -- An end in it is one of the whole list, up to which no more frames count than the run has.
+  end_whole : (n f : ℕ) → IsEnd part n f → IsEnd frames n f
+  end_whole n f h1 = grind (arith, nat_tests, part_length, risen_low, frame_at-take)
+
+  end_few : (n f : ℕ) → IsEnd part n f → f ≤ to → n ≤ stays.n
+  end_few n f (some_n, below, place) high =
+      grind (arith, nat_tests, cases_lt, part_length, frame_at-take, later)
+
+  stands_quiet : (n f : ℕ) → IsEnd part n f → from ≤ f → f ≤ to
+      → stands_none (standing_at g part n f) ≡ true
+  stands_quiet n f at low high =
+      let few = end_few n f at high in
+      ap stands_none
+      (standing-take g frames m n f some (risen_low frames) (let l = n_low in omega arith))
+      ∙ stays.ends n f (end_whole n f at) few low (omega arith)
+
+  -- It ends in this part.
+  last_low : to ≤ frame_at frames (m - 1)
+  last_low = grind (arith, nat_tests, cases_lt, risen_low, order, before, n_low, rises_more)
+
+  -- The frame of its header.
+  pub j_low : stays.run.j < m
+  j_low = let b = stays.run.below in let l = n_low in omega arith
+
+  stretch : IsStretch part from to
+  stretch =
+      grind (
+        arith,
+        nat_tests,
+        part_length,
+        first-same,
+        part_last,
+        some,
+        frame_at-take,
+        order,
+        j_low,
+        last_low,
+      )
+
+  packets_quiet : (r : PacketRule) (i k : ℕ)
+      → is_needed r ≡ true
+      → i < m
+      → k < length (packets_of_frame frames i)
+      → from ≤ frame_at frames i
+      → frame_at frames i ≤ to
+      → breaks r g.watched (before frames i k) (packet_at frames i k) ≡ false
+  packets_quiet r i k needed l below low high =
+      grind (arith, nat_tests, cases_lt, later, order, j_low, part_rises)
+
+  -- Nothing is told of what is trusted that a receiver depends on.
+  pub untold : IsUntold g part from to
+  untold = record {
+    stretch = stretch;
+    rising = take_rising frames m (risen_low frames) (part_rises frames);
+    packets = λ r needed i k l below low high.
+        let all = part_length frames in
+        grind (arith, nat_tests, packets-take, frame_at-take, take-take, packets_quiet);
+    content = λ n f at low high. (none_of_three _ (stands_quiet n f at low high)).0;
+    gap = λ n f at low high. (none_of_three _ (stands_quiet n f at low high)).1;
+  }
+
+  -- And the page stands open at no end of it.
+  pub closed : AtEnds (λ n f. IsFalse (standing_at g part n f).incomplete) part from to
+  closed n f at low high = (none_of_three _ (stands_quiet n f at low high)).2
+
+  pub header_there : holds_header (kind g.watched.page) (packets_of part from) ≡ true
+  header_there =
+      let all = part_length frames in
+      any_sent g.watched part stays.run.j from (let l = j_low in omega arith)
+      (frame_at-take frames m stays.run.j j_low ∙ stays.run.at)
+      (grind (arith, nat_tests, packets-take, j_low))

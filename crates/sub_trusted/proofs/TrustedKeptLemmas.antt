@@ -1,0 +1,469 @@
+-- For what may stay.
+-- What is kept of quiet frames, within however many frames the page has to be whole: of the frames
+-- that have ended, `Keeps`, before the next one, `Arrives`, while it is sent, `Opens`, and at its
+-- end, `Closed`. What is told as trusted then is those of a run, `passes_before`; and how a run
+-- goes on with a frame, `run_more`, or begins, `run_new`.
+use Rattle.std.proofs.lemmas.Bool.Decides.{nat_tests}
+use Rattle.std.proofs.Common.{◌≡◌, ℕ, suc, ◌+◌, ◌-◌, ◌<◌, ◌≤◌, ◌⊎◌, inl, inr, Bool, true, false}
+use Rattle.std.proofs.Common.{◌&&◌, ◌==◌, nat_lt, List, length, Option, Some, None, is_some, refl}
+use Rattle.std.proofs.Common.{sym, ◌∙◌, subst, arith, if◌then◌else◌, le_refl}
+use Rattle.std.proofs.lemmas.Bool.{cases_lt}
+use Rattle.ttx_page.specs.PacketKind.{kind}
+use Rattle.ttx_page.specs.Span.{holds_header}
+use Rattle.sub_rules.specs.Events.{gap_length, latest, standing_at, standing_before}
+use Rattle.sub_rules.specs.FrameRules.{Task, end_frame, frame_at, packets_before, packets_of_frame}
+use Rattle.sub_rules.specs.PacketTests.{breaks}
+use Rattle.sub_rules.specs.Transmission.{Transmission}
+use Rattle.sub_rules.specs.Trusted.Mark.{AtEnd, AtPes}
+use Rattle.sub_rules.specs.declared.event.Event.{Event}
+use Rattle.sub_rules.specs.declared.packet_rule.PacketRule.{PacketRule}
+use Rattle.sub_rules.proofs.EndLemmas.{gap_length-is, standing_before_is}
+use Rattle.sub_laws.specs.CleanStretch.{IsEnd, is_needed}
+use Rattle.sub_trusted.proofs.LateDoubtLemmas.{KeepsAll, seen_since}
+use Rattle.sub_laws.proofs.PrefixLemmas.{RiseTo, before, packet_at, rises_to}
+use Rattle.sub_laws.proofs.RisingEndLemmas.{latest_at}
+use Rattle.sub_trusted.proofs.SayMarkLemmas.{IsSaid, doubt_of, kept_some, orders_doubted}
+use Rattle.sub_trusted.proofs.TrustedRunLemmas.{EndsQuiet, Run, Stays, StaysTo}
+use Rattle.sub_rules.proofs.KeptTrust.{Trust, after_mark, first_whole, late_since, whole_in}
+use Rattle.sub_rules.specs.Trusted.{stands_none}
+use Rattle.sub_rules.proofs.KeptTrust.{begun}
+
+-- ---- tests
+
+-- Where the one excludes the run, and there is one, the other holds.
+pub run_rises : (b : Bool) (run : Option ℕ) (from : ℕ) → (b ≡ false → run ≡ None) → run ≡ Some from
+    → b ≡ true
+run_rises b run from h is = grind (arith, nat_tests)
+
+-- The first frame of the run at whose end the page was whole: an earlier one, or this one.
+pub whole_of : (run whole since : Option ℕ) (f from w : ℕ) → run ≡ Some from
+    → (if is_some run then first_whole whole since f else whole) ≡ Some w
+    → (whole ≡ Some w) ⊎ ((since ≡ None) × (f ≡ w))
+whole_of run whole since f from w is e = grind (arith, nat_tests)
+
+-- The run that is left at the end of a frame: it was there, or it begins here.
+pub run_of : (clean none : Bool) (run : Option ℕ) (has : Bool) (f from : ℕ)
+    → (if clean && none then begun run has f else None) ≡ Some from
+    → (clean ≡ true) × (none ≡ true)
+    × ((run ≡ Some from) ⊎ ((run ≡ None) × (has ≡ true) × (f ≡ from)))
+run_of clean none run has f from e = grind (arith, nat_tests)
+
+-- And where the page was whole in it.
+pub whole_ended : (run whole since : Option ℕ) (f w : ℕ) → whole_in run whole since f ≡ Some w
+    → ((since ≡ None) × (f ≡ w)) ⊎ ((whole ≡ Some w) × (is_some run ≡ true))
+whole_ended run whole since f w e = grind (arith, nat_tests)
+
+-- ---- where each end is told at once
+
+-- No end is looked at: there is no frame since which the page is not whole, and it was whole in a
+-- run that is there.
+pub record SeesNone (t : Trust) : Type 0 where
+  pub since : t.since ≡ None
+  pub late : t.is_late ≡ false
+  pub whole : is_some t.run ≡ true → is_some t.whole ≡ true
+
+-- So the mark of an end changes nothing.
+pub same_at : (t : Trust) (f : ℕ) → SeesNone t → after_mark (AtEnd f None false) t ≡ t
+unfolding after_mark
+same_at t f none = grind (arith, nat_tests)
+
+-- It was whole in one that goes on or begins.
+pub whole_some : (run whole since : Option ℕ) (f : ℕ) → since ≡ None
+    → is_some (whole_in run whole since f) ≡ true
+whole_some run whole since f none = grind (arith, nat_tests)
+
+module _ (g : Task) (frames : Transmission) where
+  -- ---- frames that may stay
+
+  -- The page was whole at the end of frame w, which is not before the first one of the run, where
+  -- that is looked at.
+  pub record IsWhole (from w : ℕ) : Type 0 where
+    pub low : from ≤ w
+    pub n : ℕ
+    pub end : IsEnd frames n w
+    pub rises : RiseTo frames n
+    pub finished : seen_since g frames n w ≡ None
+
+  -- The frames from one to another may stay, and at the end of one of them the page was whole.
+  pub record MayStand (from to : ℕ) : Type 0 where
+    pub stays : StaysTo g frames from to
+    pub w : ℕ
+    pub high : w ≤ to
+    pub whole : IsWhole from w
+
+  -- A frame is after all of the first `base` frames of the list.
+  abbrev pub IsAbove : ℕ → ℕ → Type 0
+  IsAbove base from = (i : ℕ) → i < base → frame_at frames i < from
+
+  -- The frames from one to another may stay; they are after the first `base` frames of the list,
+  -- and where all frames rise they are before frame `late`.
+  pub record MayPass (base late from to : ℕ) : Type 0 where
+    pub stands : MayStand from to
+    pub above : IsAbove base from
+    pub early : RiseTo frames (length frames) → to < late
+
+  -- These frames may be trusted up to the one before frame y: where they are all, up to the one
+  -- before frame `late`.
+  pub record MayEnd (late n x y : ℕ) : Type 0 where
+    pub within : n ≤ length frames
+    pub low : y ≤ x
+    pub next :
+        n < length frames
+        → ((frame_at frames (n - 1) < frame_at frames n) × (y ≤ frame_at frames n))
+        ⊎ (y ≤ frame_at frames (n - 1))
+    pub last : n ≡ length frames → y ≤ late
+
+  -- Where all frames rise such frames are before frame `late`.
+  early_of : (late n x y : ℕ) → MayEnd late n x y → 0 < n → end_frame frames ≤ late
+      → RiseTo frames (length frames)
+      → y ≤ late
+  early_of late n x y may some after rises =
+      let within = may.within in
+      elim (cases_lt n (length frames)) [
+        | inl more ↦
+            let next =
+            rises_to frames (length frames) rises n (length frames - 1) (omega arith) (omega arith)
+            in
+            let own =
+            rises_to frames (length frames) rises (n - 1) (length frames - 1) (omega arith)
+            (omega arith) in
+            elim (may.next more) [ inl (up, low) ↦ omega arith | inr low ↦ omega arith ]
+        | inr all ↦ may.last (omega arith)
+      ]
+
+  -- ---- frames that rise
+
+  -- No frame is doubted where the run is kept.
+  pub calm : (t u : Trust) (es : List Event) → IsSaid t u es → (from : ℕ) → u.run ≡ Some from
+      → doubt_of t es ≡ None
+  calm t u es said from is = (kept_some t.run (doubt_of t es) from (sym said.run_is ∙ is)).1
+
+  -- An end up to which no more than n frames count is before frame n.
+  pub end_under : (n : ℕ) → RiseTo frames (suc n) → (m f : ℕ) → IsEnd frames m f → m ≤ n
+      → f < frame_at frames n
+  end_under n rises m f (some, within, inl is) l =
+      let up = rises_to frames (suc n) rises (m - 1) (n - 1) (omega arith) (omega arith) in
+      let last = rises n (omega arith) (omega arith) in
+      omega arith
+  end_under n rises m f (some, within, inr (there, high, low)) l =
+      let up = rises_to frames (suc n) rises m n (omega arith) (omega arith) in omega arith
+
+  -- And one up to which fewer count is not after frame n - 1.
+  pub end_few : (n : ℕ) → RiseTo frames n → (m f : ℕ) → IsEnd frames m f → m < n
+      → f ≤ frame_at frames (n - 1)
+  end_few n rises m f (some, within, inl is) l =
+      let up = rises_to frames n rises (m - 1) (n - 1) (omega arith) (omega arith) in omega arith
+  end_few n rises m f (some, within, inr (there, high, low)) l =
+      let up = rises_to frames n rises m (n - 1) (omega arith) (omega arith) in omega arith
+
+  -- What is so where a run is kept.
+  pub record Up (n : ℕ) : Type 0 where
+    pub some : 0 < n
+    pub last : latest frames n ≡ frame_at frames (n - 1)
+    pub rises : RiseTo frames (suc n)
+    pub up : frame_at frames (n - 1) < frame_at frames n
+    pub long : latest frames n + suc (gap_length frames n) ≡ frame_at frames n
+
+  pub gap_end : (n k : ℕ) → n < length frames → k < gap_length frames n → Up n
+      → IsEnd frames n (latest frames n + suc k)
+  gap_end n k there l h =
+      let last = h.last in
+      let long = h.long in
+      let some = h.some in (
+        some,
+        omega arith,
+        inr (
+          there,
+          omega arith,
+          λ i m.
+              let up = rises_to frames (suc n) h.rises i (n - 1) (omega arith) (omega arith) in
+              omega arith,
+        ),
+      )
+
+  -- ---- a frame of a run
+
+  -- What makes frame n one of a run: frames rise up to it, its packets keep the rules, and nothing
+  -- stands at its end.
+  pub record Quiet (n : ℕ) : Type 0 where
+    pub rises : RiseTo frames (suc n)
+    pub kept : KeepsAll g.watched (packets_before frames n) (packets_of_frame frames n)
+    pub none : stands_none (standing_at g frames (suc n) (frame_at frames n)) ≡ true
+
+  quiet_packets : (n i : ℕ) → Quiet n → n ≡ i → (r : PacketRule) (k : ℕ) → is_needed r ≡ true
+      → k < length (packets_of_frame frames i)
+      → breaks r g.watched (before frames i k) (packet_at frames i k) ≡ false
+  quiet_packets n i quiet same r k needed l = grind (arith, nat_tests)
+
+  quiet_own : (n m e : ℕ) → Quiet n → suc n ≡ m → IsEnd frames m e
+      → e < frame_at frames (suc n - 1) + 1
+      → stands_none (standing_at g frames m e) ≡ true
+  quiet_own n m e quiet same end high = grind (arith, nat_tests)
+
+  pub run_low : (n from : ℕ) → Run g frames n from → from ≤ frame_at frames (n - 1)
+  run_low n from run =
+      let below = run.below in
+      let at = run.at in
+      let up = rises_to frames n run.rises run.j (n - 1) (omega arith) (omega arith) in
+      omega arith
+
+  -- A run goes on with it.
+  pub run_more : (n from : ℕ) → Quiet n → Run g frames n from
+      → EndsQuiet g frames n from (frame_at frames n)
+      → Run g frames (suc n) from
+  run_more n from quiet run ends = record {
+    j = run.j;
+    below = let below = run.below in omega arith;
+    at = run.at;
+    header = run.header;
+    rises = quiet.rises;
+    packets = λ r i k needed low high l. elim (cases_lt i n) [
+      | inl earlier ↦ run.packets r i k needed low earlier l
+      | inr here ↦ quiet_packets n i quiet (omega arith) r k needed l
+    ];
+    ends = λ m e end few low high. elim (cases_lt n m) [
+      | inl all ↦ quiet_own n m e quiet (omega arith) end high
+      | inr fewer ↦
+          ends m e end (omega arith) low
+          (end_under n quiet.rises m e end (omega arith))
+    ];
+  }
+
+  -- Or one begins with it.
+  pub run_new : (n : ℕ) → Quiet n
+      → holds_header (kind g.watched.page) (packets_of_frame frames n) ≡ true
+      → Run g frames (suc n) (frame_at frames n)
+  run_new n quiet header = record {
+    j = n;
+    below = omega arith;
+    at = refl;
+    header = header;
+    rises = quiet.rises;
+    packets = λ r i k needed low high l. quiet_packets n i quiet (omega arith) r k needed l;
+    ends = λ m e end few low high. elim (cases_lt n m) [
+      | inl all ↦ quiet_own n m e quiet (omega arith) end high
+      | inr fewer ↦
+          let early = end_under n quiet.rises m e end (omega arith) in
+          absurd (omega arith)
+    ];
+  }
+
+-- ---- what is kept
+
+module _ (g : Task) (frames : Transmission) (base : ℕ) where
+  -- The run that is kept is one of the first n frames, and comes after the first `base` of them;
+  -- none of the ends from it on that come before frame x finds anything broken.
+  pub record Keeps (n x : ℕ) (t : Trust) : Type 0 where
+    pub run : (from : ℕ) → t.run ≡ Some from → Run g frames n from
+    pub ends : (from : ℕ) → t.run ≡ Some from → EndsQuiet g frames n from x
+    pub whole : (from w : ℕ) → t.run ≡ Some from → t.whole ≡ Some w → IsWhole g frames from w
+    pub above : (from : ℕ) → t.run ≡ Some from → IsAbove g frames base from
+    pub falls : t.rises ≡ false → t.run ≡ None
+    pub at_once : (g.within == 0) ≡ true → SeesNone t
+
+  pub passes_before : (late n x y : ℕ) (t : Trust) → Keeps n x t → MayEnd g frames late n x y
+      → end_frame frames ≤ late
+      → late ≤ end_frame frames + 1
+      → (from w : ℕ)
+      → t.run ≡ Some from
+      → t.whole ≡ Some w
+      → w < y
+      → MayPass g frames base late from (y - 1)
+  passes_before late n x y t keeps may after until from w run whole l =
+      let at = keeps.whole from w run whole in
+      let low = at.low in
+      let same : y ≡ y - 1 + 1 = omega arith in
+      record {
+        stands = record {
+          stays = subst (Stays g frames from) same (record {
+            n = n;
+            within = may.within;
+            run = keeps.run from run;
+            before = omega arith;
+            ends = λ m f end few after high.
+                keeps.ends from run m f end few after (omega (arith, may.low));
+            next = may.next;
+            last = λ all. let high = may.last all in omega arith;
+          });
+          w = w;
+          high = omega arith;
+          whole = at;
+        };
+        above = keeps.above from run;
+        early = λ rises.
+            let below = (keeps.run from run).below in
+            let high = early_of g frames late n x y may (omega arith) after rises in
+            omega arith;
+      }
+
+  -- It is kept after events too.
+  pub keeps_said : (n x : ℕ) (t u : Trust) (es : List Event) → Keeps n x t → IsSaid t u es
+      → Keeps n x u
+  keeps_said n x t u es keeps said = record {
+    run = λ from is. keeps.run from (was from is);
+    ends = λ from is. keeps.ends from (was from is);
+    whole = λ from w is whole. keeps.whole from w (was from is) (sym said.whole_is ∙ whole);
+    above = λ from is. keeps.above from (was from is);
+    falls = falls;
+    at_once = λ e.
+        let none = keeps.at_once e in
+        record {
+          since = said.since_is ∙ none.since;
+          late = said.late_is ∙ none.late;
+          whole = λ there. still_some (none.whole (was_some there));
+        };
+  }
+    where
+      was_some : is_some u.run ≡ true → is_some t.run ≡ true
+      was_some there = let run_is = said.run_is in grind (arith, nat_tests)
+
+      still_some : is_some t.whole ≡ true → is_some u.whole ≡ true
+      still_some whole = let whole_is = said.whole_is in grind (arith, nat_tests)
+
+      was : (from : ℕ) → u.run ≡ Some from → t.run ≡ Some from
+      was from is = (kept_some t.run (doubt_of t es) from (sym said.run_is ∙ is)).0
+
+      falls : u.rises ≡ false → u.run ≡ None
+      falls e =
+          let run_is = said.run_is in
+          let rises_is = said.rises_is in
+          let before = keeps.falls in
+          let orders = orders_doubted t.last (late_since t) es in
+          grind (arith, nat_tests)
+
+  -- ---- before a frame
+
+  -- The first k ends of frames of the day before frame n have been.
+  pub record Arrives (n k : ℕ) (t : Trust) : Type 0 where
+    pub keeps : Keeps n (latest frames n + suc k) t
+    pub floor : base ≤ n
+    pub rises : t.rises ≡ true → RiseTo frames (suc n)
+
+  pub up_of : (n x from : ℕ) (t : Trust) → Keeps n x t → (t.rises ≡ true → RiseTo frames (suc n))
+      → t.run ≡ Some from
+      → Up g frames n
+  up_of n x from t keeps so is =
+      let run = keeps.run from is in
+      let some : 0 < n = let below = run.below in omega arith in
+      let rises = so (run_rises t.rises t.run from keeps.falls is) in
+      let last = latest_at frames n run.rises some in
+      let up = rises n some (omega arith) in
+      let long = gap_length-is frames n some in
+      record { some = some; last = last; rises = rises; up = up; long = omega arith }
+
+  -- Nothing stands at the end before one of these ends, or before the frame's own.
+  pub stood : (n f from : ℕ) (t : Trust) → n < length frames → Keeps n f t → t.run ≡ Some from
+      → Up g frames n
+      → latest frames n < f
+      → f ≤ frame_at frames n
+      → stands_none (standing_before g frames n f) ≡ true
+  stood n f from t there keeps is h after high =
+      let some = h.some in
+      rw (standing_before_is g frames n f some) (go (nat_lt (latest frames n + 1) f) refl)
+    where
+      go : (b : Bool) → nat_lt (latest frames n + 1) f ≡ b
+          → stands_none (standing_at g frames n (if b then f - 1 else frame_at frames (n - 1)))
+          ≡ true
+      go false e =
+          let low = run_low g frames n from (keeps.run from is) in
+          let last = h.last in
+          keeps.ends from is n (frame_at frames (n - 1)) (h.some, omega arith, inl refl) (le_refl n)
+          low (omega arith)
+      go true e =
+          let low = run_low g frames n from (keeps.run from is) in
+          let last = h.last in
+          let long = h.long in
+          let later : latest frames n + 1 < f = grind (arith, nat_tests) in
+          let k : ℕ = f - 1 - suc (latest frames n) in
+          let at : latest frames n + suc k ≡ f - 1 = omega arith in
+          keeps.ends from is n (f - 1)
+          (subst (IsEnd frames n) at (gap_end g frames n k there (omega arith) h)) (le_refl n)
+          (omega arith) (omega arith)
+
+  -- ---- frames that have ended, and one that is sent
+
+  -- The first n frames have ended, and no end after that of the last of them has been.
+  pub record Closed (n : ℕ) (t : Trust) : Type 0 where
+    pub keeps : Keeps n (frame_at frames (n - 1) + 1) t
+    pub floor : base ≤ n
+    pub last : 0 < n → t.last ≡ frame_at frames (n - 1)
+    pub rises : t.rises ≡ true → RiseTo frames n
+    pub since :
+        (r from : ℕ) → t.run ≡ Some from → t.since ≡ Some r → r ≤ frame_at frames (n - 1)
+
+  -- After these frame n is sent, and these packets in it so far.
+  pub record Opens (n : ℕ) (packets : List (List ℕ)) (t : Trust) : Type 0 where
+    pub keeps : Keeps n (frame_at frames n) t
+    pub floor : base ≤ suc n
+    pub last : t.last ≡ frame_at frames n
+    pub rises : t.rises ≡ true → RiseTo frames (suc n)
+    pub clean :
+        t.is_clean ≡ true
+        → (t.rises ≡ true) × KeepsAll g.watched (packets_before frames n) packets
+    pub fresh : t.is_clean ≡ true → base ≤ n
+
+  -- Of which PES packet is told changes nothing.
+  pub closed_at : (n pes : ℕ) (t : Trust) → Closed n t → Closed n (after_mark (AtPes pes) t)
+  unfolding after_mark
+  closed_at n pes t closed = grind (arith, nat_tests)
+
+  -- Nor do events before the first frame.
+  pub closed_said : (n : ℕ) (t u : Trust) (es : List Event) → Closed n t → IsSaid t u es
+      → Closed n u
+  closed_said n t u es closed said = record {
+    keeps = keeps_said n (frame_at frames (n - 1) + 1) t u es closed.keeps said;
+    floor = closed.floor;
+    last = λ below. said.last_is ∙ closed.last below;
+    rises = λ e.
+        let was : t.rises ≡ true = let rises_is = said.rises_is in grind (arith, nat_tests) in
+        closed.rises was;
+    since = λ r from is e.
+        closed.since r from
+        (kept_some t.run (doubt_of t es) from (sym said.run_is ∙ is)).0 (sym said.since_is ∙ e);
+  }
+
+  pub opens_at : (n pes : ℕ) (packets : List (List ℕ)) (t : Trust) → Opens n packets t
+      → Opens n packets (after_mark (AtPes pes) t)
+  unfolding after_mark
+  opens_at n pes packets t opens = grind (arith, nat_tests)
+
+  -- ---- while a frame is sent
+
+  -- Frames before frame n may be trusted up to the one before it.
+  pub may_before : (n : ℕ) (packets : List (List ℕ)) (t : Trust) → n < length frames
+      → Opens n packets t
+      → (from : ℕ) → t.run ≡ Some from
+      → (late y : ℕ) → y ≤ frame_at frames n
+      → MayEnd g frames late n (frame_at frames n) y
+  may_before n packets t there opens from is late y high = grind (arith, nat_tests)
+
+  -- What is kept after events that doubt none but this frame.
+  pub opens_said : (n : ℕ) (packets more : List (List ℕ)) (t u : Trust) (es : List Event)
+      → Opens n packets t
+      → IsSaid t u es
+      → (doubt_of t es ≡ None
+      → KeepsAll g.watched (packets_before frames n) packets
+      → KeepsAll g.watched (packets_before frames n) more)
+      → Opens n more u
+  opens_said n packets more t u es opens said still = record {
+    keeps = keeps_said n (frame_at frames n) t u es opens.keeps said;
+    floor = opens.floor;
+    last = said.last_is ∙ opens.last;
+    rises = λ e.
+        let was : t.rises ≡ true = let rises_is = said.rises_is in grind (arith, nat_tests) in
+        opens.rises was;
+    clean = λ e.
+        let clean_is = said.clean_is in
+        let was : t.is_clean ≡ true = grind (arith, nat_tests) in
+        let none : doubt_of t es ≡ None = grind (arith, nat_tests) in
+        let before = opens.clean was in
+        let orders = orders_doubted t.last (late_since t) es none in
+        let rises_is = said.rises_is in
+        let rose = before.0 in
+        let now : u.rises ≡ true = grind (arith, nat_tests) in
+        (now, still none before.1);
+    fresh = λ e.
+        let clean_is = said.clean_is in
+        let was : t.is_clean ≡ true = grind (arith, nat_tests) in
+        opens.fresh was;
+  }

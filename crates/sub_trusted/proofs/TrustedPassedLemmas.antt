@@ -1,0 +1,270 @@
+-- For `law_of_trusted` and `law_of_trusted_with_delay`.
+-- No piece that is passed over may have been sent in frames that are told as trusted: the frame
+-- before it is none of them, where frames rise up to it. `passed_outside`.
+use Rattle.std.proofs.lemmas.Bool.Decides.{nat_tests}
+use Rattle.std.proofs.Common.{◌≡◌, ℕ, suc, ◌+◌, ◌-◌, ◌<◌, ◌⊎◌, inl, inr, Bool, true, false, ◌==◌}
+use Rattle.std.proofs.Common.{List, [], ◌∷◌, ◌++◌, Contains, length, map, None, Some, is_some, refl}
+use Rattle.std.proofs.Common.{sym, ap, ◌∙◌, subst, arith, le_refl, append_assoc}
+use Rattle.std.proofs.lemmas.Bool.{true≢false}
+use Rattle.std.proofs.lemmas.List.Elements.{All-append, All-cons, All-contains, All-nil}
+use Rattle.std.proofs.lemmas.Option.{none-some, same_Some}
+use Rattle.sub_rules.specs.Events.{unread_fault}
+use Rattle.sub_rules.specs.FrameRules.{Task, Unread, end_frame, frame_at}
+use Rattle.sub_rules.specs.PieceEvents.{all_announced, all_of_pieces, marks_of_closing}
+use Rattle.sub_rules.specs.PieceEvents.{marks_of_each, marks_of_pieces, marks_of_waiting, no_run}
+use Rattle.sub_rules.specs.PieceEvents.{passed_after_all, sent_by_pieces, told_of_pieces}
+use Rattle.sub_rules.specs.Pieces.{Piece, frames_of, joined, joined_after}
+use Rattle.sub_rules.specs.Pieces.Piece.{Passed}
+use Rattle.sub_rules.specs.Transmission.{Transmission}
+use Rattle.sub_rules.specs.Trusted.Mark.{AtPes, Says}
+use Rattle.sub_rules.specs.declared.event.Event.{Event}
+use Rattle.sub_rules.specs.declared.event.Event.TheVariants.{Told, Trusted}
+use Rattle.sub_rules.proofs.JoinedLemmas.{frames_of-append, joined_after-append}
+use Rattle.sub_rules.proofs.JoinedLemmas.{marks_of_each-append}
+use Rattle.sub_rules.proofs.TrustedLemmas.{told_by-append}
+use Rattle.sub_trusted.specs.TrustedFrames.{IsPassedOutside}
+use Rattle.sub_trusted.proofs.TrustedPieceLemmas.{Last, SendsOn, all_pass, each_passes, start}
+use Rattle.sub_trusted.proofs.TrustedKeptLemmas.{Keeps, SeesNone}
+use Rattle.sub_trusted.proofs.TrustedStepLemmas.{Passes}
+use Rattle.sub_trusted.proofs.DoubtLemmas.{EachTrusted, OnTrusted, each-announced, each-ended}
+use Rattle.sub_trusted.proofs.DoubtLemmas.{each-weaker}
+use Rattle.sub_laws.proofs.GrowingFrameLemmas.{Grows, frame_is, grows}
+use Rattle.sub_trusted.proofs.LateDoubtLemmas.{passed_at}
+use Rattle.sub_laws.proofs.PrefixLemmas.{RiseTo, last-same}
+use Rattle.sub_trusted.proofs.SayMarkLemmas.{Goes, Goes-says, doubt_of, said}
+use Rattle.sub_trusted.proofs.TrustedFrameLemmas.{part_length, part_rises}
+use Rattle.sub_rules.specs.Trusted.{Mark}
+use Rattle.sub_rules.proofs.KeptTrust.{all_is, Trust, after_mark, late_since, no_trust, told_by}
+use Rattle.sub_rules.proofs.KeptTrust.{told_with, trust_after}
+
+-- With the frames that are read after it those before it are all.
+before_all : (g : Task) (earlier later : List Piece) (u : Unread)
+    → joined_after g.within (sent_by_pieces g earlier) (frames_of later)
+    ≡ sent_by_pieces g (earlier ++ Passed u ∷ later)
+unfolding frames_of
+before_all g earlier later u =
+    sym
+    (ap (joined g.within) (frames_of-append earlier (Passed u ∷ later))
+    ∙ joined_after-append g.within [] (frames_of earlier) (frames_of later))
+
+module _ (g : Task) (earlier : List Piece) (u : Unread) (later : List Piece)
+    (some : 0 < length (sent_by_pieces g earlier))
+    (rises : RiseTo (sent_by_pieces g earlier) (length (sent_by_pieces g earlier)))
+  where
+    abbrev sent : Transmission
+    sent = sent_by_pieces g earlier
+
+    abbrev n : ℕ
+    n = length sent
+
+    abbrev all : List Piece
+    all = earlier ++ Passed u ∷ later
+
+    abbrev frames : Transmission
+    frames = sent_by_pieces g all
+
+    -- The frame before it is none of these.
+    abbrev Outside : ℕ → ℕ → Type 0
+    Outside from to = (end_frame sent < from) ⊎ (to < end_frame sent)
+
+    -- The frames before it come first of all.
+    same : (i : ℕ) → i < n → frame_at frames i ≡ frame_at sent i
+    same i under =
+        let grown : Grows sent frames =
+        subst (Grows sent) (before_all g earlier later u) (grows g.within sent (frames_of later)) in
+        frame_is g sent frames grown (n - 1) (omega arith) i (omega arith)
+
+    -- ---- before it
+
+    abbrev first : List Mark
+    first = marks_of_each g [] 0 earlier
+
+    abbrev t : Trust
+    t = trust_after no_trust first
+
+    before : Goes (Passes g sent 0) (SendsOn g sent 0 sent) no_trust first
+    before = each_passes g sent 0 [] 0 no_trust earlier refl (inl (inr refl, start g sent))
+
+    last_is : t.last ≡ end_frame sent
+    last_is = elim before.after [
+      | inl (ended, closed) ↦ closed.last some
+      | inr (later, k, size, opens) ↦ opens.last ∙ ap (frame_at sent) (omega arith)
+    ]
+
+    sees_none : (g.within == 0) ≡ true → SeesNone t
+    sees_none e = elim before.after [
+      | inl (ended, closed) ↦ closed.keeps.at_once e
+      | inr (later, k, size, opens) ↦ opens.keeps.at_once e
+    ]
+
+    -- ---- it
+
+    abbrev pes : ℕ
+    pes = length earlier
+
+    abbrev es : List Event
+    es = Told (unread_fault pes (Some u)) ∷ []
+
+    abbrev now : Trust
+    now = after_mark (AtPes pes) t
+
+    abbrev v : Trust
+    v = trust_after now (map Says es)
+
+    now_last : now.last ≡ end_frame sent
+    unfolding after_mark
+    now_last = last_is
+
+    doubt : doubt_of now es ≡ Some now.last
+    doubt = passed_at now.last (late_since now) pes u
+
+    -- It ends each run.
+    run_none : v.run ≡ None
+    run_none = let so = said now es in rw doubt at so.run_is
+
+    gone : (from : ℕ) → v.run ≡ Some from → ⊥
+    gone from is = none-some from (sym run_none ∙ is)
+
+    unclean : v.is_clean ≡ false
+    unclean =
+        let so = said now es in
+        let is = so.clean_is in
+        let ends_it = doubt in
+        grind (arith, nat_tests)
+
+    keeps : (k x : ℕ) → Keeps g frames n k x v
+    unfolding after_mark
+    keeps k x = record {
+      run = λ from is. absurd (gone from is);
+      ends = λ from is. absurd (gone from is);
+      whole = λ from w is whole. absurd (gone from is);
+      above = λ from is. absurd (gone from is);
+      falls = λ e. run_none;
+      at_once = λ e.
+          let so = said now es in
+          let before = sees_none e in
+          record {
+            since = so.since_is ∙ before.since;
+            late = so.late_is ∙ before.late;
+            whole = λ there. absurd (true≢false (sym there ∙ ap is_some run_none));
+          };
+    }
+
+    sends : SendsOn g frames n sent v
+    sends = go (g.within == 0) refl
+      where
+        last_now : v.last ≡ frame_at frames (n - 1)
+        last_now =
+            let so = said now es in
+            so.last_is ∙ now_last ∙ sym (same (n - 1) (omega arith))
+
+        up : (i : ℕ) → 0 < i → i < n → frame_at frames (i - 1) < frame_at frames i
+        up i positive under =
+            let own = same i under in
+            let last = same (i - 1) (omega arith) in
+            let rise = rises i positive under in
+            omega arith
+
+        go : (b : Bool) → (g.within == 0) ≡ b → SendsOn g frames n sent v
+        go true e = inl (
+          inl e,
+          record {
+            keeps = keeps n (frame_at frames (n - 1) + 1);
+            floor = le_refl n;
+            last = λ below. last_now;
+            rises = λ so. up;
+            since = λ r from is so. absurd (gone from is);
+          },
+        )
+        go false e = inr (
+          e,
+          n - 1,
+          omega arith,
+          record {
+            keeps = keeps (n - 1) (frame_at frames (n - 1));
+            floor = omega arith;
+            last = last_now;
+            rises = λ so i positive under. up i positive (omega arith);
+            clean = λ clean. absurd (true≢false (sym clean ∙ unclean));
+            fresh = λ clean. absurd (true≢false (sym clean ∙ unclean));
+          },
+        )
+
+    -- What it ends is before its frame.
+    ended : EachTrusted Outside (told_by now (map Says es))
+    ended =
+        (Goes-says Outside (λ z. Trust) now es
+        (All-cons (OnTrusted Outside) (Told (unread_fault pes (Some u))) []
+        tt (All-nil (OnTrusted Outside)))
+        (λ x from w doubted run whole under.
+        let at : now.last ≡ x = same_Some now.last x (sym doubt ∙ doubted) in
+        let last = now_last in
+        inr (omega arith)) (λ z so. z)).each
+
+    -- ---- all
+
+    pub each_outside : EachTrusted Outside (all_of_pieces g all)
+    unfolding all_of_pieces marks_of_each told_by told_with
+    each_outside =
+        let rest : List Mark =
+        marks_of_each g sent (suc pes) later
+        ++ marks_of_waiting g frames
+        ++ marks_of_closing g frames (length all) (length frames) in
+        let own : List Mark = AtPes pes ∷ map Says es in
+        let parts : marks_of_pieces g all ≡ first ++ (own ++ rest) =
+        ap (λ (ms : List Mark). ms
+        ++ marks_of_waiting g frames
+        ++ marks_of_closing g frames (length all) (length frames))
+        (marks_of_each-append g [] 0 pes earlier (Passed u ∷ later) (omega arith))
+        ∙ joined first (own ++ marks_of_each g sent (suc pes) later) (marks_of_waiting g frames)
+        (marks_of_closing g frames (length all) (length frames)) in
+        let told : EachTrusted Outside (told_of_pieces g all) =
+        subst (EachTrusted Outside)
+        (sym
+        (all_is g all
+        ∙ ap (told_by no_trust) parts
+        ∙ told_by-append no_trust first (own ++ rest)
+        ∙ ap (λ (l : List Event). told_by no_trust first ++ l)
+        (told_by-append now (map Says es) rest)))
+        (All-append (OnTrusted Outside) (told_by no_trust first) _
+        (each-weaker (Passes g sent 0) Outside (told_by no_trust first)
+        (λ from to passes. inr (passes.early rises)) before.each)
+        (All-append (OnTrusted Outside) (told_by now (map Says es)) (told_by v rest) ended
+        (each-weaker (Last g frames n) Outside (told_by v rest)
+        (λ from to passes.
+        let above = passes.above (n - 1) (omega arith) in
+        let own = same (n - 1) (omega arith) in
+        inl (omega arith))
+        (all_pass g frames n sent (suc pes) (length all) v later (before_all g earlier later u)
+        sends)))) in
+        All-append (OnTrusted Outside) (all_announced no_run (told_of_pieces g all)) _
+        (each-announced Outside no_run (told_of_pieces g all) told)
+        (each-ended Outside (passed_after_all no_run (told_of_pieces g all)))
+      where
+        joined : (ks ls ms ns : List Mark) → ks ++ ls ++ ms ++ ns ≡ ks ++ (ls ++ ms ++ ns)
+        joined ks ls ms ns =
+            ap (λ (l : List Mark). l ++ ns) (append_assoc ks ls ms) ∙ append_assoc ks (ls ++ ms) ns
+
+-- No piece is passed over that may have been sent in the frames that are told as trusted.
+pub passed_outside : (g : Task) (pieces : List Piece) (from to : ℕ)
+    → Contains (all_of_pieces g pieces) (Trusted from to)
+    → IsPassedOutside g pieces from to
+passed_outside g pieces from to told earlier later u is some few =
+    let sent : Transmission = sent_by_pieces g earlier in
+    let frames : Transmission = sent_by_pieces g pieces in
+    let grown : Grows sent frames =
+    subst (Grows sent)
+    (before_all g earlier later u ∙ ap (sent_by_pieces g) (sym is))
+    (grows g.within sent (frames_of later)) in
+    let size : length sent ≡ suc (length sent - 1) = omega arith in
+    let all = part_length frames in
+    let rises : RiseTo sent (length sent) = (λ i positive under.
+    let up = part_rises frames i positive (omega arith) in
+    let own = frame_is g sent frames grown (length sent - 1) size i (omega arith) in
+    let last = frame_is g sent frames grown (length sent - 1) size (i - 1) (omega arith) in
+    omega arith) in
+    subst (λ (f : ℕ). (f < from) ⊎ (to < f)) (sym (last-same sent))
+    (All-contains (OnTrusted (Outside g earlier u later some rises))
+    (all_of_pieces g (earlier ++ Passed u ∷ later)) (Trusted from to)
+    (each_outside g earlier u later some rises)
+    (subst (λ (ps : List Piece). Contains (all_of_pieces g ps) (Trusted from to)) is told))

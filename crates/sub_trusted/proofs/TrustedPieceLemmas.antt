@@ -1,0 +1,195 @@
+-- For what may stay.
+-- What is told as trusted of pieces may stay, within however many frames the page has to be whole:
+-- `all_stay_within`; and what is told from a piece on, `each_passes` and `all_pass`.
+use Rattle.std.proofs.lemmas.Bool.Decides.{nat_tests}
+use Rattle.std.proofs.Common.{◌≡◌, ℕ, suc, ◌+◌, ◌≤◌, inl, inr, Bool, true, false, not, ◌||◌}
+use Rattle.std.proofs.Common.{List, [], ◌∷◌, ◌++◌, length, map, Option, Some, is_some, refl, sym}
+use Rattle.std.proofs.Common.{subst, arith, append-nil, unwrap_or, if◌then◌else◌}
+use Rattle.std.proofs.lemmas.List.Elements.{All-append, All-cons, All-nil}
+use Rattle.std.proofs.lemmas.Option.{none-some}
+use Rattle.sub_rules.specs.Events.{closing_events}
+use Rattle.sub_rules.specs.FrameRules.{Task, end_frame, packets_of_frame}
+use Rattle.sub_rules.specs.PieceEvents.{all_announced, all_of_pieces, closing_of_pieces}
+use Rattle.sub_rules.specs.PieceEvents.{marks_of_closing, marks_of_each, marks_of_waiting, no_run}
+use Rattle.sub_rules.specs.PieceEvents.{passed_after_all, sent_by_pieces, told_of_pieces}
+use Rattle.sub_rules.specs.Pieces.{Piece, frames_of, joined_after, sent_after}
+use Rattle.sub_rules.specs.Pieces.Piece.{Passed, Sent}
+use Rattle.sub_rules.specs.Transmission.{Transmission}
+use Rattle.sub_rules.specs.Trusted.Mark.{AtPes, Closes, Says}
+use Rattle.sub_rules.specs.declared.event.Event.{Event}
+use Rattle.sub_rules.proofs.AnyToldLemmas.{own_closing}
+use Rattle.sub_rules.proofs.TrustedLemmas.{told_by-append}
+use Rattle.sub_trusted.proofs.TrustedKeptLemmas.{Closed, MayPass, MayStand, Opens}
+use Rattle.sub_trusted.proofs.TrustedKeptLemmas.{closed_at}
+use Rattle.sub_trusted.proofs.TrustedKeptLemmas.{opens_at, passes_before}
+use Rattle.sub_trusted.proofs.TrustedEndingLemmas.{ending}
+use Rattle.sub_trusted.proofs.TrustedStepLemmas.{Passes, arrival, more_sent, passed, passed_ended}
+use Rattle.sub_trusted.proofs.DoubtLemmas.{EachTrusted, OnTrusted, each-announced, each-ended}
+use Rattle.sub_trusted.proofs.DoubtLemmas.{each-own, each-weaker}
+use Rattle.sub_laws.proofs.GrowingFrameLemmas.{long, so_many}
+use Rattle.sub_laws.proofs.PieceWalkLemmas.{EachPassed, Sends, Steps, each_piece, waits}
+use Rattle.sub_trusted.proofs.SayMarkLemmas.{Goes, Goes-append, Goes-nil, Goes-pes, Goes-says}
+use Rattle.sub_trusted.proofs.SayMarkLemmas.{each_put, told_of}
+use Rattle.std.specs.Prelude.{⊤}
+use Rattle.sub_rules.specs.Trusted.{Mark, tells_none, trusted}
+use Rattle.sub_rules.proofs.KeptTrust.{all_is, Trust, after_mark, closing_frame, no_trust, told_by}
+use Rattle.sub_rules.proofs.KeptTrust.{told_with, trust_after}
+
+module _ (g : Task) (frames : Transmission) (base : ℕ) where
+  abbrev P : ℕ → ℕ → Type 0
+  P = Passes g frames base
+
+  -- What comes of a frame, or of a piece that is passed over.
+  steps :
+      Steps Trust told_of g frames (Goes P) (Closed g frames base) (Opens g frames base) (λ sent. ⊤)
+  steps = record {
+    at_ended = closed_at g frames base;
+    at_open = opens_at g frames base;
+    arrival = arrival g frames base;
+    more = λ n packets more rest t there whole opens.
+        more_sent g frames base n packets more t there opens;
+    ending = ending g frames base;
+    passed_ended = λ sent pes u t is asked closed.
+        passed_ended g frames base (length sent) pes u t (so_many sent frames is) closed;
+    passed_open = λ sent n pes u t is size asked opens.
+        passed g frames base n pes (packets_of_frame sent n) u t (long g sent frames is n size)
+        opens;
+  }
+
+  none_asked : (sent : Transmission) (pieces : List Piece)
+      → EachPassed g.within (λ l. ⊤) sent pieces
+  none_asked sent [] = tt
+  none_asked sent (Sent s ∷ pieces) = none_asked (sent_after g.within sent s) pieces
+  none_asked sent (Passed u ∷ pieces) = (tt, none_asked sent pieces)
+
+  -- What is kept where these frames were sent.
+  abbrev pub SendsOn : Transmission → Trust → Type 0
+  SendsOn sent t =
+      Sends Trust told_of g frames (Goes P) (Closed g frames base) (Opens g frames base) (λ l. ⊤)
+      sent t
+
+  -- What comes of pieces.
+  pub each_passes : (sent : Transmission) (pes : ℕ) (t : Trust) (pieces : List Piece)
+      → joined_after g.within sent (frames_of pieces) ≡ frames
+      → SendsOn sent t
+      → Goes P (SendsOn frames) t (marks_of_each g sent pes pieces)
+  each_passes sent pes t pieces all sends =
+      each_piece Trust told_of g frames (Goes P) (Closed g frames base) (Opens g frames base)
+      (λ l. ⊤) (Goes-nil P) (Goes-pes P) (Goes-append P) steps sent pes t pieces all
+      (none_asked sent pieces) sends
+
+  -- ---- the end of the file
+
+  -- It may be trusted up to the last frame.
+  abbrev pub Last : ℕ → ℕ → Type 0
+  Last = MayPass g frames base (end_frame frames + 1)
+
+  closing_own : (pes n : ℕ) → length frames ≡ n
+      → EachTrusted Last (closing_of_pieces g frames pes n)
+  unfolding closing_of_pieces
+  closing_own pes n all =
+      let own = each-own Last n (closing_events g frames n) (own_closing g frames n all) in
+      grind (arith, nat_tests, All-nil, All-cons)
+
+  end_low : (since : Option ℕ) (left : Bool) (last : ℕ)
+      → ((r : ℕ) → since ≡ Some r → r ≤ last)
+      → unwrap_or since (if left then last else suc last) ≤ last + 1
+  end_low since left last h = grind (arith, nat_tests)
+
+  closing : (pes : ℕ) (t : Trust) → Closed g frames base (length frames) t
+      → EachTrusted Last (told_by t (marks_of_closing g frames pes (length frames)))
+  unfolding told_by told_with after_mark
+  closing pes t closed =
+      let n : ℕ = length frames in
+      let es : List Event = closing_of_pieces g frames pes n in
+      let more : Bool = not (tells_none es) in
+      let t0 : Trust = after_mark (AtPes pes) t in
+      let t1 : Trust = after_mark (Closes (is_some g.unread) more) t0 in
+      All-append (OnTrusted Last) (told_with (Closes (is_some g.unread) more) t0)
+      (told_by t1 (map Says es)) (last (t.told || more))
+      (Goes-says Last (λ u. Trust) t1 es (closing_own pes n refl)
+      (λ x from w doubt run whole l. absurd (none-some from run)) (λ u said. u)).each
+    where
+      low : (from : ℕ) → t.run ≡ Some from → closing_frame t (is_some g.unread)
+          ≤ end_frame frames + 1
+      low from run =
+          let below = (closed.keeps.run from run).below in
+          let at = closed.last (omega arith) in
+          let top =
+          end_low t.since (is_some g.unread) t.last
+          (λ r is. let low = closed.since r from run is in omega arith) in
+          omega arith
+
+      last : (b : Bool) → EachTrusted Last
+          (if b then trusted t.run t.whole (closing_frame t (is_some g.unread)) else [])
+      last false = All-nil (OnTrusted Last)
+      last true =
+          each_put Last t.run t.whole (closing_frame t (is_some g.unread))
+          (λ from w run whole l.
+          let high = low from run in
+          passes_before g frames base (end_frame frames + 1) (length frames)
+          (end_frame frames + 1) (closing_frame t (is_some g.unread)) t closed.keeps (record {
+            within = omega arith;
+            low = high;
+            next = λ more. absurd (omega arith);
+            last = λ all. high;
+          }) (omega arith) (omega arith) from w run whole l)
+
+  -- What comes of pieces, and after the last one.
+  pub all_pass : (sent : Transmission) (pes count : ℕ) (t : Trust) (pieces : List Piece)
+      → joined_after g.within sent (frames_of pieces) ≡ frames
+      → SendsOn sent t
+      → EachTrusted Last
+      (told_by t
+      (marks_of_each g sent pes pieces
+      ++ marks_of_waiting g frames
+      ++ marks_of_closing g frames count (length frames)))
+  all_pass sent pes count t pieces all sends =
+      let marks : List Mark = marks_of_each g sent pes pieces in
+      let n : ℕ = length frames in
+      let close : List Mark = marks_of_closing g frames count n in
+      let goes =
+      Goes-append P (SendsOn frames) (Closed g frames base n) t marks (marks_of_waiting g frames)
+      (each_passes sent pes t pieces all sends)
+      (λ u so.
+      waits Trust told_of g frames (Goes P) (Closed g frames base) (Opens g frames base) (λ l. ⊤)
+      (Goes-nil P) (Goes-pes P) (Goes-append P) steps frames [] u (sym (append-nil frames)) so) in
+      let first : List Mark = marks ++ marks_of_waiting g frames in
+      subst (EachTrusted Last) (sym (told_by-append t first close))
+      (All-append (OnTrusted Last) (told_by t first) (told_by (trust_after t first) close)
+      (each-weaker P Last (told_by t first)
+      (λ from to p. record {
+        stands = p.stands;
+        above = p.above;
+        early = λ rises. let low = p.early rises in omega arith;
+      }) goes.each)
+      (closing count (trust_after t first) goes.after))
+
+-- ---- all
+
+module _ (g : Task) (frames : Transmission) where
+  pub start : Closed g frames 0 0 no_trust
+  start = grind (arith, nat_tests)
+
+  told_stays : (pieces : List Piece) → sent_by_pieces g pieces ≡ frames
+      → EachTrusted (MayStand g frames) (told_of_pieces g pieces)
+  told_stays pieces all =
+      subst (EachTrusted (MayStand g frames)) (sym (all_is g pieces))
+      (subst
+      (λ (fs : Transmission). EachTrusted (MayStand g frames) (told_by no_trust
+      (marks_of_each g [] 0 pieces
+      ++ marks_of_waiting g fs
+      ++ marks_of_closing g fs (length pieces) (length fs))))
+      (sym all)
+      (each-weaker (Last g frames 0) (MayStand g frames) _ (λ from to p. p.stands)
+      (all_pass g frames 0 [] 0 (length pieces) no_trust pieces all (inl (inr refl, start)))))
+
+  -- What is told as trusted of pieces may stay.
+  pub all_stay_within : (pieces : List Piece) → sent_by_pieces g pieces ≡ frames
+      → EachTrusted (MayStand g frames) (all_of_pieces g pieces)
+  unfolding all_of_pieces
+  all_stay_within pieces all =
+      let told : List Event = told_of_pieces g pieces in
+      All-append (OnTrusted (MayStand g frames)) (all_announced no_run told) _
+      (each-announced (MayStand g frames) no_run told (told_stays pieces all))
+      (each-ended (MayStand g frames) (passed_after_all no_run told))

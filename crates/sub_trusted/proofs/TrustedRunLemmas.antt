@@ -1,0 +1,60 @@
+-- For what may stay.
+-- What a run of quiet frames holds, `Run`; and the frames of one that may stay, `Stays`.
+use Rattle.std.proofs.Common.{◌≡◌, ℕ, ◌+◌, ◌-◌, ◌<◌, ◌≤◌, ◌⊎◌, true, false, length}
+use Rattle.sub_rules.specs.Events.{standing_at}
+use Rattle.sub_rules.specs.FrameRules.{HasHeader, Task, end_frame, frame_at, packets_of_frame}
+use Rattle.sub_rules.specs.PacketTests.{breaks}
+use Rattle.sub_rules.specs.Transmission.{Transmission}
+use Rattle.sub_rules.specs.declared.packet_rule.PacketRule.{PacketRule}
+use Rattle.sub_laws.specs.CleanStretch.{IsEnd, is_needed}
+use Rattle.sub_laws.proofs.PrefixLemmas.{RiseTo, before, packet_at}
+use Rattle.sub_rules.specs.Trusted.{stands_none}
+
+module _ (g : Task) (frames : Transmission) where
+  -- No end of a frame from one up to another, that one left out, up to which n frames of the list
+  -- count at the most, finds anything broken.
+  abbrev pub EndsQuiet : ℕ → ℕ → ℕ → Type 0
+  EndsQuiet n from x =
+      (m f : ℕ)
+      → IsEnd frames m f
+      → m ≤ n
+      → from ≤ f
+      → f < x
+      → stands_none (standing_at g frames m f) ≡ true
+
+  -- The frames from j on, of the first n of the list, break no rule on which a receiver depends.
+  abbrev pub PacketsQuiet : ℕ → ℕ → Type 0
+  PacketsQuiet n j =
+      (r : PacketRule) (i k : ℕ)
+      → is_needed r ≡ true
+      → j ≤ i
+      → i < n
+      → k < length (packets_of_frame frames i)
+      → breaks r g.watched (before frames i k) (packet_at frames i k) ≡ false
+
+  -- A run of quiet frames up to the last of the first n frames of the list, and the frame of its
+  -- first header of the page.
+  pub record Run (n from : ℕ) : Type 0 where
+    pub j : ℕ
+    pub below : j < n
+    pub at : frame_at frames j ≡ from
+    pub header : HasHeader g frames j
+    pub rises : RiseTo frames n
+    pub packets : PacketsQuiet n j
+    pub ends : EndsQuiet n from (frame_at frames (n - 1) + 1)
+
+  -- The frames from one up to another, that one left out, are those of a run.
+  pub record Stays (from x : ℕ) : Type 0 where
+    pub n : ℕ
+    pub within : n ≤ length frames
+    pub run : Run n from
+    pub before : from < x
+    pub ends : EndsQuiet n from x
+    pub next :
+        n < length frames
+        → ((frame_at frames (n - 1) < frame_at frames n) × (x ≤ frame_at frames n))
+        ⊎ (x ≤ frame_at frames (n - 1))
+    pub last : n ≡ length frames → x ≤ end_frame frames + 1
+
+  abbrev pub StaysTo : ℕ → ℕ → Type 0
+  StaysTo from to = Stays from (to + 1)

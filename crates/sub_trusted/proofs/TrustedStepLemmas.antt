@@ -1,0 +1,427 @@
+-- For what may stay.
+-- What comes of a frame, mark after mark: before its packets, `arrival`, of its packets,
+-- `more_sent`, of a piece that is passed over, `passed`, and at an end, `end_tells`. What is told
+-- as trusted with them is so.
+use Rattle.std.proofs.lemmas.Bool.Decides.{nat_tests}
+use Rattle.std.proofs.Common.{◌≡◌, ℕ, zero, suc, ◌+◌, ◌-◌, ◌<◌, ◌≤◌, inl, inr, true, false, not}
+use Rattle.std.proofs.Common.{◌==◌, ◌&&◌, Bool, None, if◌then◌else◌, List, [], ◌∷◌, ◌++◌}
+use Rattle.std.proofs.Common.{length, map, Option, Some, refl, sym, ◌∙◌, subst, arith, le_refl}
+use Rattle.std.proofs.Common.{unwrap_or}
+use Rattle.std.proofs.lemmas.Bool.{cases_lt}
+use Rattle.std.proofs.lemmas.List.Elements.{All-cons, All-nil}
+use Rattle.std.proofs.lemmas.Option.{same_Some}
+use Rattle.std.specs.List.{list_any}
+use Rattle.sub_rules.specs.Events.{end_before, events_at_end, gap_length, is_late, latest}
+use Rattle.sub_rules.specs.Events.{order_events, packets_told, standing_at, standing_before}
+use Rattle.sub_rules.specs.Events.{unfinished_since, unread_fault}
+use Rattle.sub_rules.specs.FrameRules.{Task, Unread, end_frame, frame_at, packets_before}
+use Rattle.sub_rules.specs.PieceEvents.{marks_at_end, marks_of_arrival, marks_of_gap}
+use Rattle.sub_rules.specs.Transmission.{Transmission}
+use Rattle.sub_rules.specs.Trusted.Mark.{AtEnd, Begins, Says}
+use Rattle.sub_rules.specs.declared.event.Event.{Event}
+use Rattle.sub_rules.specs.declared.event.Event.TheVariants.{Told}
+use Rattle.sub_laws.specs.CleanStretch.{IsEnd}
+use Rattle.sub_trusted.proofs.TrustedKeptLemmas.{Arrives, Closed, IsWhole, Keeps, MayEnd, MayPass}
+use Rattle.sub_trusted.proofs.TrustedKeptLemmas.{Opens}
+use Rattle.sub_trusted.proofs.TrustedKeptLemmas.{SeesNone, closed_said, same_at, Up, calm, end_few}
+use Rattle.sub_trusted.proofs.TrustedKeptLemmas.{may_before, opens_said, gap_end, keeps_said}
+use Rattle.sub_trusted.proofs.TrustedKeptLemmas.{run_low}
+use Rattle.sub_trusted.proofs.TrustedKeptLemmas.{passes_before, stood, up_of, whole_of}
+use Rattle.sub_trusted.proofs.DoubtLemmas.{OnTrusted}
+use Rattle.sub_trusted.proofs.LateDoubtLemmas.{end_doubt, end_own, keeps_joined, late_low, order_at}
+use Rattle.sub_trusted.proofs.LateDoubtLemmas.{order_own, order_rises, packets_doubt, packets_own}
+use Rattle.sub_trusted.proofs.LateDoubtLemmas.{passed_at, seen_low, seen_since}
+use Rattle.sub_laws.proofs.PrefixLemmas.{RiseTo, before}
+use Rattle.sub_laws.proofs.RisingEndLemmas.{latest_at}
+use Rattle.sub_trusted.proofs.SayMarkLemmas.{Goes, Goes-append, Goes-cons, Goes-nil, Goes-says}
+use Rattle.sub_trusted.proofs.SayMarkLemmas.{IsSaid}
+use Rattle.sub_trusted.proofs.TrustedRunLemmas.{EndsQuiet}
+use Rattle.sub_rules.proofs.KeptTrust.{Trust, after_mark, late_since, told_with}
+use Rattle.sub_rules.specs.Trusted.{Mark, stands_none}
+use Rattle.sub_rules.proofs.KeptTrust.{is_order}
+
+-- ---- the mark of an end
+
+module _ (g : Task) (frames : Transmission) where
+  -- Its mark, within some frames; one that changes nothing, where each end is told at once.
+  abbrev pub at_end : ℕ → ℕ → Mark
+  at_end n f = AtEnd f (seen_since g frames n f) (not (g.within == 0) && is_late g frames n f)
+
+  -- So what comes there may be taken as this mark and what is told.
+  pub with_end : (T : Trust → List Mark → Type 0) (i n f : ℕ) (t : Trust)
+      → ((g.within == 0) ≡ true → SeesNone t)
+      → ((m : Mark) (ms : List Mark) → told_with m t ≡ [] → T (after_mark m t) ms → T t (m ∷ ms))
+      → T (after_mark (at_end n f) t) (map Says (events_at_end g frames i n f))
+      → T t (marks_at_end g frames i n f)
+  unfolding told_with
+  with_end T i n f t none cons = go (g.within == 0) refl
+    where
+      es : List Event
+      es = events_at_end g frames i n f
+
+      since : Option ℕ
+      since = unfinished_since g frames n f
+
+      go : (c : Bool) → (g.within == 0) ≡ c
+          → T (after_mark (AtEnd f (if c then None else since) (not c && is_late g frames n f)) t)
+          (map Says es)
+          → T t ((if c then [] else AtEnd f since (is_late g frames n f) ∷ []) ++ map Says es)
+      go true e so = subst (λ (u : Trust). T u (map Says es)) (same_at t f (none e)) so
+      go false e so = cons (AtEnd f since (is_late g frames n f)) (map Says es) refl so
+
+  -- Frame f, which is not before this one, has an end, up to which m frames count, and these rise.
+  abbrev pub HasEnd : ℕ → ℕ → ℕ → Type 0
+  HasEnd m f from = (from ≤ f) × IsEnd frames m f × RiseTo frames m
+
+-- ---- what is told
+
+module _ (g : Task) (frames : Transmission) (base : ℕ) where
+  -- What is told as trusted may stay: from frame `base` of the list on, and where all frames rise
+  -- before the last of them.
+  abbrev pub Passes : ℕ → ℕ → Type 0
+  Passes = MayPass g frames base (end_frame frames)
+
+  abbrev pub Tells : (Trust → Type 0) → Trust → List Mark → Type 0
+  Tells S t ms = Goes Passes S t ms
+
+  passes : (n x y : ℕ) (t : Trust) → Keeps g frames base n x t
+      → MayEnd g frames (end_frame frames) n x y
+      → (from w : ℕ)
+      → t.run ≡ Some from
+      → t.whole ≡ Some w
+      → w < y
+      → Passes from (y - 1)
+  passes n x y t keeps may =
+      passes_before g frames base (end_frame frames) n x y t keeps may (le_refl (end_frame frames))
+      (omega arith)
+
+  -- ---- an end
+
+  -- What is kept with the mark of an end.
+  pub keeps_end : (n x m f : ℕ) (t : Trust) → Keeps g frames base n x t
+      → ((from : ℕ) → t.run ≡ Some from → HasEnd g frames m f from)
+      → Keeps g frames base n x (after_mark (at_end g frames m f) t)
+  unfolding after_mark
+  keeps_end n x m f t keeps low = record {
+    run = keeps.run;
+    ends = keeps.ends;
+    whole = λ from w is whole.
+        elim (whole_of t.run t.whole (seen_since g frames m f) f from w is whole) [
+          | inl before ↦ keeps.whole from w is before
+          | inr (none, here) ↦
+              let (l, end, rises) = low from is in
+              subst (IsWhole g frames from) here
+              (record { low = l; n = m; end = end; rises = rises; finished = none })
+        ];
+    above = keeps.above;
+    falls = keeps.falls;
+    at_once = λ e. unseen e (keeps.at_once e);
+  }
+    where
+      unseen : (g.within == 0) ≡ true → SeesNone t → SeesNone (after_mark (at_end g frames m f) t)
+      unseen e none =
+          rw e (subst SeesNone (sym (same_at t f none)) none)
+
+  -- What is told at the end of frame f, up to which n frames counted before and now m, doubts no
+  -- later one.
+  pub end_tells : (n m f : ℕ) (t u : Trust) (S : Trust → Type 0)
+      → u ≡ after_mark (at_end g frames m f) t
+      → ((from : ℕ) → t.run ≡ Some from → latest frames m ≤ f)
+      → Keeps g frames base n f t
+      → ((from : ℕ) → t.run ≡ Some from → HasEnd g frames m f from)
+      → ((from : ℕ)
+      → t.run ≡ Some from
+      → (y : ℕ)
+      → y ≤ f
+      → MayEnd g frames (end_frame frames) n f y)
+      → ((v : Trust) → IsSaid u v (events_at_end g frames n m f) → S v)
+      → Tells S t (marks_at_end g frames n m f)
+  unfolding after_mark told_with
+  end_tells n m f t u S is high keeps low may after =
+      with_end g frames (Tells S) n m f t keeps.at_once (Goes-cons Passes S t)
+      (Goes-says Passes S (after_mark (at_end g frames m f) t) (events_at_end g frames n m f)
+      (end_own Passes (standing_before g frames n f) (end_before frames n f)
+      (standing_at g frames m f) f)
+      (λ x from w doubt run whole l.
+      let late : Option ℕ = late_since (after_mark (at_end g frames m f) t) in
+      let at : x ≡ unwrap_or late f =
+      (end_doubt t.last (end_before frames n f) f late (standing_before g frames n f)
+      (standing_at g frames m f)).at x doubt in
+      let top : unwrap_or late f ≤ f =
+      late_low (not (g.within == 0) && is_late g frames m f) (seen_since g frames m f) f
+      (λ r since. seen_low g frames m f r since (high from run)) in
+      passes n f x (after_mark (at_end g frames m f) t) (keeps_end n f m f t keeps low)
+      (may from run x (omega arith)) from w run whole l)
+      (λ v said. after v (subst (λ (z : Trust). IsSaid z v (events_at_end g frames n m f)) (sym is)
+      said)))
+
+  -- ---- the ends of frames of the day before a frame
+
+  pub gap_step : (n k : ℕ) (t : Trust) → n < length frames → k < gap_length frames n
+      → Arrives g frames base n k t
+      → Tells (Arrives g frames base n (suc k)) t
+      (marks_at_end g frames n n (latest frames n + suc k))
+  unfolding after_mark
+  gap_step n k t there l arrives =
+      let f : ℕ = latest frames n + suc k in
+      let keeps = arrives.keeps in
+      let es : List Event = events_at_end g frames n n f in
+      end_tells n n f t (after_mark (at_end g frames n f) t) (Arrives g frames base n (suc k)) refl
+      (λ from is. omega arith) keeps low may
+      (λ v said. record {
+        keeps =
+            let kept =
+            keeps_said g frames base n f (after_mark (at_end g frames n f) t) v es
+            (keeps_end n f n f t keeps low) said in
+            record {
+              run = kept.run;
+              ends = λ from is m e end few after high.
+                  quiet v said from is (kept.ends from is) m e end few after high;
+              whole = kept.whole;
+              above = kept.above;
+              falls = kept.falls;
+              at_once = kept.at_once;
+            };
+        floor = arrives.floor;
+        rises = λ e.
+            let was : t.rises ≡ true =
+            let rises_is = said.rises_is in grind (arith, nat_tests) in
+            arrives.rises was;
+      })
+    where
+      up : (from : ℕ) → t.run ≡ Some from → Up g frames n
+      up from is =
+          up_of g frames base n (latest frames n + suc k) from t arrives.keeps arrives.rises is
+
+      low : (from : ℕ) → t.run ≡ Some from → HasEnd g frames n (latest frames n + suc k) from
+      low from is =
+          let run = arrives.keeps.run from is in
+          let first = run_low g frames n from run in
+          let last = (up from is).last in
+          (omega arith, gap_end g frames n k there l (up from is), run.rises)
+
+      may : (from : ℕ) → t.run ≡ Some from
+          → (y : ℕ) → y ≤ latest frames n + suc k
+          → MayEnd g frames (end_frame frames) n (latest frames n + suc k) y
+      may from is y high =
+          let h = up from is in
+          let long = h.long in
+          record {
+            within = omega arith;
+            low = high;
+            next = λ more. inl (h.up, omega arith);
+            last = λ all. absurd (omega arith);
+          }
+
+      quiet : (v : Trust)
+          → IsSaid (after_mark (at_end g frames n (latest frames n + suc k)) t) v
+          (events_at_end g frames n n (latest frames n + suc k))
+          → (from : ℕ) → v.run ≡ Some from
+          → EndsQuiet g frames n from (latest frames n + suc k)
+          → EndsQuiet g frames n from (latest frames n + suc (suc k))
+      quiet v said from is ends m e end few after high =
+          let f : ℕ = latest frames n + suc k in
+          let u : Trust = after_mark (at_end g frames n f) t in
+          let none = calm g frames u v (events_at_end g frames n n f) said from is in
+          let was : t.run ≡ Some from =
+          let run_is = said.run_is in grind (arith, nat_tests) in
+          let h = up from was in
+          elim (cases_lt e f) [
+            | inl before ↦ ends m e end few after before
+            | inr not_before ↦
+                let here : f ≡ e = omega arith in
+                let last = h.last in
+                let own : n ≡ m =
+                elim (cases_lt m n) [
+                  | inl fewer ↦
+                      let early =
+                      end_few g frames n (arrives.keeps.run from was).rises m e end fewer in
+                      absurd (omega arith)
+                  | inr all ↦ omega arith
+                ] in
+                let long = h.long in
+                let before =
+                stood g frames base n f from t there arrives.keeps was h (omega arith)
+                (omega arith) in
+                subst (λ (z : ℕ). stands_none (standing_at g frames z e) ≡ true) own
+                (subst (λ (z : ℕ). stands_none (standing_at g frames n z) ≡ true) here
+                ((end_doubt t.last (end_before frames n f) f (late_since u)
+                (standing_before g frames n f) (standing_at g frames n f)).quiet none before))
+          ]
+
+  gaps : (n k : ℕ) (t : Trust) → n < length frames → k ≤ gap_length frames n
+      → Arrives g frames base n 0 t
+      → Tells (Arrives g frames base n k) t (marks_of_gap g frames n k)
+  unfolding marks_of_gap
+  gaps n zero t there l arrives = Goes-nil Passes (Arrives g frames base n 0) t arrives
+  gaps n (suc k) t there l arrives =
+      Goes-append Passes (Arrives g frames base n k) (Arrives g frames base n (suc k)) t
+      (marks_of_gap g frames n k) (marks_at_end g frames n n (latest frames n + suc k))
+      (gaps n k t there (omega arith) arrives)
+      (λ u so. gap_step n k u there (omega arith) so)
+
+  -- ---- before the packets of a frame
+
+  -- What has ended may be trusted up to the frame before the last one.
+  may_ended : (n x : ℕ) → n ≤ length frames → x ≤ frame_at frames (n - 1)
+      → MayEnd g frames (end_frame frames) n (frame_at frames (n - 1) + 1) x
+  may_ended n x within low = grind (arith, nat_tests)
+
+  pub order_step : (n : ℕ) (t : Trust) → n < length frames → Closed g frames base n t
+      → Tells (Arrives g frames base n 0) t (map Says (order_events g frames n))
+  order_step n t there closed =
+      Goes-says Passes (Arrives g frames base n 0) t (order_events g frames n)
+      (order_own Passes g frames n)
+      (λ x from w doubt run whole l.
+      let at : x ≡ t.last = order_at t.last (late_since t) g frames n x doubt in
+      let below = (closed.keeps.run from run).below in
+      let last = closed.last (omega arith) in
+      passes n (frame_at frames (n - 1) + 1) x t closed.keeps
+      (may_ended n x (omega arith) (omega arith)) from w run whole l)
+      (λ u said.
+      let kept =
+      keeps_said g frames base n (frame_at frames (n - 1) + 1) t u (order_events g frames n)
+      closed.keeps said in
+      record {
+        keeps = record {
+          run = kept.run;
+          ends = λ from is m e end few after high.
+              let run = kept.run from is in
+              let below = run.below in
+              let last = latest_at frames n run.rises (omega arith) in
+              kept.ends from is m e end few after (omega arith);
+          whole = kept.whole;
+          above = kept.above;
+          falls = kept.falls;
+          at_once = kept.at_once;
+        };
+        floor = closed.floor;
+        rises = λ e. up u said e;
+      })
+    where
+      up : (u : Trust) → IsSaid t u (order_events g frames n) → u.rises ≡ true
+          → RiseTo frames (suc n)
+      up u said e i a b =
+          let rises_is = said.rises_is in
+          let was : t.rises ≡ true = grind (arith, nat_tests) in
+          let none : list_any is_order (order_events g frames n) ≡ false =
+          grind (arith, nat_tests) in
+          elim (cases_lt i n) [
+            | inl below ↦ closed.rises was i a below
+            | inr here ↦
+                let same : n ≡ i = omega arith in
+                subst (λ (z : ℕ). frame_at frames (z - 1) < frame_at frames z) same
+                (order_rises g frames n none (omega arith))
+          ]
+
+  pub begins : (n : ℕ) (t : Trust) → n < length frames
+      → Arrives g frames base n (gap_length frames n) t
+      → Opens g frames base n [] (after_mark (Begins (frame_at frames n)) t)
+  unfolding after_mark
+  begins n t there arrives =
+      let keeps = arrives.keeps in
+      record {
+        keeps = record {
+          run = keeps.run;
+          ends = λ from is m e end few after high.
+              let long =
+              (up_of g frames base n (latest frames n + suc (gap_length frames n)) from t keeps
+              arrives.rises is).long in
+              keeps.ends from is m e end few after (omega arith);
+          whole = keeps.whole;
+          above = keeps.above;
+          falls = keeps.falls;
+          at_once = λ e.
+              let none = keeps.at_once e in
+              record { since = none.since; late = none.late; whole = none.whole };
+        };
+        floor = (let low = arrives.floor in omega arith);
+        last = refl;
+        rises = arrives.rises;
+        clean = λ e. (e, λ k l. absurd (omega arith));
+        fresh = λ e. arrives.floor;
+      }
+
+  pub arrival : (n : ℕ) (t : Trust) → n < length frames → Closed g frames base n t
+      → Tells (Opens g frames base n []) t (marks_of_arrival g frames n)
+  unfolding told_with
+  arrival n t there closed =
+      Goes-append Passes (Arrives g frames base n (gap_length frames n))
+      (Opens g frames base n []) t
+      (map Says (order_events g frames n) ++ marks_of_gap g frames n (gap_length frames n))
+      (Begins (frame_at frames n) ∷ [])
+      (Goes-append Passes (Arrives g frames base n 0)
+      (Arrives g frames base n (gap_length frames n)) t (map Says (order_events g frames n))
+      (marks_of_gap g frames n (gap_length frames n)) (order_step n t there closed)
+      (λ u so. gaps n (gap_length frames n) u there (le_refl (gap_length frames n)) so))
+      (λ v here.
+      Goes-cons Passes (Opens g frames base n []) v (Begins (frame_at frames n)) [] refl
+      (Goes-nil Passes (Opens g frames base n [])
+      (after_mark (Begins (frame_at frames n)) v) (begins n v there here)))
+
+  -- ---- while it is sent
+
+  pub more_sent : (n : ℕ) (packets more : List (List ℕ)) (t : Trust) → n < length frames
+      → Opens g frames base n packets t
+      → Tells (Opens g frames base n (packets ++ more)) t
+      (map Says
+      (packets_told g.watched (frame_at frames n) (length packets)
+      (packets_before frames n ++ packets) more (length more)))
+  more_sent n packets more t there opens =
+      let so_far : List (List ℕ) = packets_before frames n ++ packets in
+      let es : List Event =
+      packets_told g.watched (frame_at frames n) (length packets) so_far more (length more) in
+      let finds =
+      packets_doubt t.last (late_since t) g.watched (frame_at frames n) (length packets) so_far
+      more in
+      Goes-says Passes (Opens g frames base n (packets ++ more)) t es
+      (packets_own Passes g.watched (frame_at frames n) (length packets) so_far more
+      (length more))
+      (λ x from w doubt run whole l.
+      let at : x ≡ frame_at frames n = finds.at x doubt in
+      passes n (frame_at frames n) x t opens.keeps
+      (may_before g frames base n packets t there opens from run (end_frame frames) x
+      (omega arith)) from w run whole l)
+      (λ u said.
+      opens_said g frames base n packets (packets ++ more) t u es opens said
+      (λ none kept.
+      keeps_joined g.watched (packets_before frames n) packets more kept (finds.quiet none)))
+
+  -- A piece that is passed over before the next frame comes.
+  pub passed_ended : (n pes : ℕ) (u : Unread) (t : Trust) → n ≤ length frames
+      → Closed g frames base n t
+      → Tells (Closed g frames base n) t (map Says (Told (unread_fault pes (Some u)) ∷ []))
+  passed_ended n pes u t within closed =
+      let es : List Event = Told (unread_fault pes (Some u)) ∷ [] in
+      Goes-says Passes (Closed g frames base n) t es
+      (All-cons (OnTrusted Passes) (Told (unread_fault pes (Some u))) [] tt
+      (All-nil (OnTrusted Passes)))
+      (λ x from w doubt run whole l.
+      let is : Some t.last ≡ Some x =
+      sym (passed_at t.last (late_since t) pes u) ∙ doubt in
+      let same : t.last ≡ x = same_Some t.last x is in
+      let below = (closed.keeps.run from run).below in
+      let last = closed.last (omega arith) in
+      passes n (frame_at frames (n - 1) + 1) x t closed.keeps
+      (may_ended n x within (omega arith)) from w run whole l)
+      (λ v said. closed_said g frames base n t v es closed said)
+
+  -- Or while it is sent.
+  pub passed : (n pes : ℕ) (packets : List (List ℕ)) (u : Unread) (t : Trust)
+      → n < length frames
+      → Opens g frames base n packets t
+      → Tells (Opens g frames base n packets) t (map Says (Told (unread_fault pes (Some u)) ∷ []))
+  passed n pes packets u t there opens =
+      let es : List Event = Told (unread_fault pes (Some u)) ∷ [] in
+      Goes-says Passes (Opens g frames base n packets) t es
+      (All-cons (OnTrusted Passes) (Told (unread_fault pes (Some u))) [] tt
+      (All-nil (OnTrusted Passes)))
+      (λ x from w doubt run whole l.
+      let is : Some t.last ≡ Some x =
+      sym (passed_at t.last (late_since t) pes u) ∙ doubt in
+      let same : t.last ≡ x = same_Some t.last x is in
+      let last = opens.last in
+      passes n (frame_at frames n) x t opens.keeps
+      (may_before g frames base n packets t there opens from run (end_frame frames) x
+      (omega arith)) from w run whole l)
+      (λ v said. opens_said g frames base n packets packets t v es opens said (λ none kept. kept))

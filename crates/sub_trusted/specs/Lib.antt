@@ -1,0 +1,2 @@
+pub mod TrustedFrames
+pub mod TrustedWithDelay

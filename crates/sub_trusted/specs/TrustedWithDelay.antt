@@ -1,0 +1,40 @@
+-- What is promised of the frames that are told as trusted of a transmission that may be late,
+-- whatever is broken elsewhere.
+use Rattle.std.specs.Prelude.{ℕ, ◌<◌, Contains, List, Option}
+use Rattle.stl_rows.specs.Programme.{IsProgramme, ProgrammeValue}
+use Rattle.sub_plan.specs.Options.{OptionsValue}
+use Rattle.sub_rules.specs.FrameRules.{Unread, task_of}
+use Rattle.sub_rules.specs.Good.{HoldsHeader}
+use Rattle.sub_rules.specs.GoodWithin.{SomeFinished}
+use Rattle.sub_rules.specs.PieceEvents.{all_of_pieces}
+use Rattle.sub_rules.specs.Pieces.{Piece}
+use Rattle.sub_rules.specs.Transmission.{Transmission}
+use Rattle.sub_rules.specs.declared.event.Event.TheVariants.{Trusted}
+use Rattle.sub_laws.specs.Delay.{MayBeTrustedWithDelay}
+use Rattle.sub_trusted.specs.TrustedFrames.{StaysAsRead}
+
+-- The frames from one to another may stay on air as they are, by what is sent up to the last of
+-- them: the first one holds a header of the page, so whoever tunes in at one of them recovers there
+-- with a delay, whatever he held before; one at least is finished; and where complete pages are
+-- asked for, what is due is on the screens at those that are.
+pub record MayStayWithDelay
+    (programme : ProgrammeValue) (transmission : Transmission) (options : OptionsValue)
+    (from to : ℕ)
+    : Type 0 where
+  pub header : HoldsHeader options.page transmission from
+  pub trusted : MayBeTrustedWithDelay programme transmission options from to
+  pub finished : SomeFinished programme transmission options from to
+
+-- Frames that are told as trusted of a PES file within some frames may stay, as they are read of
+-- its part in which frames rise: whatever is broken and whatever is on air elsewhere. PES packets
+-- of one frame that follow one another are one there. So who mends a transmission that may be late
+-- need not touch them.
+abbrev pub LawOfTrustedWithDelay : Type 0
+LawOfTrustedWithDelay =
+    (programme : ProgrammeValue) (options : OptionsValue) (unread : Option Unread)
+    → (pieces : List Piece) (from to : ℕ)
+    → IsProgramme programme.national programme.records
+    → 0 < options.within
+    → Contains (all_of_pieces (task_of programme options unread) pieces) (Trusted from to)
+    → StaysAsRead (task_of programme options unread) pieces from to
+    (λ on_air. MayStayWithDelay programme on_air options from to)

@@ -1,0 +1,27 @@
+//! What is told as trusted of a PES file may stay, and nothing that may stay is left out.
+//!
+//! The functions do nothing: the contract of each is a law over the definitions of `specs/`.
+ghost use Rattle.sub_trusted.specs.TrustedFrames.{LawOfAllTrusted, LawOfTrusted};
+ghost use Rattle.sub_trusted.specs.TrustedWithDelay.{LawOfTrustedWithDelay};
+
+/// Frames that are told as trusted of a PES file may stay on air as they are, whatever is broken
+/// and whatever is on air elsewhere: the first one holds a header of the page, and from it on
+/// receivers recover there. No piece that is passed over may have been sent in them.
+pub fn law_of_trusted()
+    ensures { LawOfTrusted }
+{}
+
+/// So may those that are told as trusted of one that may be late, by at least one frame: receivers
+/// recover there with a delay, and one of the frames at least is finished.
+pub fn law_of_trusted_with_delay()
+    ensures { LawOfTrustedWithDelay }
+{}
+
+/// No frame that may stay is left out: where anything is told of a PES file, each stretch of which
+/// nothing is told that a receiver depends on, and in which no piece may have been sent that is
+/// passed over, is told as trusted, from its first header of the page on. Within some frames its
+/// last frame has to be finished.
+#[tactic(auto, using(crate::proofs::AllTrustedLemmas::law_of_all_trusted))]
+pub fn law_of_all_trusted()
+    ensures { LawOfAllTrusted }
+{}

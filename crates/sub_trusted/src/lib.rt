@@ -1,0 +1,14 @@
+//! What may stay of a transmission beside what is broken: frames that are told as trusted.
+//!
+//! Stands on `sub_laws` for what is promised of a stretch of frames, and on `sub_rules` for what is
+//! told. There is no program in it: each function is a law.
+//!
+//! ```text
+//! law_of_trusted: Contains (all_of_pieces g pieces) (Trusted from to) → MayStay .. from to
+//! law_of_all_trusted: CanStay g pieces a b → .. → Contains (all_of_pieces g pieces) (Trusted ..)
+//! ```
+#![tactic(auto)]
+
+mod laws;
+
+pub use laws::{law_of_all_trusted, law_of_trusted, law_of_trusted_with_delay};
