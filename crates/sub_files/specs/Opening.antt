@@ -10,24 +10,40 @@ use Rattle.sub_files.specs.FileCalls.{FileCall}
 use Rattle.sub_files.specs.FileCalls.FileCall.{Create, LookUp, Open}
 use Rattle.sub_files.specs.declared.opening.Opened.{Opened}
 use Rattle.sub_files.specs.declared.opening.Opened.TheVariants.{Nothing, ReadBoth, ReadPes, ReadStl}
-use Rattle.sub_files.specs.declared.opening.Opened.TheVariants.{Write}
+use Rattle.sub_files.specs.declared.opening.Opened.TheVariants.{Extract, Write}
 
 -- The file to be written is created, by its name, where it is another one than the file to be read,
--- which was opened; else no more is asked for, and nothing is opened.
+-- which was opened; else no more is asked for, and nothing is opened. `opened` is what both are
+-- then.
 abbrev pub CreatesApart :
-    {F : Type 0}
-    → F → Bool → (output : List ℕ) → List (FileCall F) → Option (Opened F) → Type 0
-CreatesApart input true output (Create name file ∷ []) result =
-    (name ≡ output) × (result ≡ option_map (Write input) file)
-CreatesApart input false output [] result = result ≡ None
-CreatesApart input are_apart output calls result = ⊥
+    {I O : Type 0}
+    → (O → Opened I O) → Bool → (output : List ℕ) → List (FileCall I O) → Option (Opened I O)
+    → Type 0
+CreatesApart opened true output (Create name file ∷ []) result =
+    (name ≡ output) × (result ≡ option_map opened file)
+CreatesApart opened false output [] result = result ≡ None
+CreatesApart opened are_apart output calls result = ⊥
+
+-- A file to be read is opened by its name. Then, since another one is to be written, both names are
+-- looked up, and that is created only where by what was found it is another file.
+abbrev pub OpensAndCreates :
+    {I O : Type 0}
+    → (I → O → Opened I O) → (input output : List ℕ) → List (FileCall I O) → Option (Opened I O)
+    → Type 0
+OpensAndCreates opened input output (Open name None ∷ []) result =
+    (name ≡ input) × (result ≡ None)
+OpensAndCreates
+    opened input output
+    (Open name (Some file) ∷ LookUp first found ∷ LookUp other there ∷ calls) result =
+    (name ≡ input) × (first ≡ input) × (other ≡ output)
+    × CreatesApart (opened file) (is_apart found there) output calls result
+OpensAndCreates _ _ _ _ _ = ⊥
 
 -- The calls for the files of a request, and what is opened by them. Files to be read are opened by
--- their names, in the order of the words. Then, where a file is to be written, both names are
--- looked up, and it is created only where by what was found it is another file. The first call that
--- opens or creates nothing is the last, and nothing is opened then.
+-- their names, in the order of the words, before one that is to be written is created. The first
+-- call that opens or creates nothing is the last, and nothing is opened then.
 abbrev pub Opens :
-    {F : Type 0} → FileNames → List (FileCall F) → Option (Opened F) → Type 0
+    {I O : Type 0} → FileNames → List (FileCall I O) → Option (Opened I O) → Type 0
 Opens names.None [] result = result ≡ Some Nothing
 Opens (names.ReadStl stl) (Open name file ∷ []) result =
     (name ≡ stl) × (result ≡ option_map ReadStl file)
@@ -36,27 +52,34 @@ Opens (names.ReadPes pes) (Open name file ∷ []) result =
 Opens (names.ReadBoth stl pes) (Open name None ∷ []) result = (name ≡ stl) × (result ≡ None)
 Opens (names.ReadBoth stl pes) (Open name (Some first) ∷ Open other file ∷ []) result =
     (name ≡ stl) × (other ≡ pes) × (result ≡ option_map (ReadBoth first) file)
-Opens (names.Write stl output) (Open name None ∷ []) result = (name ≡ stl) × (result ≡ None)
-Opens
-    (names.Write stl output)
-    (Open name (Some file) ∷ LookUp input found ∷ LookUp other there ∷ calls) result =
-    (name ≡ stl) × (input ≡ stl) × (other ≡ output)
-    × CreatesApart file (is_apart found there) output calls result
+Opens (names.Write stl output) calls result = OpensAndCreates Write stl output calls result
+Opens (names.Extract recording output) calls result =
+    OpensAndCreates Extract recording output calls result
 Opens _ _ _ = ⊥
 
 -- These files were opened, or none were, by the calls that were made.
 pub record OpensBy
-    {F : Type 0} (AreMade : List (FileCall F) → Type 0) (names : FileNames)
-    (result : Option (Opened F))
+    {I O : Type 0} (AreMade : List (FileCall I O) → Type 0) (names : FileNames)
+    (result : Option (Opened I O))
     : Type 0 where
-  pub calls : List (FileCall F)
+  pub calls : List (FileCall I O)
   pub are_made : AreMade calls
   pub opens : Opens names calls result
 
 -- Why files are not opened: memory ran out, and nothing was asked for; or a call for one of those
 -- that are named opened nothing, or found it unfit to be written.
 abbrev pub IsUnopened :
-    {F : Type 0} → (List (FileCall F) → Type 0) → FileNames → UsageFault → Type 0
+    {I O : Type 0} → (List (FileCall I O) → Type 0) → FileNames → UsageFault → Type 0
 IsUnopened AreMade names usage.Memory = AreMade []
 IsUnopened AreMade names usage.Open = OpensBy AreMade names None
 IsUnopened AreMade names _ = ⊥
+
+-- No call of these files has failed yet, by how often one that is read has failed, and one that is
+-- written: they are as the device opened and created them.
+abbrev pub AreUnused : {I O : Type 0} → (I → ℕ) → (O → ℕ) → Opened I O → Type 0
+AreUnused reads writes Nothing = Unit {0}
+AreUnused reads writes (ReadStl stl) = reads stl ≡ 0
+AreUnused reads writes (ReadPes pes) = reads pes ≡ 0
+AreUnused reads writes (ReadBoth stl pes) = (reads stl ≡ 0) × (reads pes ≡ 0)
+AreUnused reads writes (Write stl output) = (reads stl ≡ 0) × (writes output ≡ 0)
+AreUnused reads writes (Extract recording output) = (reads recording ≡ 0) × (writes output ≡ 0)

@@ -1,37 +1,43 @@
 //! The device that a program asks for files: the system, or what stands in for it in a test.
-ghost use Rattle.std.specs.Prelude.{◌≡◌, ◌≢◌, IfErr, IfOk, Option, true};
+ghost use Rattle.std.specs.Prelude.{◌≡◌, ◌≢◌, IfErr, IfOk, IfSome, Option, true};
 ghost use Rattle.std.specs.IoError.{error_kind};
 ghost use Rattle.sub_files.specs.Apart.{is_there};
 ghost use Rattle.sub_files.specs.FileCalls.{FileCall, any_file_call};
 
 use crate::apart::Found;
 use std::fs::Metadata;
-use std::io::{ErrorKind, Read, Write};
+use std::io::ErrorKind;
 use std::os::unix::fs::MetadataExt;
 use std::rt::Files;
 use std::{fs, io};
+use sub_io::{Close, FromRead, IntoFile, Sink, Source};
 
 /// A device that is asked for files by their names.
 pub trait FileSystem {
-    /// A file that it has opened or created. It is closed where its value ends.
-    type File: Read + Write + Drop;
+    /// A file that it has opened, to be read. It is closed where its value ends.
+    type Input: Source + Drop;
+
+    /// A file that it has created, to be written. It is closed before its value ends, or there.
+    type Output: Close + Drop;
 
     // Which calls go so, where it says that: its state before, what it is asked for and answers,
     // its state after.
-    ghost is_call: { Self → FileCall Self.File → Self → Type 0 } = { any_file_call };
+    ghost is_call: { Self → FileCall Self.Input Self.Output → Self → Type 0 } = { any_file_call };
 
     /// What is at a name.
     fn look_up(&mut self, name: &str) -> Found
         ensures { is_call self.old (FileCall.LookUp name.now result) self.new };
 
     /// Opens a file to be read. `None` where it can't be opened.
-    fn open(&mut self, name: &str) -> Option<Self::File>
-        ensures { is_call self.old (FileCall.Open name.now result) self.new };
+    fn open(&mut self, name: &str) -> Option<Self::Input>
+        ensures call { is_call self.old (FileCall.Open name.now result) self.new }
+        ensures unused { IfSome result (λ file. Self.Input.failure_count file ≡ 0) };
 
     /// Creates a file to be written; one that is there is emptied. `None` where it can't be
     /// created.
-    fn create(&mut self, name: &str) -> Option<Self::File>
-        ensures { is_call self.old (FileCall.Create name.now result) self.new };
+    fn create(&mut self, name: &str) -> Option<Self::Output>
+        ensures call { is_call self.old (FileCall.Create name.now result) self.new }
+        ensures unused { IfSome result (λ file. Self.Output.failure_count file ≡ 0) };
 }
 
 /// The files of the system. No contract says what it answers, so each call is one of `std::fs`
@@ -49,18 +55,26 @@ impl<'a, R: Files> SystemFiles<'a, R> {
 }
 
 impl<R: Files> FileSystem for SystemFiles<'_, R> {
-    type File = R::File;
+    type Input = FromRead<R::File>;
+
+    type Output = IntoFile<R::File>;
 
     fn look_up(&mut self, name: &str) -> Found {
         found_by(fs::metadata(self.rt, name))
     }
 
-    fn open(&mut self, name: &str) -> Option<R::File> {
-        fs::open(self.rt, name).ok()
+    fn open(&mut self, name: &str) -> Option<FromRead<R::File>> {
+        match fs::open(self.rt, name) {
+            Ok(file) => Some(FromRead::new(file)),
+            Err(_) => None,
+        }
     }
 
-    fn create(&mut self, name: &str) -> Option<R::File> {
-        fs::create(self.rt, name).ok()
+    fn create(&mut self, name: &str) -> Option<IntoFile<R::File>> {
+        match fs::create(self.rt, name) {
+            Ok(file) => Some(IntoFile::new(file)),
+            Err(_) => None,
+        }
     }
 }
 

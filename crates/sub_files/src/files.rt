@@ -3,7 +3,7 @@
 //! A subtitle file that is read, a file of PES packets that is read and a file that was created are
 //! made here alone, by the names that a request has for each: so none of them can be taken for
 //! another.
-ghost use Rattle.std.specs.Prelude.{◌≡◌, None, false, true};
+ghost use Rattle.std.specs.Prelude.{◌≡◌, IfSome, None, false, true};
 ghost use Rattle.sub_files.specs.Apart.{is_apart};
 ghost use Rattle.sub_files.specs.FileCalls.{FileCall};
 
@@ -79,8 +79,9 @@ impl<F> CreatedFile<F> {
 }
 
 /// Opens a subtitle file to be read.
-pub fn open_stl<D: FileSystem>(files: &mut D, stl: &StlInput<'_>) -> Option<StlFile<D::File>>
-    ensures { D.is_call files.old (FileCall.Open stl.now result) files.new }
+pub fn open_stl<D: FileSystem>(files: &mut D, stl: &StlInput<'_>) -> Option<StlFile<D::Input>>
+    ensures unused { IfSome result (λ file. D.Input.failure_count file ≡ 0) }
+    ensures call { D.is_call files.old (FileCall.Open stl.now result) files.new }
 {
     match files.open(stl.name()) {
         Some(file) => Some(StlFile { file }),
@@ -89,8 +90,9 @@ pub fn open_stl<D: FileSystem>(files: &mut D, stl: &StlInput<'_>) -> Option<StlF
 }
 
 /// Opens a file of PES packets to be read.
-pub fn open_pes<D: FileSystem>(files: &mut D, pes: &PesInput<'_>) -> Option<PesFile<D::File>>
-    ensures { D.is_call files.old (FileCall.Open pes.now result) files.new }
+pub fn open_pes<D: FileSystem>(files: &mut D, pes: &PesInput<'_>) -> Option<PesFile<D::Input>>
+    ensures unused { IfSome result (λ file. D.Input.failure_count file ≡ 0) }
+    ensures call { D.is_call files.old (FileCall.Open pes.now result) files.new }
 {
     match files.open(pes.name()) {
         Some(file) => Some(PesFile { file }),
@@ -105,7 +107,8 @@ pub fn create_apart<D: FileSystem>(
     output: &Output<'_>,
     input: Found,
     there: Found,
-) -> Option<CreatedFile<D::File>>
+) -> Option<CreatedFile<D::Output>>
+    ensures unused { IfSome result (λ file. D.Output.failure_count file ≡ 0) }
     ensures apart { is_apart input there ≡ true
         → D.is_call files.old (FileCall.Create output.now result) files.new }
     ensures over { is_apart input there ≡ false → (result ≡ None) × (files.new ≡ files.old) }

@@ -4,7 +4,7 @@
 //! device or the lines in it.
 ghost use Rattle.std.specs.Prelude.{◌≡◌, ◌≤◌, [], ◌∷◌, IfSome, vec_len};
 ghost use Rattle.sub_files.specs.FileCalls.{CallsInTurn, FileCall};
-ghost use Rattle.sub_files.specs.Opening.{OpensBy};
+ghost use Rattle.sub_files.specs.Opening.{AreUnused, OpensBy};
 
 use crate::apart::Found;
 use crate::file_system::FileSystem;
@@ -17,17 +17,19 @@ pub const BUFFER: usize = 0x1_0000;
 
 /// The files of a request, opened.
 #[derive(Drop)]
-pub enum Opened<F> {
+pub enum Opened<I, O> {
     /// It names none.
     Nothing,
     /// A subtitle file is read.
-    ReadStl(StlFile<F>),
+    ReadStl(StlFile<I>),
     /// A file of PES packets is read.
-    ReadPes(PesFile<F>),
+    ReadPes(PesFile<I>),
     /// Both are read.
-    ReadBoth(StlFile<F>, PesFile<F>),
+    ReadBoth(StlFile<I>, PesFile<I>),
     /// A subtitle file is read, and another file was created, which is written.
-    Write(StlFile<F>, CreatedFile<F>),
+    Write(StlFile<I>, CreatedFile<O>),
+    /// A recording is read, and another file was created, which is written.
+    Extract(PesFile<I>, CreatedFile<O>),
 }
 
 /// Room of so many bytes, `None` where memory runs out.
@@ -42,15 +44,19 @@ pub fn size_of_rooms(names: &FileNames<'_>) -> usize
     ensures { 2 ≤ result }
 {
     match names {
-        FileNames::ReadBoth(..) | FileNames::Write(..) => 2 * BUFFER,
+        FileNames::ReadBoth(..) | FileNames::Write(..) | FileNames::Extract(..) => 2 * BUFFER,
         _ => BUFFER,
     }
 }
 
 /// Opens the files, in the order of the words, and creates the one that is written. At the first
 /// that fails it asks for no more, and answers `None`.
-pub fn open<D: FileSystem>(files: &mut D, names: &FileNames<'_>) -> Option<Opened<D::File>>
-    ensures { OpensBy (CallsInTurn D.is_call files.old files.new) names.now result }
+pub fn open<D: FileSystem>(
+    files: &mut D,
+    names: &FileNames<'_>,
+) -> Option<Opened<D::Input, D::Output>>
+    ensures unused { IfSome result (AreUnused D.Input.failure_count D.Output.failure_count) }
+    ensures calls { OpensBy (CallsInTurn D.is_call files.old files.new) names.now result }
 {
     match names {
         FileNames::None => Some(Opened::Nothing),
@@ -64,6 +70,7 @@ pub fn open<D: FileSystem>(files: &mut D, names: &FileNames<'_>) -> Option<Opene
         },
         FileNames::ReadBoth(stl, pes) => open_both(files, stl, pes),
         FileNames::Write(stl, output) => open_and_create(files, stl, output),
+        FileNames::Extract(recording, output) => open_and_extract(files, recording, output),
     }
 }
 
@@ -72,8 +79,9 @@ fn open_both<D: FileSystem>(
     files: &mut D,
     stl: &StlInput<'_>,
     pes: &PesInput<'_>,
-) -> Option<Opened<D::File>>
-    ensures { OpensBy (CallsInTurn D.is_call files.old files.new)
+) -> Option<Opened<D::Input, D::Output>>
+    ensures unused { IfSome result (AreUnused D.Input.failure_count D.Output.failure_count) }
+    ensures calls { OpensBy (CallsInTurn D.is_call files.old files.new)
         (FileNames.ReadBoth stl.now pes.now) result }
 {
     let Some(first) = open_stl(files, stl) else {
@@ -90,30 +98,47 @@ fn open_and_create<D: FileSystem>(
     files: &mut D,
     stl: &StlInput<'_>,
     output: &Output<'_>,
-) -> Option<Opened<D::File>>
-    ensures { OpensBy (CallsInTurn D.is_call files.old files.new)
+) -> Option<Opened<D::Input, D::Output>>
+    ensures unused { IfSome result (AreUnused D.Input.failure_count D.Output.failure_count) }
+    ensures calls { OpensBy (CallsInTurn D.is_call files.old files.new)
         (FileNames.Write stl.now output.now) result }
 {
     let Some(input) = open_stl(files, stl) else {
         return None;
     };
-    let (here, there) = look_up_both(files, stl, output);
+    let (here, there) = look_up_both(files, stl.name(), output);
     match create_apart(files, output, here, there) {
         Some(created) => Some(Opened::Write(input, created)),
         None => None,
     }
 }
 
-// What is at both names.
-fn look_up_both<D: FileSystem>(
+// Opens a recording, and creates the file that is written.
+fn open_and_extract<D: FileSystem>(
     files: &mut D,
-    stl: &StlInput<'_>,
+    recording: &PesInput<'_>,
     output: &Output<'_>,
-) -> (Found, Found)
-    ensures { CallsInTurn D.is_call files.old files.new
-        (FileCall.LookUp stl.now result.0 ∷ FileCall.LookUp output.now result.1 ∷ []) }
+) -> Option<Opened<D::Input, D::Output>>
+    ensures unused { IfSome result (AreUnused D.Input.failure_count D.Output.failure_count) }
+    ensures calls { OpensBy (CallsInTurn D.is_call files.old files.new)
+        (FileNames.Extract recording.now output.now) result }
 {
-    let here = files.look_up(stl.name());
+    let Some(input) = open_pes(files, recording) else {
+        return None;
+    };
+    let (here, there) = look_up_both(files, recording.name(), output);
+    match create_apart(files, output, here, there) {
+        Some(created) => Some(Opened::Extract(input, created)),
+        None => None,
+    }
+}
+
+// What is at both names.
+fn look_up_both<D: FileSystem>(files: &mut D, input: &str, output: &Output<'_>) -> (Found, Found)
+    ensures { CallsInTurn D.is_call files.old files.new
+        (FileCall.LookUp input.now result.0 ∷ FileCall.LookUp output.now result.1 ∷ []) }
+{
+    let here = files.look_up(input);
     let there = files.look_up(output.name());
     (here, there)
 }

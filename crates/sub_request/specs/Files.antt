@@ -8,12 +8,13 @@ use Rattle.sub_request.specs.declared.request.Request.TheVariants as ask
 -- What a request reads, in the order of its words, and what it writes.
 abbrev pub files_of : Request → FileNames
 files_of (ask.Packet bytes) = files.None
-files_of (ask.Packets pes) = files.ReadPes pes.now
+files_of (ask.Packets pes) = files.ReadPes pes.name.now
 files_of (ask.Show stl) = files.ReadStl stl.now
 files_of (ask.Normal stl normal) = files.Write stl.now normal.now
 files_of (ask.Schedule stl pes options serial national) = files.Write stl.now pes.now
-files_of (ask.Check stl pes options national all) = files.ReadBoth stl.now pes.now
-files_of (ask.Listen pes listening) = files.ReadPes pes.now
+files_of (ask.Check stl pes options national all) = files.ReadBoth stl.now pes.name.now
+files_of (ask.Listen pes listening) = files.ReadPes pes.name.now
+files_of (ask.Extract recording pes stream) = files.Extract recording.now pes.now
 
 -- Whether a first input is read.
 abbrev pub reads_one : FileNames → Bool
@@ -28,4 +29,5 @@ reads_two _ = false
 -- Whether a file is written.
 abbrev pub writes_one : FileNames → Bool
 writes_one (files.Write input output) = true
+writes_one (files.Extract input output) = true
 writes_one _ = false

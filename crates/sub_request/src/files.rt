@@ -26,7 +26,8 @@ impl<'a> StlInput<'a> {
     }
 }
 
-/// The name of a file of PES packets that is read. Contracts see it as the name.
+/// The name of a file of PES packets, or of a transport stream, that is read. Contracts see it as
+/// the name.
 #[derive(Drop)]
 pub struct PesInput<'a>(&'a str);
 
@@ -77,6 +78,8 @@ pub enum FileNames<'a> {
     ReadBoth(StlInput<'a>, PesInput<'a>),
     /// A subtitle file is read and another file is written.
     Write(StlInput<'a>, Output<'a>),
+    /// A recording is read, as a file of PES packets is, and another file is written.
+    Extract(PesInput<'a>, Output<'a>),
 }
 
 impl<'a> Request<'a> {
@@ -88,14 +91,19 @@ impl<'a> Request<'a> {
     {
         match self {
             Request::Packet { .. } => FileNames::None,
-            Request::Packets { pes } => FileNames::ReadPes(PesInput(pes)),
+            Request::Packets { pes } => FileNames::ReadPes(PesInput(pes.name)),
             Request::Show { stl } => FileNames::ReadStl(StlInput(stl)),
             Request::Normal { input, output } => {
                 FileNames::Write(StlInput(input), Output(output))
             }
             Request::Schedule { stl, pes, .. } => FileNames::Write(StlInput(stl), Output(pes)),
-            Request::Check { stl, pes, .. } => FileNames::ReadBoth(StlInput(stl), PesInput(pes)),
-            Request::Listen { pes, .. } => FileNames::ReadPes(PesInput(pes)),
+            Request::Check { stl, pes, .. } => {
+                FileNames::ReadBoth(StlInput(stl), PesInput(pes.name))
+            }
+            Request::Listen { pes, .. } => FileNames::ReadPes(PesInput(pes.name)),
+            Request::Extract { recording, pes, .. } => {
+                FileNames::Extract(PesInput(recording), Output(pes))
+            }
         }
     }
 }

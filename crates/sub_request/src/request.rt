@@ -2,6 +2,7 @@
 ghost use Rattle.std.specs.Prelude.{◌≡◌};
 
 use crate::listening::Listening;
+use crate::pes_packets::{PesPackets, TransportStream};
 use stl_rows::National;
 use sub_io::FaultCode;
 use sub_plan::Options;
@@ -30,12 +31,21 @@ pub enum UsageFault {
     /// 81: the PTS of frame 0 is not below 2^33.
     #[error("the PTS of frame 0 does not have 33 bits")]
     Origin,
-    /// 83: the national option is neither english nor german.
-    #[error("the national option is neither english nor german")]
+    /// 83: the national option is none of those that `National::parse` reads.
+    #[error("there is no such national option")]
     BadOption,
     /// 85: the frames within which the page has to be whole are not 0 to 50.
     #[error("the page is not allowed 0 to 50 frames")]
     Within,
+    /// 86: the PID is not 0 to 8190.
+    #[error("the PID is not 0 to 8190")]
+    Pid,
+    /// 87: the bytes from one transport packet to the next are not 188, 192 or 204.
+    #[error("the packet size is not 188, 192 or 204")]
+    PacketSize,
+    /// 88: the PES packets are not given as `I-J` or `I-`, or the last stands before the first.
+    #[error("the PES packets are not I-J or I-")]
+    Range,
     /// 6: the time is not `HH:MM:SS:FF` of a day.
     #[error("the time is not HH:MM:SS:FF of a day")]
     BadTime,
@@ -75,6 +85,9 @@ impl UsageFault {
             UsageFault::Origin => FaultCode::new(81, "Origin"),
             UsageFault::BadOption => FaultCode::new(83, "BadOption"),
             UsageFault::Within => FaultCode::new(85, "Within"),
+            UsageFault::Pid => FaultCode::new(86, "Pid"),
+            UsageFault::PacketSize => FaultCode::new(87, "PacketSize"),
+            UsageFault::Range => FaultCode::new(88, "Range"),
             UsageFault::BadTime => FaultCode::new(6, "BadTime"),
             UsageFault::BadSkip => FaultCode::new(8, "BadSkip"),
             UsageFault::BadFlip => FaultCode::new(5, "BadFlip"),
@@ -96,8 +109,8 @@ pub enum Request<'a> {
     },
     /// `packets PES`: lists PES packets and their Teletext units.
     Packets {
-        /// The name of the file of PES packets.
-        pes: &'a str,
+        /// The PES packets.
+        pes: PesPackets<'a>,
     },
     /// `show STL`: lists subtitles.
     Show {
@@ -128,8 +141,8 @@ pub enum Request<'a> {
     Check {
         /// The name of the subtitle file.
         stl: &'a str,
-        /// The name of the file of PES packets.
-        pes: &'a str,
+        /// The PES packets.
+        pes: PesPackets<'a>,
         /// The page, the repeat bound, the PTS of frame 0, whether complete pages are asked for,
         /// and within how many frames the page has to be whole.
         options: Options,
@@ -140,9 +153,18 @@ pub enum Request<'a> {
     },
     /// `listen PES`: runs one receiver.
     Listen {
-        /// The name of the file of PES packets.
-        pes: &'a str,
+        /// The PES packets.
+        pes: PesPackets<'a>,
         /// What the receiver hears.
         listening: Listening,
+    },
+    /// `extract TS PES`: writes the PES packets that a transport stream carries.
+    Extract {
+        /// The name of the transport stream.
+        recording: &'a str,
+        /// The name of the file of PES packets to be written, another one.
+        pes: &'a str,
+        /// The transport packets that carry them.
+        stream: TransportStream,
     },
 }

@@ -1,15 +1,19 @@
 -- How the arguments of a command are read (own).
 use Rattle.std.specs.Prelude.{ℕ, ◌^◌, ◌-◌, Bool, ◌&&◌, List, [], Option, Some, None, Result, Ok}
-use Rattle.std.specs.Prelude.{codes, nat_le, ok_or, unwrap_or, if◌then◌else◌}
+use Rattle.std.specs.Prelude.{codes, nat_le, ok_or, option_map, unwrap_or, if◌then◌else◌}
 use Rattle.std.specs.Option.{option_map_or}
 use Rattle.std.specs.Str.{bytes_eq}
 use Rattle.clap.specs.Words.{Row, Text, first_of}
 use Rattle.sub_io.specs.Reading.{◌>>=◌}
 use Rattle.ttx_packet.specs.PageId.{page_of_text}
+use Rattle.ttx_pes.specs.PieceRange.{PieceRangeValue}
+use Rattle.mpeg_ts.specs.declared.packet_size.PacketSize.{PacketSize}
 use Rattle.stl_rows.specs.declared.national.National.{National}
-use Rattle.stl_rows.specs.declared.national.National.TheVariants.{English, German}
+use Rattle.stl_rows.specs.SubSets.{option_named}
 use Rattle.sub_plan.specs.Options.{OptionsValue}
+use Rattle.sub_words.specs.PesTexts.{packet_size_of_text, pid_of_text, range_of_text}
 use Rattle.sub_words.specs.Texts.{list_of_text, number_of_text}
+use Rattle.sub_request.specs.declared.pes_packets.TransportStream.{TransportStream}
 use Rattle.sub_request.specs.declared.request.UsageFault.{UsageFault}
 use Rattle.sub_request.specs.declared.request.UsageFault.TheVariants as fault
 
@@ -50,15 +54,50 @@ allowing_of options rows = do
   frames ← ok_or (between 0 50 (number_of_text (argument (codes "within") rows))) fault.Within
   Ok (record options { within = frames })
 
--- The national option of a name.
-abbrev pub national_of_text : Text → Option National
-national_of_text text =
-    if bytes_eq text (codes "english") then Some English
-    else (if bytes_eq text (codes "german") then Some German else None)
-
 -- `[--option O]`
 abbrev pub national_of : List Row → Result National UsageFault
-national_of rows = ok_or (national_of_text (argument (codes "option") rows)) fault.BadOption
+national_of rows = ok_or (option_named (argument (codes "option") rows)) fault.BadOption
+
+-- What an option that may be left out is given as: none where it is left out. None at all where its
+-- text says nothing.
+abbrev pub given_as : {A : Type 0} → (Text → Option A) → Text → List Row → Option (Option A)
+given_as said id rows =
+    option_map_or (λ text. option_map Some (said text)) (first_of id rows) (Some None)
+
+-- `--pid P`
+abbrev pub required_pid_of : List Row → Result ℕ UsageFault
+required_pid_of rows = ok_or (pid_of_text (argument (codes "pid") rows)) fault.Pid
+
+-- `[--packet-size S]`
+abbrev pub packet_size_of : List Row → Result PacketSize UsageFault
+packet_size_of rows =
+    ok_or (packet_size_of_text (argument (codes "packet-size") rows)) fault.PacketSize
+
+-- `[--pid P] [--packet-size S]`: the transport packets that carry PES packets. Where no PID is given
+-- there are none: the packet size is read then too, and has no effect.
+abbrev pub stream_of : List Row → Result (Option TransportStream) UsageFault
+stream_of rows = do
+  pid ← ok_or (given_as pid_of_text (codes "pid") rows) fault.Pid
+  packet_size ← packet_size_of rows
+  Ok (option_map (λ pid. record { pid = pid; packet_size = packet_size }) pid)
+
+-- `[--pes I-J]`
+abbrev pub range_given_of : List Row → Result (Option PieceRangeValue) UsageFault
+range_given_of rows = ok_or (given_as range_of_text (codes "pes") rows) fault.Range
+
+-- Which PES packets are read: the name of a file, the transport packets that carry them where it is
+-- a transport stream, and the numbers of the first and the last.
+pub record PesAsked : Type 0 where
+  pub name : Text
+  pub stream : Option TransportStream
+  pub range : Option PieceRangeValue
+
+-- `RECORDING [--pid P] [--packet-size S] [--pes I-J]`
+unfoldable pub pes_of : List Row → Result PesAsked UsageFault
+pes_of rows = do
+  stream ← stream_of rows
+  range ← range_given_of rows
+  Ok (record { name = argument (codes "recording") rows; stream = stream; range = range })
 
 -- The items of an option's list. An option that is left out stands for the empty list, and one with
 -- an empty text does not.

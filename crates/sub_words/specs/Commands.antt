@@ -37,13 +37,24 @@ clap_rule (argument.Option id value) = option_rule id.now value.now
 clap_rule (argument.BareOption id) = bare_option_rule id.now
 clap_rule (argument.Flag id) = flag_rule id.now
 
--- The arguments of a schedule that is written or checked, and then those of the one or the other.
-abbrev pub pair_rules : List Rule → List Rule
-pair_rules others =
-    required_rule (codes "stl") ∷ required_rule (codes "pes")
+-- The arguments of a schedule that is written or checked, by the name of the second file, and then
+-- those of the one or the other.
+abbrev pub pair_rules : Text → List Rule → List Rule
+pair_rules second others =
+    required_rule (codes "stl") ∷ required_rule second
     ∷ option_rule (codes "page") (codes "888") ∷ option_rule (codes "origin") (codes "0")
     ∷ option_rule (codes "every") (codes "250") ∷ option_rule (codes "option") (codes "english")
     ∷ others
+
+-- `[--packet-size S]`
+abbrev pub packet_size_rule : Rule
+packet_size_rule = option_rule (codes "packet-size") (codes "188")
+
+-- `[--pid P] [--packet-size S] [--pes I-J]`, and then other arguments. Since `pes` is an option
+-- here, the file that is read is the argument `recording`.
+abbrev pub recording_rules : List Rule → List Rule
+recording_rules others =
+    bare_option_rule (codes "pid") ∷ packet_size_rule ∷ bare_option_rule (codes "pes") ∷ others
 
 -- `[--within N]`
 abbrev pub within_rule : Rule
@@ -54,29 +65,37 @@ abbrev pub commands : List (Text × List Rule)
 commands =
     -- packet HEX
     (codes "packet", required_rule (codes "hex") ∷ [])
-    -- packets PES
-    ∷ (codes "packets", required_rule (codes "pes") ∷ [])
+    -- packets PES [--pid P] [--packet-size S] [--pes I-J]
+    ∷ (codes "packets", required_rule (codes "recording") ∷ recording_rules [])
     -- show STL
     ∷ (codes "show", required_rule (codes "stl") ∷ [])
     -- normal IN OUT
     ∷ (codes "normal", required_rule (codes "in") ∷ required_rule (codes "out") ∷ [])
     -- schedule STL PES [--page P] [--origin T] [--every N] [--option O] [--serial]
-    ∷ (codes "schedule", pair_rules (flag_rule (codes "serial") ∷ []))
-    -- check STL PES [--page P] [--origin T] [--every N] [--option O] [--within N] [--complete]
-    -- [--all]
+    ∷ (codes "schedule", pair_rules (codes "pes") (flag_rule (codes "serial") ∷ []))
+    -- check STL PES [--page P] [--origin T] [--every N] [--option O] [--within N] [--pid P]
+    -- [--packet-size S] [--pes I-J] [--complete] [--all]
     ∷ (
       codes "check",
-      pair_rules (within_rule ∷ flag_rule (codes "complete") ∷ flag_rule (codes "all") ∷ []),
+      pair_rules (codes "recording") (within_rule
+          ∷ recording_rules (flag_rule (codes "complete") ∷ flag_rule (codes "all") ∷ [])),
     )
-    -- listen PES [--page P] [--origin T] [--within N] --at TIME [--skip N] [--flip F] [--lose L]
-    -- [--receiver R] [--complete]
+    -- listen PES [--page P] [--origin T] [--within N] [--pid P] [--packet-size S] [--pes I-J]
+    -- --at TIME [--skip N] [--flip F] [--lose L] [--receiver R] [--complete]
     ∷ (
       codes "listen",
-      required_rule (codes "pes") ∷ option_rule (codes "page") (codes "888")
+      required_rule (codes "recording") ∷ option_rule (codes "page") (codes "888")
           ∷ option_rule (codes "origin") (codes "0") ∷ within_rule
-          ∷ required_option_rule (codes "at") ∷ option_rule (codes "skip") (codes "0")
-          ∷ bare_option_rule (codes "flip") ∷ bare_option_rule (codes "lose")
-          ∷ option_rule (codes "receiver") (codes "blank") ∷ flag_rule (codes "complete") ∷ [],
+          ∷ recording_rules (required_option_rule (codes "at")
+          ∷ option_rule (codes "skip") (codes "0") ∷ bare_option_rule (codes "flip")
+          ∷ bare_option_rule (codes "lose") ∷ option_rule (codes "receiver") (codes "blank")
+          ∷ flag_rule (codes "complete") ∷ []),
+    )
+    -- extract TS PES --pid P [--packet-size S]
+    ∷ (
+      codes "extract",
+      required_rule (codes "recording") ∷ required_rule (codes "pes")
+          ∷ required_option_rule (codes "pid") ∷ packet_size_rule ∷ [],
     )
     ∷ []
 

@@ -1,5 +1,6 @@
 pub mod Commands
 pub mod Texts
+pub mod PesTexts
 pub mod Arguments
 pub mod Requests
 pub mod Laws

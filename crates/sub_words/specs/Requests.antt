@@ -9,13 +9,16 @@ use Rattle.hex.specs.Hex.{decode_sized}
 use Rattle.sub_io.specs.Reading.{◌>>=◌}
 use Rattle.stl_rows.specs.declared.national.National.{National}
 use Rattle.sub_plan.specs.Options.{OptionsValue}
-use Rattle.sub_words.specs.Arguments.{allowing_of, argument, is_given, listed_of, national_of}
-use Rattle.sub_words.specs.Arguments.{options_of}
+use Rattle.sub_words.specs.Arguments.{PesAsked, allowing_of, argument, is_given, listed_of}
+use Rattle.sub_words.specs.Arguments.{national_of, options_of, packet_size_of, pes_of}
+use Rattle.sub_words.specs.Arguments.{required_pid_of}
 use Rattle.sub_words.specs.Commands.{are_sound, command_in, clap_refusals}
 use Rattle.sub_words.specs.Texts.{flip_of_text, frame_of_text, is_same_byte, number_of_text}
 use Rattle.sub_words.specs.Texts.{receiver_of_text}
 use Rattle.sub_request.specs.declared.listening.Flip.{Flip}
 use Rattle.sub_request.specs.declared.listening.ReceiverKind.{ReceiverKind}
+use Rattle.sub_request.specs.declared.pes_packets.PesPackets.{PesPackets}
+use Rattle.sub_request.specs.declared.pes_packets.TransportStream.{TransportStream}
 use Rattle.sub_request.specs.declared.request.Request.{Request}
 use Rattle.sub_request.specs.declared.request.Request.TheVariants as ask
 use Rattle.sub_request.specs.declared.request.UsageFault.{UsageFault}
@@ -24,26 +27,32 @@ use Rattle.sub_request.specs.declared.request.UsageFault.TheVariants as fault
 -- What is asked for: a request, without where its texts and lists lie in memory.
 pub data Asked : Type 0 where
   Packet : (bytes : List ℕ) → Asked
-  Packets : (pes : Text) → Asked
+  Packets : (pes : PesAsked) → Asked
   Show : (stl : Text) → Asked
   Normal : (input output : Text) → Asked
   Schedule : (stl pes : Text) → OptionsValue → (serial : Bool) → National → Asked
-  Check : (stl pes : Text) → OptionsValue → National → (all : Bool) → Asked
-  Listen : (pes : Text) → OptionsValue → (at skip : ℕ) → List Flip → (lost : List ℕ)
+  Check : (stl : Text) → (pes : PesAsked) → OptionsValue → National → (all : Bool) → Asked
+  Listen : (pes : PesAsked) → OptionsValue → (at skip : ℕ) → List Flip → (lost : List ℕ)
       → ReceiverKind → Asked
+  Extract : (recording pes : Text) → TransportStream → Asked
+
+-- Which PES packets a request asks for.
+abbrev pub pes_asked : PesPackets → PesAsked
+pes_asked pes = record { name = pes.name.now; stream = pes.stream; range = pes.range }
 
 -- What a request asks for.
 abbrev pub asked_by : Request → Asked
 asked_by (ask.Packet bytes) = Packet bytes
-asked_by (ask.Packets pes) = Packets pes.now
+asked_by (ask.Packets pes) = Packets (pes_asked pes)
 asked_by (ask.Show stl) = Show stl.now
 asked_by (ask.Normal input output) = Normal input.now output.now
 asked_by (ask.Schedule stl pes options serial national) =
     Schedule stl.now pes.now options serial national
 asked_by (ask.Check stl pes options national all) =
-    Check stl.now pes.now options national all
+    Check stl.now (pes_asked pes) options national all
 asked_by (ask.Listen pes l) =
-    Listen pes.now l.options l.at l.skip l.flips.items l.lost.items l.receiver
+    Listen (pes_asked pes) l.options l.at l.skip l.flips.items l.lost.items l.receiver
+asked_by (ask.Extract recording pes stream) = Extract recording.now pes.now stream
 
 -- ---- the arguments of each command: what they ask for, or the first fault, in this order (own)
 
@@ -52,6 +61,12 @@ abbrev pub packet_asked : List Row → Result Asked UsageFault
 packet_asked rows = do
   bytes ← ok_or (result_ok (decode_sized (argument (codes "hex") rows) 42)) fault.BadHex
   Ok (Packet bytes)
+
+-- `packets PES [--pid P] [--packet-size S] [--pes I-J]`
+abbrev pub packets_asked : List Row → Result Asked UsageFault
+packets_asked rows = do
+  pes ← pes_of rows
+  Ok (Packets pes)
 
 -- The names of an input and of a file to be written, which are not the same.
 abbrev pub unlike : Text → Text → Result (Text × Text) UsageFault
@@ -71,38 +86,49 @@ schedule_asked rows = do
   national ← national_of rows
   Ok (Schedule names.0 names.1 options (is_given (codes "serial") rows) national)
 
--- `check STL PES [--page P] [--every N] [--origin T] [--option O] [--within N] [--complete]
--- [--all]`
+-- `check STL PES [--page P] [--every N] [--origin T] [--option O] [--within N] [--pid P]
+-- [--packet-size S] [--pes I-J] [--complete] [--all]`
 abbrev pub check_asked : List Row → Result Asked UsageFault
 check_asked rows = do
   plain ← options_of (number_of_text (argument (codes "every") rows)) rows
   national ← national_of rows
   options ← allowing_of plain rows
+  pes ← pes_of rows
   let all = is_given (codes "all") rows in
-      Ok (Check (argument (codes "stl") rows) (argument (codes "pes") rows) options national all)
+      Ok (Check (argument (codes "stl") rows) pes options national all)
 
--- `listen PES [--page P] [--origin T] [--within N] [--complete] --at TIME [--skip N] [--flip F]
--- [--lose L] [--receiver R]`: the repeat bound of the options is not looked at.
+-- `listen PES [--page P] [--origin T] [--within N] [--complete] [--pid P] [--packet-size S]
+-- [--pes I-J] --at TIME [--skip N] [--flip F] [--lose L] [--receiver R]`: the repeat bound of the options is not looked at.
 abbrev pub listen_asked : List Row → Result Asked UsageFault
 listen_asked rows = do
   plain ← options_of (Some 1) rows
   options ← allowing_of plain rows
+  pes ← pes_of rows
   at ← ok_or (frame_of_text (argument (codes "at") rows)) fault.BadTime
   skip ← ok_or (number_of_text (argument (codes "skip") rows)) fault.BadSkip
   flips ← ok_or (listed_of flip_of_text is_same_byte (codes "flip") rows) fault.BadFlip
   lost ← ok_or (listed_of number_of_text (λ a b. a == b) (codes "lose") rows) fault.BadLose
   receiver ← ok_or (receiver_of_text (argument (codes "receiver") rows)) fault.BadReceiver
-  Ok (Listen (argument (codes "pes") rows) options at skip flips lost receiver)
+  Ok (Listen pes options at skip flips lost receiver)
 
--- What a command's arguments ask for, by its name. `clap` gives no name but these and `listen`.
+-- `extract TS PES --pid P [--packet-size S]`
+abbrev pub extract_asked : List Row → Result Asked UsageFault
+extract_asked rows = do
+  names ← unlike (argument (codes "recording") rows) (argument (codes "pes") rows)
+  pid ← required_pid_of rows
+  packet_size ← packet_size_of rows
+  Ok (Extract names.0 names.1 (record { pid = pid; packet_size = packet_size }))
+
+-- What a command's arguments ask for, by its name. `clap` gives no name but these and `extract`.
 abbrev pub asked_in : Text → List Row → Result Asked UsageFault
 asked_in name rows =
     if bytes_eq name (codes "packet") then packet_asked rows
-    else (if bytes_eq name (codes "packets") then Ok (Packets (argument (codes "pes") rows))
+    else (if bytes_eq name (codes "packets") then packets_asked rows
     else (if bytes_eq name (codes "show") then Ok (Show (argument (codes "stl") rows))
     else (if bytes_eq name (codes "normal") then normal_asked rows
     else (if bytes_eq name (codes "schedule") then schedule_asked rows
-    else (if bytes_eq name (codes "check") then check_asked rows else listen_asked rows)))))
+    else (if bytes_eq name (codes "check") then check_asked rows
+    else (if bytes_eq name (codes "listen") then listen_asked rows else extract_asked rows))))))
 
 -- ---- what is answered
 

@@ -1,15 +1,22 @@
 //! The arguments of a command, read one by one.
-ghost use Rattle.std.specs.Prelude.{◌≡◌, IfErr, IfOk, option_map};
+ghost use Rattle.std.specs.Prelude.{◌≡◌, IfErr, IfOk, option_map, true};
+ghost use Rattle.std.specs.Result.{result_map_both};
 ghost use Rattle.clap.specs.Words.{first_of, found_of, rows_of};
 ghost use Rattle.sub_words.specs.Arguments.{allowing_of, argument, is_given, listed_of, options_of};
+ghost use Rattle.sub_words.specs.Arguments.{packet_size_of, pes_of, range_given_of};
+ghost use Rattle.sub_words.specs.Arguments.{required_pid_of, stream_of};
+ghost use Rattle.sub_words.specs.Requests.{is_own, pes_asked};
 
 use crate::lists::{Item, parse_list};
 use crate::numbers::parse_number;
+use crate::pes_packets::{parse_packet_size, parse_pid, parse_range};
 use clap::ArgMatches;
+use mpeg_ts::{PacketSize, Pid};
 use std::alloc::Global;
 use sub_plan::{OptionFault, Options};
-use sub_request::UsageFault;
+use sub_request::{PesPackets, TransportStream, UsageFault};
 use ttx_packet::PageId;
+use ttx_pes::PieceRange;
 
 /// The text of an option. `None` where it is left out and has no default.
 #[tactic(auto, using(crate::proofs::CommandLemmas::values))]
@@ -80,6 +87,73 @@ fn usage_fault_of(fault: OptionFault) -> UsageFault
         OptionFault::Origin => UsageFault::Origin,
         OptionFault::Within => UsageFault::Within,
     }
+}
+
+/// The PID that `--pid` says, where the option has to be there.
+///
+/// # Errors
+///
+/// `Pid` alone.
+pub fn pid_at<'a>(matches: &ArgMatches<'a>) -> Result<Pid, UsageFault>
+    ensures { result ≡ required_pid_of (rows_of (found_of matches.now)) }
+{
+    parse_pid(text_at(matches, "pid")).ok_or(UsageFault::Pid)
+}
+
+/// The bytes from one transport packet to the next, as `--packet-size` says.
+///
+/// # Errors
+///
+/// `PacketSize` alone.
+pub fn packet_size_at<'a>(matches: &ArgMatches<'a>) -> Result<PacketSize, UsageFault>
+    ensures { result ≡ packet_size_of (rows_of (found_of matches.now)) }
+{
+    parse_packet_size(text_at(matches, "packet-size")).ok_or(UsageFault::PacketSize)
+}
+
+// The transport packets of the PID that `--pid` says. `None` where it is left out: then the packet
+// size has no effect. The faults are `Pid`, then `PacketSize`.
+fn stream_at<'a>(matches: &ArgMatches<'a>) -> Result<Option<TransportStream>, UsageFault>
+    ensures { result ≡ stream_of (rows_of (found_of matches.now)) }
+{
+    let pid = match given_at(matches, "pid") {
+        Some(text) => Some(parse_pid(text).ok_or(UsageFault::Pid)?),
+        None => None,
+    };
+    let packet_size = packet_size_at(matches)?;
+    Ok(pid.map(|pid| TransportStream { pid, packet_size }))
+}
+
+// The PES packets that `--pes` says, by their numbers. `None` where it is left out. The fault is
+// `Range`.
+fn range_at<'a>(matches: &ArgMatches<'a>) -> Result<Option<PieceRange>, UsageFault>
+    ensures { result ≡ range_given_of (rows_of (found_of matches.now)) }
+{
+    match given_at(matches, "pes") {
+        Some(text) => Ok(Some(parse_range(text).ok_or(UsageFault::Range)?)),
+        None => Ok(None),
+    }
+}
+
+/// Which PES packets are read: of which file, by `--pid`, `--packet-size` and `--pes`.
+///
+/// # Errors
+///
+/// `Pid`, then `PacketSize`, then `Range`.
+// Its callers match: the prover has no rule for `?` on a struct that holds a reference.
+#[tactic(auto, unfolding(crate::specs::Arguments::pes_of))]
+pub fn pes_at<'a>(matches: &ArgMatches<'a>) -> Result<PesPackets<'a>, UsageFault>
+    ensures value { result_map_both pes_asked (λ fault. fault) result
+        ≡ pes_of (rows_of (found_of matches.now)) }
+    ensures own { IfErr result (λ fault. is_own fault ≡ true) }
+{
+    let stream = stream_at(matches)?;
+    let range = range_at(matches)?;
+    Ok(PesPackets {
+        name: text_at(matches, "recording"),
+        stream,
+        range,
+    })
 }
 
 /// The items of an option's list, which is empty where the option is left out. `None` where its

@@ -27,9 +27,17 @@ pub enum Argument {
 }
 
 // The commands, each with what stands after its name.
-const COMMANDS: [(&str, &[Argument]); 7] = [
+const COMMANDS: [(&str, &[Argument]); 8] = [
     ("packet", &[Argument::Required("hex")]),
-    ("packets", &[Argument::Required("pes")]),
+    (
+        "packets",
+        &[
+            Argument::Required("recording"),
+            Argument::BareOption("pid"),
+            Argument::Option("packet-size", "188"),
+            Argument::BareOption("pes"),
+        ],
+    ),
     ("show", &[Argument::Required("stl")]),
     (
         "normal",
@@ -51,12 +59,15 @@ const COMMANDS: [(&str, &[Argument]); 7] = [
         "check",
         &[
             Argument::Required("stl"),
-            Argument::Required("pes"),
+            Argument::Required("recording"),
             Argument::Option("page", "888"),
             Argument::Option("origin", "0"),
             Argument::Option("every", "250"),
             Argument::Option("option", "english"),
             Argument::Option("within", "0"),
+            Argument::BareOption("pid"),
+            Argument::Option("packet-size", "188"),
+            Argument::BareOption("pes"),
             Argument::Flag("complete"),
             Argument::Flag("all"),
         ],
@@ -64,16 +75,28 @@ const COMMANDS: [(&str, &[Argument]); 7] = [
     (
         "listen",
         &[
-            Argument::Required("pes"),
+            Argument::Required("recording"),
             Argument::Option("page", "888"),
             Argument::Option("origin", "0"),
             Argument::Option("within", "0"),
+            Argument::BareOption("pid"),
+            Argument::Option("packet-size", "188"),
+            Argument::BareOption("pes"),
             Argument::RequiredOption("at"),
             Argument::Option("skip", "0"),
             Argument::BareOption("flip"),
             Argument::BareOption("lose"),
             Argument::Option("receiver", "blank"),
             Argument::Flag("complete"),
+        ],
+    ),
+    (
+        "extract",
+        &[
+            Argument::Required("recording"),
+            Argument::Required("pes"),
+            Argument::RequiredOption("pid"),
+            Argument::Option("packet-size", "188"),
         ],
     ),
 ];

@@ -15,6 +15,7 @@ mod laws;
 mod lists;
 mod numbers;
 mod parsing;
+mod pes_packets;
 mod reading;
 mod times;
 
@@ -22,4 +23,5 @@ pub use laws::law_of_flips;
 pub use lists::{Item, parse_list};
 pub use numbers::parse_number;
 pub use parsing::ParseWords;
+pub use pes_packets::{parse_packet_size, parse_pid, parse_range};
 pub use times::{parse_receiver, parse_time};

@@ -1,16 +1,18 @@
 //! The arguments of each command, read as a request.
 ghost use Rattle.clap.specs.Words.{found_of, rows_of};
 ghost use Rattle.sub_words.specs.Requests.{IsReadExactly, IsReadGivenMemory, asked_in, check_asked};
-ghost use Rattle.sub_words.specs.Requests.{listen_asked, normal_asked, packet_asked};
-ghost use Rattle.sub_words.specs.Requests.{schedule_asked};
+ghost use Rattle.sub_words.specs.Requests.{extract_asked, listen_asked, normal_asked, packet_asked};
+ghost use Rattle.sub_words.specs.Requests.{packets_asked, schedule_asked};
 
-use crate::arguments::{allowing_at, flag_at, list_at, options_at, text_at};
+use crate::arguments::{
+    allowing_at, flag_at, list_at, options_at, packet_size_at, pes_at, pid_at, text_at,
+};
 use crate::numbers::parse_number;
 use crate::times::{parse_receiver, parse_time};
 use clap::ArgMatches;
 use std::alloc::Global;
 use stl_rows::National;
-use sub_request::{Listening, Request, UsageFault};
+use sub_request::{Listening, Request, TransportStream, UsageFault};
 
 /// Reads the arguments of a command by its name.
 ///
@@ -28,16 +30,15 @@ pub fn read_command<'a>(
 {
     match name {
         "packet" => read_packet(matches),
-        "packets" => Ok(Request::Packets {
-            pes: text_at(matches, "pes"),
-        }),
+        "packets" => read_packets(matches),
         "show" => Ok(Request::Show {
             stl: text_at(matches, "stl"),
         }),
         "normal" => read_normal(matches),
         "schedule" => read_schedule(matches),
         "check" => read_check(matches),
-        _ => read_listen(alloc, matches),
+        "listen" => read_listen(alloc, matches),
+        _ => read_extract(matches),
     }
 }
 
@@ -49,6 +50,16 @@ fn read_packet<'a>(matches: &ArgMatches<'a>) -> Result<Request<'a>, UsageFault>
     match hex::decode_to_slice(text_at(matches, "hex"), &mut bytes) {
         Ok(()) => Ok(Request::Packet { bytes }),
         Err(_) => Err(UsageFault::BadHex),
+    }
+}
+
+// `packets PES [--pid P] [--packet-size S] [--pes I-J]`
+fn read_packets<'a>(matches: &ArgMatches<'a>) -> Result<Request<'a>, UsageFault>
+    ensures { IsReadExactly (packets_asked (rows_of (found_of matches.now))) result }
+{
+    match pes_at(matches) {
+        Ok(pes) => Ok(Request::Packets { pes }),
+        Err(fault) => Err(fault),
     }
 }
 
@@ -86,8 +97,8 @@ fn read_schedule<'a>(matches: &ArgMatches<'a>) -> Result<Request<'a>, UsageFault
     })
 }
 
-// `check STL PES [--page P] [--every N] [--origin T] [--option O] [--within N] [--complete]
-// [--all]`
+// `check STL PES [--page P] [--every N] [--origin T] [--option O] [--within N] [--pid P]
+// [--packet-size S] [--pes I-J] [--complete] [--all]`
 fn read_check<'a>(matches: &ArgMatches<'a>) -> Result<Request<'a>, UsageFault>
     ensures { IsReadExactly (check_asked (rows_of (found_of matches.now))) result }
 {
@@ -96,23 +107,31 @@ fn read_check<'a>(matches: &ArgMatches<'a>) -> Result<Request<'a>, UsageFault>
         return Err(UsageFault::BadOption);
     };
     let options = allowing_at(matches, plain)?;
+    let pes = match pes_at(matches) {
+        Ok(pes) => pes,
+        Err(fault) => return Err(fault),
+    };
     Ok(Request::Check {
         stl: text_at(matches, "stl"),
-        pes: text_at(matches, "pes"),
+        pes,
         options,
         national,
         all: flag_at(matches, "all"),
     })
 }
 
-// `listen PES [--page P] [--origin T] [--within N] [--complete] --at TIME [--skip N] [--flip F]
-// [--lose L] [--receiver R]`
+// `listen PES [--page P] [--origin T] [--within N] [--complete] [--pid P] [--packet-size S]
+// [--pes I-J] --at TIME [--skip N] [--flip F] [--lose L] [--receiver R]`
 fn read_listen<'a>(alloc: Global, matches: &ArgMatches<'a>) -> Result<Request<'a>, UsageFault>
     ensures { IsReadGivenMemory (listen_asked (rows_of (found_of matches.now))) result }
 {
     // The repeat bound is not looked at.
     let plain = options_at(matches, Some(1))?;
     let options = allowing_at(matches, plain)?;
+    let pes = match pes_at(matches) {
+        Ok(pes) => pes,
+        Err(fault) => return Err(fault),
+    };
     let Some(at) = parse_time(text_at(matches, "at")) else {
         return Err(UsageFault::BadTime);
     };
@@ -136,6 +155,23 @@ fn read_listen<'a>(alloc: Global, matches: &ArgMatches<'a>) -> Result<Request<'a
         lost,
         receiver,
     };
-    let pes = text_at(matches, "pes");
     Ok(Request::Listen { pes, listening })
+}
+
+// `extract TS PES --pid P [--packet-size S]`
+fn read_extract<'a>(matches: &ArgMatches<'a>) -> Result<Request<'a>, UsageFault>
+    ensures { IsReadExactly (extract_asked (rows_of (found_of matches.now))) result }
+{
+    let recording = text_at(matches, "recording");
+    let pes = text_at(matches, "pes");
+    if recording == pes {
+        return Err(UsageFault::SameFile);
+    }
+    let pid = pid_at(matches)?;
+    let packet_size = packet_size_at(matches)?;
+    Ok(Request::Extract {
+        recording,
+        pes,
+        stream: TransportStream { pid, packet_size },
+    })
 }

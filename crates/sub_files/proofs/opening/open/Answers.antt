@@ -3,34 +3,34 @@ use Rattle.std.proofs.Common.{◌∷◌, [], None, Some, refl}
 use Rattle.sub_files.specs.FileCalls.FileCall.{Open}
 use Rattle.sub_files.proofs.opening.open.Goals as goal
 
-pub returns-in-Some : goal.returns-in-Some
-returns-in-Some g c =
+pub returns-in-Some-clause-calls : goal.returns-in-Some-clause-calls
+returns-in-Some-clause-calls g c =
     rw c.in-ReadStl.is (record {
       calls = Open c.in-ReadStl.stl (Some c.in-Some.file) ∷ [];
-      are_made = (c.open_stl.new.files, rw c.in-Some.is at c.open_stl.ensures, refl);
+      are_made = (c.open_stl.new.files, rw c.in-Some.is at c.open_stl.ensures.call, refl);
       opens = (refl, refl);
     })
 
-pub returns-in-None-open_stl : goal.returns-in-None-open_stl
-returns-in-None-open_stl g c =
+pub returns-in-None-open_stl-clause-calls : goal.returns-in-None-open_stl-clause-calls
+returns-in-None-open_stl-clause-calls g c =
     rw c.in-ReadStl.is (record {
       calls = Open c.in-ReadStl.stl None ∷ [];
-      are_made = (c.open_stl.new.files, rw c.in-None-open_stl.is at c.open_stl.ensures, refl);
+      are_made = (c.open_stl.new.files, rw c.in-None-open_stl.is at c.open_stl.ensures.call, refl);
       opens = (refl, refl);
     })
 
-pub returns-in-Some-open_pes : goal.returns-in-Some-open_pes
-returns-in-Some-open_pes g c =
+pub returns-in-Some-open_pes-clause-calls : goal.returns-in-Some-open_pes-clause-calls
+returns-in-Some-open_pes-clause-calls g c =
     rw c.in-ReadPes.is (record {
       calls = Open c.in-ReadPes.pes (Some c.in-Some-open_pes.file) ∷ [];
-      are_made = (c.open_pes.new.files, rw c.in-Some-open_pes.is at c.open_pes.ensures, refl);
+      are_made = (c.open_pes.new.files, rw c.in-Some-open_pes.is at c.open_pes.ensures.call, refl);
       opens = (refl, refl);
     })
 
-pub returns-in-None-open_pes : goal.returns-in-None-open_pes
-returns-in-None-open_pes g c =
+pub returns-in-None-open_pes-clause-calls : goal.returns-in-None-open_pes-clause-calls
+returns-in-None-open_pes-clause-calls g c =
     rw c.in-ReadPes.is (record {
       calls = Open c.in-ReadPes.pes None ∷ [];
-      are_made = (c.open_pes.new.files, rw c.in-None-open_pes.is at c.open_pes.ensures, refl);
+      are_made = (c.open_pes.new.files, rw c.in-None-open_pes.is at c.open_pes.ensures.call, refl);
       opens = (refl, refl);
     })

@@ -1,29 +1,33 @@
 -- The input is not opened: one call. Else the calls for the output: creates.
 use Rattle.std.proofs.Common.{◌∷◌, [], None, Some, refl}
 use Rattle.sub_files.specs.FileCalls.FileCall.{Open}
+use Rattle.sub_files.specs.declared.opening.Opened.TheVariants.{Write}
 use Rattle.sub_files.proofs.CreatingLemmas.{creates}
 use Rattle.sub_files.proofs.opening.open_and_create.Goals as goal
 
-pub returns-in_default : goal.returns-in_default
-returns-in_default g c = record {
+pub returns-in_default-clause-calls : goal.returns-in_default-clause-calls
+returns-in_default-clause-calls g c = record {
   calls = Open c.args.stl.now None ∷ [];
-  are_made = (c.open_stl.new.files, rw c.in_default.is at c.open_stl.ensures, refl);
+  are_made = (c.open_stl.new.files, rw c.in_default.is at c.open_stl.ensures.call, refl);
   opens = (refl, refl);
 }
 
-pub returns-in-Some-create_apart : goal.returns-in-Some-create_apart
-returns-in-Some-create_apart g c =
-    creates g.D.FileSystem.is_call c.args.files.now c.open_stl.new.files
+pub returns-in-Some-create_apart-clause-calls : goal.returns-in-Some-create_apart-clause-calls
+returns-in-Some-create_apart-clause-calls g c =
+    let created = creates g.D.FileSystem.is_call Write c.args.files.now c.open_stl.new.files
     c.look_up_both-here.new.files c.create_apart.new.files c.args.stl.now c.args.output.now
     c.in-Some.input c.look_up_both-here.result.0 c.look_up_both-here.result.1
-    (Some c.in-Some-create_apart.created) (rw c.in-Some.is at c.open_stl.ensures)
-    c.look_up_both-here.ensures
-    c.in-Some-create_apart.ensures.apart c.in-Some-create_apart.ensures.over
+    (Some c.in-Some-create_apart.created) (rw c.in-Some.is at c.open_stl.ensures.call)
+    (rw c.name.ensures at c.look_up_both-here.ensures)
+    c.in-Some-create_apart.ensures.apart c.in-Some-create_apart.ensures.over in
+    record { calls = created.0; are_made = created.1; opens = created.2 }
 
-pub returns-in-None : goal.returns-in-None
-returns-in-None g c =
-    creates g.D.FileSystem.is_call c.args.files.now c.open_stl.new.files
+pub returns-in-None-clause-calls : goal.returns-in-None-clause-calls
+returns-in-None-clause-calls g c =
+    let created = creates g.D.FileSystem.is_call Write c.args.files.now c.open_stl.new.files
     c.look_up_both-here.new.files c.create_apart.new.files c.args.stl.now c.args.output.now
     c.in-Some.input c.look_up_both-here.result.0 c.look_up_both-here.result.1 None
-    (rw c.in-Some.is at c.open_stl.ensures) c.look_up_both-here.ensures
-    c.in-None.ensures.apart c.in-None.ensures.over
+    (rw c.in-Some.is at c.open_stl.ensures.call)
+    (rw c.name.ensures at c.look_up_both-here.ensures)
+    c.in-None.ensures.apart c.in-None.ensures.over in
+    record { calls = created.0; are_made = created.1; opens = created.2 }

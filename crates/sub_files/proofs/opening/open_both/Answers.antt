@@ -3,34 +3,34 @@ use Rattle.std.proofs.Common.{◌∷◌, [], None, Some, refl}
 use Rattle.sub_files.specs.FileCalls.FileCall.{Open}
 use Rattle.sub_files.proofs.opening.open_both.Goals as goal
 
-pub returns-in_default : goal.returns-in_default
-returns-in_default g c = record {
+pub returns-in_default-clause-calls : goal.returns-in_default-clause-calls
+returns-in_default-clause-calls g c = record {
   calls = Open c.args.stl.now None ∷ [];
-  are_made = (c.open_stl.new.files, rw c.in_default.is at c.open_stl.ensures, refl);
+  are_made = (c.open_stl.new.files, rw c.in_default.is at c.open_stl.ensures.call, refl);
   opens = (refl, refl);
 }
 
-pub returns-in-Some-open_pes : goal.returns-in-Some-open_pes
-returns-in-Some-open_pes g c = record {
+pub returns-in-Some-open_pes-clause-calls : goal.returns-in-Some-open_pes-clause-calls
+returns-in-Some-open_pes-clause-calls g c = record {
   calls =
       Open c.args.stl.now (Some c.in-Some.first)
       ∷ Open c.args.pes.now (Some c.in-Some-open_pes.second)
       ∷ [];
   are_made = (
     c.open_stl.new.files,
-    rw c.in-Some.is at c.open_stl.ensures,
-    (c.open_pes.new.files, rw c.in-Some-open_pes.is at c.open_pes.ensures, refl),
+    rw c.in-Some.is at c.open_stl.ensures.call,
+    (c.open_pes.new.files, rw c.in-Some-open_pes.is at c.open_pes.ensures.call, refl),
   );
   opens = (refl, refl, refl);
 }
 
-pub returns-in-None : goal.returns-in-None
-returns-in-None g c = record {
+pub returns-in-None-clause-calls : goal.returns-in-None-clause-calls
+returns-in-None-clause-calls g c = record {
   calls = Open c.args.stl.now (Some c.in-Some.first) ∷ Open c.args.pes.now None ∷ [];
   are_made = (
     c.open_stl.new.files,
-    rw c.in-Some.is at c.open_stl.ensures,
-    (c.open_pes.new.files, rw c.in-None.is at c.open_pes.ensures, refl),
+    rw c.in-Some.is at c.open_stl.ensures.call,
+    (c.open_pes.new.files, rw c.in-None.is at c.open_pes.ensures.call, refl),
   );
   opens = (refl, refl, refl);
 }

@@ -1,0 +1,24 @@
+//! Which PES packets are read: of which file, and which of that file's.
+use mpeg_ts::{PacketSize, Pid};
+use ttx_pes::PieceRange;
+
+/// The transport packets that carry PES packets (ISO/IEC 13818-1).
+#[derive(Clone, Copy, Debug, PartialEq, Eq)]
+pub struct TransportStream {
+    /// Their PID.
+    pub pid: Pid,
+    /// The bytes from one transport packet to the next.
+    pub packet_size: PacketSize,
+}
+
+/// The PES packets that are read.
+#[derive(Clone, Copy)]
+pub struct PesPackets<'a> {
+    /// The name of the file.
+    pub name: &'a str,
+    /// The transport packets that carry them, where the file is a transport stream. `None` for a
+    /// file of PES packets.
+    pub stream: Option<TransportStream>,
+    /// Which of them, by their numbers from 0. `None` for all.
+    pub range: Option<PieceRange>,
+}
