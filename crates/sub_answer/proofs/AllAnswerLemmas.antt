@@ -10,7 +10,7 @@ use Rattle.std.specs.Io.KnownBytes.{Appends}
 use Rattle.std.proofs.KnownBytes.{Appends-trans}
 use Rattle.sub_io.proofs.DeviceLemmas.{AppendsPrefix-first, AppendsPrefix-second}
 use Rattle.sub_io.specs.Device.{AppendsPrefix, RisesIf, failed}
-use Rattle.stl_rows.specs.EveryFault.{faults, load_fault}
+use Rattle.stl_rows.specs.EveryFault.{load_fault}
 use Rattle.stl_rows.specs.Loading.{loaded}
 use Rattle.stl_rows.specs.Programme.{ProgrammeValue}
 use Rattle.stl_rows.proofs.LoadingLaw.{none_of_loaded}
@@ -29,7 +29,7 @@ use Rattle.sub_rules.specs.declared.fault.CheckFault.{CheckFault}
 use Rattle.sub_rules.specs.declared.fault.CheckFault.TheVariants as fault
 use Rattle.sub_listing.specs.DeviceCall.{Counts, SinkCall, SourceCall}
 use Rattle.sub_answer.specs.EveryFault.{AnswersAll, AreListed, CanEnd}
-use Rattle.sub_answer.specs.EveryFault.{IsVerdict, TellsBoth}
+use Rattle.sub_answer.specs.EveryFault.{TellsBoth}
 use Rattle.sub_answer.specs.FaultListing.{all_listing, last_listing}
 use Rattle.sub_listing.specs.EventLines.{event_lines, most_counted, refusals, subtitle_events}
 use Rattle.sub_listing.specs.Faults.{kind_by, load_told}
@@ -91,58 +91,60 @@ abbrev by_first : Option CheckFault → Status
 by_first None = Done
 by_first (Some f) = Refused
 
-last-status : (n : ℕ) (a : Accepted) (o : Option CheckFault) → (n == 0) ≡ is_none o
-    → (last_listing n (Ok (Some a))).status ≡ by_first o
-last-status n a None is = rw is refl
-last-status n a (Some f) is = rw is refl
+last-status : (first n : ℕ) (a : Accepted) (o : Option CheckFault) → (n == 0) ≡ is_none o
+    → (last_listing first n (Ok (Some a))).status ≡ by_first o
+last-status first n a None is = rw is refl
+last-status first n a (Some f) is = rw is refl
 
-read-status : (events : List Event) (a : Accepted)
-    → (all_listing events (Ok (Some a))).status ≡ by_first (first_told events)
-read-status events a =
-    last-status (min (refusals events) most_counted) a (first_told events) (none-first events)
+read-status : (first : ℕ) (events : List Event) (a : Accepted)
+    → (all_listing first events (Ok (Some a))).status ≡ by_first (first_told events)
+read-status first events a =
+    last-status first (min (refusals events) most_counted) a (first_told events)
+    (none-first events)
 
 never-fault : (o : Option CheckFault) → by_first o ≢ Fault
 never-fault None e = cc
 never-fault (Some f) e = cc
 
 -- An answer with the status `Fault` is a failure.
-answer-fails : (events : List Event) (answer : Result (Option Accepted) CheckFault)
+answer-fails : (first : ℕ) (events : List Event) (answer : Result (Option Accepted) CheckFault)
     → IfErr answer (CanEnd events)
-    → (all_listing events answer).status ≡ Fault
+    → (all_listing first events answer).status ≡ Fault
     → failed is_failure answer ≡ true
-answer-fails events (Ok None) ended is = cc
-answer-fails events (Ok (Some a)) ended is =
-    absurd (never-fault (first_told events) (sym (read-status events a) ∙ is))
-answer-fails events (Err f) ended is = ended.fails
+answer-fails first events (Ok None) ended is = cc
+answer-fails first events (Ok (Some a)) ended is =
+    absurd (never-fault (first_told events) (sym (read-status first events a) ∙ is))
+answer-fails first events (Err f) ended is = ended.fails
 
 -- Want of memory is told alone.
-memory-alone : (old new : Option (List ℕ)) (events : List Event)
+memory-alone : (old new : Option (List ℕ)) (first : ℕ) (events : List Event)
     (answer : Result (Option Accepted) CheckFault) (block : ℕ)
     → IfErr answer (CanEnd events)
     → answer ≡ Err (fault.Subtitles (load_fault block load.Memory))
-    → Appends old new (all_listing events answer).text
+    → Appends old new (all_listing first events answer).text
     → Appends old new (line_of (load_told load.Memory block))
-memory-alone old new events answer block ended memory text =
+memory-alone old new first events answer block ended memory text =
     let can = rw memory at ended in
     subst (λ (es : List Event). Appends old new
-    (event_lines es ++ line_of (load_told load.Memory block)))
+    (event_lines first es ++ line_of (load_told load.Memory block)))
     (can.alone refl refl) (rw memory at text)
 
 -- Where nothing failed, the last line says that the files are accepted exactly where they are.
 done-exactly :
     (national : National) (options : OptionsValue) (file bytes : List ℕ) (pes : Option (List ℕ))
-    (events : List Event) (answer : Result (Option Accepted) CheckFault) (Means : Type 0)
+    (first : ℕ) (events : List Event) (answer : Result (Option Accepted) CheckFault)
+    (Means : Type 0)
     → pes ≡ Some bytes
-    → (all_listing events answer).status ≢ Fault
+    → (all_listing first events answer).status ≢ Fault
     → IfErr answer (CanEnd events)
     → AreListed national options file pes events answer
     → ((a : Accepted) → answer ≡ Ok (Some a)
     → Exactly national file (first_answer events a) Means)
     → (Means → (programme : ProgrammeValue) × (loaded national file ≡ Ok programme))
-    → ((all_listing events answer).status ≡ Done) ↔ Means
-done-exactly national options file bytes pes events (Err f) Means known runs ended are exact loads =
+    → ((all_listing first events answer).status ≡ Done) ↔ Means
+done-exactly national options file bytes pes first events (Err f) Means known runs ended are exact loads =
     absurd (runs (ap (λ b. status_of (kind_by b)) ended.fails))
-done-exactly national options file bytes pes events (Ok None) Means known runs ended are exact
+done-exactly national options file bytes pes first events (Ok None) Means known runs ended are exact
     loads = (
       λ done. cc,
       λ is.
@@ -152,9 +154,9 @@ done-exactly national options file bytes pes events (Ok None) Means known runs e
           let some : 0 < 0 = rw none at are.1 in
           absurd (omega (arith, some)),
     )
-done-exactly national options file bytes pes events (Ok (Some a)) Means known runs ended are exact
+done-exactly national options file bytes pes first events (Ok (Some a)) Means known runs ended are exact
     loads =
-    rw (read-status events a) (go (first_told events) refl (exact a refl))
+    rw (read-status first events a) (go (first_told events) refl (exact a refl))
   where
     go : (o : Option CheckFault) → first_told events ≡ o
         → Exactly national file (answer_by o a) Means
@@ -178,18 +180,20 @@ done-exactly national options file bytes pes events (Ok (Some a)) Means known ru
 
 -- The sink failed while events were told. For `print_every_fault`.
 pub answers_cut :
-    (national : National) (options : OptionsValue) (stl pes : SourceCall) (Untouched : Type 0)
-    (old new : PrinterValue) (given : Result (Option Accepted) CheckFault)
-    → TellsBoth national options stl pes Untouched old new given
+    (national : National) (options : OptionsValue) (stl pes : SourceCall) (first : Option ℕ)
+    (Untouched : Type 0) (old new : PrinterValue) (given : Result (Option Accepted) CheckFault)
+    → TellsBoth national options stl pes first Untouched old new given
     → new.failed ≡ true
-    → AnswersAll national options stl pes Untouched
+    → AnswersAll national options stl pes first Untouched
     (sink old.contents old.count new.contents new.count) Fault
-answers_cut national options stl pes Untouched old new given t failing = record {
+answers_cut national options stl pes first Untouched old new given t failing = record {
   events = t.events;
   answer = t.answer;
+  number = t.number;
+  starts = t.starts;
   printed =
-      printed-cut old.contents new.contents old.count new.count (event_lines t.events)
-      (last_listing (min (refusals t.events) most_counted) t.answer)
+      printed-cut old.contents new.contents old.count new.count (event_lines t.number t.events)
+      (last_listing t.number (min (refusals t.events) most_counted) t.answer)
       (t.prints.cut failing) (t.prints.cut_count failing);
   sources = t.sources;
   listed = t.listed;
@@ -204,57 +208,63 @@ answers_cut national options stl pes Untouched old new given t failing = record 
 
 -- All events were told, and the last line was printed or cut. For `print_every_fault`.
 pub answers_end :
-    (national : National) (options : OptionsValue) (stl pes : SourceCall) (Untouched : Type 0)
-    (old new : PrinterValue) (given : Result (Option Accepted) CheckFault)
+    (national : National) (options : OptionsValue) (stl pes : SourceCall) (first : Option ℕ)
+    (Untouched : Type 0) (old new : PrinterValue) (given : Result (Option Accepted) CheckFault)
     (end : Option (List ℕ)) (end_count : ℕ) (status : Status)
-    → TellsBoth national options stl pes Untouched old new given
+    → TellsBoth national options stl pes first Untouched old new given
     → new.failed ≡ false
     → old.refused ≡ 0
-    → PrintsOrFails (sink new.contents new.count end end_count) (last_listing new.refused given)
-    status
-    → AnswersAll national options stl pes Untouched
+    → PrintsOrFails (sink new.contents new.count end end_count)
+    (last_listing new.first new.refused given) status
+    → AnswersAll national options stl pes first Untouched
     (sink old.contents old.count end end_count) status
 unfolding counted
-answers_end national options stl pes Untouched old new given end end_count status t holds none
-    last =
+answers_end
+    national options stl pes first Untouched old new given end end_count status t holds none last =
     let refused : new.refused ≡ min (refusals t.events) most_counted =
     t.prints.put_refused holds ∙ ap (λ n. min (n + refusals t.events) most_counted) none
     ∙ (let none_before : 0 + refusals t.events ≡ refusals t.events = omega arith in
     ap (λ n. min n most_counted) none_before) in
     let line : PrintsOrFails (sink new.contents new.count end end_count)
-    (last_listing (min (refusals t.events) most_counted) t.answer) status =
-    rw (sym refused, t.same holds) last in
+    (last_listing t.number (min (refusals t.events) most_counted) t.answer) status =
+    rw (sym refused, t.same holds, sym t.prints.counts_from) last in
     let printed =
-    printed-after old.contents new.contents end old.count new.count end_count (event_lines t.events)
-    (last_listing (min (refusals t.events) most_counted) t.answer) status (t.prints.put holds)
+    printed-after old.contents new.contents end old.count new.count end_count
+    (event_lines t.number t.events)
+    (last_listing t.number (min (refusals t.events) most_counted) t.answer) status
+    (t.prints.put holds)
     (t.prints.put_count holds) line in
     record {
       events = t.events;
       answer = t.answer;
+      number = t.number;
+      starts = t.starts;
       printed = printed;
       sources = t.sources;
       listed = t.listed;
       checked = λ other. t.checked holds;
       ends = status-told national options stl pes (sink old.contents old.count end end_count)
-          (all_listing t.events t.answer) status t.answer printed t.sources
+          (all_listing t.number t.events t.answer) status t.answer printed t.sources
           (λ none runs file heard bytes known.
-          done-exactly national options file bytes pes.told t.events t.answer _ known runs t.ended
+          done-exactly national options file bytes pes.told t.number t.events t.answer _ known runs
+          t.ended
           (t.listed file heard)
           (λ a is.
           exactly-accepted national options file bytes (first_answer t.events a)
           (λ p loads. ((rw is at (t.checked holds file heard bytes known)) p loads).1 none))
           (λ is. (is.programme, is.loads)))
           (λ runs file heard bytes known.
-          done-exactly national options file bytes pes.told t.events t.answer _ known runs t.ended
+          done-exactly national options file bytes pes.told t.number t.events t.answer _ known runs
+          t.ended
           (t.listed file heard)
           (λ a is.
           exactly-accepted_within national options file bytes (first_answer t.events a)
           (λ p loads. ((rw is at (t.checked holds file heard bytes known)) p loads).0))
           (λ is. (is.programme, is.loads)))
-          (answer-fails t.events t.answer t.ended)
+          (answer-fails t.number t.events t.answer t.ended)
           (λ block memory text. (
             block,
-            memory-alone old.contents end t.events t.answer block t.ended memory text,
+            memory-alone old.contents end t.number t.events t.answer block t.ended memory text,
             λ file heard.
                 (subst (AreListed national options file pes.told t.events) memory
                 (t.listed file heard)).1,
@@ -264,19 +274,19 @@ answers_end national options stl pes Untouched old new given end end_count statu
 -- What is answered of a sink is answered of one with the same contents and count. For
 -- `print_every_fault`.
 pub answers_at :
-    (national : National) (options : OptionsValue) (stl pes : SourceCall) (Untouched : Type 0)
-    (old mid new : Option (List ℕ)) (m n p : ℕ) (status : Status)
-    → AnswersAll national options stl pes Untouched (sink old m mid n) status
+    (national : National) (options : OptionsValue) (stl pes : SourceCall) (first : Option ℕ)
+    (Untouched : Type 0) (old mid new : Option (List ℕ)) (m n p : ℕ) (status : Status)
+    → AnswersAll national options stl pes first Untouched (sink old m mid n) status
     → new ≡ mid
     → p ≡ n
-    → AnswersAll national options stl pes Untouched (sink old m new p) status
-answers_at national options stl pes Untouched old mid new m n p status answers same counted =
+    → AnswersAll national options stl pes first Untouched (sink old m new p) status
+answers_at national options stl pes first Untouched old mid new m n p status answers same counted =
     rw (same, counted) answers
 
 -- ---- counts
 
 -- A device whose failure ends with `Fault` fails once at most, and not where the status is another.
-counted_by : (b : Bool) (old new : ℕ) (status : Status)
+pub counted_by : (b : Bool) (old new : ℕ) (status : Status)
     → RisesIf old b new
     → (b ≡ true → status ≢ Fault → ⊥)
     → Counts old status new
@@ -286,23 +296,23 @@ counted_by false old new status rises is = grind (arith, nat_tests)
 -- An answer that tells that a source failed has the status `Fault`.
 fault-status : (is_one : CheckFault → Bool)
     → ((f : CheckFault) → is_one f ≡ true → is_failure f ≡ true)
-    → (events : List Event) (answer : Result (Option Accepted) CheckFault)
+    → (first : ℕ) (events : List Event) (answer : Result (Option Accepted) CheckFault)
     → failed is_one answer ≡ true
-    → (all_listing events answer).status ≡ Fault
-fault-status is_one fails events (Ok a) is = absurd (true≢false (sym is))
-fault-status is_one fails events (Err f) is = ap (λ b. status_of (kind_by b)) (fails f is)
+    → (all_listing first events answer).status ≡ Fault
+fault-status is_one fails first events (Ok a) is = absurd (true≢false (sym is))
+fault-status is_one fails first events (Err f) is = ap (λ b. status_of (kind_by b)) (fails f is)
 
 -- The source of either file fails once at most, and not where the status is another than `Fault`.
 pub counts : (national : National) (options : OptionsValue) (stl pes : SourceCall)
-    (Untouched : Type 0) (out : SinkCall) (status : Status)
-    → AnswersAll national options stl pes Untouched out status
+    (first : Option ℕ) (Untouched : Type 0) (out : SinkCall) (status : Status)
+    → AnswersAll national options stl pes first Untouched out status
     → Counts stl.old_count status stl.new_count × Counts pes.old_count status pes.new_count
-counts national options stl pes Untouched out status a =
-    let own = printed-status out (all_listing a.events a.answer) status a.printed in (
+counts national options stl pes first Untouched out status a =
+    let own = printed-status out (all_listing a.number a.events a.answer) status a.printed in (
       counted_by (failed is_stl_read a.answer) _ _ status a.sources.stl_count
           (λ is other.
-          other (own other ∙ fault-status is_stl_read stl-fails a.events a.answer is)),
+          other (own other ∙ fault-status is_stl_read stl-fails a.number a.events a.answer is)),
       counted_by (failed is_pes_read a.answer) _ _ status a.sources.pes_count
           (λ is other.
-          other (own other ∙ fault-status is_pes_read pes-fails a.events a.answer is)),
+          other (own other ∙ fault-status is_pes_read pes-fails a.number a.events a.answer is)),
     )

@@ -1,10 +1,10 @@
 -- The answer of a check by the contract of `check_files`: as_answered; where the files are
 -- accepted, `done-exactly`.
-use Rattle.std.proofs.Common.{◌≡◌, ◌≢◌, ◌↔◌, ℕ, List, Some, Result, Ok, Err, true, false}
-use Rattle.std.proofs.Common.{refl, sym, subst, ◌∙◌}
+use Rattle.std.proofs.Common.{◌≡◌, ◌≢◌, ◌↔◌, ℕ, List, Option, Some, Result, Ok, Err, true, false}
+use Rattle.std.proofs.Common.{ap, arith, refl, sym, subst, ◌∙◌, Bool}
 use Rattle.std.proofs.lemmas.Bool.{true≢false}
 use Rattle.std.specs.Io.KnownBytes.{Appends}
-use Rattle.sub_io.specs.Device.{failed}
+use Rattle.sub_io.specs.Device.{RisesIf, failed}
 use Rattle.sub_io.specs.Reading.{IfTold}
 use Rattle.ttx_pes.specs.Reader.{FailsAtPacket}
 use Rattle.stl_file.specs.declared.fault.StlFault.TheVariants as stl
@@ -15,7 +15,10 @@ use Rattle.stl_rows.specs.declared.national.National.{National}
 use Rattle.stl_rows.specs.Loading.{FailsLoading, TellsFault, loaded}
 use Rattle.stl_rows.specs.Programme.{ProgrammeValue}
 use Rattle.sub_plan.specs.Options.{OptionsValue}
-use Rattle.sub_check.specs.CheckedFiles.{AreChecked, TellsSubtitles}
+use Rattle.sub_check.specs.CheckedFiles.{AreChecked, IsCheckedWithin, TellsSubtitles}
+use Rattle.sub_rules.specs.Events.{first_told}
+use Rattle.ttx_pes.specs.declared.fault.PesFault.TheVariants as pes_fault
+use Rattle.sub_answer.proofs.EveryFaultLemmas.{no_events}
 use Rattle.sub_rules.specs.Fault.{is_failure, is_failure_kind, is_pes_read}
 use Rattle.sub_rules.specs.Fault.{is_subtitle_fault}
 use Rattle.sub_checker.specs.declared.telling.Accepted.{Accepted}
@@ -23,7 +26,12 @@ use Rattle.sub_rules.specs.declared.fault.CheckFault.{CheckFault}
 use Rattle.sub_rules.specs.declared.fault.CheckFault.TheVariants as fault
 use Rattle.sub_answer.specs.Answering.{AnswersCheck, verdict}
 use Rattle.sub_answer.specs.BothFiles.{TellsSources}
-use Rattle.sub_listing.specs.DeviceCall.{SinkCall, SourceCall}
+use Rattle.sub_listing.specs.DeviceCall.{Counts, SinkCall, SourceCall}
+use Rattle.sub_listing.specs.Faults.{kind_by}
+use Rattle.sub_listing.specs.Told.{status_of}
+use Rattle.sub_listing.proofs.PrintingLemmas.{printed-status}
+use Rattle.sub_answer.proofs.AllAnswerLemmas.{counted_by}
+use Rattle.sub_listing.specs.FirstPacket.{StartsAt}
 use Rattle.sub_listing.specs.Listing.{PrintsOrFails}
 use Rattle.sub_listing.specs.declared.status.Status.{Status}
 use Rattle.sub_listing.specs.declared.status.Status.TheVariants.{Done, Fault}
@@ -76,15 +84,15 @@ looked-at national file programme f is told runs = (refl, runs)
 -- The status is that of what is done exactly where the files are accepted.
 done-exactly :
     (national : National) (options : OptionsValue) (file bytes : List ℕ)
-    (answer : Result Accepted CheckFault) (Means : Type 0)
+    (first : ℕ) (answer : Result Accepted CheckFault) (Means : Type 0)
     → AreChecked national options file (Some bytes) answer
     → Exactly national file answer Means
-    → (verdict answer).status ≢ Fault
-    → ((verdict answer).status ≡ Done) ↔ Means
-done-exactly national options file bytes (Ok a) Means are exact other =
+    → (verdict first answer).status ≢ Fault
+    → ((verdict first answer).status ≡ Done) ↔ Means
+done-exactly national options file bytes first (Ok a) Means are exact other =
     let given = has_programme national file (Ok a) are.refused refl in
     (λ done. (exact.exactly given.0 given.1 refl refl).0 refl, λ is. refl)
-done-exactly national options file bytes (Err f) Means are exact other = (
+done-exactly national options file bytes first (Err f) Means are exact other = (
   λ done. absurd (told-not_done (is_failure f) done),
   λ is.
       let given = exact.loads is in
@@ -95,44 +103,89 @@ done-exactly national options file bytes (Err f) Means are exact other = (
 )
 
 -- An answer with the status `Fault` is a failure.
-answer-fails : (answer : Result Accepted CheckFault)
-    → (verdict answer).status ≡ Fault
+answer-fails : (first : ℕ) (answer : Result Accepted CheckFault)
+    → (verdict first answer).status ≡ Fault
     → failed is_failure answer ≡ true
-answer-fails (Ok a) is = cc
-answer-fails (Err f) is = told-fails (is_failure f) is
+answer-fails first (Ok a) is = cc
+answer-fails first (Err f) is = told-fails (is_failure f) is
 
 -- What `check_files` tells of both files, and the line that is printed. For `print_verdict`.
 pub as_answered :
-    (national : National) (options : OptionsValue) (stl pes : SourceCall) (Untouched : Type 0)
-    (out : SinkCall) (status : Status) (answer : Result Accepted CheckFault)
-    → PrintsOrFails out (verdict answer) status
+    (national : National) (options : OptionsValue) (stl pes : SourceCall) (first : Option ℕ)
+    (Untouched : Type 0) (out : SinkCall) (status : Status) (number : ℕ)
+    (answer : Result Accepted CheckFault)
+    → PrintsOrFails out (verdict number answer) status
+    → (failed is_subtitle_fault answer ≡ false → StartsAt first pes number)
     → TellsSources (FailsLoading national stl.told stl.left)
     (λ index. FailsAtPacket index pes.told pes.left)
     Untouched (failed is_subtitle_fault answer) stl pes answer
     → IfTold stl.told (λ file. AreChecked national options file pes.told answer)
-    → AnswersCheck national options stl pes Untouched out status
-as_answered national options stl pes Untouched out status answer printed sources checked = record {
-  answer = answer;
-  printed = printed;
-  sources = sources;
-  checked = checked;
-  ends = status-told national options stl pes out (verdict answer) status answer printed sources
-      (λ none other file told bytes heard.
-      let are = rw heard at (checked file told) in
-      done-exactly national options file bytes answer _ are
-      (exactly-accepted national options file bytes answer
-      (λ p loads. are.checked p loads none bytes refl)) other)
-      (λ other file told bytes heard.
-      let are = rw heard at (checked file told) in
-      done-exactly national options file bytes answer _ are
-      (exactly-accepted_within national options file bytes answer
-      (λ p loads. are.within p loads bytes refl)) other)
-      (answer-fails answer)
-      (λ block memory line. (
-        block,
-        subst (λ (r : Result Accepted CheckFault). Appends out.old out.new (verdict r).text)
-            memory line,
-        λ file told.
-            subst (TellsSubtitles national file) memory (checked file told).subtitles,
-      ));
+    → AnswersCheck national options stl pes first Untouched out status
+as_answered
+    national options stl pes first Untouched out status number answer printed starts sources
+    checked = record {
+      answer = answer;
+      number = number;
+      starts = starts;
+      printed = printed;
+      sources = sources;
+      checked = checked;
+      ends = status-told national options stl pes out (verdict number answer) status answer printed
+          sources
+          (λ none other file told bytes heard.
+          let are = rw heard at (checked file told) in
+          done-exactly national options file bytes number answer _ are
+          (exactly-accepted national options file bytes answer
+          (λ p loads. are.checked p loads none bytes refl)) other)
+          (λ other file told bytes heard.
+          let are = rw heard at (checked file told) in
+          done-exactly national options file bytes number answer _ are
+          (exactly-accepted_within national options file bytes answer
+          (λ p loads. are.within p loads bytes refl)) other)
+          (answer-fails number answer)
+          (λ block memory line. (
+            block,
+            subst (λ (r : Result Accepted CheckFault). Appends out.old out.new
+                (verdict number r).text) memory line,
+            λ file told.
+                subst (TellsSubtitles national file) memory (checked file told).subtitles,
+          ));
+    }
+
+-- What is answered where the source failed before its first PES packet was found. For `check_from`.
+pub no_piece_read : (programme : ProgrammeValue) (options : OptionsValue) (bytes : List ℕ)
+    → IsCheckedWithin programme options bytes (Err (fault.Pes 0 pes_fault.Read))
+no_piece_read programme options bytes = record {
+  accepted = λ own fine. absurd (true≢false fine);
+  serves = λ frames carries ok. absurd (true≢false (sym ok));
+  counts = λ frames carries. tt;
+  first = λ own fine. absurd (true≢false fine);
+  read = λ pes is.
+      let none : pes ≡ 0 = cc in
+      rw none (omega arith, ap first_told (no_events programme options bytes));
+  content = λ frame row column is. cc;
+  schedule = λ serial same some own fine. absurd (true≢false fine);
 }
+
+-- An answer that tells that a source failed has the status `Fault`.
+verdict-fault : (is_one : CheckFault → Bool)
+    → ((f : CheckFault) → is_one f ≡ true → is_failure f ≡ true)
+    → (first : ℕ) (answer : Result Accepted CheckFault)
+    → failed is_one answer ≡ true
+    → (verdict first answer).status ≡ Fault
+verdict-fault is_one fails first (Ok a) is = absurd (true≢false (sym is))
+verdict-fault is_one fails first (Err f) is = ap (λ b. status_of (kind_by b)) (fails f is)
+
+-- A source whose failure such an answer tells fails once at most, and not where the status is
+-- another. For `print_verdict`.
+pub source_counts : (is_one : CheckFault → Bool)
+    → ((f : CheckFault) → is_one f ≡ true → is_failure f ≡ true)
+    → (out : SinkCall) (status : Status) (first old new : ℕ) (answer : Result Accepted CheckFault)
+    → PrintsOrFails out (verdict first answer) status
+    → RisesIf old (failed is_one answer) new
+    → Counts old status new
+source_counts is_one fails out status first old new answer printed counted =
+    counted_by (failed is_one answer) old new status counted
+    (λ is other.
+    other (printed-status out (verdict first answer) status printed other
+    ∙ verdict-fault is_one fails first answer is))

@@ -1,26 +1,18 @@
 -- How a run ends, told without whether its second source was touched.
-use Rattle.std.proofs.Common.{◌≡◌, ℕ, List, [], Option, None, Some, true, false}
-use Rattle.std.proofs.Common.{ap, refl}
+use Rattle.std.proofs.Common.{◌≡◌, ap, true, false, ℕ, List, Option, Some}
 use Rattle.std.specs.Prelude.{⊤}
-use Rattle.std.proofs.lemmas.List.{append-nil}
-use Rattle.std.specs.Io.KnownBytes.{append_known}
-use Rattle.sub_answer.specs.Answering.{Answers}
+use Rattle.sub_answer.specs.Answering.{Answers, InputCall, input_call}
+use Rattle.sub_answer.specs.Part.{IsPartOf, whole_file}
 use Rattle.sub_answer.proofs.BothFilesLemmas.{sources-touched}
-use Rattle.sub_listing.specs.DeviceCall.{SinkCall, SourceCall}
+use Rattle.sub_listing.specs.DeviceCall.{SinkCall}
 use Rattle.sub_listing.specs.declared.status.Status.{Status}
 use Rattle.sub_request.specs.declared.request.Request.{Request}
 use Rattle.sub_request.specs.declared.request.Request.TheVariants as ask
-use Rattle.sub_answer.specs.Ending.{EndsFrom, EndsFromBoth, EndsOver, EndsWith, EndsWithFile, Given}
-use Rattle.sub_answer.specs.Ending.{Lines}
-
--- Nothing after the bytes that are known: so a sink tells that holds none back.
-pub append_known-nil : (known : Option (List ℕ)) → append_known known [] ≡ known
-append_known-nil None = refl
-append_known-nil (Some bytes) = ap Some (append-nil bytes)
+use Rattle.sub_answer.specs.Ending.{EndsWith, Lines}
 
 -- What is answered, without whether the second source was touched.
 touched :
-    (request : Request) (first second : SourceCall) (Untouched : Type 0) (file out : SinkCall)
+    (request : Request) (first second : InputCall) (Untouched : Type 0) (file out : SinkCall)
     (status : Status)
     → Answers request first second Untouched file out status
     → Answers request first second ⊤ file out status
@@ -34,8 +26,10 @@ touched (ask.Check stl pes options national true) first second Untouched file ou
     record {
       events = is.events;
       answer = is.answer;
+      number = is.number;
+      starts = is.starts;
       printed = is.printed;
-      sources = sources-touched _ _ Untouched _ first second is.answer is.sources;
+      sources = sources-touched _ _ Untouched _ first.call second.call is.answer is.sources;
       listed = is.listed;
       checked = is.checked;
       ends = is.ends;
@@ -43,81 +37,70 @@ touched (ask.Check stl pes options national true) first second Untouched file ou
 touched (ask.Check stl pes options national false) first second Untouched file out status is =
     record {
       answer = is.answer;
+      number = is.number;
+      starts = is.starts;
       printed = is.printed;
-      sources = sources-touched _ _ Untouched _ first second is.answer is.sources;
+      sources = sources-touched _ _ Untouched _ first.call second.call is.answer is.sources;
       checked = is.checked;
       ends = is.ends;
     }
 touched (ask.Listen pes listening) first second Untouched file out status is = is
+touched (ask.Extract recording pes stream) first second Untouched file out status is = is
 
 -- How a run ends, without that.
-ends-touched :
-    (request : Request) (first second : SourceCall) (Untouched : Type 0) (file : SinkCall)
-    (old new : Lines) (result : Status)
-    → EndsWith request first second Untouched file old new result
-    → EndsWith request first second ⊤ file old new result
-ends-touched request first second Untouched file old new result is = record {
+pub ends_touched :
+    (request : Request) (IsFirst IsSecond : InputCall → Type 0) (Untouched : Type 0)
+    (IsFile : SinkCall → Type 0) (old new : Lines) (result : Status)
+    → EndsWith request IsFirst IsSecond Untouched IsFile old new result
+    → EndsWith request IsFirst IsSecond ⊤ IsFile old new result
+ends_touched request IsFirst IsSecond Untouched IsFile old new result is = record {
+  first = is.first;
+  first_is = is.first_is;
+  second = is.second;
+  second_is = is.second_is;
+  file = is.file;
+  file_is = is.file_is;
   status = is.status;
-  written = is.written;
   printed = is.printed;
-  answers = touched request first second Untouched _ _ is.status is.answers;
+  answers = touched request is.first is.second Untouched is.file _ is.status is.answers;
   handed_on = is.handed_on;
 }
 
--- How a run ends whose file was empty, of its two sources.
-pub ends_from_both :
-    (request : Request) (first second : SourceCall) (Untouched : Type 0) (file : SinkCall)
-    (old new : Lines) (result : Status)
-    → EndsWith request first second Untouched file old new result
-    → file.old ≡ Some []
-    → EndsFromBoth request first second Untouched old new result
-ends_from_both request first second Untouched file old new result is is_empty =
-    record { file = file; file_is_empty = is_empty; ends = is }
-
--- How a run ends whose second source and file were empty, of the first source.
-pub ends_from :
-    (request : Request) (first second : SourceCall) (Untouched : Type 0) (old new : Lines)
-    (result : Status)
-    → EndsFromBoth request first second Untouched old new result
-    → second.told ≡ Some []
-    → EndsFrom request first old new result
-ends_from request first second Untouched old new result is is_empty = record {
-  second = second;
-  second_is_empty = is_empty;
-  file = is.file;
-  file_is_empty = is.file_is_empty;
-  ends = ends-touched request first second Untouched is.file old new result is.ends;
-}
-
--- How a run ends whose second source was empty, of the first source and of the file.
-pub ends_with_file :
-    (request : Request) (first second : SourceCall) (Untouched : Type 0) (file : SinkCall)
-    (old new : Lines) (result : Status)
-    → EndsWith request first second Untouched file old new result
-    → second.told ≡ Some []
-    → EndsWithFile request first file old new result
-ends_with_file request first second Untouched file old new result is is_empty = record {
-  second = second;
-  second_is_empty = is_empty;
-  ends = ends-touched request first second Untouched file old new result is;
-}
-
--- How a run ends, of what its devices told before.
-pub ends_over :
-    (request : Request) (first second : SourceCall) (Untouched : Type 0) (file : SinkCall)
-    (given : Given) (old new : Lines) (result : Status)
-    → EndsWith request first second Untouched file old new result
-    → first.told ≡ given.first
-    → second.told ≡ given.second
-    → file.old ≡ given.file
-    → EndsOver request given old new result
-ends_over request first second Untouched file given old new result is first_is second_is file_is =
+-- How a run ends, of devices of which less is said.
+pub ends_weaker :
+    (request : Request) (IsFirst IsSecond IsFirst' IsSecond' : InputCall → Type 0)
+    (Untouched : Type 0) (IsFile IsFile' : SinkCall → Type 0) (old new : Lines) (result : Status)
+    → EndsWith request IsFirst IsSecond Untouched IsFile old new result
+    → ((call : InputCall) → IsFirst call → IsFirst' call)
+    → ((call : InputCall) → IsSecond call → IsSecond' call)
+    → ((call : SinkCall) → IsFile call → IsFile' call)
+    → EndsWith request IsFirst' IsSecond' Untouched IsFile' old new result
+ends_weaker
+    request IsFirst IsSecond IsFirst' IsSecond' Untouched IsFile IsFile' old new result is first
+    second file =
     record {
-      first = first;
-      first_is = first_is;
-      second = second;
-      second_is = second_is;
-      file = file;
-      file_is = file_is;
-      ends = ends-touched request first second Untouched file old new result is;
+      first = is.first;
+      first_is = first is.first is.first_is;
+      second = is.second;
+      second_is = second is.second is.second_is;
+      file = is.file;
+      file_is = file is.file is.file_is;
+      status = is.status;
+      printed = is.printed;
+      answers = is.answers;
+      handed_on = is.handed_on;
     }
+
+-- A source of which all is read, from its first PES packet on.
+pub whole_source : {D : Type 0} (remaining : D → Option (List ℕ)) (failure_count : D → ℕ)
+    (old new : D) (input : InputCall)
+    → input ≡ input_call remaining failure_count (λ s. Some 0) old new
+    → IsPartOf whole_file remaining failure_count old input
+whole_source remaining failure_count old new input is = record {
+  left = new;
+  told = ap (λ (i : InputCall). i.call.told) is;
+  number = ap (λ (i : InputCall). i.number) is;
+  old_count = ap (λ (i : InputCall). i.call.old_count) is;
+  new_count = ap (λ (i : InputCall). i.call.new_count) is;
+  left_is = λ whole. ap (λ (i : InputCall). i.call.left) is;
+}

@@ -31,6 +31,8 @@ use Rattle.sub_rules.specs.Events.{latest}
 use Rattle.sub_rules.specs.Fault.{is_pes_read}
 use Rattle.sub_rules.specs.FrameRules.{frame_at, packets_before}
 use Rattle.sub_rules.specs.PacketRules.{header_count}
+use Rattle.sub_rules.specs.PieceEvents.{all_announced, events_of_pieces, marks_of_each}
+use Rattle.sub_rules.specs.Trusted.{told_after}
 use Rattle.sub_rules.specs.Pieces.{FailsAtPiece, piece_file_of}
 use Rattle.sub_rules.specs.Transmission.{Transmission}
 use Rattle.sub_checker.specs.declared.telling.Accepted.{Accepted}
@@ -39,8 +41,9 @@ use Rattle.sub_rules.specs.declared.fault.CheckFault.{CheckFault}
 use Rattle.sub_rules.specs.declared.fault.CheckFault.TheVariants as fault
 use Rattle.sub_listing.specs.DeviceCall.{SourceCall}
 use Rattle.sub_listing.specs.Faults.{check_told}
+use Rattle.sub_listing.specs.FirstPacket.{StartsAt}
 use Rattle.sub_listing.specs.LastLine.{HoldsLastLine, PutsLine}
-use Rattle.sub_listing.specs.Told.{line_of}
+use Rattle.sub_listing.specs.Told.{line_of, told_from}
 use Rattle.sub_answer.specs.EveryFault.{AreListedBefore, CanEnd, FailsAtBlock, IsAnswer}
 use Rattle.sub_answer.specs.EveryFault.{TellsBoth}
 use Rattle.sub_listing.specs.EventLines.{most_counted, refusals, subtitle_event, subtitle_events}
@@ -73,8 +76,8 @@ named f g is = cc
 module _ {D : Type 0} (IsTold : D → LoadFault → D → Type 0) (value : D → PrinterValue)
     (one : (s t : D) (x : LoadFault) → IsTold s x t
     → PrintsEvent (value s) (subtitle_event x) (value t))
-    (national : National) (options : OptionsValue) (stl pes : SourceCall) (Untouched : Type 0)
-    (old new : D)
+    (national : National) (options : OptionsValue) (stl pes : SourceCall) (first : Option ℕ)
+    (Untouched : Type 0) (old new : D)
     (goes : (value old).failed ≡ false) (few : (value old).refused ≤ most_counted)
     (untouched : Untouched) (pes_count : RisesIf pes.old_count false pes.new_count) where
   abbrev printed : (items : List LoadFault) → Tells IsTold old new items
@@ -90,12 +93,14 @@ module _ {D : Type 0} (IsTold : D → LoadFault → D → Type 0) (value : D →
       → CanEnd (subtitle_events items) (fault.Subtitles (load_fault block kind))
       → IfTold stl.told (λ file.
       AreListedBefore national file (subtitle_events items) block kind)
-      → TellsBoth national options stl pes Untouched (value old) (value new)
+      → TellsBoth national options stl pes first Untouched (value old) (value new)
       (Err (fault.Subtitles (load_fault block kind)))
   ended_at block kind items quiet told count fails ended are = record {
     events = subtitle_events items;
     answer = Err (fault.Subtitles (load_fault block kind));
     same = λ holds. refl;
+    number = (value old).first;
+    starts = λ is. cc;
     prints = printed items told;
     sources = record {
       stl_count = count;
@@ -118,7 +123,7 @@ module _ {D : Type 0} (IsTold : D → LoadFault → D → Type 0) (value : D →
       → Tells IsTold old new []
       → RisesIf stl.old_count (is_read (load_fault block load.Memory)) stl.new_count
       → IfTold stl.told (λ file. EndsRecord national file block)
-      → TellsBoth national options stl pes Untouched (value old) (value new)
+      → TellsBoth national options stl pes first Untouched (value old) (value new)
       (Err (fault.Subtitles (load_fault block load.Memory)))
   at_memory block quiet told count memory =
       ended_at block load.Memory [] quiet told count
@@ -132,7 +137,7 @@ module _ {D : Type 0} (IsTold : D → LoadFault → D → Type 0) (value : D →
       → TellsSome IsTold old new
       → RisesIf stl.old_count (is_read (load_fault block (load.File stl_fault.Read))) stl.new_count
       → FailsTelling national stl.told stl.left IsTold old new block
-      → TellsBoth national options stl pes Untouched (value old) (value new)
+      → TellsBoth national options stl pes first Untouched (value old) (value new)
       (Err (fault.Subtitles (load_fault block (load.File stl_fault.Read))))
   at_read block quiet some count f =
       let items =
@@ -153,11 +158,11 @@ module _ {D : Type 0} (IsTold : D → LoadFault → D → Type 0) (value : D →
       → IfTold stl.told (λ file. kind ≡ load.Memory → EndsRecord national file block)
       → (is_read (load_fault block kind) ≡ true
       → FailsTelling national stl.told stl.left IsTold old new block)
-      → TellsBoth national options stl pes Untouched (value old) (value new)
+      → TellsBoth national options stl pes first Untouched (value old) (value new)
       (Err (fault.Subtitles (load_fault block kind)))
   after_error block kind quiet kinds some none count memory read =
       let Answers : LoadFaultKind → Type 0 =
-      λ k. TellsBoth national options stl pes Untouched (value old) (value new)
+      λ k. TellsBoth national options stl pes first Untouched (value old) (value new)
       (Err (fault.Subtitles (load_fault block k))) in
       let Counts : LoadFaultKind → Type 0 =
       λ k. RisesIf stl.old_count (is_read (load_fault block k)) stl.new_count in
@@ -199,7 +204,7 @@ module _ {D : Type 0} (IsTold : D → LoadFault → D → Type 0) (value : D →
       → TellsOfFile IsTold old new
       → IfTold stl.told (λ file. TellsFaults IsTold old new stopped (faults national file))
       → RisesIf stl.old_count false stl.new_count
-      → TellsBoth national options stl pes Untouched (value old) (value new) (Ok None)
+      → TellsBoth national options stl pes first Untouched (value old) (value new) (Ok None)
   after_faults stopped quiet some told count =
       let here = printed some.faults some.told in
       let items =
@@ -211,6 +216,8 @@ module _ {D : Type 0} (IsTold : D → LoadFault → D → Type 0) (value : D →
         events = subtitle_events items.0;
         answer = Ok None;
         same = λ holds. refl;
+        number = (value old).first;
+        starts = λ is. cc;
         prints = items.1.0;
         sources = record {
           stl_count = count;
@@ -289,9 +296,10 @@ both_answers programme options pes (Err f) within at_once bytes heard = tt
 
 module _ {D : Type 0} (IsTold : D → Event → D → Type 0) (value : D → PrinterValue)
     (one : (s t : D) (x : Event) → IsTold s x t → PrintsEvent (value s) x (value t))
-    (national : National) (options : OptionsValue) (stl pes : SourceCall) (Untouched : Type 0)
-    (programme : ProgrammeValue) (old new : D)
+    (national : National) (options : OptionsValue) (stl pes : SourceCall) (first : Option ℕ)
+    (Untouched : Type 0) (programme : ProgrammeValue) (old new : D)
     (goes : (value old).failed ≡ false) (few : (value old).refused ≤ most_counted)
+    (starts : StartsAt first pes (value old).first)
     (loads : IfTold stl.told (λ file. loaded national file ≡ Ok programme))
     (stl_count : RisesIf stl.old_count false stl.new_count) where
   put : (items : List Event) → Tells IsTold old new items
@@ -311,11 +319,11 @@ module _ {D : Type 0} (IsTold : D → Event → D → Type 0) (value : D → Pri
       → (let r : Result (Option Accepted) CheckFault = Err f in r)
       ≡ Err (fault.Pes index pes_fault.Read)
       → FailsAtPiece index pes.told pes.left)
-      → TellsBoth national options stl pes Untouched (value old) (value new) (Err f)
+      → TellsBoth national options stl pes first Untouched (value old) (value new) (Err f)
   after_pes_error f is quiet some told count fails = go (read_at f is).0 (read_at f is).1
     where
       go : (n : ℕ) → f ≡ fault.Pes n pes_fault.Read
-          → TellsBoth national options stl pes Untouched (value old) (value new) (Err f)
+          → TellsBoth national options stl pes first Untouched (value old) (value new) (Err f)
       go n same =
           let events =
           decided (λ (es : List Event). Tells IsTold old new es) pes.told
@@ -338,6 +346,8 @@ module _ {D : Type 0} (IsTold : D → Event → D → Type 0) (value : D → Pri
             events = events.0;
             answer = Err f;
             same = λ holds. refl;
+            number = (value old).first;
+            starts = λ is. starts;
             prints = put events.0 events.1;
             sources = record {
               stl_count = rw same stl_count;
@@ -362,11 +372,13 @@ module _ {D : Type 0} (IsTold : D → Event → D → Type 0) (value : D → Pri
       × CountsRead options.page (frames_read options bytes) a)
       → ((value new).failed ≡ false
       → IfTold pes.told (λ bytes. IsAnswer programme options bytes (first_answer items a)))
-      → TellsBoth national options stl pes Untouched (value old) (value new) given
+      → TellsBoth national options stl pes first Untouched (value old) (value new) given
   read_pes items a given prints same count are verdict = record {
     events = items;
     answer = Ok (Some a);
     same = same;
+    number = (value old).first;
+    starts = λ is. starts;
     prints = prints;
     sources = record {
       stl_count = stl_count;
@@ -393,7 +405,7 @@ module _ {D : Type 0} (IsTold : D → Event → D → Type 0) (value : D → Pri
       → IfTold pes.told (λ bytes. IsAnswer programme options bytes
       (first_answer (all_events_of programme options bytes) given))
       → RisesIf pes.old_count false pes.new_count
-      → TellsBoth national options stl pes Untouched (value old) (value new) (Ok (Some given))
+      → TellsBoth national options stl pes first Untouched (value old) (value new) (Ok (Some given))
   after_all given some told first count =
       let events =
       decided (λ (es : List Event). Tells IsTold old new es) pes.told
@@ -408,7 +420,7 @@ module _ {D : Type 0} (IsTold : D → Event → D → Type 0) (value : D → Pri
       → TellsSome IsTold old new
       → IfTold pes.told (λ bytes. TellsEvents programme options bytes IsTold old new (Ok None))
       → RisesIf pes.old_count false pes.new_count
-      → TellsBoth national options stl pes Untouched (value old) (value new) (Ok None)
+      → TellsBoth national options stl pes first Untouched (value old) (value new) (Ok None)
   after_stop failing some told count =
       let counts = λ (bytes : List ℕ).
       some_counts options.page (frames_read options bytes) (length (frames_read options bytes)) refl
@@ -445,7 +457,7 @@ module _ {D : Type 0} (IsTold : D → Event → D → Type 0) (value : D → Pri
       → ((index : ℕ)
       → r ≡ Err (fault.Pes index pes_fault.Read)
       → FailsAtPiece index pes.told pes.left)
-      → TellsBoth national options stl pes Untouched (value old) (value new) r
+      → TellsBoth national options stl pes first Untouched (value old) (value new) r
   after_pes (Ok (Some a)) stopped stops quiet some told first is goes_on only count fails =
       after_all a some told first count
   after_pes (Ok None) stopped stops quiet some told first is goes_on only count fails =
@@ -461,6 +473,44 @@ module _ {D : Type 0} (IsTold : D → Event → D → Type 0) (value : D → Pri
       calm : (b : Bool) → (value new).failed ≡ b → (value new).failed ≡ false
       calm true e = absurd (true≢false (sym (stops e) ∙ goes_on))
       calm false e = e
+
+-- What is told with another first number before is told. For `tell_every_fault`.
+pub with_first : (national : National) (options : OptionsValue) (stl pes : SourceCall)
+    (first : Option ℕ) (Untouched : Type 0) (old new : PrinterValue) (number : ℕ)
+    (given : Result (Option Accepted) CheckFault)
+    → TellsBoth national options stl pes first Untouched (record old { first = number }) new given
+    → TellsBoth national options stl pes first Untouched old new given
+with_first national options stl pes first Untouched old new number given t = record {
+  events = t.events;
+  answer = t.answer;
+  same = t.same;
+  number = t.number;
+  starts = t.starts;
+  prints = t.prints;
+  sources = t.sources;
+  ended = t.ended;
+  cut = t.cut;
+  checked = t.checked;
+  listed = t.listed;
+}
+
+-- Nothing is told of no piece.
+pub no_events : (programme : ProgrammeValue) (options : OptionsValue) (bytes : List ℕ)
+    → events_of_first_pieces programme options bytes 0 ≡ []
+unfolding events_of_pieces all_announced told_after marks_of_each
+no_events programme options bytes = refl
+
+-- The source failed before its first PES packet was found. For `tell_every_fault`.
+pub tells_none : {D : Type 0} (IsTold : D → Event → D → Type 0) (programme : ProgrammeValue)
+    (options : OptionsValue) (bytes : List ℕ) (old : D)
+    → TellsEvents programme options bytes IsTold old old (Err (fault.Pes 0 pes_fault.Read))
+tells_none IsTold programme options bytes old = (
+  0,
+  omega arith,
+  refl,
+  subst (Tells IsTold old old) (sym (no_events programme options bytes))
+      (record { in_turn = refl }),
+)
 
 -- ---- the source of the PES file failed
 
@@ -482,8 +532,8 @@ ok_keeps (Err f) old new ok same risen = absurd (true≢false (sym ok))
 
 -- Then the printer has not failed.
 pub cut_reads : {national : National} {options : OptionsValue} {stl pes : SourceCall}
-    {Untouched : Type 0} {old new : PrinterValue} {given : Result (Option Accepted) CheckFault}
-    → TellsBoth national options stl pes Untouched old new given
+    {first : Option ℕ} {Untouched : Type 0} {old new : PrinterValue} {given : Result (Option Accepted) CheckFault}
+    → TellsBoth national options stl pes first Untouched old new given
     → new.failed ≡ true
     → pes.old_count < pes.new_count
     → ⊥
@@ -492,18 +542,20 @@ cut_reads told failing risen =
 
 -- The line of the failure was put, and nothing before it is held back.
 pub last_line : {K : Type 0} (contents : K → Option (List ℕ)) (held : K → ℕ)
-    (IsPush : K → List ℕ → Option ℕ → K → Type 0) (before new end : K)
+    (IsPush : K → List ℕ → Option ℕ → K → Type 0) (before new end : K) (number : ℕ)
     (answer : Result (Option Accepted) CheckFault)
     → failed is_pes_read answer ≡ true
     → held before ≡ 0
-    → IfErr answer (λ f. PutsLine contents IsPush before (line_of (check_told f)) new)
+    → IfErr answer (λ f.
+    PutsLine contents IsPush before (line_of (told_from number (check_told f))) new)
     → end ≡ new
     → HoldsLastLine contents held IsPush end
-last_line contents held IsPush before new end (Ok a) is none line same =
+last_line contents held IsPush before new end number (Ok a) is none line same =
     absurd (true≢false (sym is))
-last_line contents held IsPush before new end (Err f) is none line same = record {
+last_line contents held IsPush before new end number (Err f) is none line same = record {
   before = before;
   settled = none;
-  told = check_told f;
-  line = subst (PutsLine contents IsPush before (line_of (check_told f))) (sym same) line;
+  told = told_from number (check_told f);
+  line = subst
+      (PutsLine contents IsPush before (line_of (told_from number (check_told f)))) (sym same) line;
 }

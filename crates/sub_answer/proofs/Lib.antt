@@ -4,3 +4,4 @@ pub mod ListenListingLemmas
 pub mod EveryFaultLemmas
 pub mod AllAnswerLemmas
 pub mod EndingLemmas
+pub mod PartLemmas

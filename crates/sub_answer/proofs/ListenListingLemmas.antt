@@ -1,12 +1,21 @@
 -- What is told of a fault of a run, and what is printed of one.
 use Rattle.std.specs.Prelude.{IfOk}
-use Rattle.std.proofs.Common.{◌≡◌, ℕ, List, ap, subst, Bool, Option, Result}
+use Rattle.std.proofs.Common.{◌≡◌, ◌∙◌, ℕ, ◌+◌, List, ap, arith, refl, subst, sym, Bool, Option}
+use Rattle.std.proofs.Common.{Result}
 use Rattle.ttx_packet.specs.PageId.{PageIdValue}
 use Rattle.ttx_page.specs.Screen.{Display}
 use Rattle.sub_rules.specs.FrameRules.{Unread}
 use Rattle.sub_rules.specs.Transmission.{Transmission}
 use Rattle.sub_listen.specs.Run.{HearsFile}
-use Rattle.sub_answer.specs.Answering.{AnswersListen}
+use Rattle.std.specs.Io.KnownBytes.{Keeps}
+use Rattle.ttx_pes.specs.declared.fault.PesFault.TheVariants.{Read}
+use Rattle.sub_rules.specs.declared.fault.CheckFault.TheVariants as check
+use Rattle.sub_listen.specs.declared.listening.ListenFault.TheVariants as fault
+use Rattle.sub_listing.specs.Faults.{check_told}
+use Rattle.sub_listing.specs.Listing.{PrintsOrFails, told_listing}
+use Rattle.sub_listing.specs.Told.{told_from}
+use Rattle.sub_listing.proofs.FirstPacketLemmas.{fails_first_packet, fails_packet_kept, told_kept}
+use Rattle.sub_answer.specs.Answering.{AnswersListen, PrintsHeard}
 use Rattle.sub_listing.specs.DeviceCall.{SinkCall, SourceCall}
 use Rattle.sub_listing.specs.declared.status.Status.{Status}
 use Rattle.sub_answer.specs.ListenListing.{IsOldPage, Listens, listing_of, tuned_with}
@@ -16,7 +25,7 @@ use Rattle.sub_listen.specs.declared.listening.ListenFault.{ListenFault}
 use Rattle.sub_request.specs.declared.listening.Listening.{Listening}
 
 -- What is printed of a run of a receiver that was tuned. For `listen`.
-pub listens_from : (leaves : ℕ → ℕ) (l : Listening) (frames : Transmission)
+pub listens_from : (leaves : ℕ → ℕ) (l : Listening) (first : ℕ) (frames : Transmission)
     → (unread : Option Unread) (told left : Option (List ℕ)) (w : PageIdValue)
     → (old end : Display) (result : Result (Unit {0}) ListenFault) (page : Rows)
     → (asks_complete : Bool)
@@ -26,9 +35,9 @@ pub listens_from : (leaves : ℕ → ℕ) (l : Listening) (frames : Transmission
     → IsOldPage page
     → HearsFile leaves l frames unread told left w old end result
     → IfOk result (λ _. IsSeenWhole asks_complete end)
-    → Listens leaves l frames unread told left (listing_of asks_complete end result)
+    → Listens leaves l first frames unread told left (listing_of first asks_complete end result)
 listens_from
-    leaves l frames unread told left w old end result page asks_complete asks tuned start is_old
+    leaves l first frames unread told left w old end result page asks_complete asks tuned start is_old
     hears seen =
     record {
       old_page = page;
@@ -40,14 +49,69 @@ listens_from
           result) start
           (subst (λ (u : PageIdValue). HearsFile leaves l frames unread told left u old end result)
           tuned hears);
-      listing_is = ap (λ b. listing_of b end result) asks;
+      listing_is = ap (λ b. listing_of first b end result) asks;
       page_is = subst (λ (b : Bool). IfOk result (λ _. IsSeenWhole b end)) asks seen;
     }
 
 -- What is answered by what a receiver leaves in a cell whose byte has even parity. For `answer`.
-pub answers_as : (leaves left : ℕ → ℕ) (l : Listening) (pes : SourceCall)
+pub answers_as : (leaves left : ℕ → ℕ) (l : Listening) (pes : SourceCall) (first : Option ℕ)
     → (out : SinkCall) (status : Status)
     → leaves ≡ left
-    → AnswersListen left l pes out status
-    → AnswersListen leaves l pes out status
-answers_as leaves left l pes out status same answers = rw same answers
+    → AnswersListen left l pes first out status
+    → AnswersListen leaves l pes first out status
+answers_as leaves left l pes first out status same answers = rw same answers
+
+-- What is heard once the first PES packet was found. For `print_listening`.
+pub heard_kept : (leaves : ℕ → ℕ) (l : Listening) (number : ℕ) (old mid left : Option (List ℕ))
+    (old_count mid_count new_count : ℕ) (out : SinkCall) (status : Status)
+    → Keeps old mid
+    → mid_count ≡ old_count
+    → PrintsHeard leaves l number
+    (record { told = mid; left = left; old_count = mid_count; new_count = new_count }) out status
+    → PrintsHeard leaves l number
+    (record { told = old; left = left; old_count = old_count; new_count = new_count }) out status
+heard_kept leaves l number old mid left old_count mid_count new_count out status kept same heard =
+    record {
+      exact = λ frames unread bytes told reads none.
+          let known = told_kept old mid bytes kept told in
+          let printed = heard.exact frames unread bytes known reads (none ∙ sym same) in (
+            printed.0,
+            subst (λ (t : Option (List ℕ)).
+                Listens leaves l number frames unread t left printed.0)
+                (known ∙ sym told) printed.1,
+            printed.2,
+          );
+      read = λ other.
+          let failed = heard.read (λ none. other (none ∙ same)) in (
+            failed.0,
+            record {
+              index = failed.1.index;
+              is = failed.1.is;
+              place = fails_packet_kept failed.1.index old mid left kept failed.1.place;
+              heard = λ frames unread bytes told.
+                  failed.1.heard frames unread bytes (told_kept old mid bytes kept told);
+            },
+            failed.2,
+          );
+    }
+
+-- The source failed before that. For `print_listening`.
+pub none_heard : (leaves : ℕ → ℕ) (l : Listening) (number : ℕ) (pes : SourceCall) (out : SinkCall)
+    (status : Status)
+    → Keeps pes.told pes.left
+    → pes.new_count ≡ pes.old_count + 1
+    → PrintsOrFails out (told_listing (told_from number (check_told (check.Pes 0 Read)))) status
+    → PrintsHeard leaves l number pes out status
+none_heard leaves l number pes out status kept risen printed = record {
+  exact = λ frames unread bytes told reads none. absurd (omega (arith, risen, none));
+  read = λ other. (
+    fault.File (check.Pes 0 Read),
+    record {
+      index = 0;
+      is = refl;
+      place = fails_first_packet pes.told pes.left kept;
+      heard = λ frames unread bytes told reads i few. absurd (omega (arith, few));
+    },
+    printed,
+  );
+}

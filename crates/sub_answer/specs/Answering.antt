@@ -1,5 +1,6 @@
 -- What is said of the answer to a request, command by command.
-use Rattle.std.specs.Prelude.{◌≡◌, ◌≢◌, ⊤, ℕ, Bool, true, false, Option, Result, Err, Ok, codes}
+use Rattle.std.specs.Prelude.{◌≡◌, ◌≢◌, ⊤, ℕ, Bool, true, false, List, Option, Result, Err}
+use Rattle.std.specs.Prelude.{Ok, codes}
 use Rattle.sub_io.specs.Device.{failed}
 use Rattle.sub_io.specs.Reading.{IfTold}
 use Rattle.ttx_pes.specs.Reader.{FailsAtPacket}
@@ -18,7 +19,9 @@ use Rattle.sub_checker.specs.declared.telling.Accepted.{Accepted}
 use Rattle.sub_rules.specs.declared.fault.CheckFault.{CheckFault}
 use Rattle.sub_request.specs.declared.listening.Listening.{Listening}
 use Rattle.sub_listen.specs.declared.listening.ListenFault.{ListenFault}
-use Rattle.sub_listing.specs.DeviceCall.{SinkCall, SourceCall}
+use Rattle.sub_listing.specs.DeviceCall.{SinkCall, SourceCall, source_call}
+use Rattle.sub_listing.specs.Extracting.{EndsExtract}
+use Rattle.sub_listing.specs.FirstPacket.{PrintsFrom, StartsAt}
 use Rattle.sub_answer.specs.BothFiles.{TellsSources, TellsStatus}
 use Rattle.sub_answer.specs.EveryFault.{AnswersAll}
 use Rattle.sub_answer.specs.FaultListing.{accepted_line}
@@ -27,6 +30,7 @@ use Rattle.sub_answer.specs.ListenListing.{listen_told, Listens}
 use Rattle.sub_listing.specs.Listing.{Listing, PrintsListing, PrintsOrFails, done, packet_listing}
 use Rattle.sub_listing.specs.Listing.{told_listing}
 use Rattle.sub_listing.specs.PacketsListing.{ListsPackets}
+use Rattle.sub_listing.specs.Told.{told_from}
 use Rattle.sub_listing.specs.ShowListing.{ListsSubtitles}
 use Rattle.sub_listing.specs.Writing.{EndsWork, Normalizes, Schedules}
 use Rattle.sub_request.specs.declared.request.Request.{Request}
@@ -42,20 +46,25 @@ takes_memory _ = false
 
 -- ---- what each command answers
 
--- The line of an answer, with the status.
-abbrev pub verdict : Result Accepted CheckFault → Listing
-verdict (Ok a) = done (accepted_line a)
-verdict (Err f) = told_listing (check_told f)
+-- The line of an answer, with the status, where the first PES packet that is read has the number
+-- `first` in its file.
+abbrev pub verdict : ℕ → Result Accepted CheckFault → Listing
+verdict first (Ok a) = done (accepted_line a)
+verdict first (Err f) = told_listing (told_from first (check_told f))
 
--- `check` has one answer, which the bytes of both files decide, and prints it. `Untouched` says
--- that no byte of the PES file was read.
+-- `check` has one answer, which the bytes of both files decide, and prints it. `first` is the number
+-- that the first PES packet has in its file, where that is told; `Untouched` says that no byte of
+-- the PES file was read.
 pub record AnswersCheck
-    (national : National) (options : OptionsValue) (stl pes : SourceCall) (Untouched : Type 0)
-    (out : SinkCall) (status : Status)
+    (national : National) (options : OptionsValue) (stl pes : SourceCall) (first : Option ℕ)
+    (Untouched : Type 0) (out : SinkCall) (status : Status)
     : Type 0 where
   pub answer : Result Accepted CheckFault
+  -- A PES packet is told by its number in the file.
+  pub number : ℕ
+  pub starts : failed is_subtitle_fault answer ≡ false → StartsAt first pes number
   -- Its one line is printed, or `out` failed and has a prefix of it.
-  pub printed : PrintsOrFails out (verdict answer) status
+  pub printed : PrintsOrFails out (verdict number answer) status
   -- That a source failed is told at the block of the byte that was asked for, and no fault comes
   -- before it, or at the PES packet within which it failed.
   pub sources :
@@ -71,10 +80,12 @@ pub record AnswersCheck
   pub checked : IfTold stl.told (λ file. AreChecked national options file pes.told answer)
   pub ends : TellsStatus national options stl pes out status
 
--- `listen` prints what a receiver shows that heard the frames of the PES file, and leaves this code
--- in a cell whose byte has even parity; or the refusal.
-pub record AnswersListen
-    (leaves : ℕ → ℕ) (listening : Listening) (pes : SourceCall) (out : SinkCall) (status : Status)
+-- It is printed what a receiver shows that heard the frames of the PES file, and leaves this code in
+-- a cell whose byte has even parity; or the refusal. The first PES packet has the number `first` in
+-- its file.
+pub record PrintsHeard
+    (leaves : ℕ → ℕ) (listening : Listening) (first : ℕ) (pes : SourceCall) (out : SinkCall)
+    (status : Status)
     : Type 0 where
   pub exact :
       (frames : Transmission) (unread : Option Unread)
@@ -82,7 +93,7 @@ pub record AnswersListen
       ReadsAs (clock_of listening.options) 0 bytes frames unread
       → pes.new_count ≡ pes.old_count
       → (listing : Listing)
-      × Listens leaves listening frames unread pes.told pes.left listing
+      × Listens leaves listening first frames unread pes.told pes.left listing
       × PrintsOrFails out listing status)
   -- That the source failed is told at the PES packet within which it failed, and where nothing that
   -- was read before is refused.
@@ -90,28 +101,56 @@ pub record AnswersListen
       pes.new_count ≢ pes.old_count
       → (f : ListenFault)
       × FailsListening listening pes.told pes.left f
-      × PrintsOrFails out (told_listing (listen_told f)) status
+      × PrintsOrFails out (told_listing (told_from first (listen_told f))) status
+
+-- `listen` prints that. `first` is the number that the first PES packet has in its file, where that
+-- is told.
+pub record AnswersListen
+    (leaves : ℕ → ℕ) (listening : Listening) (pes : SourceCall) (first : Option ℕ) (out : SinkCall)
+    (status : Status)
+    : Type 0 where
+  -- A PES packet is told by its number in the file.
+  pub number : ℕ
+  pub starts : StartsAt first pes number
+  pub heard : PrintsHeard leaves listening number pes out status
+
+-- An input in a call: and the number that the first PES packet which it gives has in its file, where
+-- that is told.
+pub record InputCall : Type 0 where
+  pub call : SourceCall
+  pub number : Option ℕ
+
+-- An input in a call, by what is left in it and how often it has failed, and by that number.
+abbrev pub input_call :
+    {S : Type 0} → (S → Option (List ℕ)) → (S → ℕ) → (S → Option ℕ) → S → S → InputCall
+input_call remaining failure_count number old new = record {
+  call = source_call remaining failure_count old new;
+  number = number old;
+}
 
 -- What is answered to a request: what is printed and written, and the status. `Untouched` says that
 -- no byte of the second source was read.
 abbrev pub Answers :
-    Request → SourceCall → SourceCall → Type 0 → SinkCall → SinkCall → Status → Type 0
+    Request → InputCall → InputCall → Type 0 → SinkCall → SinkCall → Status → Type 0
 Answers (ask.Packet bytes) first second Untouched file out status =
     PrintsOrFails out (packet_listing bytes) status
 Answers (ask.Packets pes) first second Untouched file out status =
-    PrintsListing ListsPackets first out status
+    PrintsFrom ListsPackets first.number first.call out status
 Answers (ask.Show stl) first second Untouched file out status =
-    PrintsListing ListsSubtitles first out status
+    PrintsListing ListsSubtitles first.call out status
 Answers (ask.Normal input output) first second Untouched file out status =
-    EndsWork first file out status (codes " subtitles\n") Normalizes
+    EndsWork first.call file out status (codes " subtitles\n") Normalizes
 Answers (ask.Schedule stl pes options serial national) first second Untouched file out status =
-    EndsWork first file out status (codes " transmissions\n") (Schedules national options serial)
+    EndsWork first.call file out status (codes " transmissions\n")
+    (Schedules national options serial)
 Answers (ask.Check stl pes options national true) first second Untouched file out status =
-    AnswersAll national options first second Untouched out status
+    AnswersAll national options first.call second.call second.number Untouched out status
 Answers (ask.Check stl pes options national false) first second Untouched file out status =
-    AnswersCheck national options first second Untouched out status
+    AnswersCheck national options first.call second.call second.number Untouched out status
 Answers (ask.Listen pes listening) first second Untouched file out status =
-    AnswersListen (left_by listening.receiver) listening first out status
+    AnswersListen (left_by listening.receiver) listening first.call first.number out status
+Answers (ask.Extract recording pes stream) first second Untouched file out status =
+    EndsExtract first.call file out status
 
 -- A request whose answer is followed while its PES file is sent: where the source of that failed,
 -- this is so. It is the first source of `packets`, and the second of `check --all`.
@@ -120,3 +159,9 @@ HandsOnBefore (ask.Packets pes) FirstFails SecondFails IsAlone = FirstFails → 
 HandsOnBefore (ask.Check stl pes options national true) FirstFails SecondFails IsAlone =
     SecondFails → IsAlone
 HandsOnBefore _ FirstFails SecondFails IsAlone = ⊤
+
+-- A request that writes what its first source gives as soon as it has come: where that failed, the
+-- file holds nothing back.
+abbrev pub WritesBefore : Request → Type 0 → Type 0 → Type 0
+WritesBefore (ask.Extract recording pes stream) FirstFails HoldsNothing = FirstFails → HoldsNothing
+WritesBefore _ FirstFails HoldsNothing = ⊤

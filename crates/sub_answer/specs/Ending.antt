@@ -1,22 +1,24 @@
 -- How a run ends that answers a request over its files: what was answered, what was handed on, and
 -- the status.
-use Rattle.std.specs.Prelude.{◌≡◌, ◌⊎◌, ⊤, ℕ, ◌+◌, List, [], Option, Some}
-use Rattle.std.specs.Io.KnownBytes.{Keeps, append_known}
-use Rattle.sub_io.specs.Buffered.{HeldBack, failures_and_refused}
+use Rattle.std.specs.Prelude.{◌≡◌, ◌⊎◌, ⊤, ℕ, ◌+◌, List, [], Option, Some, None, false}
+use Rattle.std.specs.Io.KnownBytes.{Keeps, append_known, prepend_known}
+use Rattle.sub_io.specs.Buffered.{HeldBack, ReadAhead, failures_and_refused}
 use Rattle.sub_request.specs.Files.{files_of}
 use Rattle.sub_request.specs.declared.request.Request.{Request}
 use Rattle.sub_request.specs.declared.request.UsageFault.{UsageFault}
 use Rattle.sub_files.specs.FileCalls.{FileCall}
 use Rattle.sub_files.specs.Opening.{OpensBy}
 use Rattle.sub_files.specs.declared.opening.Opened.{Opened}
-use Rattle.sub_files.specs.declared.opening.Opened.TheVariants.{Nothing, ReadBoth, ReadPes, ReadStl}
-use Rattle.sub_files.specs.declared.opening.Opened.TheVariants.{Write}
-use Rattle.sub_listing.specs.DeviceCall.{SinkCall, SourceCall, sink_call}
+use Rattle.sub_files.specs.declared.opening.Opened.TheVariants.{Extract, Nothing, ReadBoth}
+use Rattle.sub_files.specs.declared.opening.Opened.TheVariants.{ReadPes, ReadStl, Write}
+use Rattle.sub_listing.specs.DeviceCall.{SinkCall, sink_call}
 use Rattle.sub_listing.specs.Faults.{usage_told}
 use Rattle.sub_listing.specs.Listing.{PrintsOrFails, told_listing}
 use Rattle.sub_listing.specs.declared.status.Status.{Status}
 use Rattle.sub_listing.specs.declared.status.Status.TheVariants.{Fault}
-use Rattle.sub_answer.specs.Answering.{Answers}
+use Rattle.sub_answer.specs.Answering.{Answers, InputCall}
+use Rattle.sub_answer.specs.Part.{IsPartOf, part_of, whole_file}
+use Rattle.sub_answer.specs.declared.part.Part.{Part}
 
 -- A sink behind a buffer, by what it has taken, what it holds back of that, and how often it has
 -- failed.
@@ -70,18 +72,22 @@ pub record HandsOnBeside
   pub status : Status
   pub call : IsHandedOn printed file status new result
 
--- A request was answered, of these devices, and then the lines were handed on. The file is closed
--- between the two, so what it tells in the end is not what it told of the answer. `Untouched` says
--- that no byte of the second source was read.
+-- A request was answered, of sources and a file that are so in their calls, and then the lines were
+-- handed on. `Untouched` says that no byte of the second source was read.
 pub record EndsWith
-    (request : Request) (first second : SourceCall) (Untouched : Type 0) (file : SinkCall)
-    (old new : Lines) (result : Status)
+    (request : Request) (IsFirst IsSecond : InputCall → Type 0) (Untouched : Type 0)
+    (IsFile : SinkCall → Type 0) (old new : Lines) (result : Status)
     : Type 0 where
+  pub first : InputCall
+  pub first_is : IsFirst first
+  pub second : InputCall
+  pub second_is : IsSecond second
+  pub file : SinkCall
+  pub file_is : IsFile file
   pub status : Status
-  pub written : Option (List ℕ)
   pub printed : Lines
   pub answers :
-      Answers request first second Untouched (record file { new = written })
+      Answers request first second Untouched file
       (record {
         old = old.taken;
         new = printed.taken;
@@ -91,80 +97,124 @@ pub record EndsWith
       status
   pub handed_on : HandsOnHeldLines printed status new result
 
--- A request was answered of two sources and of a file that was empty, and then the lines were
--- handed on.
-pub record EndsFromBoth
-    (request : Request) (first second : SourceCall) (Untouched : Type 0) (old new : Lines)
-    (result : Status)
+-- The source has nothing to give.
+abbrev pub IsEmptySource : InputCall → Type 0
+IsEmptySource input = input.call.told ≡ Some []
+
+-- The file had taken nothing before.
+abbrev pub IsEmptyFile : SinkCall → Type 0
+IsEmptyFile call = call.old ≡ Some []
+
+-- A file behind a buffer in the calls of an answer, by what is told of it and how often it has
+-- failed. As they left it, it was closed.
+pub record IsClosedAfter
+    {D : Type 0} (contents : D → Option (List ℕ)) (failure_count : D → ℕ) (IsClose : D → D → Type 0)
+    (old new : HeldBack D) (call : SinkCall)
     : Type 0 where
-  pub file : SinkCall
-  pub file_is_empty : file.old ≡ Some []
-  pub ends : EndsWith request first second Untouched file old new result
+  pub left : HeldBack D
+  pub call_is : call ≡ buffered_call contents failure_count old left
+  pub closed : IsClose left.device new.device
 
--- A request was answered of one source, beside an empty one and a file that was empty, and then the
--- lines were handed on.
-pub record EndsFrom
-    (request : Request) (first : SourceCall) (old new : Lines) (result : Status)
+-- A file of which this part is read, in the calls of an answer, by what is told of it and how often
+-- it has failed: there is a buffer before it, which held nothing, and no other device.
+pub record IsReadFrom
+    {I : Type 0} (part : Part) (remaining : I → Option (List ℕ)) (failure_count : I → ℕ) (file : I)
+    (input : InputCall)
     : Type 0 where
-  pub second : SourceCall
-  pub second_is_empty : second.told ≡ Some []
-  pub file : SinkCall
-  pub file_is_empty : file.old ≡ Some []
-  pub ends : EndsWith request first second ⊤ file old new result
+  pub room : ℕ
+  pub is_part :
+      IsPartOf part (λ s. prepend_known s.held (remaining s.device)) (λ s. failure_count s.device)
+      (let buffer : ReadAhead I = record { device = file; held = []; room = room } in buffer) input
 
--- A request was answered of one source, beside an empty one, and of a file, and then the lines were
--- handed on.
-pub record EndsWithFile
-    (request : Request) (first : SourceCall) (file : SinkCall) (old new : Lines) (result : Status)
+-- A file that is written, in the calls of an answer, which was closed as they left it: there is a
+-- buffer before it, which held nothing, and no other device.
+pub record IsWrittenTo
+    {O : Type 0} (contents : O → Option (List ℕ)) (failure_count : O → ℕ) (IsClose : O → O → Type 0)
+    (file : O) (call : SinkCall)
     : Type 0 where
-  pub second : SourceCall
-  pub second_is_empty : second.told ≡ Some []
-  pub ends : EndsWith request first second ⊤ file old new result
+  pub room : ℕ
+  pub new : HeldBack O
+  pub closed :
+      IsClosedAfter contents failure_count IsClose
+      (record { device = file; held = []; room = room; failed = false; refused = 0 }) new call
 
--- What devices tell before a request is answered of them: the bytes that the sources have to give,
--- and those that the file has taken.
-pub record Given : Type 0 where
-  pub first : Option (List ℕ)
-  pub second : Option (List ℕ)
-  pub file : Option (List ℕ)
+-- What is told of files that are read and of those that are written: the bytes that they have still
+-- to give, and those that they have taken; and how often they have failed.
+pub record ToldOfFiles (I O : Type 0) : Type 0 where
+  pub remaining : I → Option (List ℕ)
+  pub reads_failed : I → ℕ
+  pub contents : O → Option (List ℕ)
+  pub writes_failed : O → ℕ
 
--- A request was answered of devices of which no more is kept than what they told before, and then
--- the lines were handed on.
-pub record EndsOver (request : Request) (given : Given) (old new : Lines) (result : Status)
-    : Type 0 where
-  pub first : SourceCall
-  pub first_is : first.told ≡ given.first
-  pub second : SourceCall
-  pub second_is : second.told ≡ given.second
-  pub file : SinkCall
-  pub file_is : file.old ≡ given.file
-  pub ends : EndsWith request first second ⊤ file old new result
+-- What is told of them, one after another.
+abbrev pub told_of_files :
+    {I O : Type 0}
+    → (I → Option (List ℕ)) → (I → ℕ) → (O → Option (List ℕ)) → (O → ℕ) → ToldOfFiles I O
+told_of_files remaining reads_failed contents writes_failed = record {
+  remaining = remaining;
+  reads_failed = reads_failed;
+  contents = contents;
+  writes_failed = writes_failed;
+}
 
--- What is told of the files that were opened, by what a file tells that is read, and one that is
--- written. An empty device stands for each that was not.
-abbrev pub given_by :
-    {F : Type 0} → (F → Option (List ℕ)) → (F → Option (List ℕ)) → Opened F → Given
-given_by remaining contents Nothing =
-    record { first = Some []; second = Some []; file = Some [] }
-given_by remaining contents (ReadStl stl) =
-    record { first = remaining stl; second = Some []; file = Some [] }
-given_by remaining contents (ReadPes pes) =
-    record { first = remaining pes; second = Some []; file = Some [] }
-given_by remaining contents (ReadBoth stl pes) =
-    record { first = remaining stl; second = remaining pes; file = Some [] }
-given_by remaining contents (Write stl output) =
-    record { first = remaining stl; second = Some []; file = contents output }
+-- A source is this part of this file, or an empty one where none was opened for it.
+abbrev pub IsSourceOf : {I O : Type 0} → ToldOfFiles I O → Part → Option I → InputCall → Type 0
+IsSourceOf told part (Some file) = IsReadFrom part told.remaining told.reads_failed file
+IsSourceOf told part None = IsEmptySource
+
+-- A file is the one that was created, or an empty one where none was.
+abbrev pub IsSinkOf :
+    {I O : Type 0} → ToldOfFiles I O → (O → O → Type 0) → Option O → SinkCall → Type 0
+IsSinkOf told IsClose (Some file) = IsWrittenTo told.contents told.writes_failed IsClose file
+IsSinkOf told IsClose None = IsEmptyFile
+
+-- The sources of a request and its file, of those that were opened and created, and which part of
+-- its first source is read.
+pub record Devices (I O : Type 0) : Type 0 where
+  pub first : Option I
+  pub part : Part
+  pub second : Option I
+  pub file : Option O
+
+-- The sources alone, and the first of them whole or in part.
+abbrev pub sources : {I O : Type 0} → Part → Option I → Option I → Devices I O
+sources part first second =
+    record { first = first; part = part; second = second; file = None }
+
+-- One source, and the file.
+abbrev pub source_and_file : {I O : Type 0} → Part → I → O → Devices I O
+source_and_file part source file =
+    record { first = Some source; part = part; second = None; file = Some file }
+
+-- Which they are. Of a file of PES packets and of a recording this part is read.
+abbrev pub devices_of : {I O : Type 0} → Part → Opened I O → Devices I O
+devices_of part Nothing = sources whole_file None None
+devices_of part (ReadStl stl) = sources whole_file (Some stl) None
+devices_of part (ReadPes pes) = sources part (Some pes) None
+devices_of part (ReadBoth stl pes) = sources whole_file (Some stl) (Some pes)
+devices_of part (Write stl output) = source_and_file whole_file stl output
+devices_of part (Extract recording output) = source_and_file part recording output
+
+-- A request was answered over devices, by what is told of these and by which closes of a file go
+-- so; and then the lines were handed on. A second source is the PES file, of which the request reads
+-- a part.
+abbrev pub EndsOver :
+    {I O : Type 0}
+    → ToldOfFiles I O → (O → O → Type 0) → Request → Devices I O → Lines → Lines → Status → Type 0
+EndsOver told IsClose request devices old new result =
+    EndsWith request (IsSourceOf told devices.part devices.first)
+    (IsSourceOf told (part_of request) devices.second) ⊤
+    (IsSinkOf told IsClose devices.file) old new result
 
 -- The files that a request names were opened, by the calls that were made, and it was answered over
--- them, by what a file tells that is read, and one that is written; and then the lines were handed
--- on.
+-- them; and then the lines were handed on.
 pub record Ends
-    {F : Type 0} (AreMade : List (FileCall F) → Type 0) (remaining contents : F → Option (List ℕ))
-    (request : Request) (old new : Lines) (result : Status)
+    {I O : Type 0} (AreMade : List (FileCall I O) → Type 0) (told : ToldOfFiles I O)
+    (IsClose : O → O → Type 0) (request : Request) (old new : Lines) (result : Status)
     : Type 0 where
-  pub files : Opened F
+  pub files : Opened I O
   pub opened : OpensBy AreMade (files_of request) (Some files)
-  pub ends : EndsOver request (given_by remaining contents files) old new result
+  pub ends : EndsOver told IsClose request (devices_of (part_of request) files) old new result
 
 -- The line of a fault was printed, and then handed on.
 pub record Says (fault : UsageFault) (old new : Lines) (result : Status) : Type 0 where

@@ -28,6 +28,7 @@ use Rattle.sub_listing.specs.DeviceCall.{SinkCall, SourceCall}
 use Rattle.sub_answer.specs.BothFiles.{TellsSources, TellsStatus}
 use Rattle.sub_answer.specs.FaultListing.{all_listing}
 use Rattle.sub_listing.specs.EventLines.{refusals, subtitle_events}
+use Rattle.sub_listing.specs.FirstPacket.{StartsAt}
 use Rattle.sub_listing.specs.Listing.{PrintsOrFails}
 use Rattle.sub_listing.specs.Printer.{PrinterValue, PrintsEvents}
 use Rattle.sub_listing.specs.declared.status.Status.{Status}
@@ -127,13 +128,15 @@ TellsBothSources stl pes Untouched answer =
 -- What a printer was told of the events of both files, and the answer, which is the one that was
 -- given where its sink has not failed.
 pub record TellsBoth
-    (national : National) (options : OptionsValue) (stl pes : SourceCall) (Untouched : Type 0)
-    (old new : PrinterValue) (given : Result (Option Accepted) CheckFault)
+    (national : National) (options : OptionsValue) (stl pes : SourceCall) (first : Option ℕ)
+    (Untouched : Type 0) (old new : PrinterValue) (given : Result (Option Accepted) CheckFault)
     : Type 0 where
   pub events : List Event
   pub answer : Result (Option Accepted) CheckFault
   pub same : new.failed ≡ false → answer ≡ given
-  pub prints : PrintsEvents old events new
+  pub number : ℕ
+  pub starts : is_of_subtitles answer ≡ false → StartsAt first pes number
+  pub prints : PrintsEvents (record old { first = number }) events new
   pub sources : TellsBothSources stl pes Untouched answer
   pub ended : IfErr answer (CanEnd events)
   pub cut : new.failed ≡ true → IsOk answer
@@ -144,16 +147,20 @@ pub record TellsBoth
   pub listed :
       IfTold stl.told (λ file. AreListed national options file pes.told events answer)
 
--- `check --all` tells events, and has one answer; the bytes of both files decide them. `Untouched`
--- says that no byte of the PES file was read.
+-- `check --all` tells events, and has one answer; the bytes of both files decide them. `first` is
+-- the number that the first PES packet has in its file, where that is told; `Untouched` says that no
+-- byte of the PES file was read.
 pub record AnswersAll
-    (national : National) (options : OptionsValue) (stl pes : SourceCall) (Untouched : Type 0)
-    (out : SinkCall) (status : Status)
+    (national : National) (options : OptionsValue) (stl pes : SourceCall) (first : Option ℕ)
+    (Untouched : Type 0) (out : SinkCall) (status : Status)
     : Type 0 where
   pub events : List Event
   pub answer : Result (Option Accepted) CheckFault
+  -- PES packets are told by their numbers in the file.
+  pub number : ℕ
+  pub starts : is_of_subtitles answer ≡ false → StartsAt first pes number
   -- Their lines and the last line are printed, or `out` failed and has a prefix of them.
-  pub printed : PrintsOrFails out (all_listing events answer) status
+  pub printed : PrintsOrFails out (all_listing number events answer) status
   pub sources : TellsBothSources stl pes Untouched answer
   -- Where the files tell their bytes, these decide the events.
   pub listed :

@@ -1,4 +1,5 @@
--- What `check --all` prints: a line for each event, and a last one.
+-- What `check --all` prints: a line for each event, and a last one. The first PES packet that is
+-- read has the number `first` in its file.
 use Rattle.std.specs.Prelude.{ℕ, ◌==◌, min, List, ◌++◌, codes, decimal, Option, Some, None}
 use Rattle.std.specs.Prelude.{Result, Ok, Err, if◌then◌else◌}
 use Rattle.sub_checker.specs.declared.telling.Accepted.{Accepted}
@@ -7,6 +8,7 @@ use Rattle.sub_rules.specs.declared.fault.CheckFault.{CheckFault}
 use Rattle.sub_listing.specs.EventLines.{event_lines, most_counted, refusals}
 use Rattle.sub_listing.specs.Faults.{check_told}
 use Rattle.sub_listing.specs.Listing.{Listing, done, followed, told_listing}
+use Rattle.sub_listing.specs.Told.{told_from}
 use Rattle.sub_listing.specs.declared.status.Status.TheVariants.{Refused}
 
 -- What is accepted: the frames of the day from the first PES packet's to the last one's, and the
@@ -22,14 +24,15 @@ faults_listing n = record { text = decimal n ++ codes " faults\n"; status = Refu
 -- The last line, where so many refusals were counted: what is told of a failed device or of memory;
 -- else how many there were, or where there was none what is accepted. `None` is a refused subtitle
 -- file.
-abbrev pub last_listing : ℕ → Result (Option Accepted) CheckFault → Listing
-last_listing refused (Err f) = told_listing (check_told f)
-last_listing refused (Ok None) = faults_listing refused
-last_listing refused (Ok (Some a)) =
+abbrev pub last_listing : ℕ → ℕ → Result (Option Accepted) CheckFault → Listing
+last_listing first refused (Err f) = told_listing (told_from first (check_told f))
+last_listing first refused (Ok None) = faults_listing refused
+last_listing first refused (Ok (Some a)) =
     if refused == 0 then done (accepted_line a) else faults_listing refused
 
 -- The lines of all events, and the last line. The greatest number that is counted to stands for any
 -- above it.
-abbrev pub all_listing : List Event → Result (Option Accepted) CheckFault → Listing
-all_listing events answer =
-    followed (event_lines events) (last_listing (min (refusals events) most_counted) answer)
+abbrev pub all_listing : ℕ → List Event → Result (Option Accepted) CheckFault → Listing
+all_listing first events answer =
+    followed (event_lines first events)
+    (last_listing first (min (refusals events) most_counted) answer)

@@ -3,6 +3,7 @@ pub mod Answering
 pub mod ListenListing
 pub mod FaultListing
 pub mod EveryFault
+pub mod Part
 pub mod Ending
 pub use Rattle.sub_listing.specs.Lines
 pub use Rattle.sub_listing.specs.StaysPrinted

@@ -10,7 +10,7 @@ use Rattle.sub_listen.specs.declared.listening.ListenFault.{ListenFault}
 use Rattle.sub_listing.specs.DisplayLines.{IsSeenWhole, display_text}
 use Rattle.sub_listing.specs.Faults.{check_told}
 use Rattle.sub_listing.specs.Listing.{Listing, done, told_listing}
-use Rattle.sub_listing.specs.Told.{told_as}
+use Rattle.sub_listing.specs.Told.{told_as, told_from}
 use Rattle.sub_listing.specs.declared.told.Kind.TheVariants as kind
 use Rattle.sub_listing.specs.declared.told.Told.{Told}
 use Rattle.sub_listen.specs.Fault.{listen_code}
@@ -34,17 +34,18 @@ listen_told (listen.File f) = check_told f
 listen_told (listen.LostHeader frame packet) =
     told_as kind.Refused (listen_code (listen.LostHeader frame packet)) (place.Packet frame packet)
 
--- What is printed at the end of a run.
-abbrev pub listing_of : Bool → Display → Result (Unit {0}) ListenFault → Listing
-listing_of asks_complete end (Ok _) = done (display_text asks_complete end)
-listing_of asks_complete end (Err f) = told_listing (listen_told f)
+-- What is printed at the end of a run, where the first PES packet that is read has the number
+-- `first` in its file.
+abbrev pub listing_of : ℕ → Bool → Display → Result (Unit {0}) ListenFault → Listing
+listing_of first asks_complete end (Ok _) = done (display_text asks_complete end)
+listing_of first asks_complete end (Err f) = told_listing (told_from first (listen_told f))
 
 -- What `listen` prints of a file that is read as these frames, of which these bytes were to be read
 -- before and are left after: what a receiver that was tuned with an old page, and leaves this code
 -- in a cell whose byte has even parity, holds at the end of its run, or what is on its screen; or
 -- the refusal.
 pub record Listens
-    (leaves : ℕ → ℕ) (l : Listening) (frames : Transmission) (unread : Option Unread)
+    (leaves : ℕ → ℕ) (l : Listening) (first : ℕ) (frames : Transmission) (unread : Option Unread)
     (told left : Option (List ℕ)) (listing : Listing)
     : Type 0 where
   pub old_page : Rows
@@ -53,5 +54,5 @@ pub record Listens
   pub result : Result (Unit {0}) ListenFault
   pub hears :
       HearsFile leaves l frames unread told left l.options.page (tuned_with old_page) end result
-  pub listing_is : listing ≡ listing_of l.options.asks_complete end result
+  pub listing_is : listing ≡ listing_of first l.options.asks_complete end result
   pub page_is : IfOk result (λ _. IsSeenWhole l.options.asks_complete end)

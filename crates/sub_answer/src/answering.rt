@@ -8,8 +8,9 @@ mod check_all;
 mod listen;
 
 ghost use Rattle.std.specs.Prelude.{◌≡◌, ◌+◌, ◌<◌, false, true};
-ghost use Rattle.sub_answer.specs.Answering.{Answers, HandsOnBefore, takes_memory};
-ghost use Rattle.sub_listing.specs.DeviceCall.{CanFail, CountsFault, sink_call, source_call};
+ghost use Rattle.sub_answer.specs.Answering.{Answers, HandsOnBefore, WritesBefore, input_call};
+ghost use Rattle.sub_answer.specs.Answering.{takes_memory};
+ghost use Rattle.sub_listing.specs.DeviceCall.{CanFail, CountsFault, sink_call};
 ghost use Rattle.sub_listing.specs.Faults.{usage_told};
 ghost use Rattle.sub_request.specs.Files.{files_of, reads_one, reads_two, writes_one};
 ghost use Rattle.sub_listing.specs.LastLine.{HoldsLastLine};
@@ -21,8 +22,8 @@ use listen::print_listening;
 use std::alloc::Global;
 use sub_io::{Flush, Sink, Source};
 use sub_listing::{
-    Status, list_packets, list_subtitles, print_told, show_packet, told_of_usage, write_normal,
-    write_schedule,
+    FirstPacket, Status, extract_packets, list_packets, list_subtitles, print_told, show_packet,
+    told_of_usage, write_normal, write_schedule,
 };
 use sub_request::{ReceiverKind, Request, UsageFault};
 use ttx_page::{Blank, Keep};
@@ -30,10 +31,12 @@ use ttx_page::{Blank, Keep};
 /// Answers a request that `Request::parse` gave.
 ///
 /// `first` is the subtitle file or the only input, `second` the PES file of a check, `file` the
-/// file to be written and `out` the standard output. Devices that the request does not name are
+/// file to be written and `out` the standard output. Of PES packets the sources give those that the
+/// request reads, and `N` and `M` tell which one of its file each gives first: `WholeFile` where
+/// that is the first. Devices that the request does not name are
 /// not touched. `Fault` where a device failed, or where memory ran out; what was printed until then
 /// stays.
-pub fn answer<S: Source, T: Source, F: Flush, K: Flush>(
+pub fn answer<N: FirstPacket<S>, M: FirstPacket<T>, S: Source, T: Source, F: Flush, K: Flush>(
     alloc: Global,
     request: &Request<'_>,
     first: &mut S,
@@ -48,8 +51,9 @@ pub fn answer<S: Source, T: Source, F: Flush, K: Flush>(
 
     // What is printed and written of what the devices tell, command by command.
     ensures answers { Answers request.now
-        (source_call S.remaining S.failure_count first.old first.new)
-        (source_call T.remaining T.failure_count second.old second.new) (second.new ≡ second.old)
+        (input_call S.remaining S.failure_count N.number first.old first.new)
+        (input_call T.remaining T.failure_count M.number second.old second.new)
+        (second.new ≡ second.old)
         (sink_call F.contents F.failure_count file.old file.new)
         (sink_call K.contents K.failure_count out.old out.new) result }
 
@@ -77,6 +81,11 @@ pub fn answer<S: Source, T: Source, F: Flush, K: Flush>(
         (T.failure_count second.old < T.failure_count second.new)
         (HoldsLastLine K.contents K.held K.is_push out.new) }
 
+    // Where the source of a recording may have to ask its device, all that was written before is
+    // with the device of `file`.
+    ensures written { F.held file.old ≡ 0 → WritesBefore request.now
+        (S.failure_count first.old < S.failure_count first.new) (F.held file.new ≡ 0) }
+
     // The status of a command that takes no memory is `Fault` only where a device failed.
     ensures fault { takes_memory request.now ≡ false
         → result ≡ Status.Fault
@@ -87,7 +96,7 @@ pub fn answer<S: Source, T: Source, F: Flush, K: Flush>(
 {
     match request {
         Request::Packet { bytes } => show_packet(bytes, out),
-        Request::Packets { .. } => list_packets(first, out),
+        Request::Packets { .. } => list_packets::<N, S, K>(first, out),
         Request::Show { .. } => list_subtitles(first, out),
         Request::Schedule {
             options,
@@ -103,18 +112,19 @@ pub fn answer<S: Source, T: Source, F: Flush, K: Flush>(
             ..
         } => {
             if *all {
-                print_every_fault(alloc, first, second, *national, options, out)
+                print_every_fault::<M, S, T, K>(alloc, first, second, *national, options, out)
             } else {
-                print_verdict(alloc, first, second, *national, options, out)
+                print_verdict::<M, S, T, K>(alloc, first, second, *national, options, out)
             }
         }
         Request::Listen { listening, .. } => match listening.receiver {
             // One that drops rows hears none with a byte of even parity.
             ReceiverKind::Keep | ReceiverKind::DropRow => {
-                print_listening::<Keep, S, K>(first, listening, out)
+                print_listening::<N, Keep, S, K>(first, listening, out)
             }
-            ReceiverKind::Blank => print_listening::<Blank, S, K>(first, listening, out),
+            ReceiverKind::Blank => print_listening::<N, Blank, S, K>(first, listening, out),
         },
+        Request::Extract { .. } => extract_packets(first, file, out),
     }
 }
 

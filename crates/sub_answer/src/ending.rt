@@ -2,23 +2,22 @@
 //! answered.
 //!
 //! For a device that the request does not name an empty one is handed in, by a function of its own.
-ghost use Rattle.std.specs.Prelude.{◌≡◌, true, []};
+ghost use Rattle.std.specs.Prelude.{◌≡◌, ⊤, true, []};
 ghost use Rattle.sub_io.specs.Buffered.{HandsOn, failures_and_refused};
 ghost use Rattle.sub_io.specs.Device.{CanFail};
-ghost use Rattle.sub_listing.specs.DeviceCall.{source_call};
-ghost use Rattle.sub_answer.specs.Ending.{EndsFrom, EndsFromBoth, EndsWith, EndsWithFile};
-ghost use Rattle.sub_answer.specs.Ending.{HandsOnBeside, HoldsNothing, Says, buffered_call};
-ghost use Rattle.sub_answer.specs.Ending.{lines_in, lines_of};
+ghost use Rattle.sub_answer.specs.Answering.{input_call};
+ghost use Rattle.sub_answer.specs.Ending.{EndsWith, HandsOnBeside, HoldsNothing, IsClosedAfter};
+ghost use Rattle.sub_answer.specs.Ending.{IsEmptyFile, IsEmptySource, Says, lines_in, lines_of};
 
 use crate::answering::{answer, say};
 use crate::handing_on::{HandOn, hand_on_all};
 use std::alloc::Global;
 use sub_io::{BufferedSink, Close, MemSink, MemSource, Sink, Source};
-use sub_listing::Status;
+use sub_listing::{FirstPacket, Status, WholeFile};
 use sub_request::{Request, UsageFault};
 
 /// Answers a request that reads one source.
-pub fn answer_from<S: Source, K: Sink>(
+pub fn answer_from<N: FirstPacket<S>, S: Source, K: Sink>(
     alloc: Global,
     request: &Request<'_>,
     first: &mut S,
@@ -26,16 +25,18 @@ pub fn answer_from<S: Source, K: Sink>(
 ) -> Status
     requires first { CanFail (S.failure_count first.old) }
     requires out { failures_and_refused (K.failure_count out.old.device) out.old.refused ≡ 0 }
-    ensures { EndsFrom request.now
-        (source_call S.remaining S.failure_count first.old first.new)
+    ensures { EndsWith request.now
+        (λ input. input ≡ input_call S.remaining S.failure_count N.number first.old first.new)
+        IsEmptySource ⊤ IsEmptyFile
         (lines_of K.contents K.failure_count out.old)
         (lines_of K.contents K.failure_count out.new) result }
 {
-    answer_pair(alloc, request, first, &mut MemSource::new(&[]), out)
+    let mut second = MemSource::new(&[]);
+    answer_pair::<N, WholeFile, S, MemSource<'_>, K>(alloc, request, first, &mut second, out)
 }
 
 /// Answers a request that reads two sources.
-pub fn answer_pair<S: Source, T: Source, K: Sink>(
+pub fn answer_pair<N: FirstPacket<S>, M: FirstPacket<T>, S: Source, T: Source, K: Sink>(
     alloc: Global,
     request: &Request<'_>,
     first: &mut S,
@@ -45,19 +46,22 @@ pub fn answer_pair<S: Source, T: Source, K: Sink>(
     requires first { CanFail (S.failure_count first.old) }
     requires second { CanFail (T.failure_count second.old) }
     requires out { failures_and_refused (K.failure_count out.old.device) out.old.refused ≡ 0 }
-    ensures { EndsFromBoth request.now
-        (source_call S.remaining S.failure_count first.old first.new)
-        (source_call T.remaining T.failure_count second.old second.new) (second.new ≡ second.old)
+    ensures { EndsWith request.now
+        (λ input. input ≡ input_call S.remaining S.failure_count N.number first.old first.new)
+        (λ input. input ≡ input_call T.remaining T.failure_count M.number second.old second.new)
+        (second.new ≡ second.old) IsEmptyFile
         (lines_of K.contents K.failure_count out.old)
         (lines_of K.contents K.failure_count out.new) result }
 {
     let (mut nowhere, mut room) = ([0; 0], [0; 1]);
     let mut file = BufferedSink::new(MemSink::new(&mut nowhere), &mut room);
-    answer_and_hand_on(alloc, request, first, second, &mut file, out)
+    answer_and_hand_on::<N, M, S, T, MemSink<'_>, BufferedSink<'_, K>>(
+        alloc, request, first, second, &mut file, out,
+    )
 }
 
 /// Answers a request that reads one source and writes a file.
-pub fn answer_with_file<S: Source, F: Close, O: HandOn<F>>(
+pub fn answer_with_file<N: FirstPacket<S>, S: Source, F: Close, O: HandOn<F>>(
     alloc: Global,
     request: &Request<'_>,
     first: &mut S,
@@ -70,22 +74,39 @@ pub fn answer_with_file<S: Source, F: Close, O: HandOn<F>>(
     requires out { O.failure_count out.old ≡ 0 }
     ensures closed { F.is_closed file.new.device ≡ true }
     ensures after { HandsOnBeside O.is_handed_on file.new out.new result }
-    ensures ends { EndsWithFile request.now
-        (source_call S.remaining S.failure_count first.old first.new)
-        (buffered_call F.contents F.failure_count file.old file.new)
+    ensures ends { EndsWith request.now
+        (λ input. input ≡ input_call S.remaining S.failure_count N.number first.old first.new)
+        IsEmptySource ⊤
+        (IsClosedAfter F.contents F.failure_count F.is_close file.old file.new)
         (lines_in O.contents O.held_back O.failure_count out.old)
         (lines_in O.contents O.held_back O.failure_count out.new) result }
     ensures done { result ≡ Status.Done → HandsOn F.failure_count file.old file.new
         × HoldsNothing O.held_back O.failure_count out.old out.new }
 {
-    answer_and_hand_on(alloc, request, first, &mut MemSource::new(&[]), file, out)
+    let mut second = MemSource::new(&[]);
+    answer_and_hand_on::<N, WholeFile, S, MemSource<'_>, F, O>(
+        alloc,
+        request,
+        first,
+        &mut second,
+        file,
+        out,
+    )
 }
 
-// Answers a request over these devices, closes the file, and then hands on the lines.
+// Answers a request over these devices, closes the file as that left it, and then hands on the
+// lines.
 //
 // Where the status is 0, neither the file nor the lines are held back, and no call of either sink
 // has failed: the devices below them have taken all bytes, by calls that did not fail.
-fn answer_and_hand_on<S: Source, T: Source, F: Close, O: HandOn<F>>(
+fn answer_and_hand_on<
+    N: FirstPacket<S>,
+    M: FirstPacket<T>,
+    S: Source,
+    T: Source,
+    F: Close,
+    O: HandOn<F>,
+>(
     alloc: Global,
     request: &Request<'_>,
     first: &mut S,
@@ -99,9 +120,10 @@ fn answer_and_hand_on<S: Source, T: Source, F: Close, O: HandOn<F>>(
         × (file.old.held ≡ []) }
     requires out { O.failure_count out.old ≡ 0 }
     ensures ends { EndsWith request.now
-        (source_call S.remaining S.failure_count first.old first.new)
-        (source_call T.remaining T.failure_count second.old second.new) (second.new ≡ second.old)
-        (buffered_call F.contents F.failure_count file.old file.new)
+        (λ input. input ≡ input_call S.remaining S.failure_count N.number first.old first.new)
+        (λ input. input ≡ input_call T.remaining T.failure_count M.number second.old second.new)
+        (second.new ≡ second.old)
+        (IsClosedAfter F.contents F.failure_count F.is_close file.old file.new)
         (lines_in O.contents O.held_back O.failure_count out.old)
         (lines_in O.contents O.held_back O.failure_count out.new) result }
     ensures done { result ≡ Status.Done → HandsOn F.failure_count file.old file.new
@@ -110,7 +132,9 @@ fn answer_and_hand_on<S: Source, T: Source, F: Close, O: HandOn<F>>(
     // The lines were handed on beside the file as it is in the end, and so after it was closed.
     ensures after { HandsOnBeside O.is_handed_on file.new out.new result }
 {
-    let status = answer(alloc, request, first, second, file, out);
+    let status = answer::<N, M, S, T, BufferedSink<'_, F>, O>(
+        alloc, request, first, second, file, out,
+    );
     file.close();
     out.hand_on(status, file)
 }

@@ -6,8 +6,8 @@
 //! words.
 //!
 //! ```text
-//! let request = Request::Show { stl: "film.stl" };
-//! answer(alloc, &request, &mut stl, &mut no_second, &mut no_file, &mut out) // Status::Done
+//! let request = Request::parse(alloc, &["subttx", "check", "film.stl", "air.ts", "--pid", "257"])?;
+//! open_and_answer(alloc, &mut files, &request, &mut out)? // Status::Done
 //! ```
 #![tactic(auto)]
 
@@ -15,8 +15,10 @@ mod answering;
 mod ending;
 mod handing_on;
 mod over_files;
+mod part;
+mod parts;
 
 pub use answering::{answer, say};
 pub use ending::say_and_hand_on;
 pub use over_files::open_and_answer;
-pub use sub_listing::{InputFault, Status, read_input};
+pub use sub_listing::{FirstPacket, InputFault, PartOfFile, Status, WholeFile, read_input};

@@ -1,18 +1,22 @@
 //! Opens the files that a request names, and answers it over them, by a function for each way of
 //! opening.
-ghost use Rattle.std.specs.Prelude.{◌≡◌, ◌≤◌, [], IfErr, IfOk, Some, length};
+ghost use Rattle.std.specs.Prelude.{◌≡◌, ◌≤◌, ⊤, IfErr, IfOk, length};
 ghost use Rattle.sub_io.specs.Buffered.{failures_and_refused};
 ghost use Rattle.sub_request.specs.Files.{files_of};
 ghost use Rattle.sub_files.specs.FileCalls.{CallsInTurn};
-ghost use Rattle.sub_files.specs.Opening.{IsUnopened};
-ghost use Rattle.sub_answer.specs.Ending.{Ends, EndsOver, given_by, lines_of};
+ghost use Rattle.sub_files.specs.Opening.{AreUnused, IsUnopened};
+ghost use Rattle.sub_answer.specs.Ending.{Ends, EndsOver, EndsWith, IsEmptyFile, IsEmptySource};
+ghost use Rattle.sub_answer.specs.Ending.{IsReadFrom, IsWrittenTo, devices_of, lines_of};
+ghost use Rattle.sub_answer.specs.Ending.{told_of_files};
+ghost use Rattle.sub_answer.specs.Part as specs;
 
-use crate::ending::{answer_from, answer_pair, answer_with_file};
+use crate::ending::{answer_from, answer_with_file};
+use crate::part::{Part, part_of, whole_file};
+use crate::parts::{answer_part, answer_second_part};
 use std::alloc::Global;
-use std::io::{Read, Write};
 use sub_files::{CreatedFile, FileSystem, Opened, PesFile, StlFile, open, room, size_of_rooms};
-use sub_io::{BufferedSink, BufferedSource, FromRead, IntoFile, MemSource, Sink};
-use sub_listing::Status;
+use sub_io::{BufferedSink, BufferedSource, Close, MemSink, MemSource, Sink, Source};
+use sub_listing::{Status, WholeFile};
 use sub_request::{Request, UsageFault};
 
 /// Opens the files that the request names, and answers it over them, with room for their buffers;
@@ -30,7 +34,9 @@ pub fn open_and_answer<D: FileSystem, K: Sink>(
 ) -> Result<Status, UsageFault>
     requires { failures_and_refused (K.failure_count out.old.device) out.old.refused ≡ 0 }
     ensures ends { IfOk result (Ends (CallsInTurn D.is_call files.old files.new)
-        D.File.remaining D.File.contents request.now
+        (told_of_files D.Input.remaining D.Input.failure_count
+        D.Output.contents D.Output.failure_count)
+        D.Output.is_close request.now
         (lines_of K.contents K.failure_count out.old)
         (lines_of K.contents K.failure_count out.new)) }
     ensures unanswered { IfErr result (λ _. out.new ≡ out.old) }
@@ -55,7 +61,9 @@ fn open_in_rooms<D: FileSystem, K: Sink>(
     requires rooms { 2 ≤ length rooms.old }
     requires out { failures_and_refused (K.failure_count out.old.device) out.old.refused ≡ 0 }
     ensures ends { IfOk result (Ends (CallsInTurn D.is_call files.old files.new)
-        D.File.remaining D.File.contents request.now
+        (told_of_files D.Input.remaining D.Input.failure_count
+        D.Output.contents D.Output.failure_count)
+        D.Output.is_close request.now
         (lines_of K.contents K.failure_count out.old)
         (lines_of K.contents K.failure_count out.new)) }
     ensures unanswered { IfErr result (λ _. out.new ≡ out.old) }
@@ -69,25 +77,37 @@ fn open_in_rooms<D: FileSystem, K: Sink>(
 }
 
 // Answers a request over its files, each behind a buffer. These share the rooms.
-fn answer_opened<F: Read + Write + Drop, K: Sink>(
+fn answer_opened<I: Source + Drop, O: Close + Drop, K: Sink>(
     alloc: Global,
     request: &Request<'_>,
-    files: Opened<F>,
+    files: Opened<I, O>,
     rooms: &mut [u8],
     out: &mut BufferedSink<'_, K>,
 ) -> Status
     requires rooms { 2 ≤ length rooms.old }
     requires out { failures_and_refused (K.failure_count out.old.device) out.old.refused ≡ 0 }
-    ensures { EndsOver request.now (given_by F.remaining F.contents files)
+    requires unused { AreUnused I.failure_count O.failure_count files }
+    ensures { EndsOver
+        (told_of_files I.remaining I.failure_count O.contents O.failure_count)
+        O.is_close request.now (devices_of (specs.part_of request.now) files)
         (lines_of K.contents K.failure_count out.old)
         (lines_of K.contents K.failure_count out.new) result }
 {
     match files {
         Opened::Nothing => read_nothing(alloc, request, out),
-        Opened::ReadStl(stl) => read_one(alloc, request, stl.into_file(), rooms, out),
-        Opened::ReadPes(pes) => read_one(alloc, request, pes.into_file(), rooms, out),
+        Opened::ReadStl(stl) => {
+            let whole = whole_file();
+            read_one(alloc, request, whole, stl.into_file(), rooms, out)
+        }
+        Opened::ReadPes(pes) => {
+            let part = part_of(request);
+            read_one(alloc, request, part, pes.into_file(), rooms, out)
+        }
         Opened::ReadBoth(stl, pes) => read_both(alloc, request, stl, pes, rooms, out),
         Opened::Write(stl, output) => read_and_write(alloc, request, stl, output, rooms, out),
+        Opened::Extract(recording, output) => {
+            read_and_extract(alloc, request, recording, output, rooms, out)
+        }
     }
 }
 
@@ -98,84 +118,110 @@ fn read_nothing<K: Sink>(
     out: &mut BufferedSink<'_, K>,
 ) -> Status
     requires { failures_and_refused (K.failure_count out.old.device) out.old.refused ≡ 0 }
-    ensures { EndsOver request.now
-        (record { first = Some []; second = Some []; file = Some [] })
+    ensures { EndsWith request.now IsEmptySource IsEmptySource ⊤ IsEmptyFile
         (lines_of K.contents K.failure_count out.old)
         (lines_of K.contents K.failure_count out.new) result }
 {
-    answer_from(alloc, request, &mut MemSource::new(&[]), out)
+    let mut first = MemSource::new(&[]);
+    answer_from::<WholeFile, MemSource<'_>, K>(alloc, request, &mut first, out)
 }
 
-// Answers a request that reads one file.
-fn read_one<F: Read + Drop, K: Sink>(
+// Answers a request that reads a part of one file.
+fn read_one<I: Source + Drop, K: Sink>(
     alloc: Global,
     request: &Request<'_>,
-    file: F,
+    part: Part,
+    file: I,
     room: &mut [u8],
     out: &mut BufferedSink<'_, K>,
 ) -> Status
     requires room { 2 ≤ length room.old }
     requires out { failures_and_refused (K.failure_count out.old.device) out.old.refused ≡ 0 }
-    ensures { EndsOver request.now
-        (record { first = F.remaining file; second = Some []; file = Some [] })
+    requires unused { I.failure_count file ≡ 0 }
+    ensures { EndsWith request.now (IsReadFrom part I.remaining I.failure_count file)
+        IsEmptySource ⊤ IsEmptyFile
         (lines_of K.contents K.failure_count out.old)
         (lines_of K.contents K.failure_count out.new) result }
 {
-    let mut first = BufferedSource::new(FromRead::new(file), room);
-    answer_from(alloc, request, &mut first, out)
+    let (mut nowhere, mut little) = ([0; 0], [0; 1]);
+    let mut none = BufferedSink::new(MemSink::new(&mut nowhere), &mut little);
+    let whole = BufferedSource::new(file, room);
+    answer_part(alloc, request, part, whole, &mut none, out)
 }
 
 // Answers a request that reads a subtitle file and a file of PES packets.
-fn read_both<F: Read + Drop, K: Sink>(
+fn read_both<I: Source + Drop, K: Sink>(
     alloc: Global,
     request: &Request<'_>,
-    stl: StlFile<F>,
-    pes: PesFile<F>,
+    stl: StlFile<I>,
+    pes: PesFile<I>,
     rooms: &mut [u8],
     out: &mut BufferedSink<'_, K>,
 ) -> Status
     requires rooms { 2 ≤ length rooms.old }
     requires out { failures_and_refused (K.failure_count out.old.device) out.old.refused ≡ 0 }
-    ensures { EndsOver request.now
-        (record {
-          first = F.remaining stl;
-          second = F.remaining pes;
-          file = Some [];
-        })
+    requires unused { (I.failure_count stl ≡ 0) × (I.failure_count pes ≡ 0) }
+    ensures { EndsWith request.now (IsReadFrom specs.whole_file I.remaining I.failure_count stl)
+        (IsReadFrom (specs.part_of request.now) I.remaining I.failure_count pes) ⊤ IsEmptyFile
         (lines_of K.contents K.failure_count out.old)
         (lines_of K.contents K.failure_count out.new) result }
 {
     let half = rooms.len() / 2;
     let (room, other) = rooms.split_at_mut(half);
-    let mut first = BufferedSource::new(FromRead::new(stl.into_file()), room);
-    let mut second = BufferedSource::new(FromRead::new(pes.into_file()), other);
-    answer_pair(alloc, request, &mut first, &mut second, out)
+    let mut first = BufferedSource::new(stl.into_file(), room);
+    let second = BufferedSource::new(pes.into_file(), other);
+    answer_second_part(alloc, request, &mut first, part_of(request), second, out)
 }
 
 // Answers a request that reads a subtitle file and writes a file.
-fn read_and_write<F: Read + Write + Drop, K: Sink>(
+fn read_and_write<I: Source + Drop, O: Close + Drop, K: Sink>(
     alloc: Global,
     request: &Request<'_>,
-    stl: StlFile<F>,
-    output: CreatedFile<F>,
+    stl: StlFile<I>,
+    output: CreatedFile<O>,
     rooms: &mut [u8],
     out: &mut BufferedSink<'_, K>,
 ) -> Status
     requires rooms { 2 ≤ length rooms.old }
     requires out { failures_and_refused (K.failure_count out.old.device) out.old.refused ≡ 0 }
-    ensures { EndsOver request.now
-        (record {
-          first = F.remaining stl;
-          second = Some [];
-          file = F.contents output;
-        })
+    requires unused { (I.failure_count stl ≡ 0) × (O.failure_count output ≡ 0) }
+    ensures { EndsWith request.now (IsReadFrom specs.whole_file I.remaining I.failure_count stl)
+        IsEmptySource ⊤
+        (IsWrittenTo O.contents O.failure_count O.is_close output)
         (lines_of K.contents K.failure_count out.old)
         (lines_of K.contents K.failure_count out.new) result }
 {
-    let (input, output) = (stl.into_file(), output.into_file());
     let half = rooms.len() / 2;
     let (room, other) = rooms.split_at_mut(half);
-    let mut first = BufferedSource::new(FromRead::new(input), room);
-    let mut file = BufferedSink::new(IntoFile::new(output), other);
-    answer_with_file(alloc, request, &mut first, &mut file, out)
+    let mut first = BufferedSource::new(stl.into_file(), room);
+    let mut file = BufferedSink::new(output.into_file(), other);
+    answer_with_file::<WholeFile, BufferedSource<'_, I>, O, BufferedSink<'_, K>>(
+        alloc, request, &mut first, &mut file, out,
+    )
+}
+
+// Answers a request that reads a recording and writes a file.
+fn read_and_extract<I: Source + Drop, O: Close + Drop, K: Sink>(
+    alloc: Global,
+    request: &Request<'_>,
+    recording: PesFile<I>,
+    output: CreatedFile<O>,
+    rooms: &mut [u8],
+    out: &mut BufferedSink<'_, K>,
+) -> Status
+    requires rooms { 2 ≤ length rooms.old }
+    requires out { failures_and_refused (K.failure_count out.old.device) out.old.refused ≡ 0 }
+    requires unused { (I.failure_count recording ≡ 0) × (O.failure_count output ≡ 0) }
+    ensures { EndsWith request.now
+        (IsReadFrom (specs.part_of request.now) I.remaining I.failure_count recording)
+        IsEmptySource ⊤
+        (IsWrittenTo O.contents O.failure_count O.is_close output)
+        (lines_of K.contents K.failure_count out.old)
+        (lines_of K.contents K.failure_count out.new) result }
+{
+    let half = rooms.len() / 2;
+    let (room, other) = rooms.split_at_mut(half);
+    let first = BufferedSource::new(recording.into_file(), room);
+    let mut file = BufferedSink::new(output.into_file(), other);
+    answer_part(alloc, request, part_of(request), first, &mut file, out)
 }

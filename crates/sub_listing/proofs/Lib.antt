@@ -1,6 +1,9 @@
 pub mod PrintingLemmas
 pub mod NormalLemmas
 pub mod ListingLemmas
+pub mod FirstPacketLemmas
+pub mod ExtractingLemmas
+pub mod CopyingLemmas
 pub mod HexDigitLemmas
 pub mod LastLineLemmas
 pub mod PrinterLemmas

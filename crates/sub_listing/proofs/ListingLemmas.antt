@@ -29,6 +29,7 @@ use Rattle.sub_listing.specs.Faults.{kind_by, stl_told}
 use Rattle.sub_listing.specs.DeviceCall.{Counts, SinkCall, SourceCall}
 use Rattle.sub_listing.specs.Listing.{Gives, IsCut, IsListed, Listing, Lists, PrintsListing}
 use Rattle.sub_listing.specs.Listing.{PrintsOrFails, followed, has_failed}
+use Rattle.sub_listing.specs.Lines.{number_in_file}
 use Rattle.sub_listing.specs.PacketsListing.{frame_lines, pes_listing}
 use Rattle.sub_listing.specs.ShowListing.{ListsFrom, ReadsFile, ReadsSubtitles, subtitles_listing}
 use Rattle.sub_listing.specs.Told.{line_of, status_of}
@@ -261,16 +262,17 @@ gives-last O listing_of given Takes told left o text failed line is exact taken 
 
 -- A PES packet was read, and what is read after it is listed then. For `PacketLister`.
 pub gives-packet :
-    (index : ℕ) (v : PesValue) (told left : Option (List ℕ)) (text : List ℕ)
+    (first index : ℕ) (v : PesValue) (told left : Option (List ℕ)) (text : List ℕ)
     → index ≤ most_packets
     → TellsPacket (Reading index) told left (Ok (Some v))
-    → text ≡ frame_lines index v
-    → Gives (Lists (pes_listing index) (outcome_after index) ReadsPackets)
-    (Lists (pes_listing (index + 1)) (outcome_after (index + 1)) ReadsPackets) told left text None
-gives-packet index v told left text few tells lines =
-    gives-next _ (pes_listing index) (pes_listing (index + 1)) (outcome_after index)
+    → text ≡ frame_lines (number_in_file first index) v
+    → Gives (Lists (pes_listing first index) (outcome_after index) ReadsPackets)
+    (Lists (pes_listing first (index + 1)) (outcome_after (index + 1)) ReadsPackets) told left text
+    None
+gives-packet first index v told left text few tells lines =
+    gives-next _ (pes_listing first index) (pes_listing first (index + 1)) (outcome_after index)
     (outcome_after (index + 1)) ReadsPackets ReadsPackets (pes.gives v) told left text
-    (λ o. ap (λ t. followed t (pes_listing (index + 1) o)) (sym lines))
+    (λ o. ap (λ t. followed t (pes_listing first (index + 1) o)) (sym lines))
     (λ o failed end reads. (left, tells.packet, reads))
     (λ bytes is. (
       rest_after bytes,

@@ -1,5 +1,5 @@
 -- What a printer does that was told several events; main lemma: prints_all.
-use Rattle.std.proofs.Common.{◌≡◌, ◌∙◌, ap, refl, sym, subst, arith, ℕ, ◌+◌, ◌<◌, ◌≤◌, ◌||◌, ◌≢◌}
+use Rattle.std.proofs.Common.{◌≡◌, ◌∙◌, ap, refl, sym, subst, arith, ℕ, ◌+◌, ◌<◌, ◌≤◌, ◌||◌}
 use Rattle.std.proofs.Common.{not, List, [], ◌∷◌, ◌++◌, map, Bool, true, false, append_assoc, drop}
 use Rattle.std.proofs.Common.{take, inl, inr}
 use Rattle.sub_io.specs.HandingOn.{HandsOnIfWaiting}
@@ -33,6 +33,7 @@ counted-few r m = grind (arith, nat_tests)
 prints-none : (p : PrinterValue) → p.failed ≡ false → p.refused ≤ most_counted
     → PrintsEvents p [] p
 prints-none p goes few = record {
+  counts_from = refl;
   put = λ holds. Appends-nil p.contents;
   put_count = λ holds. refl;
   put_refused = λ holds. sym (counted-none p.refused few);
@@ -47,17 +48,20 @@ prints-more : (a b c : PrinterValue) (e : Event) (events : List Event)
     → PrintsEvents b events c
     → PrintsEvents a (e ∷ events) c
 prints-more a b c e events one goes more = record {
+  counts_from = more.counts_from ∙ one.counts_from;
   put = λ holds.
-      Appends-trans a.contents b.contents c.contents (event_line e) (event_lines events)
-      (one.put goes) (more.put holds);
+      Appends-trans a.contents b.contents c.contents (event_line a.first e)
+      (event_lines a.first events) (one.put goes)
+      (rw one.counts_from at (more.put holds));
   put_count = λ holds. more.put_count holds ∙ one.put_count goes;
   put_refused = λ holds.
       more.put_refused holds
       ∙ ap (λ r. counted r (refusals events)) (one.put_refused goes)
       ∙ counted-twice a.refused (refusal e) (refusals events);
   cut = λ failing.
-      AppendsPrefix-second a.contents b.contents c.contents (event_line e) (event_lines events)
-      (one.put goes) (more.cut failing);
+      AppendsPrefix-second a.contents b.contents c.contents (event_line a.first e)
+      (event_lines a.first events) (one.put goes)
+      (rw one.counts_from at (more.cut failing));
   cut_count = λ failing. more.cut_count failing ∙ ap (λ n. n + 1) (one.put_count goes);
 }
 
@@ -67,21 +71,22 @@ pub prints-cut : (a b : PrinterValue) (e : Event) (events : List Event)
     → b.failed ≡ true
     → PrintsEvents a (e ∷ events) b
 prints-cut a b e events one failing = record {
+  counts_from = one.counts_from;
   put = λ holds. absurd (true≢false (sym failing ∙ holds));
   put_count = λ holds. absurd (true≢false (sym failing ∙ holds));
   put_refused = λ holds. absurd (true≢false (sym failing ∙ holds));
   cut = λ fails.
-      AppendsPrefix-first a.contents b.contents (event_line e) (event_lines events)
+      AppendsPrefix-first a.contents b.contents (event_line a.first e) (event_lines a.first events)
       (one.cut failing);
   cut_count = λ fails. one.cut_count failing;
 }
 
-event_lines-append : (xs ys : List Event)
-    → event_lines (xs ++ ys) ≡ event_lines xs ++ event_lines ys
-event_lines-append [] ys = refl
-event_lines-append (x ∷ xs) ys =
-    ap (λ (l : List ℕ). event_line x ++ l) (event_lines-append xs ys)
-    ∙ sym (append_assoc (event_line x) (event_lines xs) (event_lines ys))
+event_lines-append : (first : ℕ) (xs ys : List Event)
+    → event_lines first (xs ++ ys) ≡ event_lines first xs ++ event_lines first ys
+event_lines-append first [] ys = refl
+event_lines-append first (x ∷ xs) ys =
+    ap (λ (l : List ℕ). event_line first x ++ l) (event_lines-append first xs ys)
+    ∙ sym (append_assoc (event_line first x) (event_lines first xs) (event_lines first ys))
 
 -- Where the sink failed, more events might have followed.
 pub prints-prefix : (a b : PrinterValue) (events more : List Event)
@@ -89,13 +94,14 @@ pub prints-prefix : (a b : PrinterValue) (events more : List Event)
     → PrintsEvents a events b
     → PrintsEvents a (events ++ more) b
 prints-prefix a b events more failing prints = record {
+  counts_from = prints.counts_from;
   put = λ holds. absurd (true≢false (sym failing ∙ holds));
   put_count = λ holds. absurd (true≢false (sym failing ∙ holds));
   put_refused = λ holds. absurd (true≢false (sym failing ∙ holds));
   cut = λ fails.
-      subst (AppendsPrefix a.contents b.contents) (sym (event_lines-append events more))
-      (AppendsPrefix-first a.contents b.contents (event_lines events) (event_lines more)
-      (prints.cut fails));
+      subst (AppendsPrefix a.contents b.contents) (sym (event_lines-append a.first events more))
+      (AppendsPrefix-first a.contents b.contents (event_lines a.first events)
+      (event_lines a.first more) (prints.cut fails));
   cut_count = λ fails. prints.cut_count failing;
 }
 
@@ -209,6 +215,7 @@ pub stays-none : (a : PrinterValue) → StaysPrinted a a
 stays-none a = record {
   kept = Keeps-refl a.contents;
   refused = refl;
+  counts_from = refl;
   same = λ _. refl;
   risen = λ other. absurd (other refl);
 }

@@ -1,4 +1,5 @@
--- What `check --all` prints of each event: a line.
+-- What `check --all` prints of each event: a line. The first PES packet that is read has the number
+-- `first` in its file.
 use Rattle.std.specs.Prelude.{ℕ, ◌+◌, List, [], ◌∷◌, ◌++◌, codes, map}
 use Rattle.stl_rows.specs.declared.fault.LoadFault.{LoadFault}
 use Rattle.sub_rules.specs.Fault.{check_code, place_of, rule_code}
@@ -9,6 +10,7 @@ use Rattle.sub_rules.specs.declared.fault.CheckFault.{CheckFault}
 use Rattle.sub_rules.specs.declared.fault.CheckFault.TheVariants.{Subtitles}
 use Rattle.sub_listing.specs.Faults.{check_told}
 use Rattle.sub_listing.specs.Told.{clock_text, code_text, frame_text, line_of, place_text}
+use Rattle.sub_listing.specs.Told.{told_from}
 
 -- A rule stood broken up to this frame, and does so no more.
 abbrev pub ended_line : EndRule → ℕ → List ℕ
@@ -16,9 +18,9 @@ ended_line rule frame =
     codes "ended " ++ code_text (rule_code rule) ++ frame_text frame ++ codes "\n"
 
 -- PES packets were passed over up to the one that this fault names.
-abbrev pub passed_line : CheckFault → List ℕ
-passed_line f =
-    codes "ended " ++ code_text (check_code f) ++ place_text (place_of f) ++ codes "\n"
+abbrev pub passed_line : ℕ → CheckFault → List ℕ
+passed_line first f =
+    codes "ended " ++ code_text (check_code f) ++ place_text first (place_of f) ++ codes "\n"
 
 -- These frames may be trusted, the first and the last one too.
 abbrev pub trusted_line : ℕ → ℕ → List ℕ
@@ -26,16 +28,16 @@ trusted_line from to =
     codes "trusted frames " ++ clock_text from ++ codes " " ++ clock_text to ++ codes "\n"
 
 -- The line of an event.
-abbrev pub event_line : Event → List ℕ
-event_line (Told f) = line_of (check_told f)
-event_line (Ended rule frame) = ended_line rule frame
-event_line (PassedUntil f) = passed_line f
-event_line (Trusted from to) = trusted_line from to
+abbrev pub event_line : ℕ → Event → List ℕ
+event_line first (Told f) = line_of (told_from first (check_told f))
+event_line first (Ended rule frame) = ended_line rule frame
+event_line first (PassedUntil f) = passed_line first f
+event_line first (Trusted from to) = trusted_line from to
 
 -- The lines of events.
-abbrev pub event_lines : List Event → List ℕ
-event_lines [] = []
-event_lines (e ∷ events) = event_line e ++ event_lines events
+abbrev pub event_lines : ℕ → List Event → List ℕ
+event_lines first [] = []
+event_lines first (e ∷ events) = event_line first e ++ event_lines first events
 
 -- Whether an event is a refusal: 1, or 0 where it is none.
 abbrev pub refusal : Event → ℕ

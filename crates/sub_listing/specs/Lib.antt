@@ -11,3 +11,6 @@ pub mod ShowListing
 pub mod EventLines
 pub mod Printer
 pub mod LastLine
+pub mod FirstPacket
+pub mod Extracting
+pub mod Copying

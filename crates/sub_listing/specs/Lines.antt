@@ -1,6 +1,6 @@
 -- The lines that the program prints. Each ends with one newline.
 use Rattle.std.specs.Prelude.{ℕ, ◌+◌, ◌/◌, ◌%◌, ◌==◌, ◌&&◌, nat_le, List, [], ◌∷◌, ◌++◌, codes}
-use Rattle.std.specs.Prelude.{decimal, map, length, Bool, if◌then◌else◌, slice_index}
+use Rattle.std.specs.Prelude.{decimal, map, min, length, Bool, if◌then◌else◌, slice_index}
 use Rattle.ttx_packet.specs.Parity.{is_odd, code_of}
 use Rattle.ttx_packet.specs.PageHeader.{c4, c5, c6, c7, c8, c9, c10, c11, c12, c13, c14}
 use Rattle.ttx_packet.specs.declared.Header.{Header}
@@ -61,9 +61,15 @@ header_line h = codes "page " ++ hex_two h.page ++ codes " subcode "
 abbrev pub text_line : List ℕ → List ℕ
 text_line bytes = codes "text |" ++ map text_glyph bytes ++ codes "|\n"
 
--- A PES packet: its index from 0, and its PTS.
+-- The number that a PES packet has in its file, counted from 0: `index` is its number among those
+-- that are read, of which the first has the number `first`. The greatest number that is printed
+-- stands for any above it too.
+unfoldable pub number_in_file : ℕ → ℕ → ℕ
+number_in_file first index = min (first + index) 0xFFFF_FFFF_FFFF_FFFF
+
+-- A PES packet: its number in its file, and its PTS.
 abbrev pub pes_line : ℕ → ℕ → List ℕ
-pes_line index pts = codes "pes " ++ decimal index ++ codes " pts " ++ decimal pts ++ codes "\n"
+pes_line number pts = codes "pes " ++ decimal number ++ codes " pts " ++ decimal pts ++ codes "\n"
 
 -- A Teletext unit: its number in its PES packet from 0, data_unit_id, the field, line_offset, and
 -- the packet's 42 bytes, not mirrored.

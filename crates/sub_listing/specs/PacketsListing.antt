@@ -5,24 +5,27 @@ use Rattle.ttx_pes.specs.Outcome.{PesOutcome, ReadsPackets, ends, fails, gives, 
 use Rattle.ttx_pes.specs.PesPacket.{PesValue}
 use Rattle.sub_listing.specs.Faults.{check_told}
 use Rattle.sub_rules.specs.declared.fault.CheckFault.TheVariants.{Pes}
-use Rattle.sub_listing.specs.Lines.{pes_line, unit_line}
+use Rattle.sub_listing.specs.Lines.{number_in_file, pes_line, unit_line}
 use Rattle.sub_listing.specs.Listing.{IsListed, Lists, Listing, done, followed, told_listing}
+use Rattle.sub_listing.specs.Told.{told_from}
 
 -- The lines of Teletext units, of which the first has this number.
 abbrev pub unit_lines : ℕ → List UnitValue → List ℕ
 unit_lines number [] = []
 unit_lines number (u ∷ units) = unit_line number u ++ unit_lines (number + 1) units
 
--- The lines of a PES packet and of its units.
+-- The lines of a PES packet, which has this number in its file, and of its units.
 abbrev pub frame_lines : ℕ → PesValue → List ℕ
-frame_lines index v = pes_line index v.pts ++ unit_lines 0 v.units
+frame_lines number v = pes_line number v.pts ++ unit_lines 0 v.units
 
--- What is printed after `index` PES packets: each of them in turn, and at the end their number.
-abbrev pub pes_listing : ℕ → PesOutcome → Listing
-pes_listing index ends = done (decimal index ++ codes " pes\n")
-pes_listing index (fails f) = told_listing (check_told (Pes index f))
-pes_listing index (gives v more) = followed (frame_lines index v) (pes_listing (index + 1) more)
+-- What is printed after `index` PES packets: each of them in turn, and at the end how many were
+-- listed. The first of all that are read has the number `first` in its file.
+abbrev pub pes_listing : ℕ → ℕ → PesOutcome → Listing
+pes_listing first index ends = done (decimal index ++ codes " pes\n")
+pes_listing first index (fails f) = told_listing (told_from first (check_told (Pes index f)))
+pes_listing first index (gives v more) =
+    followed (frame_lines (number_in_file first index) v) (pes_listing first (index + 1) more)
 
--- A file of PES packets is listed.
-abbrev pub ListsPackets : IsListed
-ListsPackets = Lists (pes_listing 0) (outcome_after 0) ReadsPackets
+-- PES packets are listed of which the first has this number in its file.
+abbrev pub ListsPackets : ℕ → IsListed
+ListsPackets first = Lists (pes_listing first 0) (outcome_after 0) ReadsPackets

@@ -7,20 +7,23 @@ use Rattle.sub_rules.specs.declared.event.Event.{Event}
 use Rattle.sub_listing.specs.EventLines.{event_line, event_lines, most_counted, refusal, refusals}
 
 -- The device: what its sink has taken, where it tells that, and how often it has failed; how many
--- refusals were counted; whether the sink failed while it printed.
+-- refusals were counted; whether the sink failed while it printed; the number that the first PES
+-- packet that is read has in its file.
 pub record PrinterValue : Type 0 where
   pub contents : Option (List ℕ)
   pub count : ℕ
   pub refused : ℕ
   pub failed : Bool
+  pub first : ℕ
 
 -- The device by its parts.
-abbrev pub printer_value : Option (List ℕ) → ℕ → ℕ → Bool → PrinterValue
-printer_value contents count refused failed = record {
+abbrev pub printer_value : Option (List ℕ) → ℕ → ℕ → Bool → ℕ → PrinterValue
+printer_value contents count refused failed first = record {
   contents = contents;
   count = count;
   refused = refused;
   failed = failed;
+  first = first;
 }
 
 -- Whether a count of failures can rise by one more.
@@ -35,26 +38,33 @@ counted refused more = min (refused + more) most_counted
 -- counted; or the sink failed once, and has a prefix of the line.
 pub record PrintsEvent (old : PrinterValue) (event : Event) (new : PrinterValue) : Type 0 where
   pub goes_on : old.failed ≡ false
-  pub put : new.failed ≡ false → Appends old.contents new.contents (event_line event)
+  pub counts_from : new.first ≡ old.first
+  pub put : new.failed ≡ false → Appends old.contents new.contents (event_line old.first event)
   pub put_count : new.failed ≡ false → new.count ≡ old.count
   pub put_refused : new.failed ≡ false → new.refused ≡ counted old.refused (refusal event)
-  pub cut : new.failed ≡ true → AppendsPrefix old.contents new.contents (event_line event)
+  pub cut :
+      new.failed ≡ true → AppendsPrefix old.contents new.contents (event_line old.first event)
   pub cut_count : new.failed ≡ true → new.count ≡ old.count + 1
 
 -- Events were told, one after another, to a printer that has not failed: all their lines were put,
 -- or a prefix of them.
 pub record PrintsEvents (old : PrinterValue) (events : List Event) (new : PrinterValue) : Type 0
   where
-    pub put : new.failed ≡ false → Appends old.contents new.contents (event_lines events)
+    pub counts_from : new.first ≡ old.first
+    pub put :
+        new.failed ≡ false → Appends old.contents new.contents (event_lines old.first events)
     pub put_count : new.failed ≡ false → new.count ≡ old.count
     pub put_refused : new.failed ≡ false → new.refused ≡ counted old.refused (refusals events)
-    pub cut : new.failed ≡ true → AppendsPrefix old.contents new.contents (event_lines events)
+    pub cut :
+        new.failed ≡ true
+        → AppendsPrefix old.contents new.contents (event_lines old.first events)
     pub cut_count : new.failed ≡ true → new.count ≡ old.count + 1
 
 -- Whatever was handed on, what was printed stays. Where it could not be, the sink failed once.
 pub record StaysPrinted (old new : PrinterValue) : Type 0 where
   pub kept : Keeps old.contents new.contents
   pub refused : new.refused ≡ old.refused
+  pub counts_from : new.first ≡ old.first
   pub same : new.failed ≡ old.failed → new.count ≡ old.count
   pub risen : new.failed ≢ old.failed → (new.failed ≡ true) × (new.count ≡ old.count + 1)
 

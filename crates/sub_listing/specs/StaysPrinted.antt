@@ -27,7 +27,7 @@ cut_stays : (a b c : PrinterValue) (e : Event) (was : Bool) → b.failed ≡ was
     → PrintsEvent a e b
     → StaysPrinted b c
     → c.failed ≡ true
-    → AppendsPrefix a.contents c.contents (event_line e) × (c.count ≡ a.count + 1)
+    → AppendsPrefix a.contents c.contents (event_line a.first e) × (c.count ≡ a.count + 1)
 cut_stays a b c e true is one on fails =
     let part = one.cut is in (
       (part.0, part.1, Appends-kept _ _ _ _ part.2 on.kept),
@@ -48,6 +48,7 @@ line_stays a b c e one on =
     let before = not_before b c b.failed refl on in
     record {
       goes_on = one.goes_on;
+      counts_from = on.counts_from ∙ one.counts_from;
       put = λ holds. Appends-kept _ _ _ _ (one.put (before holds)) on.kept;
       put_count = λ holds. on.same (holds ∙ sym (before holds)) ∙ one.put_count (before holds);
       put_refused = λ holds. on.refused ∙ one.put_refused (before holds);

@@ -4,7 +4,7 @@
 use Rattle.std.specs.Prelude.{ℕ, ◌%◌, List, [], ◌++◌, codes, decimal}
 use Rattle.sub_io.specs.FaultCode.{FaultCodeValue}
 use Rattle.stl_file.specs.TimeCode.{day}
-use Rattle.sub_listing.specs.Lines.{time_text}
+use Rattle.sub_listing.specs.Lines.{number_in_file, time_text}
 use Rattle.sub_listing.specs.declared.status.Status.{Status}
 use Rattle.sub_listing.specs.declared.status.Status.TheVariants as status
 use Rattle.sub_listing.specs.declared.told.Kind.{Kind}
@@ -13,9 +13,13 @@ use Rattle.sub_listing.specs.declared.told.Told.{Told}
 use Rattle.sub_rules.specs.declared.fault_place.FaultPlace.{FaultPlace}
 use Rattle.sub_rules.specs.declared.fault_place.FaultPlace.TheVariants as place
 
--- What is told of a fault with this code.
+-- What is told of a fault with this code. PES packets are counted from 0.
 abbrev pub told_as : Kind → FaultCodeValue → FaultPlace → Told
-told_as k c p = record { kind = k; code = c; place = p }
+told_as k c p = record { kind = k; code = c; place = p; first = 0 }
+
+-- The same where the first PES packet that is read has this number in its file.
+abbrev pub told_from : ℕ → Told → Told
+told_from first t = record t { first = first }
 
 -- What the line begins with.
 abbrev pub kind_text : Kind → List ℕ
@@ -32,15 +36,17 @@ clock_text frame = time_text (frame % day)
 abbrev pub frame_text : ℕ → List ℕ
 frame_text frame = codes " frame " ++ clock_text frame
 
--- The place.
-abbrev pub place_text : FaultPlace → List ℕ
-place_text place.Nowhere = []
-place_text (place.Pes pes) = codes " pes " ++ decimal pes
-place_text (place.Block block) = codes " block " ++ decimal block
-place_text (place.Text block at) = codes " block " ++ decimal block ++ codes " at " ++ decimal at
-place_text (place.Frame frame) = frame_text frame
-place_text (place.Packet frame packet) = frame_text frame ++ codes " packet " ++ decimal packet
-place_text (place.Cell frame row column) =
+-- The place, where the first PES packet that is read has this number in its file.
+abbrev pub place_text : ℕ → FaultPlace → List ℕ
+place_text first place.Nowhere = []
+place_text first (place.Pes pes) = codes " pes " ++ decimal (number_in_file first pes)
+place_text first (place.Block block) = codes " block " ++ decimal block
+place_text first (place.Text block at) =
+    codes " block " ++ decimal block ++ codes " at " ++ decimal at
+place_text first (place.Frame frame) = frame_text frame
+place_text first (place.Packet frame packet) =
+    frame_text frame ++ codes " packet " ++ decimal packet
+place_text first (place.Cell frame row column) =
     frame_text frame ++ codes " row " ++ decimal row ++ codes " column " ++ decimal column
 
 -- The number and the name.
@@ -49,7 +55,7 @@ code_text code = decimal code.number ++ codes " " ++ code.name
 
 -- The line.
 abbrev pub line_of : Told → List ℕ
-line_of t = kind_text t.kind ++ code_text t.code ++ place_text t.place ++ codes "\n"
+line_of t = kind_text t.kind ++ code_text t.code ++ place_text t.first t.place ++ codes "\n"
 
 -- The status that goes with it.
 abbrev pub status_of : Kind → Status

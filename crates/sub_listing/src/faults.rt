@@ -1,8 +1,11 @@
 //! What is told of each fault.
 ghost use Rattle.std.specs.Prelude.{◌≡◌};
+ghost use Rattle.ttx_pes.specs.Fault.{pes_code};
+ghost use Rattle.ttx_pes.specs.declared.fault.PesFault.TheVariants.{Read, Write};
 ghost use Rattle.sub_listing.specs.Faults.{check_told, packet_told, stl_told, usage_told};
 ghost use Rattle.sub_listing.specs.Faults.{write_told};
-ghost use Rattle.sub_listing.specs.Told.{told_as};
+ghost use Rattle.sub_listing.specs.Told.{told_as, told_from};
+ghost use Rattle.sub_rules.specs.declared.fault.CheckFault.TheVariants.{Pes};
 ghost use Rattle.sub_rules.specs.declared.fault_place.FaultPlace.TheVariants.{Nowhere};
 
 use crate::normal::InputFault;
@@ -15,7 +18,7 @@ use sub_io::FaultCode;
 use sub_plan::PlanFault;
 use sub_request::UsageFault;
 use sub_rules::{CheckFault, FaultPlace};
-use ttx_pes::PesFault;
+use ttx_pes::{FailedAt, PesFault};
 
 /// A fault of a subtitle file that is read, with the TTI block that it names: a refusal, but for
 /// the failure of the source.
@@ -30,6 +33,7 @@ pub fn told_of_stl(fault: StlFault, block: u32) -> Told
         kind,
         code: fault.code(),
         place: FaultPlace::Block { block },
+        first: 0,
     }
 }
 
@@ -52,7 +56,26 @@ pub fn told_of_check(fault: CheckFault) -> Told
         kind,
         code: fault.code(),
         place: fault.place(),
+        first: 0,
     }
+}
+
+/// The failure of a source before the first PES packet that is read was found.
+pub fn told_of_failed_read(at: FailedAt) -> Told
+    ensures { result ≡ told_from at.pes (check_told (Pes 0 Read)) }
+{
+    let fault = CheckFault::Pes {
+        fault: PesFault::Read,
+        pes: 0,
+    };
+    told_of_check(fault).counted_from(at.pes)
+}
+
+/// The failure of a file of PES packets that is written.
+pub fn told_of_file_write() -> Told
+    ensures { result ≡ told_as Kind.Fault (pes_code Write) Nowhere }
+{
+    nowhere(Kind::Fault, PesFault::Write.code())
 }
 
 /// A fault of a packet.
@@ -98,5 +121,10 @@ fn nowhere(kind: Kind, code: FaultCode) -> Told
     ensures { result ≡ told_as kind code Nowhere }
 {
     let place = FaultPlace::Nowhere;
-    Told { kind, code, place }
+    Told {
+        kind,
+        code,
+        place,
+        first: 0,
+    }
 }

@@ -1,5 +1,5 @@
 //! What is printed and written without a checker: lines, what is told of each fault, and the
-//! commands that show a packet, list a file or write one.
+//! commands that show a packet, list a file, write one or write what a recording carries.
 //!
 //! Stands on `sub_request` and `sub_rules`; `sub_answer` gives each request to its command, and
 //! prints what the checker and a receiver tell by what stands here.
@@ -9,7 +9,10 @@
 //! ```
 #![tactic(auto)]
 
+mod copying;
+mod extract;
 mod faults;
+mod first_packet;
 mod hex_digits;
 mod lines;
 mod listing;
@@ -25,7 +28,9 @@ mod status;
 mod told;
 mod writing;
 
-pub use faults::{told_of_check, told_of_usage};
+pub use extract::extract_packets;
+pub use faults::{told_of_check, told_of_failed_read, told_of_usage};
+pub use first_packet::{FirstPacket, PartOfFile, WholeFile};
 pub use lines::{LINE_ROOM, Line, push_decimal, push_number, push_text};
 pub use normal::{InputFault, read_input, write_normal};
 pub use packet::show_packet;

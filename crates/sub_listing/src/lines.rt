@@ -8,7 +8,8 @@ ghost use Rattle.arrayvec.specs.ArrayVec.{array_vec_len};
 ghost use Rattle.hex.specs.Hex.{encode_lower};
 ghost use Rattle.stl_file.specs.TimeCode.{day};
 ghost use Rattle.sub_listing.specs.EventLines.{ended_line, event_line, passed_line, trusted_line};
-ghost use Rattle.sub_listing.specs.Lines.{glyph, text_digits, time_text, two_digits};
+ghost use Rattle.sub_listing.specs.Lines.{glyph, number_in_file, text_digits, time_text};
+ghost use Rattle.sub_listing.specs.Lines.{two_digits};
 ghost use Rattle.sub_listing.specs.Told.{code_text, frame_text, line_of, place_text};
 
 use crate::faults::told_of_check;
@@ -65,6 +66,15 @@ pub fn push_number<const N: usize>(line: &mut ArrayVec<u8, N>, word: &[u8], numb
 {
     push_text(line, word);
     push_decimal(line, number);
+}
+
+/// The number that a PES packet has in its file, where the first one that is read has the number
+/// `first`. The greatest number stands for any above it too.
+#[tactic(auto, unfolding(crate::specs::Lines::number_in_file))]
+pub fn number_in_file(first: u64, index: u32) -> u64
+    ensures { result ≡ number_in_file first index }
+{
+    first.saturating_add(u64::from(index))
 }
 
 /// Appends a packet's bytes as lower case hexadecimal digits.
@@ -146,20 +156,21 @@ pub fn push_told<const N: usize>(line: &mut ArrayVec<u8, N>, told: &Told)
         Kind::Usage => push_text(line, b"usage "),
     }
     push_code(line, &told.code);
-    push_place(line, told.place);
+    push_place(line, told.place, told.first);
     push_text(line, b"\n");
 }
 
 /// Appends the line of an event: of a fault that is told, of a rule that stood broken up to a
-/// frame, or of frames that may be trusted.
-pub fn push_event<const N: usize>(line: &mut ArrayVec<u8, N>, event: Event)
+/// frame, or of frames that may be trusted. The first PES packet that is read has the number
+/// `first` in its file.
+pub fn push_event<const N: usize>(line: &mut ArrayVec<u8, N>, event: Event, first: u64)
     requires { array_vec_len line.old + LINE_ROOM ≤ N }
-    ensures { line.new.items ≡ line.old.items ++ event_line event }
+    ensures { line.new.items ≡ line.old.items ++ event_line first event }
 {
     match event {
-        Event::Told(fault) => push_told(line, &told_of_check(fault)),
+        Event::Told(fault) => push_told(line, &told_of_check(fault).counted_from(first)),
         Event::Ended { rule, frame } => push_ended(line, rule, frame),
-        Event::PassedUntil(fault) => push_passed(line, fault),
+        Event::PassedUntil(fault) => push_passed(line, fault, first),
         Event::Trusted { from, to } => push_trusted(line, from, to),
     }
 }
@@ -176,13 +187,13 @@ fn push_ended<const N: usize>(line: &mut ArrayVec<u8, N>, rule: EndRule, frame: 
 }
 
 // Appends the line of PES packets that were passed over up to the one that the fault names.
-fn push_passed<const N: usize>(line: &mut ArrayVec<u8, N>, fault: CheckFault)
+fn push_passed<const N: usize>(line: &mut ArrayVec<u8, N>, fault: CheckFault, first: u64)
     requires { array_vec_len line.old + LINE_ROOM ≤ N }
-    ensures { line.new.items ≡ line.old.items ++ passed_line fault }
+    ensures { line.new.items ≡ line.old.items ++ passed_line first fault }
 {
     push_text(line, b"ended ");
     push_code(line, &fault.code());
-    push_place(line, fault.place());
+    push_place(line, fault.place(), first);
     push_text(line, b"\n");
 }
 
@@ -209,15 +220,15 @@ fn push_code<const N: usize>(line: &mut ArrayVec<u8, N>, code: &FaultCode)
     push_text(line, code.name().as_bytes());
 }
 
-// Appends the place of a fault.
-fn push_place<const N: usize>(line: &mut ArrayVec<u8, N>, place: FaultPlace)
+// Appends the place of a fault, where the first PES packet that is read has this number in its file.
+fn push_place<const N: usize>(line: &mut ArrayVec<u8, N>, place: FaultPlace, first: u64)
     requires { array_vec_len line.old + PLACE_ROOM ≤ N }
-    ensures items { line.new.items ≡ line.old.items ++ place_text place }
+    ensures items { line.new.items ≡ line.old.items ++ place_text first place }
     ensures len { array_vec_len line.new ≤ array_vec_len line.old + PLACE_ROOM }
 {
     match place {
         FaultPlace::Nowhere => (),
-        FaultPlace::Pes { pes } => push_number(line, b" pes ", u64::from(pes)),
+        FaultPlace::Pes { pes } => push_number(line, b" pes ", number_in_file(first, pes)),
         FaultPlace::Block { block } => push_number(line, b" block ", u64::from(block)),
         FaultPlace::Text { block, at } => {
             push_number(line, b" block ", u64::from(block));

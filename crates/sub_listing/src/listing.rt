@@ -56,9 +56,9 @@ pub trait Lister {
         ensures same { printer.new.out.ghost_name ≡ printer.old.out.ghost_name }
         ensures stays { StaysPrinted
             (printer_value (K.contents printer.old.out.now) (K.failure_count printer.old.out.now)
-            printer.old.refused printer.old.failed)
+            printer.old.refused printer.old.failed printer.old.first)
             (printer_value (K.contents printer.new.out.now) (K.failure_count printer.new.out.now)
-            printer.new.refused printer.new.failed) }
+            printer.new.refused printer.new.failed printer.new.first) }
         ensures gives { printer.new.failed ≡ false → Gives (lists self.old) (lists self.new)
             (S.remaining source.old) (S.remaining source.new) text.new.items result }
         ensures ready { printer.new.failed ≡ false → result ≡ None → ready self.new }
@@ -101,6 +101,7 @@ pub fn list<L: Lister, S: Source, K: Flush>(lister: &mut L, source: &mut S, out:
         refused: 0,
         failed: false,
         waiting: false,
+        first: 0,
     };
     list_to(lister, source, &mut printer)
 }

@@ -10,30 +10,33 @@ ghost use Rattle.ttx_pes.specs.Reader.{TellsPacket, given_frame, progress_after}
 ghost use Rattle.ttx_pes.specs.Outcome.{ReadsPackets, outcome_after};
 ghost use Rattle.ttx_pes.specs.Reading.{most_packets};
 ghost use Rattle.ttx_pes.specs.declared.progress.Progress.TheVariants.{Reading};
-ghost use Rattle.sub_listing.specs.Lines.{unit_line};
+ghost use Rattle.sub_listing.specs.FirstPacket.{PrintsFrom};
+ghost use Rattle.sub_listing.specs.Lines.{number_in_file, unit_line};
 ghost use Rattle.sub_listing.specs.DeviceCall.{CountsFault, sink_call, source_call};
 ghost use Rattle.sub_listing.specs.LastLine.{HoldsLastLine};
-ghost use Rattle.sub_listing.specs.Listing.{Lists, PrintsListing};
+ghost use Rattle.sub_listing.specs.Listing.{Lists};
 ghost use Rattle.sub_listing.specs.PacketsListing.{ListsPackets, frame_lines, pes_listing};
 ghost use Rattle.sub_listing.specs.Printer.{StaysPrinted, printer_value};
 
-use crate::faults::told_of_check;
-use crate::lines::{push_lower_hex, push_number, push_text};
+use crate::faults::{told_of_check, told_of_failed_read};
+use crate::first_packet::FirstPacket;
+use crate::lines::{number_in_file, push_lower_hex, push_number, push_text};
 use crate::listing::{Lister, PIECE, Text, end_at, end_with, list};
 use crate::printer::Printer;
+use crate::printing::print_told;
 use crate::status::Status;
 use sub_io::{Flush, Live, Source};
 use sub_rules::CheckFault;
 use ttx_pes::{Compared, ComparingReader, MOST_UNITS, PesFault, Unit, hand_on_first};
 
-/// Lists the PES packets of a file (EN 300 472), one after another as they are read, and then how
-/// many there are, or why it is refused.
+/// Lists PES packets of a file (EN 300 472), one after another as they are read, each by its number
+/// in the file; and then how many were listed, or why it is refused.
 ///
 /// Lines before a refusal stay. `Fault` where a device failed.
-pub fn list_packets<S: Source, K: Flush>(source: &mut S, out: &mut K) -> Status
+pub fn list_packets<N: FirstPacket<S>, S: Source, K: Flush>(source: &mut S, out: &mut K) -> Status
     requires source { CanFail (S.failure_count source.old) }
     requires out { CanFail (K.failure_count out.old) }
-    ensures listing { PrintsListing ListsPackets
+    ensures listing { PrintsFrom ListsPackets (N.number source.old)
         (source_call S.remaining S.failure_count source.old source.new)
         (sink_call K.contents K.failure_count out.old out.new) result }
     ensures source_count { CountsFault S.failure_count source.old result source.new }
@@ -47,7 +50,10 @@ pub fn list_packets<S: Source, K: Flush>(source: &mut S, out: &mut K) -> Status
         → S.failure_count source.old < S.failure_count source.new
         → HoldsLastLine K.contents K.held K.is_push out.new }
 {
-    list(&mut PacketLister::new(), source, out)
+    match N::find(source) {
+        Ok(first) => list(&mut PacketLister::new(first), source, out),
+        Err(at) => print_told(&told_of_failed_read(at), out),
+    }
 }
 
 /// What makes the lines of PES packets.
@@ -55,17 +61,20 @@ pub fn list_packets<S: Source, K: Flush>(source: &mut S, out: &mut K) -> Status
 pub struct PacketLister {
     reader: ComparingReader,
     index: u32,
+    first: u64,
 }
 
 impl PacketLister {
-    /// A lister at the start of a file.
-    pub fn new() -> PacketLister
+    /// A lister at the first PES packet that is listed, which has this number in its file.
+    pub fn new(first: u64) -> PacketLister
         ensures start { result.index ≡ 0 }
+        ensures first { result.first ≡ first }
         ensures ready { result.reader.progress ≡ Reading 0 }
     {
         PacketLister {
             reader: ComparingReader::new(),
             index: 0,
+            first,
         }
     }
 
@@ -73,12 +82,14 @@ impl PacketLister {
     fn list_read(&mut self, text: &mut Text) -> Option<Status>
         requires few { self.old.index < most_packets }
         requires empty { text.old.items ≡ [] }
-        ensures lines { text.new.items ≡ frame_lines self.old.index self.old.reader.frame }
+        ensures lines { text.new.items
+            ≡ frame_lines (number_in_file self.old.first self.old.index) self.old.reader.frame }
         ensures index { self.new.index ≡ self.old.index + 1 }
+        ensures first { self.new.first ≡ self.old.first }
         ensures reader { self.new.reader ≡ self.old.reader }
         ensures more { result ≡ None }
     {
-        push_frame(text, self.index, &self.reader);
+        push_frame(text, number_in_file(self.first, self.index), &self.reader);
         self.index += 1;
         None
     }
@@ -89,7 +100,7 @@ impl Lister for PacketLister {
 
     ghost pieces = { λ l. most_packets - l.index };
 
-    ghost lists = { λ l. Lists (pes_listing l.index) (outcome_after l.index) ReadsPackets };
+    ghost lists = { λ l. Lists (pes_listing l.first l.index) (outcome_after l.index) ReadsPackets };
 
     ghost is_followed = { true };
 
@@ -108,7 +119,8 @@ impl Lister for PacketLister {
             Ok(Compared::Other) => self.list_read(text),
             Err(fault) => {
                 let pes = self.index;
-                end_with(text, &told_of_check(CheckFault::Pes { fault, pes }))
+                let told = told_of_check(CheckFault::Pes { fault, pes });
+                end_with(text, &told.counted_from(self.first))
             }
         }
     }
@@ -127,9 +139,9 @@ fn next_followed<S: Source, K: Flush>(
     ensures same { printer.new.out.ghost_name ≡ printer.old.out.ghost_name }
     ensures stays { StaysPrinted
         (printer_value (K.contents printer.old.out.now) (K.failure_count printer.old.out.now)
-        printer.old.refused printer.old.failed)
+        printer.old.refused printer.old.failed printer.old.first)
         (printer_value (K.contents printer.new.out.now) (K.failure_count printer.new.out.now)
-        printer.new.refused printer.new.failed) }
+        printer.new.refused printer.new.failed printer.new.first) }
     ensures failed { printer.new.failed ≡ is_none result }
     ensures refused { IfNone result (S.failure_count source.new ≡ S.failure_count source.old) }
     ensures count { IfSome result (λ read.
@@ -178,12 +190,12 @@ const UNIT_LINE: usize = 192;
 // A piece has room for the lines of a PES packet and of all its units.
 const _: () = prove!(PES_LINE + MOST_UNITS * UNIT_LINE <= PIECE);
 
-// Appends the lines of a PES packet and of its Teletext units.
-fn push_frame(text: &mut Text, index: u32, reader: &ComparingReader)
+// Appends the lines of a PES packet, which has this number in its file, and of its Teletext units.
+fn push_frame(text: &mut Text, number: u64, reader: &ComparingReader)
     requires { text.old.items ≡ [] }
-    ensures { text.new.items ≡ frame_lines index reader.now.frame }
+    ensures { text.new.items ≡ frame_lines number reader.now.frame }
 {
-    push_number(text, b"pes ", u64::from(index));
+    push_number(text, b"pes ", number);
     push_number(text, b" pts ", reader.pts());
     push_text(text, b"\n");
     let units = reader.units();

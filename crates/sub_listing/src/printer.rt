@@ -27,6 +27,8 @@ pub struct Printer<'a, K> {
     pub failed: bool,
     /// Lines were put that the sink may hold back.
     pub waiting: bool,
+    /// The number that the first PES packet that is read has in its file, counted from 0.
+    pub first: u64,
 }
 
 impl<'a, K: Flush> Printer<'a, K> {
@@ -39,9 +41,9 @@ impl<'a, K: Flush> Printer<'a, K> {
         ensures same { self.new.out.ghost_name ≡ self.old.out.ghost_name }
         ensures lines { HandsOnLines
             (printer_value (K.contents self.old.out.now) (K.failure_count self.old.out.now)
-            self.old.refused self.old.failed) (is_ok result)
+            self.old.refused self.old.failed self.old.first) (is_ok result)
             (printer_value (K.contents self.new.out.now) (K.failure_count self.new.out.now)
-            self.new.refused self.new.failed) }
+            self.new.refused self.new.failed self.new.first) }
         ensures still { OnOk result (self.new.waiting ≡ false) }
         ensures held { OnOk result (K.held self.new.out.now ≡ 0) }
         ensures waits { OnErr result (self.new.waiting ≡ self.old.waiting) }
@@ -68,6 +70,7 @@ impl<'a, K: Sink> Printer<'a, K> {
         requires { CanFail (K.failure_count self.old.out.now) }
         ensures same { self.new.out.ghost_name ≡ self.old.out.ghost_name }
         ensures refused { self.new.refused ≡ self.old.refused }
+        ensures first { self.new.first ≡ self.old.first }
         ensures ok { OnOk result (Appends
             (K.contents self.old.out.now) (K.contents self.new.out.now) lines.now) }
         ensures err { OnErr result (AppendsPrefix
@@ -97,14 +100,14 @@ impl<'a, K: Sink> Printer<'a, K> {
         ensures same { self.new.out.ghost_name ≡ self.old.out.ghost_name }
         ensures prints { PrintsEvent
             (printer_value (K.contents self.old.out.now) (K.failure_count self.old.out.now)
-            self.old.refused self.old.failed) event
+            self.old.refused self.old.failed self.old.first) event
             (printer_value (K.contents self.new.out.now) (K.failure_count self.new.out.now)
-            self.new.refused self.new.failed) }
+            self.new.refused self.new.failed self.new.first) }
         ensures stopped { self.new.failed ≡ is_err result }
         ensures waits { self.new.waiting ≡ true }
     {
         let mut line = Line::new();
-        push_event(&mut line, event);
+        push_event(&mut line, event, self.first);
         self.put(line.as_slice())?;
         self.count(event);
         Ok(())
@@ -134,8 +137,10 @@ fn refusal(event: Event) -> u64
 impl<K: Flush> Audience<Event> for Printer<'_, K> {
     ghost is_told = { λ s event t. (t.out.ghost_name ≡ s.out.ghost_name)
         × PrintsEvent
-        (printer_value (K.contents s.out.now) (K.failure_count s.out.now) s.refused s.failed) event
-        (printer_value (K.contents t.out.now) (K.failure_count t.out.now) t.refused t.failed)
+        (printer_value (K.contents s.out.now) (K.failure_count s.out.now) s.refused s.failed
+        s.first) event
+        (printer_value (K.contents t.out.now) (K.failure_count t.out.now) t.refused t.failed
+        t.first)
         × (t.waiting ≡ false → K.held t.out.now ≡ 0) };
 
     ghost has_stopped = { λ p. p.failed || not (can_fail (K.failure_count p.out.now)) };
@@ -153,9 +158,11 @@ impl<K: Flush> Audience<Event> for Printer<'_, K> {
 impl<K: Flush> Audience<LoadFault> for Printer<'_, K> {
     ghost is_told = { λ s fault t. (t.out.ghost_name ≡ s.out.ghost_name)
         × PrintsEvent
-        (printer_value (K.contents s.out.now) (K.failure_count s.out.now) s.refused s.failed)
+        (printer_value (K.contents s.out.now) (K.failure_count s.out.now) s.refused s.failed
+        s.first)
         (subtitle_event fault)
-        (printer_value (K.contents t.out.now) (K.failure_count t.out.now) t.refused t.failed) };
+        (printer_value (K.contents t.out.now) (K.failure_count t.out.now) t.refused t.failed
+        t.first) };
 
     ghost has_stopped = { λ p. p.failed || not (can_fail (K.failure_count p.out.now)) };
 
@@ -176,8 +183,10 @@ impl<K: Flush> Live for Printer<'_, K> {
 
     ghost is_handed_on = { λ s ok t. (t.out.ghost_name ≡ s.out.ghost_name)
         × HandsOnLines
-        (printer_value (K.contents s.out.now) (K.failure_count s.out.now) s.refused s.failed) ok
-        (printer_value (K.contents t.out.now) (K.failure_count t.out.now) t.refused t.failed)
+        (printer_value (K.contents s.out.now) (K.failure_count s.out.now) s.refused s.failed
+        s.first) ok
+        (printer_value (K.contents t.out.now) (K.failure_count t.out.now) t.refused t.failed
+        t.first)
         × (s.waiting ≡ true → t.waiting ≡ false → K.held t.out.now ≡ 0) };
 
     /// Where lines were put since the sink handed on what it held back.

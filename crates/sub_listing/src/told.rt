@@ -1,6 +1,6 @@
 //! What is told of a fault: one line, from which the status follows.
 ghost use Rattle.std.specs.Prelude.{◌≡◌};
-ghost use Rattle.sub_listing.specs.Told.{status_of};
+ghost use Rattle.sub_listing.specs.Told.{status_of, told_from};
 
 use crate::status::Status;
 use sub_io::FaultCode;
@@ -26,9 +26,29 @@ pub struct Told {
     pub code: FaultCode,
     /// Where it is.
     pub place: FaultPlace,
+    /// The number that the first PES packet that is read has in its file, counted from 0.
+    pub first: u64,
 }
 
 impl Told {
+    /// The same where the first PES packet that is read has this number in its file.
+    pub fn counted_from(self, first: u64) -> Told
+        ensures { result ≡ told_from first self }
+    {
+        let Told {
+            kind,
+            code,
+            place,
+            first: _,
+        } = self;
+        Told {
+            kind,
+            code,
+            place,
+            first,
+        }
+    }
+
     /// The status that goes with the line.
     pub fn status(&self) -> Status
         ensures { result ≡ status_of self.now.kind }

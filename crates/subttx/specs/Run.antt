@@ -1,6 +1,6 @@
 -- How a run of the program ends, of the words that the system gave: what was answered, or why
 -- nothing was.
-use Rattle.std.specs.Prelude.{◌≡◌, ◌⊎◌, ℕ, List, [], Option, None, Result, Ok, Err}
+use Rattle.std.specs.Prelude.{◌≡◌, ◌⊎◌, List, [], None, Result, Ok, Err}
 use Rattle.clap.specs.Words.{Text}
 use Rattle.sub_files.specs.FileCalls.{FileCall}
 use Rattle.sub_files.specs.Opening.{OpensBy}
@@ -10,24 +10,25 @@ use Rattle.sub_request.specs.declared.request.UsageFault.{UsageFault}
 use Rattle.sub_request.specs.declared.request.UsageFault.TheVariants as usage
 use Rattle.sub_words.specs.Requests.{AsksFor, IsFaultOf}
 use Rattle.sub_listing.specs.declared.status.Status.{Status}
-use Rattle.sub_answer.specs.Ending.{Ends, Lines, Says}
+use Rattle.sub_answer.specs.Ending.{Ends, Lines, Says, ToldOfFiles}
 
 -- The words that the system gave asked for a request, and it was answered so, over the files that
 -- were opened by the calls that were made.
 pub record Answered
-    {F : Type 0} (AreMade : List (FileCall F) → Type 0) (remaining contents : F → Option (List ℕ))
-    (given : Result (List Text) UsageFault) (old new : Lines) (result : Status)
+    {I O : Type 0} (AreMade : List (FileCall I O) → Type 0) (told : ToldOfFiles I O)
+    (IsClose : O → O → Type 0) (given : Result (List Text) UsageFault) (old new : Lines)
+    (result : Status)
     : Type 0 where
   pub words : List Text
   pub are_given : given ≡ Ok words
   pub request : Request
   pub asked : AsksFor words request
-  pub ends : Ends AreMade remaining contents request old new result
+  pub ends : Ends AreMade told IsClose request old new result
 
 -- Why words are not answered: by the calls that were made, files that they ask for could not be
 -- opened; or memory ran out, or this is their fault, and no file was asked for.
 abbrev pub IsWhy :
-    {F : Type 0} → (List (FileCall F) → Type 0) → List Text → UsageFault → Type 0
+    {I O : Type 0} → (List (FileCall I O) → Type 0) → List Text → UsageFault → Type 0
 IsWhy AreMade words usage.Memory = AreMade []
 IsWhy AreMade words usage.Open =
     (request : Request) × AsksFor words request × OpensBy AreMade (files_of request) None
@@ -35,26 +36,26 @@ IsWhy AreMade words fault = IsFaultOf words fault × AreMade []
 
 -- Why a run answers no request, of the words that the system gave or why it gave none.
 abbrev pub IsCause :
-    {F : Type 0}
-    → (List (FileCall F) → Type 0) → Result (List Text) UsageFault → UsageFault → Type 0
+    {I O : Type 0}
+    → (List (FileCall I O) → Type 0) → Result (List Text) UsageFault → UsageFault → Type 0
 IsCause AreMade (Ok words) fault = IsWhy AreMade words fault
 IsCause AreMade (Err why) fault = (fault ≡ why) × AreMade []
 
 -- No request was answered, and the line of the fault was printed that tells why.
 pub record IsUnanswered
-    {F : Type 0} (AreMade : List (FileCall F) → Type 0) (given : Result (List Text) UsageFault)
+    {I O : Type 0} (AreMade : List (FileCall I O) → Type 0) (given : Result (List Text) UsageFault)
     (old new : Lines) (result : Status)
     : Type 0 where
   pub fault : UsageFault
   pub cause : IsCause AreMade given fault
   pub says : Says fault old new result
 
--- How a run ends of what the system gave as words and what its files tell, by the calls for files,
--- by what is printed and the status.
+-- How a run ends of what the system gave as words, by the calls for files, by what is told of these
+-- and which closes of a file go so, by what is printed and the status.
 abbrev pub EndsRun :
-    {F : Type 0}
-    → (List (FileCall F) → Type 0) → (F → Option (List ℕ)) → (F → Option (List ℕ))
+    {I O : Type 0}
+    → (List (FileCall I O) → Type 0) → ToldOfFiles I O → (O → O → Type 0)
     → Result (List Text) UsageFault → Lines → Lines → Status → Type 0
-EndsRun AreMade remaining contents given old new result =
-    Answered AreMade remaining contents given old new result
+EndsRun AreMade told IsClose given old new result =
+    Answered AreMade told IsClose given old new result
     ⊎ IsUnanswered AreMade given old new result

@@ -8,7 +8,7 @@ mod words;
 
 ghost use Rattle.std.specs.Prelude.{◌≡◌, IfErr, IfOk};
 ghost use Rattle.sub_io.specs.Buffered.{failures_and_refused};
-ghost use Rattle.sub_answer.specs.Ending.{lines_of};
+ghost use Rattle.sub_answer.specs.Ending.{lines_of, told_of_files};
 ghost use Rattle.sub_files.specs.FileCalls.{CallsInTurn};
 ghost use Rattle.subttx.specs.Run.{Answered, EndsRun, IsCause};
 ghost use Rattle.subttx.specs.Words.{words_given};
@@ -54,7 +54,9 @@ fn answer_or_say<D: FileSystem, K: Sink>(
 ) -> Status
     requires { failures_and_refused (K.failure_count out.old.device) out.old.refused ≡ 0 }
     ensures { EndsRun (CallsInTurn D.is_call files.old files.new)
-        D.File.remaining D.File.contents (words_given given)
+        (told_of_files D.Input.remaining D.Input.failure_count
+        D.Output.contents D.Output.failure_count)
+        D.Output.is_close (words_given given)
         (lines_of K.contents K.failure_count out.old)
         (lines_of K.contents K.failure_count out.new) result }
 {
@@ -73,7 +75,9 @@ fn answer_given<D: FileSystem, K: Sink>(
 ) -> Result<Status, UsageFault>
     requires { failures_and_refused (K.failure_count out.old.device) out.old.refused ≡ 0 }
     ensures ends { IfOk result (Answered (CallsInTurn D.is_call files.old files.new)
-        D.File.remaining D.File.contents (words_given given)
+        (told_of_files D.Input.remaining D.Input.failure_count
+        D.Output.contents D.Output.failure_count)
+        D.Output.is_close (words_given given)
         (lines_of K.contents K.failure_count out.old)
         (lines_of K.contents K.failure_count out.new)) }
     ensures unanswered { IfErr result (λ _. out.new ≡ out.old) }

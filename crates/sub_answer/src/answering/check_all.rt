@@ -9,15 +9,18 @@ ghost use Rattle.sub_listing.specs.Faults.{check_told};
 ghost use Rattle.sub_listing.specs.LastLine.{HoldsLastLine, PutsLine};
 ghost use Rattle.sub_listing.specs.Listing.{PrintsOrFails};
 ghost use Rattle.sub_listing.specs.Printer.{printer_value};
-ghost use Rattle.sub_listing.specs.Told.{line_of};
+ghost use Rattle.sub_listing.specs.Told.{line_of, told_from};
 
 use crate::answering::check::print_accepted;
 use std::alloc::Global;
 use stl_rows::{National, load_all};
 use sub_check::{Accepted, CheckFault, check_all};
 use sub_io::{Flush, Sink, Source, put_all};
-use sub_listing::{Line, Printer, Status, print_told, push_decimal, push_text, told_of_check};
+use sub_listing::{
+    FirstPacket, Line, Printer, Status, print_told, push_decimal, push_text, told_of_check,
+};
 use sub_plan::Options;
+use ttx_pes::PesFault;
 
 /// Checks a PES file against a subtitle file, and prints a line for each place that is broken, and
 /// where a rule of a frame's end is so no more, as they are found; then how many are refused, or
@@ -26,7 +29,7 @@ use sub_plan::Options;
 /// `pes` is not touched where the subtitle file is refused. `Done` where the files are accepted;
 /// `Refused` where a place is broken; `Fault` where a device failed or memory ran out, with its
 /// line last. Once `out` failed nothing more is read or printed.
-pub fn print_every_fault<S: Source, T: Source, K: Flush>(
+pub fn print_every_fault<N: FirstPacket<T>, S: Source, T: Source, K: Flush>(
     alloc: Global,
     stl: &mut S,
     pes: &mut T,
@@ -39,7 +42,8 @@ pub fn print_every_fault<S: Source, T: Source, K: Flush>(
     requires out { CanFail (K.failure_count out.old) }
     ensures all { AnswersAll national options.now
         (source_call S.remaining S.failure_count stl.old stl.new)
-        (source_call T.remaining T.failure_count pes.old pes.new) (pes.new ≡ pes.old)
+        (source_call T.remaining T.failure_count pes.old pes.new) (N.number pes.old)
+        (pes.new ≡ pes.old)
         (sink_call K.contents K.failure_count out.old out.new) result }
     ensures stl_count { CountsFault S.failure_count stl.old result stl.new }
     ensures pes_count { CountsFault T.failure_count pes.old result pes.new }
@@ -55,23 +59,25 @@ pub fn print_every_fault<S: Source, T: Source, K: Flush>(
         refused: 0,
         failed: false,
         waiting: false,
+        first: 0,
     };
-    let answer = tell_every_fault(alloc, stl, pes, national, options, &mut printer);
+    let answer = tell_every_fault::<N, S, T, K>(alloc, stl, pes, national, options, &mut printer);
     let Printer {
         out,
         refused,
         failed,
         waiting: _,
+        first,
     } = printer;
     if failed {
         return Status::Fault;
     }
-    print_end(refused, answer, out)
+    print_end(first, refused, answer, out)
 }
 
 // Tells a printer what is broken in the subtitle file, or else in the PES file. `None` where the
 // subtitle file is refused or the printer said stop, else what was read of the PES file.
-fn tell_every_fault<S: Source, T: Source, K: Flush>(
+fn tell_every_fault<N: FirstPacket<T>, S: Source, T: Source, K: Flush>(
     alloc: Global,
     stl: &mut S,
     pes: &mut T,
@@ -88,11 +94,12 @@ fn tell_every_fault<S: Source, T: Source, K: Flush>(
     ensures same { printer.new.out.ghost_name ≡ printer.old.out.ghost_name }
     ensures told { TellsBoth national options.now
         (source_call S.remaining S.failure_count stl.old stl.new)
-        (source_call T.remaining T.failure_count pes.old pes.new) (pes.new ≡ pes.old)
+        (source_call T.remaining T.failure_count pes.old pes.new) (N.number pes.old)
+        (pes.new ≡ pes.old)
         (printer_value (K.contents printer.old.out.now) (K.failure_count printer.old.out.now)
-        printer.old.refused printer.old.failed)
+        printer.old.refused printer.old.failed printer.old.first)
         (printer_value (K.contents printer.new.out.now) (K.failure_count printer.new.out.now)
-        printer.new.refused printer.new.failed) result }
+        printer.new.refused printer.new.failed printer.new.first) result }
     ensures count { CountsIf T.failure_count pes.old (failed is_pes_read result) pes.new }
     ensures asked { K.held printer.old.out.now ≡ 0
         → failed is_pes_read result ≡ true → K.held printer.new.out.now ≡ 0 }
@@ -100,26 +107,41 @@ fn tell_every_fault<S: Source, T: Source, K: Flush>(
     match load_all(alloc, stl, national, printer) {
         Err(fault) => Err(CheckFault::Subtitles(fault)),
         Ok(None) => Ok(None),
-        Ok(Some(programme)) => check_all(&programme, pes, options, printer),
+        Ok(Some(programme)) => match N::find(pes) {
+            Ok(first) => {
+                printer.first = first;
+                check_all(&programme, pes, options, printer)
+            }
+            Err(at) => {
+                printer.first = at.pes;
+                Err(CheckFault::Pes {
+                    fault: PesFault::Read,
+                    pes: 0,
+                })
+            }
+        },
     }
 }
 
-// Prints the last line, after so many refusals, and gives the status.
+// Prints the last line, after so many refusals, and gives the status. The first PES packet has the
+// number `first` in its file.
 fn print_end<K: Sink>(
+    first: u64,
     refused: u64,
     answer: Result<Option<Accepted>, CheckFault>,
     out: &mut K,
 ) -> Status
     requires { CanFail (K.failure_count out.old) }
     ensures printed { PrintsOrFails
-        (sink_call K.contents K.failure_count out.old out.new) (last_listing refused answer)
+        (sink_call K.contents K.failure_count out.old out.new) (last_listing first refused answer)
         result }
     ensures line { IfErr answer (λ f.
-        PutsLine K.contents K.is_push out.old (line_of (check_told f)) out.new) }
+        PutsLine K.contents K.is_push out.old (line_of (told_from first (check_told f)))
+        out.new) }
     ensures count { CountsFault K.failure_count out.old result out.new }
 {
     match answer {
-        Err(fault) => print_told(&told_of_check(fault), out),
+        Err(fault) => print_told(&told_of_check(fault).counted_from(first), out),
         Ok(None) => print_count(refused, out),
         Ok(Some(accepted)) => {
             if refused == 0 {

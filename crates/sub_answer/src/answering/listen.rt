@@ -1,13 +1,15 @@
 //! `listen PES`: runs one receiver over the PES packets of a file.
 ghost use Rattle.std.specs.Prelude.{◌≡◌, ℕ, ◌+◌, ◌<◌, slice_index};
 ghost use Rattle.ttx_page.specs.Page.{AreCodes};
-ghost use Rattle.sub_answer.specs.Answering.{AnswersListen};
+ghost use Rattle.sub_answer.specs.Answering.{AnswersListen, PrintsHeard};
 ghost use Rattle.sub_listing.specs.DeviceCall.{CanFail, CountsFault, sink_call, source_call};
 ghost use Rattle.sub_answer.specs.ListenListing.{IsOldPage, listen_told};
 
 use sub_io::{Sink, Source};
 use sub_listen::{ListenFault, listen};
-use sub_listing::{Kind, Status, Told, print_state, print_told, told_of_check};
+use sub_listing::{
+    FirstPacket, Kind, Status, Told, print_state, print_told, told_of_check, told_of_failed_read,
+};
 use sub_request::Listening;
 use sub_rules::FaultPlace;
 use ttx_page::{Page, Receiver};
@@ -19,7 +21,7 @@ use ttx_page::{Page, Receiver};
 /// printed before the last packet was heard. Where complete pages are asked for, what is printed is
 /// what is on its screen: a page comes onto it when a header of another page ends it. Else it has
 /// no screen.
-pub fn print_listening<R: Receiver + Drop, S: Source, K: Sink>(
+pub fn print_listening<N: FirstPacket<S>, R: Receiver + Drop, S: Source, K: Sink>(
     pes: &mut S,
     listening: &Listening,
     out: &mut K,
@@ -30,6 +32,30 @@ pub fn print_listening<R: Receiver + Drop, S: Source, K: Sink>(
     // printed is the state of a receiver that heard what it gets of them, or the refusal. A source
     // that fails is told at the PES packet within which it failed, after what was heard.
     ensures exact { AnswersListen R.leaves listening.now
+        (source_call S.remaining S.failure_count pes.old pes.new) (N.number pes.old)
+        (sink_call K.contents K.failure_count out.old out.new) result }
+    ensures first_count { CountsFault S.failure_count pes.old result pes.new }
+    ensures out_count { CountsFault K.failure_count out.old result out.new }
+    ensures fault { result ≡ Status.Fault
+        → S.failure_count pes.old + K.failure_count out.old
+        < S.failure_count pes.new + K.failure_count out.new }
+{
+    match N::find(pes) {
+        Ok(first) => print_heard::<R, S, K>(pes, first, listening, out),
+        Err(at) => print_told(&told_of_failed_read(at), out),
+    }
+}
+
+// The same from the first PES packet on, which has this number in its file.
+fn print_heard<R: Receiver + Drop, S: Source, K: Sink>(
+    pes: &mut S,
+    first: u64,
+    listening: &Listening,
+    out: &mut K,
+) -> Status
+    requires first { CanFail (S.failure_count pes.old) }
+    requires out { CanFail (K.failure_count out.old) }
+    ensures exact { PrintsHeard R.leaves listening.now first
         (source_call S.remaining S.failure_count pes.old pes.new)
         (sink_call K.contents K.failure_count out.old out.new) result }
     ensures first_count { CountsFault S.failure_count pes.old result pes.new }
@@ -42,7 +68,7 @@ pub fn print_listening<R: Receiver + Drop, S: Source, K: Sink>(
     let mut screen = None;
     match listen(&mut receiver, &mut screen, pes, listening) {
         Ok(()) => print_state(&receiver, &screen, listening.options.asks_complete(), out),
-        Err(fault) => print_told(&told_of_listen(fault), out),
+        Err(fault) => print_told(&told_of_listen(fault).counted_from(first), out),
     }
 }
 
@@ -77,6 +103,7 @@ fn told_of_listen(fault: ListenFault) -> Told
                 kind: Kind::Refused,
                 code: fault.code(),
                 place: FaultPlace::Packet { frame, packet },
+                first: 0,
             }
         }
     }

@@ -22,12 +22,15 @@ returns-in-Keep-clause-answers g c =
     let l = c.in-Listen.listening in
     let same : left_by l.receiver ≡ left_by Keep =
     elim c.in-Keep.is [ inl e ↦ ap left_by e | inr e ↦ ap left_by e ] in
-    rw c.in-Listen.is (answers_as _ _ l _ _ _ same c.print_listening.ensures.exact)
+    rw c.in-Listen.is (answers_as _ _ l _ _ _ _ same c.print_listening.ensures.exact)
 
 pub returns-in-Blank-clause-answers : goal.returns-in-Blank-clause-answers
 returns-in-Blank-clause-answers g c =
     rw c.in-Listen.is
-    (answers_as _ _ _ _ _ _ (ap left_by c.in-Blank.is) c.print_listening-in-Blank.ensures.exact)
+    (answers_as _ _ _ _ _ _ _ (ap left_by c.in-Blank.is) c.print_listening-in-Blank.ensures.exact)
+
+pub returns-in-Extract-clause-answers : goal.returns-in-Extract-clause-answers
+returns-in-Extract-clause-answers g c = rw c.in-Extract.is c.extract_packets.ensures.extract
 
 pub returns-in-Packets-clause-followed : goal.returns-in-Packets-clause-followed
 returns-in-Packets-clause-followed g c = rw c.in-Packets.is c.list_packets.ensures.followed

@@ -1,6 +1,8 @@
 use Rattle.std.proofs.Common.{Some, ap}
-use Rattle.sub_answer.proofs.EndingLemmas.{ends_from}
+use Rattle.sub_answer.proofs.EndingLemmas.{ends_touched, ends_weaker}
 use Rattle.sub_answer.proofs.ending.answer_from.Goals as goal
 
 pub returns : goal.returns
-returns g c = ends_from _ _ _ _ _ _ _ c.answer_pair.ensures (ap Some c.new.ensures)
+returns g c =
+    ends_weaker _ _ _ _ _ _ _ _ _ _ _ (ends_touched _ _ _ _ _ _ _ _ c.answer_pair.ensures)
+    (λ call is. is) (λ call is. rw is (ap Some c.new-second.ensures)) (λ call is. is)

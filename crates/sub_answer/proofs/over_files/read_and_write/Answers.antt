@@ -1,10 +1,21 @@
-use Rattle.std.proofs.KnownBytes.{prepend_known-nil}
-use Rattle.sub_answer.proofs.EndingLemmas.{append_known-nil, ends_over}
+use Rattle.std.specs.Io.KnownBytes.{prepend_known}
+use Rattle.sub_answer.proofs.EndingLemmas.{ends_weaker, whole_source}
 use Rattle.sub_answer.proofs.over_files.read_and_write.Goals as goal
 
 pub returns : goal.returns
 returns g c =
-    ends_over _ _ _ _ _ _ _ _ _ c.answer_with_file.ensures.ends.ends
-    (rw (c.new-first.ensures, c.new.ensures, c.into_file-input.ensures) (prepend_known-nil _))
-    c.answer_with_file.ensures.ends.second_is_empty
-    (rw (c.new-file.ensures, c.new-2.ensures, c.into_file-output.ensures) (append_known-nil _))
+    ends_weaker _ _ _ _ _ _ _ _ _ _ _ c.answer_with_file.ensures.ends
+    (λ input is. record {
+      room = _;
+      is_part =
+          rw (c.new-first.ensures, c.into_file.ensures) at
+          (whole_source (λ s. prepend_known s.held (g.I.Source.remaining s.device))
+          (λ s. g.I.Source.failure_count s.device) c.new-first.result c.answer_with_file.new.first input
+          is);
+    })
+    (λ input is. is)
+    (λ call is. record {
+      room = _;
+      new = _;
+      closed = rw (c.new-file.ensures, c.into_file-2.ensures) at is;
+    })

@@ -1,6 +1,26 @@
--- What is listed from the start of a file.
+-- What is listed once the first PES packet was found, or the source failed before: prints_found,
+-- prints_failed.
+use Rattle.std.proofs.Common.{◌≡◌, ◌+◌, arith}
+use Rattle.sub_listing.specs.DeviceCall.{source_call}
+use Rattle.sub_listing.proofs.FirstPacketLemmas.{prints_failed, prints_found}
 use Rattle.sub_listing.proofs.packets.list_packets.Goals as goal
 
-pub returns-clause-listing : goal.returns-clause-listing
-returns-clause-listing g c =
-    rw c.new.ensures.start at c.list.ensures.listing
+pub returns-in-Ok-clause-listing : goal.returns-in-Ok-clause-listing
+returns-in-Ok-clause-listing g c =
+    let counted = c.in-Ok.ensures.count in
+    let same : g.S.Source.failure_count c.find.new.source
+    ≡ g.S.Source.failure_count c.args.source.now = omega (arith, counted) in
+    prints_found _ c.in-Ok.first _ _ _ _ _ _ _ _ (λ n is. c.in-Ok.ensures.first n is)
+    c.in-Ok.ensures.kept same
+    (rw (c.new.ensures.start, c.new.ensures.first) at c.list.ensures.listing)
+
+pub returns-in-Err-clause-listing : goal.returns-in-Err-clause-listing
+returns-in-Err-clause-listing g c =
+    let counted = c.in-Err.ensures.count in
+    let risen : g.S.Source.failure_count c.find.new.source
+    ≡ g.S.Source.failure_count c.args.source.now + 1 = omega (arith, counted) in
+    prints_failed _ c.in-Err.at.pes
+    (source_call g.S.Source.remaining g.S.Source.failure_count c.args.source.now
+    c.find.new.source)
+    _ _ (λ n is. c.in-Err.ensures.before n is) c.in-Err.ensures.kept risen
+    (rw c.told_of_failed_read.ensures at c.print_told.ensures.printed)

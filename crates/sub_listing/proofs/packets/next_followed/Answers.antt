@@ -7,7 +7,8 @@ use Rattle.sub_listing.specs.declared.printer.Printer.{Printer}
 use Rattle.sub_listing.proofs.packets.next_followed.Goals as goal
 
 abbrev value_of : {K : Type 0} → (K → Option (List ℕ)) → (K → ℕ) → Printer K → PrinterValue
-value_of contents count p = printer_value (contents p.out.now) (count p.out.now) p.refused p.failed
+value_of contents count p =
+    printer_value (contents p.out.now) (count p.out.now) p.refused p.failed p.first
 
 -- How it stands after it was to hand on.
 abbrev IsHandedOn : {K : Type 0} → (K → Option (List ℕ)) → (K → ℕ) → (K → ℕ)

@@ -1,14 +1,22 @@
--- What `check_files` tells of both files decides the answer; the rest is the line that is printed.
-use Rattle.std.proofs.Common.{Err, Ok, rules}
-use Rattle.sub_answer.proofs.AnsweringLemmas.{as_answered}
+-- What is told of both files decides the answer; the rest is the line that is printed.
+use Rattle.std.proofs.Common.{rules}
+use Rattle.sub_rules.specs.Fault.{is_pes_read, is_stl_read}
+use Rattle.sub_answer.proofs.AnsweringLemmas.{as_answered, source_counts}
+use Rattle.sub_answer.proofs.BothFilesLemmas.{pes-fails, stl-fails}
 use Rattle.sub_answer.proofs.answering.check.print_verdict.Goals as goal
 
-pub returns-in-Ok-clause-check : goal.returns-in-Ok-clause-check
-returns-in-Ok-clause-check g c =
-    let made = c.in-Ok.ensures in
-    as_answered _ _ _ _ _ _ _ (Ok c.in-Ok.accepted) (search rules) (search rules) made.checked
+pub returns-clause-check : goal.returns-clause-check
+returns-clause-check g c =
+    let made = c.check_files-answer.ensures in
+    as_answered _ _ _ _ _ _ _ _ _ c.check_files-answer.result.result c.print_answer.ensures.printed
+    made.starts (search rules) made.checked
 
-pub returns-in-Err-clause-check : goal.returns-in-Err-clause-check
-returns-in-Err-clause-check g c =
-    let made = c.in-Err.ensures in
-    as_answered _ _ _ _ _ _ _ (Err c.in-Err.fault) (search rules) (search rules) made.checked
+pub returns-clause-stl_count : goal.returns-clause-stl_count
+returns-clause-stl_count g c =
+    source_counts is_stl_read stl-fails _ _ _ _ _ c.check_files-answer.result.result
+    c.print_answer.ensures.printed c.check_files-answer.ensures.stl_count
+
+pub returns-clause-pes_count : goal.returns-clause-pes_count
+returns-clause-pes_count g c =
+    source_counts is_pes_read pes-fails _ _ _ _ _ c.check_files-answer.result.result
+    c.print_answer.ensures.printed c.check_files-answer.ensures.pes_count

@@ -1,49 +1,35 @@
--- What is printed is that of the run; by listens_from.
-use Rattle.std.proofs.Common.{None, refl, ◌∙◌, ap, arith, Ok, Err}
-use Rattle.ttx_page.specs.Screen.{display}
-use Rattle.sub_listen.specs.Run.{is_failed_read}
-use Rattle.sub_answer.specs.ListenListing.{listing_of}
-use Rattle.sub_answer.proofs.ListenListingLemmas.{listens_from}
-use Rattle.sub_listing.proofs.PrintingLemmas.{did_not_rise, did_rise}
+-- What is heard once the first PES packet was found, and where the source failed before: heard_kept,
+-- none_heard.
+use Rattle.std.proofs.Common.{◌≡◌, ◌+◌, arith, inl, inr}
+use Rattle.sub_listing.specs.DeviceCall.{source_call}
+use Rattle.sub_answer.proofs.ListenListingLemmas.{heard_kept, none_heard}
 use Rattle.sub_answer.proofs.answering.listen.print_listening.Goals as goal
 
 pub returns-in-Ok-clause-exact : goal.returns-in-Ok-clause-exact
-returns-in-Ok-clause-exact g c = record {
-  exact = λ frames unread bytes told reads same. (
-    listing_of c.asks_complete.result
-        (display (g.R.Receiver.state c.listen.new.receiver) c.listen.new.screen) (Ok tt),
-    listens_from _ c.args.listening.now frames unread _ _ _ _ _ (Ok tt) c.old_page.result
-        c.asks_complete.result c.asks_complete.ensures.value
-        (c.tune-receiver.ensures.tuned ∙ c.page.ensures.value)
-        (ap (λ s. display s None) c.tune-receiver.ensures.state)
-        c.old_page.ensures (c.in-Ok.ensures.exact frames unread bytes told reads refl)
-        c.print_state.ensures.page,
-    c.print_state.ensures.printed,
-  );
-  read = λ other.
-      let counted = c.in-Ok.ensures.count in absurd (other (omega (arith, counted)));
-}
+returns-in-Ok-clause-exact g c =
+    let counted = c.in-Ok.ensures.count in
+    let same : g.S.Source.failure_count c.find.new.source
+    ≡ g.S.Source.failure_count c.args.pes.now = omega (arith, counted) in
+    record {
+      number = c.in-Ok.first;
+      starts = λ n is. inl (c.in-Ok.ensures.first n is);
+      heard =
+          heard_kept _ _ c.in-Ok.first _ _ _ _ _ _ _ _ c.in-Ok.ensures.kept same
+          c.print_heard.ensures.exact;
+    }
 
-pub returns-clause-exact : goal.returns-clause-exact
-returns-clause-exact g c = record {
-  exact = λ frames unread bytes told reads same. (
-    listing_of c.args.listening.now.options.asks_complete
-        (display (g.R.Receiver.state c.listen.new.receiver) c.listen.new.screen)
-        (Err c.in-Err.fault),
-    listens_from _ c.args.listening.now frames unread _ _ _ _ _ (Err c.in-Err.fault)
-        c.old_page.result
-        c.args.listening.now.options.asks_complete refl
-        (c.tune-receiver.ensures.tuned ∙ c.page.ensures.value)
-        (ap (λ s. display s None) c.tune-receiver.ensures.state)
-        c.old_page.ensures
-        (c.in-Err.ensures.exact frames unread bytes told reads
-        (did_not_rise (is_failed_read c.in-Err.fault) _ _ c.in-Err.ensures.count same)) tt,
-    rw c.told_of_listen.ensures at c.print_told.ensures.printed,
-  );
-  read = λ other. (
-    c.in-Err.fault,
-    c.in-Err.ensures.failed
-        (did_rise (is_failed_read c.in-Err.fault) _ _ c.in-Err.ensures.count other),
-    rw c.told_of_listen.ensures at c.print_told.ensures.printed,
-  );
-}
+pub returns-in-Err-clause-exact : goal.returns-in-Err-clause-exact
+returns-in-Err-clause-exact g c =
+    let counted = c.in-Err.ensures.count in
+    let risen : g.S.Source.failure_count c.find.new.source
+    ≡ g.S.Source.failure_count c.args.pes.now + 1 = omega (arith, counted) in
+    record {
+      number = c.in-Err.at.pes;
+      starts = λ n is. inr (c.in-Err.ensures.before n is, (risen, c.in-Err.ensures.kept));
+      heard =
+          none_heard _ _ c.in-Err.at.pes
+          (source_call g.S.Source.remaining g.S.Source.failure_count c.args.pes.now
+          c.find.new.source)
+          _ _ c.in-Err.ensures.kept risen
+          (rw c.told_of_failed_read.ensures at c.print_told.ensures.printed);
+    }

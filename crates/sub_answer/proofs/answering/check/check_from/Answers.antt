@@ -1,0 +1,18 @@
+-- What is read once the first PES packet was found, and where the source failed before.
+use Rattle.std.proofs.Common.{◌≡◌}
+use Rattle.sub_listing.proofs.FirstPacketLemmas.{fails_first_packet, fails_packet_kept}
+use Rattle.sub_answer.proofs.AnsweringLemmas.{no_piece_read}
+use Rattle.sub_answer.proofs.answering.check.check_from.Goals as goal
+
+pub returns-in-Ok-clause-read : goal.returns-in-Ok-clause-read
+returns-in-Ok-clause-read g c = λ index is.
+    fails_packet_kept index _ _ _ c.in-Ok.ensures.kept (c.check.ensures.read index is)
+
+pub returns-in-Err-clause-within : goal.returns-in-Err-clause-within
+returns-in-Err-clause-within g c = λ bytes told.
+    no_piece_read c.args.programme.now c.args.options.now bytes
+
+pub returns-in-Err-clause-read : goal.returns-in-Err-clause-read
+returns-in-Err-clause-read g c = λ index is.
+    let first : index ≡ 0 = cc in
+    rw first (fails_first_packet _ _ c.in-Err.ensures.kept)

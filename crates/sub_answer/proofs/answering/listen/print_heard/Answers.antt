@@ -1,0 +1,49 @@
+-- What is printed is that of the run; by listens_from.
+use Rattle.std.proofs.Common.{None, refl, ◌∙◌, ap, arith, Ok, Err}
+use Rattle.ttx_page.specs.Screen.{display}
+use Rattle.sub_listen.specs.Run.{is_failed_read}
+use Rattle.sub_answer.specs.ListenListing.{listing_of}
+use Rattle.sub_answer.proofs.ListenListingLemmas.{listens_from}
+use Rattle.sub_listing.proofs.PrintingLemmas.{did_not_rise, did_rise}
+use Rattle.sub_answer.proofs.answering.listen.print_heard.Goals as goal
+
+pub returns-in-Ok-clause-exact : goal.returns-in-Ok-clause-exact
+returns-in-Ok-clause-exact g c = record {
+  exact = λ frames unread bytes told reads same. (
+    listing_of c.args.first c.asks_complete.result
+        (display (g.R.Receiver.state c.listen.new.receiver) c.listen.new.screen) (Ok tt),
+    listens_from _ c.args.listening.now c.args.first frames unread _ _ _ _ _ (Ok tt) c.old_page.result
+        c.asks_complete.result c.asks_complete.ensures.value
+        (c.tune-receiver.ensures.tuned ∙ c.page.ensures.value)
+        (ap (λ s. display s None) c.tune-receiver.ensures.state)
+        c.old_page.ensures (c.in-Ok.ensures.exact frames unread bytes told reads refl)
+        c.print_state.ensures.page,
+    c.print_state.ensures.printed,
+  );
+  read = λ other.
+      let counted = c.in-Ok.ensures.count in absurd (other (omega (arith, counted)));
+}
+
+pub returns-clause-exact : goal.returns-clause-exact
+returns-clause-exact g c = record {
+  exact = λ frames unread bytes told reads same. (
+    listing_of c.args.first c.args.listening.now.options.asks_complete
+        (display (g.R.Receiver.state c.listen.new.receiver) c.listen.new.screen)
+        (Err c.in-Err.fault),
+    listens_from _ c.args.listening.now c.args.first frames unread _ _ _ _ _ (Err c.in-Err.fault)
+        c.old_page.result
+        c.args.listening.now.options.asks_complete refl
+        (c.tune-receiver.ensures.tuned ∙ c.page.ensures.value)
+        (ap (λ s. display s None) c.tune-receiver.ensures.state)
+        c.old_page.ensures
+        (c.in-Err.ensures.exact frames unread bytes told reads
+        (did_not_rise (is_failed_read c.in-Err.fault) _ _ c.in-Err.ensures.count same)) tt,
+    rw (c.counted_from.ensures, c.told_of_listen.ensures) at c.print_told.ensures.printed,
+  );
+  read = λ other. (
+    c.in-Err.fault,
+    c.in-Err.ensures.failed
+        (did_rise (is_failed_read c.in-Err.fault) _ _ c.in-Err.ensures.count other),
+    rw (c.counted_from.ensures, c.told_of_listen.ensures) at c.print_told.ensures.printed,
+  );
+}

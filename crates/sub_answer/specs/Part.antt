@@ -1,0 +1,55 @@
+-- Which PES packets of a file a request reads: all of a file of PES packets, or what the packets of
+-- a PID of a transport stream carry (ISO/IEC 13818-1); and of these all or some.
+use Rattle.std.specs.Prelude.{◌≡◌, ℕ, List, Option, Some, None, option_map}
+use Rattle.mpeg_ts.specs.Carried.{carried}
+use Rattle.mpeg_ts.specs.PacketSize.{bytes_of}
+use Rattle.ttx_pes.specs.PieceRange.{PieceRangeValue, first_index, in_range}
+use Rattle.sub_request.specs.declared.pes_packets.TransportStream.{TransportStream}
+use Rattle.sub_request.specs.declared.request.Request.{Request}
+use Rattle.sub_request.specs.declared.request.Request.TheVariants as ask
+use Rattle.sub_answer.specs.Answering.{InputCall}
+use Rattle.sub_answer.specs.declared.part.Part.{Part}
+
+-- All of a file that is no transport stream.
+abbrev pub whole_file : Part
+whole_file = record { stream = None; range = None }
+
+-- What a request reads of its PES file, or of its recording.
+abbrev pub part_of : Request → Part
+part_of (ask.Packets pes) = record { stream = pes.stream; range = pes.range }
+part_of (ask.Check stl pes options national all) =
+    record { stream = pes.stream; range = pes.range }
+part_of (ask.Listen pes listening) = record { stream = pes.stream; range = pes.range }
+part_of (ask.Extract recording pes stream) = record { stream = Some stream; range = None }
+part_of _ = whole_file
+
+-- What a transport stream carries, where the file is one, of the bytes that are told of the file.
+abbrev pub through_stream : Option TransportStream → Option (List ℕ) → Option (List ℕ)
+through_stream None told = told
+through_stream (Some s) told = option_map (carried s.pid (bytes_of s.packet_size)) told
+
+-- The PES packets of a range, where one is given.
+abbrev pub through_range : Option PieceRangeValue → Option (List ℕ) → Option (List ℕ)
+through_range None told = told
+through_range (Some r) told = option_map (in_range r) told
+
+-- The number that the first of them has among all that the file or the stream gives.
+abbrev pub number_in : Option PieceRangeValue → Option (List ℕ) → Option ℕ
+number_in None told = Some 0
+number_in (Some r) told = option_map (first_index r) told
+
+-- A source of this part of what another one gives, in a call, by what is told of that one and how
+-- often it has failed.
+pub record IsPartOf
+    {D : Type 0} (part : Part) (remaining : D → Option (List ℕ)) (failure_count : D → ℕ)
+    (whole : D) (input : InputCall)
+    : Type 0 where
+  pub left : D
+  pub told :
+      input.call.told
+      ≡ through_range part.range (through_stream part.stream (remaining whole))
+  pub number : input.number ≡ number_in part.range (through_stream part.stream (remaining whole))
+  pub old_count : input.call.old_count ≡ failure_count whole
+  pub new_count : input.call.new_count ≡ failure_count left
+  -- Where that is all, the same is left of both.
+  pub left_is : part ≡ whole_file → input.call.left ≡ remaining left

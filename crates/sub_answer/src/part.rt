@@ -1,0 +1,50 @@
+//! Which PES packets of a file a request reads.
+ghost use Rattle.std.specs.Prelude.{◌≡◌};
+ghost use Rattle.sub_answer.specs.Part as specs;
+
+use sub_request::{Request, TransportStream};
+use ttx_pes::PieceRange;
+
+/// What is read of a file of PES packets, or of a recording.
+#[derive(Clone, Copy)]
+pub struct Part {
+    /// The transport packets that carry the PES packets. `None` where they stand in the file.
+    pub stream: Option<TransportStream>,
+    /// Which of them. `None` for all.
+    pub range: Option<PieceRange>,
+}
+
+/// What a request reads of its PES file, or of its recording; all of any other file.
+pub fn part_of(request: &Request<'_>) -> Part
+    ensures { result ≡ specs.part_of request.now }
+{
+    match request {
+        Request::Packets { pes } => Part {
+            stream: pes.stream,
+            range: pes.range,
+        },
+        Request::Check { pes, .. } => Part {
+            stream: pes.stream,
+            range: pes.range,
+        },
+        Request::Listen { pes, .. } => Part {
+            stream: pes.stream,
+            range: pes.range,
+        },
+        Request::Extract { stream, .. } => Part {
+            stream: Some(*stream),
+            range: None,
+        },
+        _ => whole_file(),
+    }
+}
+
+/// All of a file that is no transport stream.
+pub fn whole_file() -> Part
+    ensures { result ≡ specs.whole_file }
+{
+    Part {
+        stream: None,
+        range: None,
+    }
+}

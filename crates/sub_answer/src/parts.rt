@@ -1,0 +1,121 @@
+//! Answers a request over a part of what a source gives: the source of that part is made here, of one
+//! type for each of the four ways, so that a whole file costs nothing.
+ghost use Rattle.std.specs.Prelude.{◌≡◌, ⊤, Some, []};
+ghost use Rattle.sub_io.specs.Buffered.{failures_and_refused};
+ghost use Rattle.sub_io.specs.Device.{CanFail};
+ghost use Rattle.sub_answer.specs.Answering.{input_call};
+ghost use Rattle.sub_answer.specs.Ending.{EndsWith, IsClosedAfter, IsEmptyFile, IsEmptySource};
+ghost use Rattle.sub_answer.specs.Ending.{lines_in, lines_of};
+ghost use Rattle.sub_answer.specs.Part.{IsPartOf};
+
+use crate::ending::{answer_pair, answer_with_file};
+use crate::handing_on::HandOn;
+use crate::part::Part;
+use mpeg_ts::PesSource;
+use std::alloc::Global;
+use sub_io::{BufferedSink, Close, Sink, Source};
+use sub_listing::{PartOfFile, Status, WholeFile};
+use sub_request::Request;
+use ttx_pes::RangeSource;
+
+/// Answers a request that reads a part of one source, and may write a file.
+pub fn answer_part<S: Source + Drop, F: Close, O: HandOn<F>>(
+    alloc: Global,
+    request: &Request<'_>,
+    part: Part,
+    whole: S,
+    file: &mut BufferedSink<'_, F>,
+    out: &mut O,
+) -> Status
+    requires first { CanFail (S.failure_count whole) }
+    requires file { (failures_and_refused (F.failure_count file.old.device) file.old.refused ≡ 0)
+        × (file.old.held ≡ []) }
+    requires out { O.failure_count out.old ≡ 0 }
+    ensures { EndsWith request.now (IsPartOf part S.remaining S.failure_count whole)
+        IsEmptySource ⊤
+        (IsClosedAfter F.contents F.failure_count F.is_close file.old file.new)
+        (lines_in O.contents O.held_back O.failure_count out.old)
+        (lines_in O.contents O.held_back O.failure_count out.new) result }
+{
+    match (part.stream, part.range) {
+        (None, None) => {
+            let mut first = whole;
+            answer_with_file::<WholeFile, S, F, O>(alloc, request, &mut first, file, out)
+        }
+        (Some(stream), None) => {
+            let mut first = PesSource::new(whole, stream.pid, stream.packet_size);
+            answer_with_file::<WholeFile, PesSource<S>, F, O>(alloc, request, &mut first, file, out)
+        }
+        (None, Some(range)) => {
+            let mut first = RangeSource::new(whole, range);
+            answer_with_file::<PartOfFile, RangeSource<S>, F, O>(
+                alloc, request, &mut first, file, out,
+            )
+        }
+        (Some(stream), Some(range)) => {
+            let carried = PesSource::new(whole, stream.pid, stream.packet_size);
+            let mut first = RangeSource::new(carried, range);
+            answer_with_file::<PartOfFile, RangeSource<PesSource<S>>, F, O>(
+                alloc, request, &mut first, file, out,
+            )
+        }
+    }
+}
+
+/// Answers a request that reads a source and a part of another one.
+pub fn answer_second_part<S: Source, T: Source + Drop, K: Sink>(
+    alloc: Global,
+    request: &Request<'_>,
+    first: &mut S,
+    part: Part,
+    whole: T,
+    out: &mut BufferedSink<'_, K>,
+) -> Status
+    requires first { CanFail (S.failure_count first.old) }
+    requires second { CanFail (T.failure_count whole) }
+    requires out { failures_and_refused (K.failure_count out.old.device) out.old.refused ≡ 0 }
+    ensures { EndsWith request.now
+        (λ input. input
+        ≡ input_call S.remaining S.failure_count (λ s. Some 0) first.old first.new)
+        (IsPartOf part T.remaining T.failure_count whole) ⊤ IsEmptyFile
+        (lines_of K.contents K.failure_count out.old)
+        (lines_of K.contents K.failure_count out.new) result }
+{
+    match (part.stream, part.range) {
+        (None, None) => {
+            let mut second = whole;
+            answer_pair::<WholeFile, WholeFile, S, T, K>(alloc, request, first, &mut second, out)
+        }
+        (Some(stream), None) => {
+            let mut second = PesSource::new(whole, stream.pid, stream.packet_size);
+            answer_pair::<WholeFile, WholeFile, S, PesSource<T>, K>(
+                alloc,
+                request,
+                first,
+                &mut second,
+                out,
+            )
+        }
+        (None, Some(range)) => {
+            let mut second = RangeSource::new(whole, range);
+            answer_pair::<WholeFile, PartOfFile, S, RangeSource<T>, K>(
+                alloc,
+                request,
+                first,
+                &mut second,
+                out,
+            )
+        }
+        (Some(stream), Some(range)) => {
+            let carried = PesSource::new(whole, stream.pid, stream.packet_size);
+            let mut second = RangeSource::new(carried, range);
+            answer_pair::<WholeFile, PartOfFile, S, RangeSource<PesSource<T>>, K>(
+                alloc,
+                request,
+                first,
+                &mut second,
+                out,
+            )
+        }
+    }
+}

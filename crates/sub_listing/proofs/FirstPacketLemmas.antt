@@ -1,0 +1,232 @@
+-- What was read of a source after its first PES packet was found. Main lemmas: prints_found,
+-- prints_failed.
+use Rattle.std.proofs.Common.{◌≡◌, refl, sym, inl, inr, arith, ℕ, ◌+◌, ◌≤◌, List, [], Bool}
+use Rattle.std.proofs.Common.{Option, Some, None}
+use Rattle.std.specs.Io.KnownBytes.{Consumes, Keeps}
+use Rattle.ttx_pes.specs.Outcome.{PesOutcome, ReadsPackets, ends, fails, gives}
+use Rattle.ttx_pes.specs.PesPacket.{PesValue}
+use Rattle.ttx_pes.specs.Reader.{FailsAtPacket, FailsWithin, TakesPackets, TakesPesPacket}
+use Rattle.ttx_pes.specs.Reader.{TakesRefused}
+use Rattle.ttx_pes.specs.declared.fault.PesFault.{PesFault}
+use Rattle.ttx_pes.specs.declared.fault.PesFault.TheVariants.{Read}
+use Rattle.sub_rules.specs.Pieces.{FailsAtPiece}
+use Rattle.sub_rules.specs.declared.fault.CheckFault.TheVariants.{Pes}
+use Rattle.sub_listing.specs.DeviceCall.{SinkCall, SourceCall}
+use Rattle.sub_listing.specs.Faults.{check_told}
+use Rattle.sub_listing.specs.FirstPacket.{PrintsFrom}
+use Rattle.sub_listing.specs.Listing.{PrintsListing, PrintsOrFails, told_listing}
+use Rattle.sub_listing.specs.PacketsListing.{ListsPackets, pes_listing}
+use Rattle.sub_listing.specs.Told.{told_from}
+use Rattle.sub_listing.specs.declared.status.Status.{Status}
+use Rattle.sub_listing.specs.declared.status.Status.TheVariants.{Fault}
+
+-- ---- a source that keeps what it tells
+
+-- What it told it tells then.
+pub told_kept : (old mid : Option (List ℕ)) (bytes : List ℕ)
+    → Keeps old mid
+    → old ≡ Some bytes
+    → mid ≡ Some bytes
+told_kept None mid bytes kept told = cc
+told_kept (Some x) None bytes kept told = absurd kept
+told_kept (Some x) (Some y) bytes kept told = cc
+
+-- What is taken of it then is taken of it.
+pub consumed_kept : (old mid new : Option (List ℕ)) (bytes : List ℕ)
+    → Keeps old mid
+    → Consumes mid new bytes
+    → Consumes old new bytes
+consumed_kept None mid new bytes kept taken = tt
+consumed_kept (Some x) None new bytes kept taken = absurd kept
+consumed_kept (Some x) (Some y) new bytes kept taken = rw (sym kept) taken
+
+-- Nothing was taken of one that keeps what it tells.
+pub consumed_none : (old new : Option (List ℕ)) → Keeps old new → Consumes old new []
+consumed_none None new kept = tt
+consumed_none (Some x) None kept = absurd kept
+consumed_none (Some x) (Some y) kept = sym kept
+
+within_kept : (old mid new : Option (List ℕ))
+    → Keeps old mid
+    → FailsWithin mid new
+    → FailsWithin old new
+within_kept old mid new kept f = record {
+  bytes = f.bytes;
+  consumed = consumed_kept old mid new f.bytes kept f.consumed;
+  begun = f.begun;
+}
+
+packet_kept : (old mid new : Option (List ℕ)) (v : PesValue)
+    → Keeps old mid
+    → TakesPesPacket mid new v
+    → TakesPesPacket old new v
+packet_kept old mid new v kept t = record {
+  bytes = t.bytes;
+  is_packet = t.is_packet;
+  consumed = consumed_kept old mid new t.bytes kept t.consumed;
+}
+
+refused_kept : (old mid new : Option (List ℕ)) (f : PesFault)
+    → Keeps old mid
+    → TakesRefused mid new f
+    → TakesRefused old new f
+refused_kept old mid new f kept t = record {
+  bytes = t.bytes;
+  consumed = consumed_kept old mid new t.bytes kept t.consumed;
+  refused = t.refused;
+}
+
+-- PES packets that are taken of it then are taken of it.
+pub packets_kept : (n : ℕ) (old mid new : Option (List ℕ))
+    → Keeps old mid
+    → TakesPackets n mid new
+    → TakesPackets n old new
+packets_kept n old mid new kept t = record {
+  packets = t.packets;
+  number = t.number;
+  each = t.each;
+  consumed = consumed_kept old mid new _ kept t.consumed;
+}
+
+pub fails_packet_kept : (n : ℕ) (old mid new : Option (List ℕ))
+    → Keeps old mid
+    → FailsAtPacket n mid new
+    → FailsAtPacket n old new
+fails_packet_kept n old mid new kept f = record {
+  behind = f.behind;
+  before = packets_kept n old mid f.behind kept f.before;
+  within = f.within;
+}
+
+pub fails_piece_kept : (n : ℕ) (old mid new : Option (List ℕ))
+    → Keeps old mid
+    → FailsAtPiece n mid new
+    → FailsAtPiece n old new
+fails_piece_kept n old mid new kept f = record {
+  behind = f.behind;
+  before = record {
+    pieces = f.before.pieces;
+    number = f.before.number;
+    each = f.before.each;
+    consumed = consumed_kept old mid f.behind _ kept f.before.consumed;
+  };
+  within = f.within;
+}
+
+-- ---- a source that failed before anything was taken
+
+pub fails_within_first : (old new : Option (List ℕ)) → Keeps old new → FailsWithin old new
+fails_within_first old new kept = record {
+  bytes = [];
+  consumed = consumed_none old new kept;
+  begun = inl (omega arith);
+}
+
+pub fails_first_packet : (old new : Option (List ℕ)) → Keeps old new → FailsAtPacket 0 old new
+fails_first_packet old new kept = record {
+  behind = new;
+  before = record {
+    packets = [];
+    number = refl;
+    each = tt;
+    consumed = consumed_none old new kept;
+  };
+  within = fails_within_first new new (keeps_same new);
+}
+  where
+    keeps_same : (x : Option (List ℕ)) → Keeps x x
+    keeps_same None = tt
+    keeps_same (Some x) = refl
+
+pub fails_first_piece : (old new : Option (List ℕ)) → Keeps old new → FailsAtPiece 0 old new
+fails_first_piece old new kept = record {
+  behind = new;
+  before = record {
+    pieces = [];
+    number = refl;
+    each = tt;
+    consumed = consumed_none old new kept;
+  };
+  within = fails_within_first new new (keeps_same new);
+}
+  where
+    keeps_same : (x : Option (List ℕ)) → Keeps x x
+    keeps_same None = tt
+    keeps_same (Some x) = refl
+
+-- ---- what is listed
+
+reads_kept : (failed : Bool) (old mid : Option (List ℕ)) (o : PesOutcome) (left : Option (List ℕ))
+    → Keeps old mid
+    → ReadsPackets failed mid o left
+    → ReadsPackets failed old o left
+reads_kept failed old mid ends left kept reads = reads
+reads_kept failed old mid (fails f) left kept reads = (
+  reads.0,
+  λ is. within_kept old mid left kept (reads.1 is),
+  λ is. refused_kept old mid left f kept (reads.2 is),
+)
+reads_kept failed old mid (gives v more) left kept reads =
+    (reads.0, packet_kept old mid reads.0 v kept reads.1, reads.2)
+
+-- PES packets were listed once the first was found. For `list_packets`.
+pub prints_found : (first : Option ℕ) (number : ℕ) (old mid left : Option (List ℕ))
+    (old_count mid_count new_count : ℕ) (out : SinkCall) (status : Status)
+    → ((n : ℕ) → first ≡ Some n → number ≡ n)
+    → Keeps old mid
+    → mid_count ≡ old_count
+    → PrintsListing (ListsPackets number)
+    (record { told = mid; left = left; old_count = mid_count; new_count = new_count }) out status
+    → PrintsFrom ListsPackets first
+    (record { told = old; left = left; old_count = old_count; new_count = new_count }) out status
+prints_found
+    first number old mid left old_count mid_count new_count out status found kept same prints =
+    record {
+      number = number;
+      starts = λ n is. inl (found n is);
+      prints = record {
+        ending = prints.ending;
+        listing = prints.listing;
+        is_listed = record {
+          outcome = prints.is_listed.outcome;
+          listing_is = prints.is_listed.listing_is;
+          exact = λ bytes told. prints.is_listed.exact bytes (told_kept old mid bytes kept told);
+          taken = λ other.
+              reads_kept _ old mid prints.is_listed.outcome left kept
+              (prints.is_listed.taken other);
+        };
+        source_count = rw (sym same) prints.source_count;
+        cut = prints.cut;
+        printed = prints.printed;
+      };
+    }
+
+-- The source failed before. For `list_packets`.
+pub prints_failed : (first : Option ℕ) (number : ℕ) (source : SourceCall) (out : SinkCall)
+    (status : Status)
+    → ((n : ℕ) → first ≡ Some n → number ≤ n)
+    → Keeps source.told source.left
+    → source.new_count ≡ source.old_count + 1
+    → PrintsOrFails out (told_listing (told_from number (check_told (Pes 0 Read)))) status
+    → PrintsFrom ListsPackets first source out status
+prints_failed first number source out status before kept risen printed = record {
+  number = number;
+  starts = λ n is. inr (before n is, (risen, kept));
+  prints = record {
+    ending = Some Fault;
+    listing = pes_listing number 0 (fails Read);
+    is_listed = record {
+      outcome = fails Read;
+      listing_is = refl;
+      exact = λ bytes told ok. cc;
+      taken = λ other. (
+        refl,
+        λ is. fails_within_first source.told source.left kept,
+        λ is. cc,
+      );
+    };
+    source_count = risen;
+    cut = λ is. cc;
+    printed = printed;
+  };
+}

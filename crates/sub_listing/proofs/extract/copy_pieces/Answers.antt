@@ -1,0 +1,85 @@
+-- The pieces so far and one more: no_pieces, next_copied; and how it ended: pieces_given, none_given,
+-- rest_refused, rest_cut, part_copied, too_many.
+use Rattle.std.proofs.Common.{arith, rules}
+use Rattle.sub_listing.proofs.ExtractingLemmas.{next_copied, no_pieces, none_given, part_copied}
+use Rattle.sub_listing.proofs.ExtractingLemmas.{part_kept, pieces_given, rest_cut, rest_refused}
+use Rattle.sub_listing.proofs.ExtractingLemmas.{too_many}
+use Rattle.sub_listing.proofs.extract.copy_pieces.Goals as goal
+
+pub pieces-init : goal.pieces-init
+pieces-init g c = record {
+  source = search rules;
+  file = search rules;
+  held = λ none. none;
+  handed_on = λ some. absurd (omega (arith, some));
+  few = omega arith;
+  copied = λ bytes told. no_pieces bytes _ _ told;
+}
+
+pub returns-then-pes-eq0-clause-extracts : goal.returns-then-pes-eq0-clause-extracts
+returns-then-pes-eq0-clause-extracts g c = λ bytes told.
+    let so_far = c.pieces.invariant.copied bytes told in
+    let next = c.in-Ok-End.ensures.told _ so_far.left_is in
+    let here = rw c.in-Ok-End.field-0-is at next in
+    none_given bytes _ _ _ _ _ _ so_far here.0 here.1 c.if-pes-eq0.true
+
+pub returns-in-Ok-End-clause-extracts : goal.returns-in-Ok-End-clause-extracts
+returns-in-Ok-End-clause-extracts g c = λ bytes told.
+    let so_far = c.pieces.invariant.copied bytes told in
+    let next = c.in-Ok-End.ensures.told _ so_far.left_is in
+    let here = rw c.in-Ok-End.field-0-is at next in
+    pieces_given bytes _ _ _ _ _ _ so_far here.0 here.1 (omega arith)
+
+pub returns-in-Ok-clause-extracts : goal.returns-in-Ok-clause-extracts
+returns-in-Ok-clause-extracts g c = λ bytes told.
+    let so_far = c.pieces.invariant.copied bytes told in
+    let here = rw c.in-Ok-Rest.field-0-is at (c.in-Ok-Rest.ensures.told _ so_far.left_is) in
+    rest_refused bytes _ _ _ _ _ _ _ _ here.0 _ so_far here.1 here.2
+    (c.in-Ok.ensures.told _ here.2.left_is)
+
+pub returns-in-Err-Read-copy_rest-clause-extracts :
+    goal.returns-in-Err-Read-copy_rest-clause-extracts
+returns-in-Err-Read-copy_rest-clause-extracts g c = λ bytes told.
+    let so_far = c.pieces.invariant.copied bytes told in
+    let here = rw c.in-Ok-Rest.field-0-is at (c.in-Ok-Rest.ensures.told _ so_far.left_is) in (
+      so_far.number,
+      rest_cut bytes _ _ _ _ _ _ _ _ here.0 so_far here.2
+          (c.in-Err-Read-copy_rest.ensures.told _ here.2.left_is),
+    )
+
+pub returns-in-Err-Write-copy_rest-clause-extracts :
+    goal.returns-in-Err-Write-copy_rest-clause-extracts
+returns-in-Err-Write-copy_rest-clause-extracts g c = λ bytes told.
+    let so_far = c.pieces.invariant.copied bytes told in
+    let here = rw c.in-Ok-Rest.field-0-is at (c.in-Ok-Rest.ensures.told _ so_far.left_is) in
+    rest_cut bytes _ _ _ _ _ _ _ _ here.0 so_far here.2
+    (c.in-Err-Write-copy_rest.ensures.told _ here.2.left_is)
+
+pub returns-in-Err-Read-clause-extracts : goal.returns-in-Err-Read-clause-extracts
+returns-in-Err-Read-clause-extracts g c = λ bytes told.
+    let so_far = c.pieces.invariant.copied bytes told in
+    let here = rw c.in-Err-Read.field-0-is at (c.in-Err-Read.ensures.told _ so_far.left_is) in
+    (so_far.number, part_kept bytes _ _ _ _ _ _ so_far here)
+
+pub returns-in-Err-Write-clause-extracts : goal.returns-in-Err-Write-clause-extracts
+returns-in-Err-Write-clause-extracts g c = λ bytes told.
+    let so_far = c.pieces.invariant.copied bytes told in
+    let here = rw c.in-Err-Write.field-0-is at (c.in-Err-Write.ensures.told _ so_far.left_is) in
+    part_copied bytes _ _ _ _ _ _ so_far here
+
+pub pieces-preserved : goal.pieces-preserved
+pieces-preserved g c = record {
+  source = search rules;
+  file = search rules;
+  held = search rules;
+  handed_on = λ some. search rules;
+  few = search rules;
+  copied = λ bytes told.
+      let so_far = c.pieces.invariant.copied bytes told in
+      let here = rw c.in-Ok-Piece.field-0-is at (c.in-Ok-Piece.ensures.told _ so_far.left_is) in
+      next_copied bytes _ _ _ _ _ _ _ _ here.0 so_far here.1 here.3 (search rules);
+}
+
+pub returns-clause-extracts : goal.returns-clause-extracts
+returns-clause-extracts g c = λ bytes told.
+    too_many bytes _ _ _ _ _ _ (c.pieces.invariant.copied bytes told) (omega arith)

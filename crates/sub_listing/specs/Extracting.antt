@@ -1,0 +1,134 @@
+-- What `extract` writes and tells of the bytes that a source gives: PES packets and marks, one after
+-- another, and what follows them.
+use Rattle.std.specs.Prelude.{◌≡◌, ℕ, zero, suc, ◌+◌, ◌<◌, ◌==◌, ◌&&◌, nat_le, nat_lt, Bool}
+use Rattle.std.specs.Prelude.{true, false, List, [], ◌++◌, codes, decimal, length, take, drop}
+use Rattle.std.specs.Prelude.{Option, Some, None, Result, Ok, Err, if◌then◌else◌}
+use Rattle.std.specs.Io.KnownBytes.{Appends, Keeps}
+use Rattle.sub_io.specs.Device.{AppendsPrefix, RisesIf, failed}
+use Rattle.sub_io.specs.Reading.{IfTold}
+use Rattle.ttx_pes.specs.PesPacket.{payload_size}
+use Rattle.ttx_pes.specs.PieceRange.{behind_pieces, by_piece, count_pieces, piece_size}
+use Rattle.ttx_pes.specs.Reading.{is_mark, size_at}
+use Rattle.ttx_pes.specs.declared.fault.PesFault.{PesFault}
+use Rattle.ttx_pes.specs.declared.fault.PesFault.TheVariants as pes
+use Rattle.sub_rules.specs.declared.fault.CheckFault.TheVariants as check
+use Rattle.sub_rules.specs.declared.fault_place.FaultPlace.TheVariants.{Nowhere}
+use Rattle.ttx_pes.specs.Fault.{is_read, pes_code}
+use Rattle.sub_listing.specs.DeviceCall.{SinkCall, SourceCall}
+use Rattle.sub_listing.specs.Faults.{check_told}
+use Rattle.sub_listing.specs.Listing.{Listing, PrintsOrFails, done, told_listing}
+use Rattle.sub_listing.specs.Told.{told_as, told_from}
+use Rattle.sub_listing.specs.declared.extract.ExtractFault.{ExtractFault}
+use Rattle.sub_listing.specs.declared.extract.ExtractFault.TheVariants.{Empty, Read, Refused, Write}
+use Rattle.sub_listing.specs.declared.extract.Extracted.{Extracted}
+use Rattle.sub_listing.specs.declared.told.Kind.TheVariants as kind
+use Rattle.sub_listing.specs.declared.told.Told.{Told}
+use Rattle.sub_listing.specs.declared.status.Status.{Status}
+
+-- ---- what the bytes are
+
+-- The piece of this size that begins bytes is a mark: 184 bytes, of which all from byte 6 on are
+-- FF.
+abbrev pub begins_with_mark : ℕ → List ℕ → Bool
+begins_with_mark size b = (size == payload_size) && is_mark (drop 6 (take size b))
+
+-- How many of the first n pieces are marks.
+unfoldable pub count_marks : ℕ → List ℕ → ℕ
+count_marks zero b = 0
+count_marks (suc n) b =
+    by_piece (piece_size b)
+    (λ size. (if begins_with_mark size b then 1 else 0) + count_marks n (drop size b)) 0
+
+-- So many bytes, whose first six tell this size, or that they are no start of a PES packet: why no
+-- piece begins them.
+abbrev pub refusal_by : ℕ → Result ℕ PesFault → Option PesFault
+refusal_by count (Err f) = Some f
+refusal_by count (Ok size) = if nat_le size count then None else Some pes.Truncated
+
+-- Why no piece begins bytes, where there are any.
+unfoldable pub refusal_at : List ℕ → Option PesFault
+refusal_at b =
+    if length b == 0 then None
+    else if nat_lt (length b) 6 then Some pes.Truncated
+    else refusal_by (length b) (size_at (take 6 b))
+
+-- The greatest number that is counted to.
+abbrev pub most_pieces : ℕ
+most_pieces = 0xFFFF_FFFF_FFFF_FFFF
+
+-- ---- what is written
+
+-- The source failed.
+abbrev pub is_extract_read : ExtractFault → Bool
+is_extract_read (Read pes) = true
+is_extract_read _ = false
+
+-- What is no PES packet is told as a source that failed: that is never so.
+abbrev pub tells_refused_read : ExtractFault → Bool
+tells_refused_read (Refused f pes) = is_read f
+tells_refused_read _ = false
+
+-- The file failed.
+abbrev pub is_extract_write : ExtractFault → Bool
+is_extract_write Write = true
+is_extract_write _ = false
+
+-- The bytes fall into pieces, `gaps` marks among them: so many are given, and the file has taken all
+-- bytes.
+pub record AreGiven (bytes : List ℕ) (old new : Option (List ℕ)) (pes gaps : ℕ) : Type 0 where
+  pub pieces : count_pieces pes bytes ≡ pes
+  pub whole : behind_pieces pes bytes ≡ []
+  pub marks : gaps ≡ count_marks pes bytes
+  pub some : 0 < pes
+  pub written : Appends old new bytes
+
+-- Behind so many pieces the bytes are refused for this fault, and the file has taken all bytes; or
+-- there are more of them than are counted to, and it has taken some.
+pub record AreRefused
+    (bytes : List ℕ) (old new : Option (List ℕ)) (f : PesFault) (pes : ℕ) : Type 0 where
+  pub pieces : count_pieces pes bytes ≡ pes
+  pub taken : AppendsPrefix old new bytes
+  pub written : length bytes < most_pieces → Appends old new bytes
+  pub refused :
+      length bytes < most_pieces → refusal_at (behind_pieces pes bytes) ≡ Some f
+
+-- What the file has taken of the bytes that the source told, and the answer. Where a device failed,
+-- it is a prefix of them; where that is the source, `pes` pieces were given, and then as many begin
+-- the bytes.
+abbrev pub Extracts :
+    Option (List ℕ) → Option (List ℕ) → Option (List ℕ) → Result Extracted ExtractFault → Type 0
+Extracts told old new (Ok e) = IfTold told (λ bytes. AreGiven bytes old new e.pes e.gaps)
+Extracts told old new (Err Empty) = IfTold told (λ bytes. (bytes ≡ []) × Keeps old new)
+Extracts told old new (Err (Refused f n)) = IfTold told (λ bytes. AreRefused bytes old new f n)
+Extracts told old new (Err (Read n)) =
+    IfTold told (λ bytes. (count_pieces n bytes ≡ n) × AppendsPrefix old new bytes)
+Extracts told old new (Err Write) = IfTold told (AppendsPrefix old new)
+
+-- ---- what is printed
+
+-- How many PES packets and marks were given, and how many of them are marks.
+abbrev pub written_line : Extracted → List ℕ
+written_line e =
+    codes "written " ++ decimal e.pes ++ codes " pes " ++ decimal e.gaps ++ codes " gaps\n"
+
+-- What is told of a fault: that the source failed, or what is no PES packet, at the PES packet that
+-- was read.
+abbrev pub extract_told : ExtractFault → Told
+extract_told (Read n) = told_from n (check_told (check.Pes 0 pes.Read))
+extract_told Write = told_as kind.Fault (pes_code pes.Write) Nowhere
+extract_told Empty = check_told check.Empty
+extract_told (Refused f n) = told_from n (check_told (check.Pes 0 f))
+
+-- What is printed.
+abbrev pub extract_listing : Result Extracted ExtractFault → Listing
+extract_listing (Ok e) = done (written_line e)
+extract_listing (Err f) = told_listing (extract_told f)
+
+-- A file was written of what a source gave, and its line was printed.
+pub record EndsExtract (source : SourceCall) (file out : SinkCall) (status : Status) : Type 0 where
+  pub answer : Result Extracted ExtractFault
+  pub extracts : Extracts source.told file.old file.new answer
+  -- The devices fail where the answer says so, and nowhere else.
+  pub source_count : RisesIf source.old_count (failed is_extract_read answer) source.new_count
+  pub file_count : RisesIf file.old_count (failed is_extract_write answer) file.new_count
+  pub printed : PrintsOrFails out (extract_listing answer) status

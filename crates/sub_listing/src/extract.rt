@@ -1,0 +1,161 @@
+//! `extract TS PES`: writes the PES packets that the packets of a PID of a recording carry.
+ghost use Rattle.std.specs.Prelude.{◌≡◌, ◌+◌, ◌<◌, IfErr, OnOk, false, if◌then◌else◌};
+ghost use Rattle.sub_io.specs.Device.{CountsIf, failed};
+ghost use Rattle.sub_listing.specs.DeviceCall.{CanFail, CountsFault, sink_call, source_call};
+ghost use Rattle.sub_listing.specs.Extracting.{EndsExtract, Extracts, extract_told};
+ghost use Rattle.sub_listing.specs.Extracting.{is_extract_read, is_extract_write};
+ghost use Rattle.sub_listing.specs.Extracting.{tells_refused_read};
+ghost use Rattle.sub_listing.specs.Faults.{check_told};
+ghost use Rattle.sub_listing.specs.Told.{told_from};
+ghost use Rattle.sub_rules.specs.declared.fault.CheckFault.TheVariants.{Pes};
+
+use crate::copying::{Copied, CopyFault, PIECE_ROOM, copy_next, copy_rest};
+use crate::faults::{told_of_check, told_of_file_write};
+use crate::lines::{Line, push_number, push_text};
+use crate::printing::{print_done, print_told};
+use crate::status::Status;
+use crate::told::Told;
+use sub_io::{Flush, Sink, Source};
+use sub_rules::CheckFault;
+use ttx_pes::PesFault;
+
+/// What was written.
+#[derive(Clone, Copy)]
+pub struct Extracted {
+    /// PES packets and marks.
+    pub pes: u64,
+    /// How many of them are marks.
+    pub gaps: u64,
+}
+
+/// Why what was written is no file of PES packets, or not all of it.
+#[derive(Clone, Copy)]
+pub enum ExtractFault {
+    /// The source failed.
+    Read {
+        /// How many PES packets and marks had been given.
+        pes: u64,
+    },
+    /// The file failed.
+    Write,
+    /// Nothing was given.
+    Empty,
+    /// What follows is no PES packet.
+    Refused {
+        /// Why.
+        fault: PesFault,
+        /// How many PES packets and marks had been given.
+        pes: u64,
+    },
+}
+
+/// Writes what a source gives, PES packets and marks one after another, as a source of those of a
+/// PID does (ISO/IEC 13818-1; `PesSource` of `mpeg_ts`), and prints how many there are, and how many
+/// of them are marks; or why what was written is no file of PES packets.
+///
+/// Each is handed on as soon as it has come. Bytes that are no PES packet are written too. `Fault`
+/// where a device failed.
+pub fn extract_packets<S: Source, F: Flush, K: Sink>(
+    source: &mut S,
+    file: &mut F,
+    out: &mut K,
+) -> Status
+    requires source { CanFail (S.failure_count source.old) }
+    requires file { CanFail (F.failure_count file.old) }
+    requires out { CanFail (K.failure_count out.old) }
+    ensures extract { EndsExtract
+        (source_call S.remaining S.failure_count source.old source.new)
+        (sink_call F.contents F.failure_count file.old file.new)
+        (sink_call K.contents K.failure_count out.old out.new) result }
+    ensures source_count { CountsFault S.failure_count source.old result source.new }
+    ensures file_count { CountsFault F.failure_count file.old result file.new }
+    ensures out_count { CountsFault K.failure_count out.old result out.new }
+    ensures fault { result ≡ Status.Fault
+        → S.failure_count source.old + F.failure_count file.old + K.failure_count out.old
+        < S.failure_count source.new + F.failure_count file.new + K.failure_count out.new }
+    ensures held { result ≡ Status.Done → F.held file.new ≡ 0 }
+    // Where the source may have to ask its device, all that was written before is handed on: each
+    // such call may fail, and where one did nothing is held back.
+    ensures followed { F.held file.old ≡ 0
+        → S.failure_count source.old < S.failure_count source.new
+        → F.held file.new ≡ 0 }
+{
+    match copy_pieces(source, file) {
+        Ok(extracted) => {
+            let mut line = Line::new();
+            push_number(&mut line, b"written ", extracted.pes);
+            push_number(&mut line, b" pes ", extracted.gaps);
+            push_text(&mut line, b" gaps\n");
+            print_done(line.as_slice(), out)
+        }
+        Err(fault) => print_told(&told_of_extract(fault), out),
+    }
+}
+
+// Copies all pieces, and what follows them.
+fn copy_pieces<S: Source, F: Flush>(source: &mut S, file: &mut F) -> Result<Extracted, ExtractFault>
+    requires source { CanFail (S.failure_count source.old) }
+    requires file { CanFail (F.failure_count file.old) }
+    ensures extracts { Extracts (S.remaining source.old) (F.contents file.old)
+        (F.contents file.new) result }
+    ensures source_count { CountsIf S.failure_count source.old (failed is_extract_read result)
+        source.new }
+    ensures file_count { CountsIf F.failure_count file.old (failed is_extract_write result)
+        file.new }
+    ensures held { F.held file.old ≡ 0 → failed is_extract_write result ≡ false
+        → F.held file.new ≡ 0 }
+    ensures own { IfErr result (λ f. tells_refused_read f ≡ false) }
+    ensures done { OnOk result (F.held file.new ≡ 0) }
+{
+    let mut room = [0; PIECE_ROOM];
+    let mut gaps = 0;
+    'pieces: for pes in 0..u64::MAX {
+        match copy_next(source, file, &mut room) {
+            Ok(Copied::End) => {
+                if pes == 0 {
+                    return Err(ExtractFault::Empty);
+                }
+                return Ok(Extracted { pes, gaps });
+            }
+            Ok(Copied::Piece { is_mark }) => gaps = counted(gaps, is_mark),
+            Ok(Copied::Rest(fault)) => match copy_rest(source, file, &mut room) {
+                Ok(()) => return Err(ExtractFault::Refused { fault, pes }),
+                Err(CopyFault::Read) => return Err(ExtractFault::Read { pes }),
+                Err(CopyFault::Write) => return Err(ExtractFault::Write),
+            },
+            Err(CopyFault::Read) => return Err(ExtractFault::Read { pes }),
+            Err(CopyFault::Write) => return Err(ExtractFault::Write),
+        }
+    }
+    Err(ExtractFault::Refused {
+        fault: PesFault::TooMany,
+        pes: u64::MAX,
+    })
+}
+
+// One more where a piece is a mark.
+fn counted(gaps: u64, is_mark: bool) -> u64
+    requires { gaps < u64.MAX }
+    ensures { result ≡ gaps + (if is_mark then 1 else 0) }
+{
+    if is_mark { gaps + 1 } else { gaps }
+}
+
+// What is told of a fault.
+fn told_of_extract(fault: ExtractFault) -> Told
+    ensures { result ≡ extract_told fault }
+{
+    match fault {
+        ExtractFault::Read { pes } => told_at_pes(PesFault::Read, pes),
+        ExtractFault::Write => told_of_file_write(),
+        ExtractFault::Empty => told_of_check(CheckFault::Empty),
+        ExtractFault::Refused { fault, pes } => told_at_pes(fault, pes),
+    }
+}
+
+// What is told of a fault of the PES packet that has this number.
+fn told_at_pes(fault: PesFault, pes: u64) -> Told
+    ensures { result ≡ told_from pes (check_told (Pes 0 fault)) }
+{
+    told_of_check(CheckFault::Pes { fault, pes: 0 }).counted_from(pes)
+}
