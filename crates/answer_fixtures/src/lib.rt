@@ -11,4 +11,4 @@ mod text;
 
 pub use asking::{ACCEPTED, CHECK, CHECK_ALL, SCHEDULE, answer_words};
 pub use judging::{fills, prints, prints_of, tells, tells_all};
-pub use text::first_lines;
+pub use text::{first_lines, status_of};

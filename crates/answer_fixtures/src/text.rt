@@ -18,7 +18,7 @@ pub fn first_lines(text: &[u8], count: usize) -> &[u8] {
 
 /// The status that a text tells by its last line: by the first word of it, or by its end where it
 /// counts faults.
-pub(crate) fn status_of(text: &[u8]) -> Status {
+pub fn status_of(text: &[u8]) -> Status {
     let mut line = text;
     for (place, byte) in text.iter().enumerate() {
         let rest = text.get(place.saturating_add(1)..).unwrap_or(&[]);

@@ -4,7 +4,7 @@ use crate::asserting::assert_same_in;
 use answer_fixtures::{ACCEPTED, CHECK};
 use fixtures::{
     CLOSING, HEADER, OTHER_HEADER, ROW, file_of_hi, gsi, in_serial_mode, packet_of, push_pes,
-    push_two, schedule_of_hi,
+    push_two, put, schedule_of_hi,
 };
 use std::alloc::Global;
 use std::process::Abort;
@@ -106,6 +106,26 @@ fn judges_a_byte_that_is_changed(rt: HostRuntime) {
     let mut pes = schedule_of_hi();
     (pes[4], pes[5]) = (0x01, 0x6A);
     assert_judges(&rt, &pes, "refused 38 UnitLength pes 0\n");
+}
+
+// The bytes from 6 on of a mark.
+const FILL: [u8; 178] = [0xFF; 178];
+
+// A second payload of such a PES packet.
+const PAYLOAD_OF_FF: [u8; 184] = [0xFF; 184];
+
+#[test]
+fn tells_a_mark_where_all_bytes_from_6_on_are_ff(rt: HostRuntime) {
+    let mut pes = schedule_of_hi();
+    put(&mut pes, 6, &FILL);
+    assert_judges(&rt, &pes, "refused 45 Lost pes 0\n");
+    pes[183] = 0xFE;
+    assert_judges(&rt, &pes, "refused 33 Flags pes 0\n");
+    // One of two payloads, of which the second is FF too, and is not.
+    (pes[4], pes[5], pes[183]) = (0x01, 0x6A, 0xFF);
+    assert_judges(&rt, &pes, "refused 33 Flags pes 0\n");
+    put(&mut pes, 184, &PAYLOAD_OF_FF);
+    assert_judges(&rt, &pes, "refused 45 Lost pes 0\n");
 }
 
 // Asserts the line of a check of `Hi` where a byte of its schedule has any other value.

@@ -21,6 +21,8 @@ mod failing;
 #[cfg(test)]
 mod live;
 #[cfg(test)]
+mod national;
+#[cfg(test)]
 mod passed_over;
 #[cfg(test)]
 mod stopped;

@@ -1,6 +1,6 @@
 //! `check --all` of files with PES packets that can't be read, which are passed over.
 use crate::every_place::assert_told;
-use fixtures::{FIRST, every_second};
+use fixtures::{FIRST, every_second, put};
 use std::alloc::Global;
 use std::process::Abort;
 
@@ -56,6 +56,19 @@ fn tells_what_ends_reading_after_pes_packets_that_are_passed_over(rt: HostRuntim
         ended 37 DataId pes 2\n\
         refused 30 Truncated pes 3\n\
         2 faults\n");
+}
+
+// The bytes from 6 on of a mark.
+const FILL: [u8; 178] = [0xFF; 178];
+
+#[test]
+fn passes_over_a_mark_of_lost_packets(rt: HostRuntime) {
+    let mut pes = every_second();
+    put(&mut pes, 190, &FILL);
+    let lines = "refused 45 Lost pes 1\n\
+        trusted frames 10:00:02:00 10:00:02:00\n\
+        1 faults\n";
+    assert_told(&rt, &pes, &[], lines);
 }
 
 // Ten PES packets with one number, and none that is read: no other number is told.

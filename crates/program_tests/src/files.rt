@@ -57,6 +57,8 @@ const CHECK: [&str; 4] = ["subttx", "check", "a", "b"];
 
 const NORMAL: [&str; 4] = ["subttx", "normal", "a", "b"];
 
+const EXTRACT: [&str; 6] = ["subttx", "extract", "a", "b", "--pid", "257"];
+
 #[test]
 fn opens_the_file_that_is_read(rt: HostRuntime) {
     assert_asks(&rt, &SHOW, &[INPUT], &mut [], "o0", true);
@@ -96,6 +98,25 @@ fn creates_no_file_over_the_input(rt: HostRuntime) {
     };
     let there = [lost, second(Found::At(1, 2))];
     assert_asks(&rt, &NORMAL, &there, &mut [0], "o0l0l1", false);
+}
+
+#[test]
+fn creates_the_file_of_a_recording_as_that_of_a_subtitle_file(rt: HostRuntime) {
+    let there = [INPUT, second(Found::Nothing)];
+    assert_asks(&rt, &EXTRACT, &there, &mut [0], "o0l0l1c1", true);
+    let other = [INPUT, second(Found::At(1, 2))];
+    assert_asks(&rt, &EXTRACT, &other, &mut [0], "o0l0l1c1", true);
+    // It can't be created; the recording can't be opened.
+    assert_asks(&rt, &EXTRACT, &there, &mut [], "o0l0l1c1", false);
+    assert_asks(&rt, &EXTRACT, &[NOTHING], &mut [0], "o?", false);
+}
+
+#[test]
+fn creates_no_file_over_the_recording(rt: HostRuntime) {
+    let link = [INPUT, second(Found::At(1, 1))];
+    assert_asks(&rt, &EXTRACT, &link, &mut [0], "o0l0l1", false);
+    let unknown = [INPUT, second(Found::Unknown)];
+    assert_asks(&rt, &EXTRACT, &unknown, &mut [0], "o0l0l1", false);
 }
 
 // Whether words are answered over files, and what is printed.
@@ -167,6 +188,15 @@ fn answers_each_command_that_reads_files(rt: HostRuntime) {
     assert_answers(&rt, &packet, &[], &mut [], HEADER_LINES);
 }
 
+// Asserts that this was written into a room that held bytes of ones, and no more.
+fn assert_starts(rt: &impl Abort, room: &[u8], written: &[u8]) {
+    let len = written.len().min(room.len());
+    let (begin, rest) = room.split_at(len);
+    let one_more: &[u8] = &[0xFF];
+    assert_same(rt, &begin, &written);
+    assert_same(rt, &rest, &one_more);
+}
+
 #[test]
 fn writes_into_the_file_that_is_created(rt: HostRuntime) {
     let (stl, commented) = (file_of_hi(), commented());
@@ -174,17 +204,18 @@ fn writes_into_the_file_that_is_created(rt: HostRuntime) {
         bytes: Some(&stl),
         ..INPUT
     };
-    let mut sent = [0; 368];
+    // There is room for one byte more than is written.
+    let mut sent = [0xFF; 369];
     let schedule = ["subttx", "schedule", "a", "b"];
     let written = "written 2 transmissions\n";
     assert_answers(&rt, &schedule, &[stl, NOTHING], &mut sent, written);
-    assert_same(&rt, &sent, &schedule_of_hi());
+    assert_starts(&rt, &sent, &schedule_of_hi());
     let input = Entry {
         bytes: Some(&commented),
         ..INPUT
     };
-    let mut normal = [0; 1280];
+    let mut normal = [0xFF; 1281];
     let written = "written 1 subtitles\n";
     assert_answers(&rt, &NORMAL, &[input, NOTHING], &mut normal, written);
-    assert_same(&rt, &normal, &normal_form());
+    assert_starts(&rt, &normal, &normal_form());
 }

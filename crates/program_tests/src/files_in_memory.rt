@@ -3,6 +3,7 @@ ghost use Rattle.std.specs.Prelude.{None};
 
 use std::io::{self, ErrorKind, Read, Write};
 use sub_files::{FileSystem, Found};
+use sub_io::{FromRead, IntoFile};
 
 /// What is at a name.
 #[derive(Clone, Copy)]
@@ -74,7 +75,9 @@ impl<'a> FilesInMemory<'a> {
 }
 
 impl<'a> FileSystem for FilesInMemory<'a> {
-    type File = MemoryFile<'a>;
+    type Input = FromRead<MemoryFile<'a>>;
+
+    type Output = IntoFile<MemoryFile<'a>>;
 
     fn look_up(&mut self, name: &str) -> Found {
         match self.ask(b'l', name) {
@@ -83,14 +86,17 @@ impl<'a> FileSystem for FilesInMemory<'a> {
         }
     }
 
-    fn open(&mut self, name: &str) -> Option<MemoryFile<'a>> {
-        match self.ask(b'o', name) {
-            Some(entry) => entry.bytes.map(MemoryFile::Opened),
+    fn open(&mut self, name: &str) -> Option<FromRead<MemoryFile<'a>>> {
+        let Some(entry) = self.ask(b'o', name) else {
+            return None;
+        };
+        match entry.bytes {
+            Some(bytes) => Some(FromRead::new(MemoryFile::Opened(bytes))),
             None => None,
         }
     }
 
-    fn create(&mut self, name: &str) -> Option<MemoryFile<'a>> {
+    fn create(&mut self, name: &str) -> Option<IntoFile<MemoryFile<'a>>> {
         self.ask(b'c', name);
         let Some(room) = self.room.take() else {
             return None;
@@ -98,7 +104,7 @@ impl<'a> FileSystem for FilesInMemory<'a> {
         if room.is_empty() {
             return None;
         }
-        Some(MemoryFile::Created(room, 0))
+        Some(IntoFile::new(MemoryFile::Created(room, 0)))
     }
 }
 

@@ -16,11 +16,15 @@ mod files_in_memory;
 #[cfg(test)]
 mod listen;
 #[cfg(test)]
+mod lost_packets;
+#[cfg(test)]
 mod normal;
 #[cfg(test)]
 mod packet;
 #[cfg(test)]
 mod packets;
+#[cfg(test)]
+mod recordings;
 #[cfg(test)]
 mod refused_memory;
 #[cfg(test)]

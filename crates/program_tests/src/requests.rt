@@ -1,15 +1,17 @@
 //! The requests that words are read as.
-use crate::asserting::assert_same;
+use crate::asserting::{assert_same, assert_same_in};
 use crate::normal::NORMAL;
 use answer_fixtures::SCHEDULE;
 use fixtures::options;
+use mpeg_ts::{PacketSize, Pid};
 use std::alloc::Global;
 use std::process::Abort;
 use std::test::Fail;
 use stl_rows::National;
 use sub_plan::Options;
-use sub_request::{FileNames, Flip, Listening, ReceiverKind, Request};
+use sub_request::{FileNames, Flip, Listening, PesPackets, ReceiverKind, Request, TransportStream};
 use sub_words::ParseWords;
+use ttx_pes::PieceRange;
 
 #[test]
 fn reads_the_words_of_files(rt: HostRuntime) {
@@ -100,7 +102,7 @@ fn assert_is_check(rt: &impl Abort, request: &Request<'_>, is_complete: bool, is
             all,
             ..
         } => {
-            assert!(rt; *stl == "a" && *pes == "b");
+            assert!(rt; *stl == "a" && pes.name == "b");
             assert!(rt; options.asks_complete() == is_complete && *all == is_all);
         }
         _ => panic!(rt; "no check"),
@@ -164,7 +166,7 @@ fn assert_listens<'a>(
     match Request::parse(rt.alloc(), words) {
         Ok(request) => match &request {
             Request::Listen { pes, listening } => {
-                assert!(rt; *pes == "a" && listening.receiver == receiver);
+                assert!(rt; pes.name == "a" && listening.receiver == receiver);
                 assert_asks(rt, listening, want, at, skip);
                 assert!(rt; listening.flips.as_slice() == flips);
                 assert!(rt; listening.lost.as_slice() == lost);
@@ -229,4 +231,125 @@ fn names_what_is_read_and_what_is_written(rt: HostRuntime) {
         FileNames::ReadStl(input) => assert_same(&rt, &input.name(), &"a"),
         _ => panic!(rt; "no file is read"),
     }
+}
+
+// The PES packets that a request reads.
+fn read_by<'r, 'a>(request: &'r Request<'a>) -> Option<&'r PesPackets<'a>> {
+    match request {
+        Request::Packets { pes } => Some(pes),
+        Request::Check { pes, .. } => Some(pes),
+        Request::Listen { pes, .. } => Some(pes),
+        _ => None,
+    }
+}
+
+// Asserts which PES packets of a file b words ask for.
+fn assert_reads<'a>(
+    rt: &(impl Abort + Alloc<A = Global>),
+    words: &'a [&'a str],
+    stream: &Option<TransportStream>,
+    range: &Option<PieceRange>,
+) {
+    let Ok(request) = Request::parse(rt.alloc(), words) else {
+        return panic!(rt; "{words:?} is no request");
+    };
+    match read_by(&request) {
+        Some(pes) => {
+            assert_same(rt, &pes.name, &"b");
+            assert_same_in(rt, &pes.stream, stream, &words);
+            assert_same_in(rt, &pes.range, range, &words);
+        }
+        None => panic!(rt; "{words:?} reads no PES packets"),
+    }
+}
+
+// The transport packets of a PID.
+fn stream_of(number: u16, packet_size: PacketSize) -> Option<TransportStream> {
+    match Pid::new(number) {
+        Some(pid) => Some(TransportStream { pid, packet_size }),
+        None => None,
+    }
+}
+
+#[rattlefmt::skip]
+#[test]
+fn reads_which_pes_packets_are_read(rt: HostRuntime) {
+    let all = None;
+    assert_reads(&rt, &["subttx", "packets", "b"], &None, &all);
+    assert_reads(&rt, &["subttx", "check", "a", "b"], &None, &all);
+    assert_reads(&rt, &["subttx", "listen", "b", "--at", "10:00:00:10"], &None, &all);
+    // from the second on, and from one to another
+    let behind = PieceRange::new(2, None);
+    assert_reads(&rt, &["subttx", "packets", "b", "--pes", "2-"], &None, &behind);
+    let some = PieceRange::new(0, Some(1));
+    assert_reads(&rt, &["subttx", "check", "--pes=0-1", "a", "b"], &None, &some);
+    let one = PieceRange::new(3, Some(3));
+    let at = "10:00:00:10";
+    assert_reads(&rt, &["subttx", "listen", "b", "--pes", "3-3", "--at", at], &None, &one);
+}
+
+#[rattlefmt::skip]
+#[test]
+fn reads_of_which_transport_packets(rt: HostRuntime) {
+    let all = None;
+    let plain = stream_of(257, PacketSize::Plain);
+    assert_reads(&rt, &["subttx", "packets", "b", "--pid", "257"], &plain, &all);
+    assert_reads(&rt, &["subttx", "check", "a", "b", "--pid", "0x101"], &plain, &all);
+    let at = "10:00:00:10";
+    assert_reads(&rt, &["subttx", "listen", "--pid=257", "b", "--at", at], &plain, &all);
+    let given = ["subttx", "packets", "b", "--packet-size", "188", "--pid", "257"];
+    assert_reads(&rt, &given, &plain, &all);
+    let stamped = stream_of(4353, PacketSize::TimeStamped);
+    let given = ["subttx", "check", "a", "b", "--packet-size=192", "--pid", "0x1101"];
+    assert_reads(&rt, &given, &stamped, &all);
+    let corrected = stream_of(8190, PacketSize::ErrorCorrected);
+    let given = [
+        "subttx", "listen", "b", "--pid", "8190", "--packet-size", "204", "--pes", "7-", "--at", at,
+    ];
+    assert_reads(&rt, &given, &corrected, &PieceRange::new(7, None));
+    // The packet size alone has no effect.
+    assert_reads(&rt, &["subttx", "packets", "b", "--packet-size", "192"], &None, &all);
+}
+
+// Asserts that words ask for the PES packets of file a, to be written into file b.
+fn assert_extracts<'a>(
+    rt: &(impl Abort + Alloc<A = Global>),
+    words: &'a [&'a str],
+    want: &Option<TransportStream>,
+) {
+    let Ok(request) = Request::parse(rt.alloc(), words) else {
+        return panic!(rt; "{words:?} is no request");
+    };
+    match &request {
+        Request::Extract {
+            recording,
+            pes,
+            stream,
+        } => {
+            assert!(rt; *recording == "a" && *pes == "b");
+            assert_same(rt, &Some(*stream), want);
+            assert_writes_pes(rt, &request);
+        }
+        _ => panic!(rt; "{words:?} extracts nothing"),
+    }
+}
+
+// Asserts that a request reads a recording a and writes a file b.
+fn assert_writes_pes(rt: &impl Abort, request: &Request<'_>) {
+    match request.files() {
+        FileNames::Extract(input, output) => {
+            assert!(rt; input.name() == "a" && output.name() == "b");
+        }
+        _ => panic!(rt; "no file is written"),
+    }
+}
+
+#[rattlefmt::skip]
+#[test]
+fn reads_the_words_that_extract(rt: HostRuntime) {
+    let plain = stream_of(257, PacketSize::Plain);
+    assert_extracts(&rt, &["subttx", "extract", "a", "b", "--pid", "257"], &plain);
+    let stamped = stream_of(4353, PacketSize::TimeStamped);
+    let given = ["subttx", "extract", "--pid=0x1101", "--packet-size=192", "a", "b"];
+    assert_extracts(&rt, &given, &stamped);
 }

@@ -166,17 +166,27 @@ fn refuses_texts(rt: HostRuntime) {
     assert_refuses(&rt, &file_of_two(&low, &hi), "refused 19 Row block 1\n");
 }
 
-#[test]
-fn schedules_by_the_national_option(rt: HostRuntime) {
+// Schedules `Hi` by an option, and asserts the byte 9 of its headers of the page, as it is carried.
+fn assert_schedules_by(rt: &(impl Abort + Alloc<A = Global>), option: &str, byte: u8) {
     let hi = file_of_hi();
     let mut room = [0; 400];
-    let mut german = MemSink::new(&mut room);
-    let words = ["subttx", "schedule", "a", "b", "--option", "german"];
-    write_schedule(&rt, &words, &hi, WRITTEN, &mut german);
-    assert_same_in(&rt, &german.written().len(), &368, &"german");
-    let words = ["subttx", "check", "a", "b", "--option", "german"];
-    let refused = "refused 67 Control frame 10:00:00:00 packet 0\n";
-    assert_tells(&rt, &words, &hi, german.written(), ACCEPTED);
-    assert_tells(&rt, &CHECK, &hi, german.written(), refused);
-    assert_tells(&rt, &words, &hi, &schedule_of_hi(), refused);
+    let mut file = MemSink::new(&mut room);
+    let words = ["subttx", "schedule", "a", "b", "--option", option];
+    write_schedule(rt, &words, &hi, WRITTEN, &mut file);
+    let mut want = schedule_of_hi();
+    (want[59], want[243]) = (byte, byte);
+    assert!(rt; file.written() == &want[..], "{option}");
+    let words = ["subttx", "check", "a", "b", "--option", option];
+    assert_tells(rt, &words, &hi, file.written(), ACCEPTED);
+}
+
+#[test]
+fn schedules_by_the_national_option(rt: HostRuntime) {
+    assert_schedules_by(&rt, "english", 0xA8);
+    assert_schedules_by(&rt, "german", 0x0B);
+    assert_schedules_by(&rt, "swedish", 0x26);
+    assert_schedules_by(&rt, "italian", 0x85);
+    assert_schedules_by(&rt, "french", 0x92);
+    assert_schedules_by(&rt, "spanish", 0x31);
+    assert_schedules_by(&rt, "czech", 0x1C);
 }

@@ -1,9 +1,13 @@
-//! Numbers, flips and lists of both, times and receivers, as people write them.
+//! Numbers, flips and lists of both, times, receivers, PIDs, packet sizes and ranges, as people
+//! write them.
 use crate::asserting::{assert_same, assert_same_in};
+use mpeg_ts::PacketSize;
 use std::alloc::{AllocError, Global};
 use std::process::Abort;
 use sub_request::{Flip, ReceiverKind};
-use sub_words::{parse_list, parse_number, parse_receiver, parse_time};
+use sub_words::{
+    parse_list, parse_number, parse_packet_size, parse_pid, parse_range, parse_receiver, parse_time,
+};
 
 #[test]
 fn reads_numbers(rt: HostRuntime) {
@@ -167,5 +171,96 @@ fn reads_receivers(rt: HostRuntime) {
     assert_same(&rt, &parse_receiver("drop"), &Some(ReceiverKind::DropRow));
     for text in ["Drop", "all", "Keep"] {
         assert_same_in(&rt, &parse_receiver(text), &None, &text);
+    }
+}
+
+// The number of the PID that a text is.
+fn pid_in(text: &str) -> Option<u16> {
+    match parse_pid(text) {
+        Some(pid) => Some(pid.number()),
+        None => None,
+    }
+}
+
+#[test]
+fn reads_pids(rt: HostRuntime) {
+    assert_same(&rt, &pid_in("0"), &Some(0));
+    assert_same(&rt, &pid_in("257"), &Some(257));
+    assert_same(&rt, &pid_in("0000000257"), &Some(257)); // ten digits
+    assert_same(&rt, &pid_in("8190"), &Some(8190));
+    assert_same(&rt, &pid_in("0x0"), &Some(0));
+    assert_same(&rt, &pid_in("0x101"), &Some(257));
+    assert_same(&rt, &pid_in("0x00000101"), &Some(257)); // eight digits
+    assert_same(&rt, &pid_in("0x1101"), &Some(4353)); // more than 12 bits
+    assert_same(&rt, &pid_in("0x1ffe"), &Some(8190));
+    assert_same(&rt, &pid_in("0x1FfE"), &Some(8190)); // of either case
+    assert_same(&rt, &pid_in("101"), &Some(101)); // decimal without `0x`
+}
+
+#[rattlefmt::skip]
+#[test]
+fn refuses_pids(rt: HostRuntime) {
+    for text in [
+        // the PID of null packets, and what would be another PID in 13, 16 or 32 bits
+        "8191", "0x1fff", "0x2101", "8449", "65793", "0x10101", "4294967553", "9999999999",
+        "0xffffffff",
+        // eleven digits, and nine
+        "00000000257", "0x000000101",
+        // no digits, signs, spaces, another `0x`, and what is no digit
+        "", "0x", "x", "-1", "+1", "0x+1", "0x-1", "-0x101", "+0x101", " 257", "257 ", "0x 101",
+        "0X101", "x101", "101h", "0x10g", "0x0x101", "1e2", "$101", "257,258",
+    ] {
+        assert_same_in(&rt, &pid_in(text), &None, &text);
+    }
+}
+
+#[test]
+fn reads_packet_sizes(rt: HostRuntime) {
+    let plain = Some(PacketSize::Plain);
+    assert_same(&rt, &parse_packet_size("188"), &plain);
+    let stamped = Some(PacketSize::TimeStamped);
+    assert_same(&rt, &parse_packet_size("192"), &stamped);
+    let corrected = Some(PacketSize::ErrorCorrected);
+    assert_same(&rt, &parse_packet_size("204"), &corrected);
+    for text in [
+        "190", "187", "189", "0188", "+188", "188 ", "1880", "18", "0xbc", "0", "",
+    ] {
+        assert_same_in(&rt, &parse_packet_size(text), &None, &text);
+    }
+}
+
+// The number of the first piece of a range, and how many it has room for.
+fn range_in(text: &str) -> Option<(u64, Option<u64>)> {
+    match parse_range(text) {
+        Some(range) => Some((range.first(), range.most())),
+        None => None,
+    }
+}
+
+#[test]
+fn reads_ranges(rt: HostRuntime) {
+    assert_same(&rt, &range_in("0-1"), &Some((0, Some(2))));
+    assert_same(&rt, &range_in("3-3"), &Some((3, Some(1))));
+    assert_same(&rt, &range_in("9-10"), &Some((9, Some(2)))); // by value, not as texts
+    assert_same(&rt, &range_in("2-"), &Some((2, None)));
+    assert_same(&rt, &range_in("0-"), &Some((0, None)));
+    let last = Some((7, Some(9_999_999_993)));
+    assert_same(&rt, &range_in("0000000007-9999999999"), &last);
+    assert_same(&rt, &range_in("9999999999-"), &Some((9_999_999_999, None)));
+}
+
+#[rattlefmt::skip]
+#[test]
+fn refuses_ranges(rt: HostRuntime) {
+    for text in [
+        // the last before the first
+        "2-1", "10-9", "1-0",
+        // one number, none, and three
+        "1", "", "-", "-1", "--", "1--2", "1-2-", "1-2-3", "-1-2",
+        // eleven digits, signs, spaces, and what is no number
+        "00000000001-1", "1-00000000001", "10000000000-", "+1-2", "1-+2", " 1-2", "1 -2", "1- 2",
+        "1-2 ", "1- ", "a-b", "1-x", "x-1", "x-", "0x1-2", "1,2", "1:2", "1..2",
+    ] {
+        assert_same_in(&rt, &range_in(text), &None, &text);
     }
 }

@@ -27,7 +27,7 @@ fn prints_the_line_of_refused_words_into_any_output(rt: HostRuntime) {
 
 // Words that are no command.
 #[rattlefmt::skip]
-const NO_WORDS: [&[&str]; 39] = [
+const NO_WORDS: [&[&str]; 54] = [
     &[], // not even the program's name
     &["subttx"],
     &["subttx", "--help"],
@@ -69,6 +69,23 @@ const NO_WORDS: [&[&str]; 39] = [
     &["subttx", "listen", "a", "--at", "10:00:00:10", "--within=1", "--within=1"],
     &["subttx", "schedule", "a", "b", "--within", "1"],
     &["subttx", "packets", "a", "--within", "1"],
+    // transport packets and ranges are of those that read PES packets, each once, by a text
+    &["subttx", "packets", "a", "--pid"],
+    &["subttx", "packets", "a", "--pes"],
+    &["subttx", "check", "a", "b", "--pid", "1", "--pid", "1"],
+    &["subttx", "check", "a", "b", "--pes", "0-1", "--pes", "0-1"],
+    &["subttx", "listen", "a", "--at", "10:00:00:10", "--packet-size=188", "--packet-size=188"],
+    &["subttx", "show", "a", "--pid", "257"],
+    &["subttx", "normal", "a", "b", "--pid", "257"],
+    &["subttx", "schedule", "a", "b", "--pid", "257"],
+    &["subttx", "schedule", "a", "b", "--packet-size", "188"],
+    &["subttx", "schedule", "a", "b", "--pes", "0-1"],
+    // what is extracted is all of a PID, which has to be said, and of one recording
+    &["subttx", "extract", "a", "b"],
+    &["subttx", "extract", "a", "--pid", "257"],
+    &["subttx", "extract", "a", "b", "c", "--pid", "257"],
+    &["subttx", "extract", "a", "b", "--pid", "257", "--pes", "0-1"],
+    &["subttx", "extract", "a", "b", "--pid", "257", "--page", "888"],
 ];
 
 #[test]
@@ -100,22 +117,25 @@ fn refuses_digits_that_are_no_packet(rt: HostRuntime) {
 
 // The arguments of a schedule, in the order in which their faults are told, and the line.
 #[rattlefmt::skip]
-const SCHEDULES: [[&str; 5]; 15] = [
+const SCHEDULES: [[&str; 5]; 18] = [
     // page, every, origin, option, line
-    ["8FF", "0", "x", "french", "usage 1 BadPage\n"],
+    ["8FF", "0", "x", "polish", "usage 1 BadPage\n"],
     ["088", "250", "0", "english", "usage 1 BadPage\n"],
     ["", "250", "0", "english", "usage 1 BadPage\n"],
-    ["888", "0", "x", "french", "usage 80 Every\n"],
+    ["888", "0", "x", "polish", "usage 80 Every\n"],
     ["888", "x", "8589934592", "english", "usage 80 Every\n"],
     ["888", "1501", "0", "english", "usage 80 Every\n"],
     ["888", "00000000001", "0", "english", "usage 80 Every\n"], // eleven digits
     ["888", "+1", "0", "english", "usage 80 Every\n"],
     ["888", "", "0", "english", "usage 80 Every\n"],
-    ["888", "1500", "8589934592", "french", "usage 81 Origin\n"],
+    ["888", "1500", "8589934592", "polish", "usage 81 Origin\n"],
     ["888", "1", "x", "german", "usage 81 Origin\n"],
     ["888", "1", "99999999990", "german", "usage 81 Origin\n"],
-    ["888", "1", "8589934591", "french", "usage 83 BadOption\n"],
+    ["888", "1", "8589934591", "polish", "usage 83 BadOption\n"],
     ["888", "1", "0", "English", "usage 83 BadOption\n"],
+    ["888", "1", "0", "French", "usage 83 BadOption\n"],
+    ["888", "1", "0", "fr", "usage 83 BadOption\n"],
+    ["888", "1", "0", "portuguese", "usage 83 BadOption\n"],
     ["888", "1", "0", "", "usage 83 BadOption\n"],
 ];
 
@@ -144,11 +164,11 @@ fn tells_the_first_fault_of_a_schedule(rt: HostRuntime) {
     // A check may name one file twice.
     let options = [
         "subttx", "schedule", "a", "a", "--page", "8FF", "--every", "0", "--origin", "x",
-        "--option", "french",
+        "--option", "polish",
     ];
     assert_refuses(&rt, &options, "usage 7 SameFile\n");
     let options = [
-        "subttx", "check", "--option", "french", "--origin", "x", "--every", "0", "--page", "8FF",
+        "subttx", "check", "--option", "polish", "--origin", "x", "--every", "0", "--page", "8FF",
         "a", "a",
     ];
     assert_refuses(&rt, &options, "usage 1 BadPage\n");
@@ -160,8 +180,8 @@ fn tells_the_first_fault_of_a_schedule(rt: HostRuntime) {
 #[rattlefmt::skip]
 const WITHINS: [[&str; 6]; 14] = [
     // option, frames that are allowed, origin, time, line of the check, line of the receiver
-    ["french", "x", "x", "x", "usage 81 Origin\n", "usage 81 Origin\n"],
-    ["french", "51", "0", "x", "usage 83 BadOption\n", "usage 85 Within\n"],
+    ["polish", "x", "x", "x", "usage 81 Origin\n", "usage 81 Origin\n"],
+    ["polish", "51", "0", "x", "usage 83 BadOption\n", "usage 85 Within\n"],
     ["english", "51", "0", "x", "usage 85 Within\n", "usage 85 Within\n"],
     ["english", "x", "0", "x", "usage 85 Within\n", "usage 85 Within\n"],
     ["english", "", "0", "x", "usage 85 Within\n", "usage 85 Within\n"],
@@ -172,8 +192,8 @@ const WITHINS: [[&str; 6]; 14] = [
     ["english", "9999999999", "0", "x", "usage 85 Within\n", "usage 85 Within\n"],
     ["english", "4294967297", "0", "x", "usage 85 Within\n", "usage 85 Within\n"],
     ["english", "0", "x", "x", "usage 81 Origin\n", "usage 81 Origin\n"],
-    ["french", "50", "0", "x", "usage 83 BadOption\n", "usage 6 BadTime\n"],
-    ["french", "0000000050", "0", "x", "usage 83 BadOption\n", "usage 6 BadTime\n"],
+    ["polish", "50", "0", "x", "usage 83 BadOption\n", "usage 6 BadTime\n"],
+    ["polish", "0000000050", "0", "x", "usage 83 BadOption\n", "usage 6 BadTime\n"],
 ];
 
 // Asserts both lines of a row.
@@ -195,6 +215,82 @@ fn refuses_frames_that_are_not_allowed(rt: HostRuntime) {
     for row in &WITHINS {
         assert_refuses_within(&rt, row);
     }
+}
+
+// The words for PES packets, in the order in which their faults are told, and the line.
+#[rattlefmt::skip]
+const PES_PACKETS: [[&str; 4]; 20] = [
+    // PID, packet size, range, line
+    ["8191", "190", "2-1", "usage 86 Pid\n"],
+    ["8191", "188", "0-1", "usage 86 Pid\n"],
+    ["x", "188", "0-1", "usage 86 Pid\n"],
+    ["0x", "188", "0-1", "usage 86 Pid\n"],
+    ["0X101", "188", "0-1", "usage 86 Pid\n"],
+    ["0x000000101", "188", "0-1", "usage 86 Pid\n"],
+    ["0x1fff", "188", "0-1", "usage 86 Pid\n"],
+    ["00000000257", "188", "0-1", "usage 86 Pid\n"],
+    ["", "188", "0-1", "usage 86 Pid\n"],
+    ["257", "190", "2-1", "usage 87 PacketSize\n"],
+    ["257", "190", "0-1", "usage 87 PacketSize\n"],
+    ["8190", "0188", "0-1", "usage 87 PacketSize\n"],
+    ["0", "", "0-1", "usage 87 PacketSize\n"],
+    ["257", "188", "2-1", "usage 88 Range\n"],
+    ["257", "188", "1", "usage 88 Range\n"],
+    ["257", "188", "a-b", "usage 88 Range\n"],
+    ["0x1FFE", "192", "", "usage 88 Range\n"],
+    ["0x1101", "204", "1-2-3", "usage 88 Range\n"],
+    ["257", "188", "00000000001-", "usage 88 Range\n"],
+    ["257", "188", "0-+1", "usage 88 Range\n"],
+];
+
+// Asserts the line of each command that reads PES packets.
+#[rattlefmt::skip]
+fn assert_refuses_pes(rt: &(impl Abort + Alloc<A = Global>), row: &[&str; 4]) {
+    let words = [
+        "subttx", "packets", "a", "--pes", row[2], "--packet-size", row[1], "--pid", row[0],
+    ];
+    assert_refuses(rt, &words, row[3]);
+    let words = [
+        "subttx", "check", "--pid", row[0], "--packet-size", row[1], "--pes", row[2], "a", "b",
+    ];
+    assert_refuses(rt, &words, row[3]);
+    let words = [
+        "subttx", "listen", "a", "--at", "x", "--skip", "x", "--pid", row[0], "--pes", row[2],
+        "--packet-size", row[1],
+    ];
+    assert_refuses(rt, &words, row[3]);
+}
+
+#[test]
+fn refuses_pes_packets_that_can_not_be_meant(rt: HostRuntime) {
+    for row in &PES_PACKETS {
+        assert_refuses_pes(&rt, row);
+    }
+}
+
+#[rattlefmt::skip]
+#[test]
+fn tells_faults_of_other_words_before_those_of_pes_packets(rt: HostRuntime) {
+    assert_refuses(&rt, &["subttx", "extract", "a", "a", "--pid", "x"], "usage 7 SameFile\n");
+    let sized = ["subttx", "extract", "a", "b", "--pid", "x", "--packet-size", "x"];
+    assert_refuses(&rt, &sized, "usage 86 Pid\n");
+    let sized = ["subttx", "extract", "a", "b", "--pid", "257", "--packet-size", "190"];
+    assert_refuses(&rt, &sized, "usage 87 PacketSize\n");
+    let within = ["subttx", "check", "a", "b", "--pid", "x", "--within", "51"];
+    assert_refuses(&rt, &within, "usage 85 Within\n");
+    let within = ["subttx", "listen", "a", "--at", "x", "--pid", "x", "--within", "51"];
+    assert_refuses(&rt, &within, "usage 85 Within\n");
+    let option = ["subttx", "check", "a", "b", "--pes", "x", "--option", "polish"];
+    assert_refuses(&rt, &option, "usage 83 BadOption\n");
+    let origin = ["subttx", "listen", "a", "--at", "x", "--packet-size", "x", "--origin", "x"];
+    assert_refuses(&rt, &origin, "usage 81 Origin\n");
+    // The packet size and the range are read without a PID too.
+    let sized = ["subttx", "check", "a", "b", "--packet-size", "190"];
+    assert_refuses(&rt, &sized, "usage 87 PacketSize\n");
+    assert_refuses(&rt, &["subttx", "packets", "a", "--pes", "1"], "usage 88 Range\n");
+    // A check may name one file twice, also as a recording.
+    let same = ["subttx", "check", "a", "a", "--pid", "x"];
+    assert_refuses(&rt, &same, "usage 86 Pid\n");
 }
 
 // The arguments of a receiver in the order in which their faults are told, and the line.
@@ -236,8 +332,13 @@ fn tells_the_first_fault_of_a_receiver(rt: HostRuntime) {
 
 // Asserts that words ask for a check of the files `-a` and `-`.
 fn assert_checks_dashes<'a>(rt: &(impl Abort + Alloc<A = Global>), words: &'a [&'a str]) {
-    match Request::parse(rt.alloc(), words) {
-        Ok(Request::Check { stl, pes, .. }) => assert!(rt; stl == "-a" && pes == "-", "{words:?}"),
+    let Ok(request) = Request::parse(rt.alloc(), words) else {
+        return panic!(rt; "{words:?} is no request");
+    };
+    match &request {
+        Request::Check { stl, pes, .. } => {
+            assert!(rt; *stl == "-a" && pes.name == "-", "{words:?}");
+        }
         _ => panic!(rt; "{words:?} is no check"),
     }
 }
@@ -256,8 +357,12 @@ fn refuses_dashes_as_clap_does(rt: HostRuntime) {
     let twice = ["subttx", "schedule", "a", "b", "--serial", "--serial"];
     assert_refuses(&rt, &twice, no_words);
     assert_refuses(&rt, &["subttx", "check", "a", "b", "--within", "-1"], no_words);
+    assert_refuses(&rt, &["subttx", "check", "a", "b", "--pid", "-1"], no_words);
+    assert_refuses(&rt, &["subttx", "packets", "a", "--pes", "-1"], no_words);
     assert_refuses(&rt, &["subttx", "check", "a", "b", "--every=-1"], "usage 80 Every\n");
     assert_refuses(&rt, &["subttx", "check", "a", "b", "--within=-1"], "usage 85 Within\n");
+    assert_refuses(&rt, &["subttx", "check", "a", "b", "--pid=-1"], "usage 86 Pid\n");
+    assert_refuses(&rt, &["subttx", "packets", "a", "--pes=-1"], "usage 88 Range\n");
 }
 
 #[test]

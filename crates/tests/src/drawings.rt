@@ -1,5 +1,5 @@
 //! Texts and the rows that they draw, by the national option. More of them, and those that are
-//! refused, are tried on the built program by `tools/check-every-place`.
+//! refused, are tried on the built program by `dev/check-every-place`.
 use crate::asserting::assert_same;
 use std::process::Abort;
 use stl_file::{Subtitle, TimeCode};

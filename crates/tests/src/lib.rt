@@ -28,6 +28,8 @@ mod lent_packets;
 #[cfg(test)]
 mod libzvbi;
 #[cfg(test)]
+mod national_options;
+#[cfg(test)]
 mod options;
 #[cfg(test)]
 mod packets;
@@ -35,6 +37,8 @@ mod packets;
 mod pages;
 #[cfg(test)]
 mod pes_packets;
+#[cfg(test)]
+mod piece_ranges;
 #[cfg(test)]
 mod programmes;
 #[cfg(test)]
@@ -45,3 +49,9 @@ mod resuming;
 mod schedules;
 #[cfg(test)]
 mod subtitle_files;
+#[cfg(test)]
+mod transport_parts;
+#[cfg(test)]
+mod transport_recordings;
+#[cfg(test)]
+mod transport_streams;

@@ -39,5 +39,16 @@ fn writes_each_byte(rt: HostRuntime) -> Result<(), Fail> {
     assert_writes(&rt, National::English, false, 0xA8, 0xA8)?;
     assert_writes(&rt, National::English, true, 0x40, 0x40)?;
     assert_writes(&rt, National::German, false, 0x0B, 0xA8)?;
-    assert_writes(&rt, National::German, true, 0xE3, 0x40)
+    assert_writes(&rt, National::German, true, 0xE3, 0x40)?;
+    // Byte 9 in the order of EN 300 706: 64 73, A1 B6, 49 5E, 8C 9B, 38 2F.
+    assert_writes(&rt, National::Swedish, false, 0x26, 0xA8)?;
+    assert_writes(&rt, National::Swedish, true, 0xCE, 0x40)?;
+    assert_writes(&rt, National::Italian, false, 0x85, 0xA8)?;
+    assert_writes(&rt, National::Italian, true, 0x6D, 0x40)?;
+    assert_writes(&rt, National::French, false, 0x92, 0xA8)?;
+    assert_writes(&rt, National::French, true, 0x7A, 0x40)?;
+    assert_writes(&rt, National::Spanish, false, 0x31, 0xA8)?;
+    assert_writes(&rt, National::Spanish, true, 0xD9, 0x40)?;
+    assert_writes(&rt, National::Czech, false, 0x1C, 0xA8)?;
+    assert_writes(&rt, National::Czech, true, 0xF4, 0x40)
 }

@@ -1,5 +1,5 @@
 //! Subtitle files that are read and normalised, one topic a file. Those that are refused are tried
-//! on the built program by `tools/check-every-place`.
+//! on the built program by `dev/check-every-place`.
 
 mod devices;
 mod fields;

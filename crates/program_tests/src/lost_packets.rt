@@ -1,0 +1,113 @@
+//! Recordings with PES packets of many transport packets, of which some are left out, come twice or
+//! announce a jump.
+use crate::recordings::{JUMP, JUMP_FILL, LOST, assert_answers, put_pieces};
+use answer_fixtures::answer_words;
+use fixtures::{TEN, block, file_of, head};
+use std::alloc::Global;
+use std::process::Abort;
+use sub_io::{MemSink, MemSource};
+
+// What is done with the fifteen packets, which are counted from 1; 0 is none of them.
+#[derive(Clone, Copy)]
+struct Sent {
+    // It is left out.
+    left_out: usize,
+    // It comes twice.
+    twice: usize,
+    // Behind it a jump is announced, and all later counters are 5 higher.
+    jump: usize,
+    // The last one.
+    last: usize,
+}
+
+const ALL: Sent = Sent {
+    left_out: 0,
+    twice: 0,
+    jump: 0,
+    last: 15,
+};
+
+// A subtitle of 23 lines from row 1 on: a sending of it is a PES packet of seven payloads.
+fn file_of_23_rows() -> [u8; 1152] {
+    let text = b"A\x8AA\x8AA\x8AA\x8AA\x8AA\x8AA\x8AA\x8AA\x8AA\x8AA\x8AA\x8A\
+        A\x8AA\x8AA\x8AA\x8AA\x8AA\x8AA\x8AA\x8AA\x8AA\x8AA";
+    file_of(&block(&head(TEN, TEN + 50, 1), text))
+}
+
+// Puts the schedule of it, three PES packets, as packets of 184 bytes of payload each.
+fn put_packets(rt: &impl Abort, pes: &[u8], sent: Sent, recording: &mut MemSink) {
+    assert!(rt; pes.len() == 2760);
+    let (payloads, _) = pes.as_chunks::<184>();
+    for (index, payload) in payloads.iter().enumerate() {
+        let begins = index == 0 || index == 7 || index == 14;
+        let flag = if begins { 0x41 } else { 0x01 };
+        let more = if sent.jump != 0 && index >= sent.jump {
+            5
+        } else {
+            0
+        };
+        let counter = ((index + more) % 16) as u8;
+        let front = [0x47, flag, 0x01, 0x10 + counter];
+        let number = index + 1;
+        if number > sent.last {
+            break;
+        }
+        if number != sent.left_out {
+            put_pieces(recording, &[&front, payload]);
+        }
+        if number == sent.twice {
+            put_pieces(recording, &[&front, payload]);
+        }
+        if number == sent.jump {
+            put_pieces(recording, &[&JUMP, &JUMP_FILL]);
+        }
+    }
+}
+
+// Asserts what a check of the packets prints.
+fn assert_checks(rt: &(impl Abort + Alloc<A = Global>), sent: Sent, want: &str) {
+    let stl = file_of_23_rows();
+    let mut room = [0; 2760];
+    let mut pes = MemSink::new(&mut room);
+    let mut line = [0; 64];
+    let mut out = MemSink::new(&mut line);
+    let words = ["subttx", "schedule", "a", "b", "--every", "25"];
+    let (mut input, mut none) = (MemSource::new(&stl), MemSource::new(&[]));
+    answer_words(
+        rt.alloc(),
+        &words,
+        &mut input,
+        &mut none,
+        &mut pes,
+        &mut out,
+    );
+    let mut recorded = [0; 4096];
+    let mut recording = MemSink::new(&mut recorded);
+    put_packets(rt, pes.written(), sent, &mut recording);
+    let check = ["subttx", "check", "a", "b", "--pid", "257", "--every", "25"];
+    assert_answers(rt, &check, &stl, recording.written(), &mut [], want);
+}
+
+const ACCEPTED: &str = "accepted 51 frames 3 transmissions\n";
+
+#[test]
+fn accepts_all_packets(rt: HostRuntime) {
+    assert_checks(&rt, ALL, ACCEPTED);
+    assert_checks(&rt, Sent { twice: 3, ..ALL }, ACCEPTED);
+    assert_checks(&rt, Sent { jump: 7, ..ALL }, ACCEPTED);
+}
+
+#[test]
+fn refuses_where_one_is_missing(rt: HostRuntime) {
+    for left_out in 8..15 {
+        assert_checks(&rt, Sent { left_out, ..ALL }, LOST);
+    }
+    for left_out in 2..8 {
+        let early = "refused 63 Early frame 10:00:01:00\n";
+        assert_checks(&rt, Sent { left_out, ..ALL }, early);
+    }
+    // A jump is announced within a PES packet.
+    assert_checks(&rt, Sent { jump: 10, ..ALL }, LOST);
+    let late = "refused 74 Late frame 10:00:00:00\n";
+    assert_checks(&rt, Sent { last: 10, ..ALL }, late);
+}

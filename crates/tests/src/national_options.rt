@@ -1,0 +1,271 @@
+//! The letters of each national option: the cells that they draw, and the texts that it refuses.
+//! The characters of the places were got by running libzvbi.
+use crate::asserting::{assert_same, assert_same_in};
+use fixtures::{TEN, block, file_of_two, gsi, head, put};
+use std::alloc::Global;
+use std::process::Abort;
+use std::test::Fail;
+use stl_file::{Subtitle, TimeCode};
+use stl_rows::{National, RowFault, RowFaultKind, draw, load};
+use sub_io::MemSource;
+
+// The subtitle of a text, from a row on.
+fn subtitle(rt: &impl Abort, vp: u8, jc: u8, text: &[u8]) -> Subtitle {
+    let (tci, tco) = (TimeCode::of_frame(TEN), TimeCode::of_frame(TEN + 50));
+    Subtitle::new(0, 1, tci, tco, vp, jc, text).expect(rt, "a subtitle")
+}
+
+// A row with cells in a box from a column on.
+fn boxed(rt: &impl Abort, column: usize, cells: &[u8]) -> [u8; 40] {
+    let mut row = [0x20; 40];
+    assert!(rt; column <= 16 && cells.len() <= 20);
+    let end = column + 2 + cells.len();
+    row[column..column + 2].copy_from_slice(&[0x0B, 0x0B]);
+    row[column + 2..end].copy_from_slice(cells);
+    row[end..end + 2].copy_from_slice(&[0x0A, 0x0A]);
+    row
+}
+
+// Asserts what row 5 shows of texts that begin there: after each text stand its cells.
+fn assert_draws(rt: &impl Abort, national: National, texts: &[[&[u8]; 2]]) {
+    for text in texts {
+        match draw(&subtitle(rt, 5, 0, text[0]), national) {
+            Ok(page) => assert_same_in(rt, page.row(5), &boxed(rt, 0, text[1]), &text[0]),
+            Err(_) => panic!(rt; "{national:?} refuses a text"),
+        }
+    }
+}
+
+// Asserts that an option has no character for a byte of these texts.
+fn assert_refuses(rt: &impl Abort, national: National, at: u16, texts: &[&[u8]]) {
+    let refused = Some(RowFault {
+        kind: RowFaultKind::Character,
+        at,
+    });
+    for text in texts {
+        assert_same_in(
+            rt,
+            &draw(&subtitle(rt, 5, 0, *text), national).err(),
+            &refused,
+            text,
+        );
+    }
+}
+
+// Texts, each with its cells.
+#[rattlefmt::skip]
+const SWEDISH: [[&[u8]; 2]; 2] = [
+    [
+        &[0xCA, 0x41, 0xC8, 0x41, 0xC8, 0x4F, 0xCA, 0x61, 0xC8, 0x61, 0xC8, 0x6F],
+        &[0x5D, 0x5B, 0x5C, 0x7D, 0x7B, 0x7C],
+    ],
+    [
+        &[0x23, 0xA8, 0x5F, 0xC2, 0x45, 0xC2, 0x65, 0xC8, 0x55, 0xC8, 0x75],
+        &[0x23, 0x24, 0x5F, 0x40, 0x60, 0x5E, 0x7E],
+    ],
+];
+
+#[rattlefmt::skip]
+const ITALIAN: [[&[u8]; 2]; 2] = [
+    [&[0xC2, 0x65, 0xC1, 0x65, 0x23, 0xA3, 0x24, 0xA4], &[0x40, 0x7D, 0x5F, 0x23, 0x24, 0x24]],
+    [
+        &[0xB0, 0xAE, 0xAD, 0xCB, 0x63, 0xC1, 0x61, 0xC1, 0x69, 0xC1, 0x6F, 0xC1, 0x75],
+        &[0x5B, 0x5D, 0x5E, 0x5C, 0x7B, 0x7E, 0x7C, 0x60],
+    ],
+];
+
+#[rattlefmt::skip]
+const FRENCH: [[&[u8]; 2]; 2] = [
+    [&[0x23, 0x20, 0xC8, 0x65, 0xC8, 0x69], &[0x5F, 0x20, 0x5B, 0x24]],
+    [
+        &[
+            0xCB, 0x63, 0xC1, 0x61, 0xC1, 0x65, 0xC1, 0x75, 0xC3, 0x61, 0xC3, 0x65, 0xC3, 0x69,
+            0xC3, 0x6F, 0xC3, 0x75,
+        ],
+        &[0x7E, 0x40, 0x60, 0x5D, 0x7B, 0x5C, 0x5E, 0x7C, 0x7D],
+    ],
+];
+
+#[rattlefmt::skip]
+const SPANISH: [[&[u8]; 2]; 2] = [
+    [
+        &[0xBF, 0x51, 0x75, 0xC2, 0x65, 0x3F, 0xA1, 0x61, 0xC4, 0x6E, 0x6F, 0x21],
+        &[0x60, 0x51, 0x75, 0x5C, 0x3F, 0x40, 0x61, 0x7C, 0x6F, 0x21],
+    ],
+    [
+        &[
+            0xCB, 0x63, 0xC8, 0x75, 0xC1, 0x65, 0xC1, 0x61, 0x24, 0xC2, 0x61, 0xC2, 0x69, 0xC2,
+            0x6F, 0xC2, 0x75,
+        ],
+        &[0x23, 0x7B, 0x7D, 0x7E, 0x24, 0x5B, 0x5D, 0x5E, 0x5F],
+    ],
+];
+
+#[rattlefmt::skip]
+const CZECH: [[&[u8]; 2]; 1] = [
+    [
+        &[
+            0xCF, 0x72, 0xCA, 0x75, 0xCF, 0x74, 0xC2, 0x79, 0xCF, 0x63, 0xCF, 0x7A, 0xC2, 0x69,
+            0xC2, 0x61, 0xCF, 0x65, 0xC2, 0x75, 0xCF, 0x73, 0x23,
+        ],
+        &[0x5F, 0x24, 0x5B, 0x5D, 0x40, 0x5C, 0x5E, 0x7B, 0x7C, 0x7D, 0x7E, 0x23],
+    ],
+];
+
+#[test]
+fn draws_the_letters_of_each_option(rt: HostRuntime) {
+    assert_draws(&rt, National::Swedish, &SWEDISH);
+    assert_draws(&rt, National::Italian, &ITALIAN);
+    assert_draws(&rt, National::French, &FRENCH);
+    assert_draws(&rt, National::Spanish, &SPANISH);
+    assert_draws(&rt, National::Czech, &CZECH);
+}
+
+// `été`.
+const ETE: [u8; 5] = [0xC2, 0x65, 0x74, 0xC2, 0x65];
+
+// Asserts the cell of é in the middle of row 22.
+fn assert_draws_ete(rt: &impl Abort, national: National, cell: u8) {
+    match draw(&subtitle(rt, 22, 2, &ETE), national) {
+        Ok(page) => assert_same(rt, page.row(22), &boxed(rt, 16, &[cell, 0x74, cell])),
+        Err(_) => panic!(rt; "{national:?} refuses it"),
+    }
+}
+
+#[test]
+fn draws_one_letter_by_the_option(rt: HostRuntime) {
+    assert_draws_ete(&rt, National::French, 0x23);
+    assert_draws_ete(&rt, National::Italian, 0x40);
+    assert_draws_ete(&rt, National::Spanish, 0x5C);
+    assert_draws_ete(&rt, National::Swedish, 0x60);
+    assert_draws_ete(&rt, National::Czech, 0x60);
+    assert_refuses(&rt, National::English, 0, &[&ETE]);
+    assert_refuses(&rt, National::German, 0, &[&ETE]);
+}
+
+// Texts that are refused at their first byte.
+#[rattlefmt::skip]
+const NOT_SWEDISH: [&[u8]; 5] = [&[0x24], &[0xA4], &[0x40], &[0xCF, 0x73], &[0xF9]];
+
+#[rattlefmt::skip]
+const NOT_ITALIAN: [&[u8]; 6] = [
+    &[0xC1, 0x45], &[0x40], &[0xAC], &[0xC2, 0x61], &[0xC8, 0x75], &[0xA8],
+];
+
+#[rattlefmt::skip]
+const NOT_FRENCH: [&[u8]; 13] = [
+    &[0x24], &[0xA4], &[0x40], &[0xA3], &[0x5F], &[0xFB], &[0xC2], &[0xC2, 0x45], &[0xC2, 0x20],
+    &[0xC2, 0x80, 0x65], &[0xC2, 0xC2, 0x65], &[0xC2, 0x0E], &[0xA8],
+];
+
+#[rattlefmt::skip]
+const NOT_SPANISH: [&[u8]; 6] = [
+    &[0x23], &[0x40], &[0xC4, 0x4E], &[0xC4, 0x61], &[0xC2, 0x41], &[0xA8],
+];
+
+#[rattlefmt::skip]
+const NOT_CZECH: [&[u8]; 5] = [&[0xCF, 0x6E], &[0x24], &[0xCF, 0x43], &[0xC2, 0x6F], &[0xA8]];
+
+// Texts that French refuses at their second byte.
+#[rattlefmt::skip]
+const NOT_FRENCH_LATER: [&[u8]; 5] = [
+    &[0x63, 0xFA, 0x75, 0x72], &[0x4D, 0xC8, 0x75], &[0x41, 0xC2, 0x8A, 0x65], &[0x65, 0xC2],
+    &[0x41, 0xC3, 0x0E],
+];
+
+#[test]
+fn refuses_letters_that_an_option_lacks(rt: HostRuntime) {
+    assert_refuses(&rt, National::Swedish, 0, &NOT_SWEDISH);
+    assert_refuses(&rt, National::Italian, 0, &NOT_ITALIAN);
+    assert_refuses(&rt, National::French, 0, &NOT_FRENCH);
+    assert_refuses(&rt, National::French, 1, &NOT_FRENCH_LATER);
+    assert_refuses(&rt, National::Spanish, 0, &NOT_SPANISH);
+    assert_refuses(&rt, National::Czech, 0, &NOT_CZECH);
+    // A control code before a mark that has no letter.
+    let control = draw(&subtitle(&rt, 5, 0, &[0x0E, 0xC2]), National::French).err();
+    assert_same(
+        &rt,
+        &control,
+        &Some(RowFault {
+            kind: RowFaultKind::Control,
+            at: 0,
+        }),
+    );
+}
+
+// Three lines of 36 letters, and a mark at the end of the block.
+fn mark_at_end() -> [u8; 112] {
+    let mut text = [0x41; 112];
+    (text[36], text[73], text[110], text[111]) = (0x8A, 0x8A, 0x8A, 0xC2);
+    text
+}
+
+// The fields of a block from a row on: one of its subtitle's (EBN), or a comment (CF).
+fn fields(vp: u8, ebn: u8, cf: u8) -> [u8; 16] {
+    let mut fields = head(TEN, TEN + 50, vp);
+    (fields[3], fields[14], fields[15]) = (ebn, 0, cf);
+    fields
+}
+
+// Asserts that a row of the page of a file shows é in French.
+fn assert_shows_e(rt: &(impl Abort + Alloc<A = Global>), file: &[u8], row: u8) -> Result<(), Fail> {
+    assert!(rt; row >= 1 && row <= 24);
+    let programme = load(rt.alloc(), &mut MemSource::new(file), National::French)?;
+    assert_same(rt, programme.due_page(TEN).row(row), &boxed(rt, 0, &[0x23]));
+    Ok(())
+}
+
+#[test]
+fn reads_a_pair_over_two_blocks(rt: HostRuntime) -> Result<(), Fail> {
+    let first = block(&fields(1, 0x00, 0), &mark_at_end());
+    let file = file_of_two(&first, &block(&fields(1, 0xFF, 0), &[0x65]));
+    assert_shows_e(&rt, &file, 4)
+}
+
+#[test]
+fn reads_a_pair_over_padding_and_a_comment(rt: HostRuntime) -> Result<(), Fail> {
+    let mut file = [0; 1408];
+    put(&mut file, 0, &gsi());
+    put(&mut file, 1024, &block(&fields(5, 0x00, 0), &[0xC2]));
+    put(&mut file, 1152, &block(&fields(5, 0xFF, 1), &[0x41]));
+    put(&mut file, 1280, &block(&fields(5, 0xFF, 0), &[0x65]));
+    assert_shows_e(&rt, &file, 5)
+}
+
+#[test]
+fn refuses_the_mark_of_such_a_pair(rt: HostRuntime) {
+    let mut text = [0x65; 113];
+    text[..112].copy_from_slice(&mark_at_end());
+    let refused = Some(RowFault {
+        kind: RowFaultKind::Character,
+        at: 111,
+    });
+    for national in [National::English, National::German] {
+        assert_same(
+            &rt,
+            &draw(&subtitle(&rt, 1, 0, &text), national).err(),
+            &refused,
+        );
+    }
+}
+
+// The words and their options.
+#[rattlefmt::skip]
+const WORDS: [&str; 7] =
+    ["english", "german", "swedish", "italian", "french", "spanish", "czech"];
+
+#[rattlefmt::skip]
+const OPTIONS: [National; 7] = [
+    National::English, National::German, National::Swedish, National::Italian, National::French,
+    National::Spanish, National::Czech,
+];
+
+#[test]
+fn reads_the_word_of_an_option(rt: HostRuntime) {
+    for (word, national) in WORDS.iter().zip(OPTIONS.iter()) {
+        assert_same_in(&rt, &National::parse(*word), &Some(*national), word);
+    }
+    for word in ["French", "fr", "portuguese", "polish", "", "french "] {
+        assert_same_in(&rt, &National::parse(word), &None, &word);
+    }
+}

@@ -1,0 +1,282 @@
+//! How the packets of a PID are cut into parts, and what these give: at announced jumps, at the
+//! end, and behind other bytes.
+
+use crate::transport_recordings::{
+    BACK_1, BEGINS_0, BEGINS_1, BEGINS_2, BEGINS_9, FILL, FRONT_0, JUMP, JUMP_FILL, MARK_HEAD,
+    MARK_REST, NULL, WRONG_1, ZEROS, assert_gives,
+};
+use fixtures::{FIRST, SECOND};
+
+#[test]
+fn follows_an_announced_jump(rt: HostRuntime) {
+    let both: [&[u8]; 2] = [&FIRST, &SECOND];
+    assert_gives(
+        &rt,
+        &[&BEGINS_0, &FIRST, &JUMP, &JUMP_FILL, &BEGINS_9, &SECOND],
+        &both,
+    );
+    // One that another PID announces, or that has no room for the flag, is none.
+    let others: [&[u8]; 6] = [
+        &BEGINS_0,
+        &FIRST,
+        &[0x47, 0x01, 0x02, 0x20, 0xB7, 0x80],
+        &JUMP_FILL,
+        &BEGINS_9,
+        &SECOND,
+    ];
+    let gap: [&[u8]; 4] = [&FIRST, &MARK_HEAD, &MARK_REST, &SECOND];
+    assert_gives(&rt, &others, &gap);
+    assert_gives(
+        &rt,
+        &[
+            &BEGINS_0,
+            &FIRST,
+            &[0x47, 0x01, 0x01, 0x20, 0x00, 0x80],
+            &JUMP_FILL,
+            &BEGINS_9,
+            &SECOND,
+        ],
+        &gap,
+    );
+}
+
+#[test]
+fn cuts_parts_at_an_announced_jump(rt: HostRuntime) {
+    // Within a PES packet, though the counter goes on.
+    assert_gives(
+        &rt,
+        &[
+            &BEGINS_0,
+            &FIRST,
+            &[0x47, 0x41, 0x01, 0x31, 83, 0x00],
+            &FILL[..82],
+            &SECOND[..100],
+            &JUMP,
+            &JUMP_FILL,
+            &[0x47, 0x01, 0x01, 0x32, 99, 0x00],
+            &FILL[..98],
+            &SECOND[100..],
+            &[0x47, 0x41, 0x01, 0x13],
+            &SECOND,
+        ],
+        &[&FIRST, &MARK_HEAD, &MARK_REST, &SECOND],
+    );
+    // The first packet of the later PES packet announces it.
+    assert_gives(
+        &rt,
+        &[
+            &BEGINS_0,
+            &FIRST,
+            &[0x47, 0x41, 0x01, 0x39, 83, 0x80],
+            &FILL[..82],
+            &SECOND[..100],
+            &[0x47, 0x01, 0x01, 0x3A, 99, 0x00],
+            &FILL[..98],
+            &SECOND[100..],
+        ],
+        &[&FIRST, &SECOND],
+    );
+    // The second one: the PES packet is not whole.
+    assert_gives(
+        &rt,
+        &[
+            &FRONT_0,
+            &FILL[..82],
+            &FIRST[..100],
+            &[0x47, 0x01, 0x01, 0x31, 99, 0x80],
+            &FILL[..98],
+            &FIRST[100..],
+            &BEGINS_2,
+            &SECOND,
+        ],
+        &[&SECOND],
+    );
+}
+
+#[test]
+fn joins_the_payloads_of_a_pes_packet(rt: HostRuntime) {
+    let both: [&[u8]; 2] = [&FIRST, &SECOND];
+    let jumping_head: [u8; 6] = [0x47, 0x41, 0x01, 0x30, 83, 0x80];
+    let long_head: [u8; 6] = [0x47, 0x01, 0x01, 0x31, 83, 0x00];
+    assert_gives(
+        &rt,
+        &[
+            &FRONT_0,
+            &FILL[..82],
+            &FIRST[..100],
+            &BACK_1,
+            &FILL[..98],
+            &FIRST[100..],
+            &BEGINS_2,
+            &SECOND,
+        ],
+        &both,
+    );
+    // The first of them announces a jump, and comes twice.
+    assert_gives(
+        &rt,
+        &[
+            &jumping_head,
+            &FILL[..82],
+            &FIRST[..100],
+            &jumping_head,
+            &FILL[..82],
+            &FIRST[..100],
+            &BACK_1,
+            &FILL[..98],
+            &FIRST[100..],
+            &BEGINS_2,
+            &SECOND,
+        ],
+        &both,
+    );
+    // Bytes behind the PES packet are a gap.
+    assert_gives(
+        &rt,
+        &[
+            &FRONT_0,
+            &FILL[..82],
+            &FIRST[..100],
+            &long_head,
+            &FILL[..82],
+            &FIRST[100..],
+            &FILL[..16],
+            &BEGINS_2,
+            &SECOND,
+        ],
+        &[&FIRST, &MARK_HEAD, &MARK_REST, &SECOND],
+    );
+    // A part that the recording cuts off is no gap.
+    assert_gives(
+        &rt,
+        &[
+            &BEGINS_0,
+            &FIRST,
+            &[0x47, 0x41, 0x01, 0x31, 83, 0x00],
+            &FILL[..82],
+            &SECOND[..100],
+        ],
+        &[&FIRST],
+    );
+    // A part that is not whole, before one that begins.
+    assert_gives(
+        &rt,
+        &[&FRONT_0, &FILL[..82], &FIRST[..100], &BEGINS_1, &SECOND],
+        &[&SECOND],
+    );
+    // The second packet begins no part, behind a whole one.
+    assert_gives(
+        &rt,
+        &[&BEGINS_0, &FIRST, &[0x47, 0x01, 0x01, 0x11], &SECOND],
+        &[&FIRST, &MARK_HEAD, &MARK_REST],
+    );
+}
+
+#[test]
+fn ends_at_another_start_or_length(rt: HostRuntime) {
+    let start: [u8; 4] = [0x00, 0x00, 0x01, 0xBE];
+    assert_gives(
+        &rt,
+        &[&BEGINS_0, &start, &FIRST[4..], &BEGINS_1, &SECOND],
+        &[&start, &FIRST[4..]],
+    );
+    let length: [u8; 5] = [0x00, 0x00, 0x01, 0xBD, 0x1F];
+    assert_gives(
+        &rt,
+        &[&BEGINS_0, &length, &FIRST[5..], &BEGINS_1, &SECOND],
+        &[&length, &FIRST[5..]],
+    );
+    // Ten payloads are one too many.
+    let long: [u8; 6] = [0x00, 0x00, 0x01, 0xBD, 0x07, 0x2A];
+    assert_gives(&rt, &[&BEGINS_0, &long, &FIRST[6..]], &[&long, &FIRST[6..]]);
+    // A mark stands before it only behind a PES packet.
+    assert_gives(
+        &rt,
+        &[&BEGINS_0, &FIRST, &BEGINS_2, &start, &FIRST[4..]],
+        &[&FIRST, &MARK_HEAD, &MARK_REST, &start, &FIRST[4..]],
+    );
+    assert_gives(
+        &rt,
+        &[&WRONG_1, &FIRST, &BEGINS_2, &start, &FIRST[4..]],
+        &[&start, &FIRST[4..]],
+    );
+}
+
+#[test]
+fn finds_packets_behind_other_bytes(rt: HostRuntime) {
+    let both: [&[u8]; 2] = [&FIRST, &SECOND];
+    assert_gives(
+        &rt,
+        &[
+            &ZEROS[..5],
+            &BEGINS_0,
+            &FIRST,
+            &NULL,
+            &FILL,
+            &BEGINS_1,
+            &SECOND,
+        ],
+        &both,
+    );
+    assert_gives(
+        &rt,
+        &[
+            &BEGINS_0,
+            &FIRST,
+            &ZEROS[..5],
+            &NULL,
+            &FILL,
+            &BEGINS_1,
+            &SECOND,
+        ],
+        &both,
+    );
+    // As many bytes as 15 packets may hide some; one less may not, nor may they at the end.
+    assert_gives(
+        &rt,
+        &[&BEGINS_0, &FIRST, &ZEROS, &NULL, &FILL, &BEGINS_1, &SECOND],
+        &[&FIRST, &MARK_HEAD, &MARK_REST, &SECOND],
+    );
+    assert_gives(
+        &rt,
+        &[
+            &BEGINS_0,
+            &FIRST,
+            &ZEROS[..2819],
+            &NULL,
+            &FILL,
+            &BEGINS_1,
+            &SECOND,
+        ],
+        &both,
+    );
+    assert_gives(&rt, &[&BEGINS_0, &FIRST, &ZEROS], &[&FIRST]);
+    // Fewer, twice, with a packet between them.
+    assert_gives(
+        &rt,
+        &[
+            &BEGINS_0,
+            &FIRST,
+            &ZEROS[..2000],
+            &NULL,
+            &FILL,
+            &NULL,
+            &FILL,
+            &ZEROS[..2000],
+            &NULL,
+            &FILL,
+            &BEGINS_1,
+            &SECOND,
+        ],
+        &both,
+    );
+    // A recording begins and ends anywhere.
+    assert_gives(
+        &rt,
+        &[&FIRST[..88], &NULL, &FILL, &BEGINS_1, &SECOND],
+        &[&SECOND],
+    );
+    // Out of step a packet is one where another follows it.
+    assert_gives(&rt, &[&FIRST[..88], &BEGINS_1, &SECOND], &[]);
+    assert_gives(&rt, &[&BEGINS_0, &FIRST[..183]], &[]);
+}

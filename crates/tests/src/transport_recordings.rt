@@ -1,0 +1,77 @@
+//! What tests of transport streams share: packets, and what the packets of a PID give.
+
+use mpeg_ts::{PacketSize, PesSource, Pid};
+use std::process::Abort;
+use sub_io::{MemSink, MemSource, Sink, fill, put_all};
+
+/// Bytes 0 to 3 of packets of PID 101 (hexadecimal) that begin a PES packet, by their counters.
+pub(crate) const BEGINS_0: [u8; 4] = [0x47, 0x41, 0x01, 0x10];
+
+pub(crate) const BEGINS_1: [u8; 4] = [0x47, 0x41, 0x01, 0x11];
+
+pub(crate) const BEGINS_2: [u8; 4] = [0x47, 0x41, 0x01, 0x12];
+
+pub(crate) const BEGINS_9: [u8; 4] = [0x47, 0x41, 0x01, 0x19];
+
+/// The first one with transport_error_indicator.
+pub(crate) const WRONG_1: [u8; 4] = [0x47, 0xC1, 0x01, 0x11];
+
+/// A null packet, and bytes that fill it.
+pub(crate) const NULL: [u8; 4] = [0x47, 0x1F, 0xFF, 0x10];
+
+pub(crate) const FILL: [u8; 184] = [0xFF; 184];
+
+/// A packet without a payload that announces a jump of the counter.
+pub(crate) const JUMP: [u8; 6] = [0x47, 0x01, 0x01, 0x20, 0xB7, 0x80];
+
+pub(crate) const JUMP_FILL: [u8; 182] = [0xFF; 182];
+
+/// Bytes 0 to 5 of packets with an adaptation field: one that begins a PES packet and has 100 bytes
+/// of it, and one that goes on with 84.
+pub(crate) const FRONT_0: [u8; 6] = [0x47, 0x41, 0x01, 0x30, 83, 0x00];
+
+pub(crate) const BACK_1: [u8; 6] = [0x47, 0x01, 0x01, 0x31, 99, 0x00];
+
+/// The first bytes of a mark; FILL has more of its others than it needs.
+pub(crate) const MARK_HEAD: [u8; 6] = [0x00, 0x00, 0x01, 0xBD, 0x00, 0xB2];
+
+pub(crate) const MARK_REST: [u8; 178] = [0xFF; 178];
+
+pub(crate) const ZEROS: [u8; 2820] = [0; 2820];
+
+/// Puts pieces one after another, as far as there is room.
+pub(crate) fn put_pieces(sink: &mut MemSink<'_>, pieces: &[&[u8]]) {
+    for piece in pieces {
+        if sink.failures() == 0 {
+            let _ = put_all(sink, piece);
+        }
+    }
+}
+
+/// Asserts what the packets of a PID give, where the recording is made of these pieces.
+pub(crate) fn assert_gives_of(
+    rt: &impl Abort,
+    number: u16,
+    packet_size: PacketSize,
+    recording: &[&[u8]],
+    wanted: &[&[u8]],
+) {
+    let mut recording_room = [0; 8192];
+    let mut recorded = MemSink::new(&mut recording_room);
+    put_pieces(&mut recorded, recording);
+    let mut wanted_room = [0; 2048];
+    let mut wanted_bytes = MemSink::new(&mut wanted_room);
+    put_pieces(&mut wanted_bytes, wanted);
+    let Some(pid) = Pid::new(number) else {
+        return assert!(rt; false);
+    };
+    let mut source = PesSource::new(MemSource::new(recorded.written()), pid, packet_size);
+    let mut room = [0; 2048];
+    let given = fill(&mut source, &mut room).unwrap_or(0);
+    assert!(rt; &room[..given] == wanted_bytes.written());
+}
+
+/// The same of PID 101 (hexadecimal) in packets of 188 bytes.
+pub(crate) fn assert_gives(rt: &impl Abort, recording: &[&[u8]], wanted: &[&[u8]]) {
+    assert_gives_of(rt, 0x101, PacketSize::Plain, recording, wanted);
+}

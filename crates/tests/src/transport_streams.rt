@@ -1,0 +1,262 @@
+//! The PES packets of a PID, taken out of transport streams: what is given where packets are
+//! repeated, lost or wrong. Each stream is written here packet by packet.
+
+use crate::transport_recordings::{
+    BACK_1, BEGINS_0, BEGINS_1, BEGINS_2, FILL, FRONT_0, JUMP, JUMP_FILL, MARK_HEAD, MARK_REST,
+    NULL, WRONG_1, ZEROS, assert_gives, assert_gives_of, put_pieces,
+};
+use fixtures::{FIRST, SECOND};
+use mpeg_ts::{PacketSize, PesSource, Pid};
+use sub_io::{FailAt, MemSink, MemSource, Source, fill};
+
+#[test]
+fn gives_the_pes_packets_of_the_pid(rt: HostRuntime) {
+    let stream: [&[u8]; 6] = [&BEGINS_0, &FIRST, &NULL, &FILL, &BEGINS_1, &SECOND];
+    assert_gives(&rt, &stream, &[&FIRST, &SECOND]);
+    assert_gives_of(&rt, 0x102, PacketSize::Plain, &stream, &[]);
+    // A PID has 13 bits.
+    let far: [&[u8]; 4] = [
+        &[0x47, 0x51, 0x01, 0x10],
+        &FIRST,
+        &[0x47, 0x51, 0x01, 0x11],
+        &SECOND,
+    ];
+    assert_gives(&rt, &far, &[]);
+    assert_gives_of(&rt, 0x1101, PacketSize::Plain, &far, &[&FIRST, &SECOND]);
+    assert_gives(&rt, &[], &[]);
+}
+
+#[test]
+fn gives_a_mark_where_a_packet_is_lost(rt: HostRuntime) {
+    assert_gives(
+        &rt,
+        &[&BEGINS_0, &FIRST, &BEGINS_2, &SECOND],
+        &[&FIRST, &MARK_HEAD, &MARK_REST, &SECOND],
+    );
+    // Nothing stands before the first PES packet.
+    assert_gives(&rt, &[&WRONG_1, &FIRST, &BEGINS_0, &SECOND], &[&SECOND]);
+    // One mark for all that is missing, and none for a part that the recording ends in.
+    assert_gives(
+        &rt,
+        &[
+            &BEGINS_0, &FIRST, &WRONG_1, &SECOND, &WRONG_1, &SECOND, &BEGINS_1, &SECOND,
+        ],
+        &[&FIRST, &MARK_HEAD, &MARK_REST, &SECOND],
+    );
+    assert_gives(
+        &rt,
+        &[&BEGINS_0, &FIRST, &BEGINS_1, &SECOND[..183]],
+        &[&FIRST],
+    );
+}
+
+#[test]
+fn passes_over_one_repeat(rt: HostRuntime) {
+    assert_gives(
+        &rt,
+        &[
+            &BEGINS_0, &FIRST, &BEGINS_0, &FIRST, &NULL, &FILL, &BEGINS_1, &SECOND,
+        ],
+        &[&FIRST, &SECOND],
+    );
+    assert_gives(
+        &rt,
+        &[&BEGINS_0, &FIRST, &BEGINS_0, &FIRST, &BEGINS_0, &FIRST],
+        &[&FIRST, &MARK_HEAD, &MARK_REST, &FIRST],
+    );
+    // The same payload with the next counter is another packet, and so is the same counter with
+    // another payload.
+    assert_gives(
+        &rt,
+        &[&BEGINS_0, &FIRST, &BEGINS_1, &FIRST],
+        &[&FIRST, &FIRST],
+    );
+    assert_gives(
+        &rt,
+        &[&BEGINS_0, &FIRST, &BEGINS_0, &SECOND],
+        &[&FIRST, &MARK_HEAD, &MARK_REST, &SECOND],
+    );
+    // Across an announced jump none is a repeat.
+    assert_gives(
+        &rt,
+        &[&BEGINS_0, &FIRST, &JUMP, &JUMP_FILL, &BEGINS_0, &FIRST],
+        &[&FIRST, &FIRST],
+    );
+}
+
+#[test]
+fn tells_a_repeat_by_its_first_four_bytes_and_its_payload(rt: HostRuntime) {
+    // Other bytes of its adaptation field are none of these.
+    assert_gives(
+        &rt,
+        &[
+            &FRONT_0,
+            &FILL[..82],
+            &FIRST[..100],
+            &FRONT_0,
+            &ZEROS[..82],
+            &FIRST[..100],
+            &BACK_1,
+            &FILL[..98],
+            &FIRST[100..],
+            &BEGINS_2,
+            &SECOND,
+        ],
+        &[&FIRST, &SECOND],
+    );
+    // One that does not begin is none of one that does.
+    assert_gives(
+        &rt,
+        &[
+            &BEGINS_0,
+            &FIRST,
+            &[0x47, 0x01, 0x01, 0x10],
+            &FIRST,
+            &BEGINS_1,
+            &SECOND,
+        ],
+        &[&FIRST, &MARK_HEAD, &MARK_REST, &SECOND],
+    );
+}
+
+#[test]
+fn takes_no_wrong_packet(rt: HostRuntime) {
+    let gap: [&[u8]; 3] = [&FIRST, &MARK_HEAD, &MARK_REST];
+    assert_gives(&rt, &[&BEGINS_0, &FIRST, &WRONG_1, &SECOND], &gap);
+    // Scrambled.
+    assert_gives(
+        &rt,
+        &[&BEGINS_0, &FIRST, &[0x47, 0x41, 0x01, 0x91], &SECOND],
+        &gap,
+    );
+    // An adaptation field that leaves no room for a payload, with one and without.
+    let full: [u8; 5] = [0x47, 0x01, 0x01, 0x31, 0xB7];
+    assert_gives(
+        &rt,
+        &[&BEGINS_0, &FIRST, &full, &FILL[..183], &BEGINS_1, &SECOND],
+        &[&FIRST, &MARK_HEAD, &MARK_REST, &SECOND],
+    );
+    assert_gives(
+        &rt,
+        &[
+            &BEGINS_0,
+            &FIRST,
+            &[0x47, 0x01, 0x01, 0xA0],
+            &FILL,
+            &BEGINS_1,
+            &SECOND,
+        ],
+        &[&FIRST, &MARK_HEAD, &MARK_REST, &SECOND],
+    );
+    // Without a payload the same adaptation field is nothing wrong, and its counter is not
+    // followed.
+    assert_gives(
+        &rt,
+        &[
+            &BEGINS_0,
+            &FIRST,
+            &[0x47, 0x01, 0x01, 0x25, 0xB7, 0x00],
+            &JUMP_FILL,
+            &BEGINS_1,
+            &SECOND,
+        ],
+        &[&FIRST, &SECOND],
+    );
+}
+
+#[test]
+fn reads_packets_of_other_sizes(rt: HostRuntime) {
+    let both: [&[u8]; 2] = [&FIRST, &SECOND];
+    let stamp: [u8; 4] = [0x47; 4];
+    let stamped: [&[u8]; 6] = [&stamp, &BEGINS_0, &FIRST, &stamp, &BEGINS_1, &SECOND];
+    assert_gives_of(&rt, 0x101, PacketSize::TimeStamped, &stamped, &both);
+    let zeros: [u8; 4] = [0; 4];
+    let as_plain: [&[u8]; 6] = [&zeros, &BEGINS_0, &FIRST, &zeros, &BEGINS_1, &SECOND];
+    assert_gives(&rt, &as_plain, &[]);
+    let code: &[u8] = &FILL[..16];
+    let coded: [&[u8]; 5] = [&BEGINS_0, &FIRST, code, &BEGINS_1, &SECOND];
+    assert_gives_of(&rt, 0x101, PacketSize::ErrorCorrected, &coded, &both);
+}
+
+#[test]
+fn finds_a_hole_of_15_packets_of_their_size(rt: HostRuntime) {
+    let zeros: [u8; 4] = [0; 4];
+    // 2876 bytes are skipped, and 2880, behind a time stamp.
+    assert_gives_of(
+        &rt,
+        0x101,
+        PacketSize::TimeStamped,
+        &[
+            &zeros,
+            &BEGINS_0,
+            &FIRST,
+            &ZEROS,
+            &ZEROS[..60],
+            &NULL,
+            &FILL,
+            &zeros,
+            &BEGINS_1,
+            &SECOND,
+        ],
+        &[&FIRST, &SECOND],
+    );
+    assert_gives_of(
+        &rt,
+        0x101,
+        PacketSize::TimeStamped,
+        &[
+            &zeros,
+            &BEGINS_0,
+            &FIRST,
+            &ZEROS,
+            &ZEROS[..64],
+            &NULL,
+            &FILL,
+            &zeros,
+            &BEGINS_1,
+            &SECOND,
+        ],
+        &[&FIRST, &MARK_HEAD, &MARK_REST, &SECOND],
+    );
+}
+
+#[test]
+fn knows_the_pids_that_may_carry_pes_packets(rt: HostRuntime) {
+    assert!(rt; Pid::new(8190).is_some());
+    assert!(rt; Pid::new(8191).is_none());
+}
+
+#[test]
+fn lends_a_pes_packet_whole(rt: HostRuntime) {
+    let mut room = [0; 1024];
+    let mut sink = MemSink::new(&mut room);
+    put_pieces(&mut sink, &[&BEGINS_0, &FIRST, &BEGINS_2, &SECOND]);
+    let Some(pid) = Pid::new(0x101) else {
+        return assert!(rt; false);
+    };
+    let mut source = PesSource::new(MemSource::new(sink.written()), pid, PacketSize::Plain);
+    assert!(rt; source.held().is_empty());
+    let mut byte = [0; 1];
+    assert!(rt; fill(&mut source, &mut byte).is_ok());
+    assert!(rt; source.held() == &FIRST[1..]);
+    assert!(rt; source.pass(183));
+    assert!(rt; !source.pass(1));
+}
+
+#[test]
+fn gives_a_pes_packet_before_it_asks_for_more(rt: HostRuntime) {
+    let mut recording_room = [0; 1024];
+    let mut recorded = MemSink::new(&mut recording_room);
+    put_pieces(&mut recorded, &[&BEGINS_0, &FIRST, &BEGINS_1, &SECOND]);
+    let Some(pid) = Pid::new(0x101) else {
+        return assert!(rt; false);
+    };
+    // The second call of the device fails: nothing is taken by it, and the next one goes on.
+    let device = FailAt::new(MemSource::new(recorded.written()), 1);
+    let mut source = PesSource::new(device, pid, PacketSize::Plain);
+    let mut room = [0; 184];
+    assert!(rt; fill(&mut source, &mut room).is_ok() && room == FIRST);
+    assert!(rt; fill(&mut source, &mut room).is_err());
+    assert!(rt; source.failures() == 1);
+    assert!(rt; fill(&mut source, &mut room).is_ok() && room == SECOND);
+}
