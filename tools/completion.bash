@@ -15,11 +15,12 @@ _subttx_files() {
 # What an option takes; status 1 where the word before is none with a value to choose.
 _subttx_value() {
     case $1 in
-        --option) _subttx_words 'english german' "$2" ;;
+        --option) _subttx_words 'english german swedish italian french spanish czech' "$2" ;;
         --receiver) _subttx_words 'blank drop keep' "$2" ;;
+        --packet-size) _subttx_words '188 192 204' "$2" ;;
         --page | --every | --within | --origin | --at | --skip | --flip | --lose | --from | --to | \
             --pid | --part | --jobs | --settled | --patience | --stall | --breaks | --run | \
-            --start | --pes)
+            --start | --pes | --around-pes)
             COMPREPLY=()
             ;;
         *) return 1 ;;
@@ -31,7 +32,7 @@ _subttx() {
     local command='' at options
     for ((at = 1; at < COMP_CWORD; at++)); do
         case ${COMP_WORDS[at]} in
-            packet | packets | show | normal | schedule | check | listen)
+            packet | packets | show | normal | schedule | check | listen | extract)
                 command=${COMP_WORDS[at]}
                 break
                 ;;
@@ -39,14 +40,20 @@ _subttx() {
     done
     case $command in
         '')
-            _subttx_words 'packet packets show normal schedule check listen' "$word"
+            _subttx_words 'packet packets show normal schedule check listen extract' "$word"
             return
             ;;
         schedule) options='--page --every --origin --option --serial' ;;
-        check) options='--page --every --origin --option --complete --all --within' ;;
+        check)
+            options='--page --every --origin --option --complete --all --within'
+            options+=' --pid --packet-size --pes'
+            ;;
         listen)
             options='--page --origin --within --at --skip --flip --lose --receiver --complete'
+            options+=' --pid --packet-size --pes'
             ;;
+        packets) options='--pid --packet-size --pes' ;;
+        extract) options='--pid --packet-size' ;;
         *) options= ;;
     esac
     _subttx_value "$before" "$word" && return

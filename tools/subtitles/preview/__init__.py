@@ -4,13 +4,10 @@ report     all that the page is made of
 program    what `subttx` is asked, and its lines as values
 faults     what `check --all` tells, as entries of a list and as spans of frames
 passed     PES packets that were passed over: how the others are counted, what stands around
-receiver   the model receiver: one step of it, and what it reads of a PES packet
 headers    the page headers of a PES file, counted
 listening  a listing heard to its end: pages, sendings, and what was held at the frames asked for
 fits       how far the sending is that would fit
 counts     how many faults there are of each number, and what it means
-manual     what docs/manual/refusals.md says a refusal means, and what to do
-letters    the characters of the two national options
 drawing    a page as Teletext level 1 draws it, as SVG
 figures    the pictures at a frame
 timeline   strips with subtitles, sendings and faults
@@ -21,13 +18,4 @@ blocks     a refused subtitle file: its broken place, and its refused subtitles
 page       the whole report
 scope      what it speaks of, and what nobody looked at
 reasons    why the content is refused
-
-cases      transmissions for tools/check-preview
-noise      transmissions at random
-comparing  a report held against what the program prints
-refused    reports of refused subtitle files, of what may be trusted, and the foot
-measures   how a report looks in a browser
 """
-import os
-
-TOP = os.path.realpath(os.path.join(os.path.dirname(__file__), "..", "..", ".."))

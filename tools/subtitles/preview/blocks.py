@@ -4,11 +4,11 @@ from __future__ import annotations
 import itertools
 from typing import TYPE_CHECKING, Iterable, NamedTuple
 
-from ..qc.subtitle_file import COMMENT, Subtitle, SubtitleFile
-from ..stl import GSI, LAST, TTI, USER_DATA
-from ..times import frame_of
-from ..words import counted
-from .manual import number_link, shown
+from ..core.manual import number_link, shown
+from ..core.stl import GSI, LAST, TTI, USER_DATA
+from ..core.times import frame_of
+from ..core.words import counted
+from ..qc.subtitle_file import COMMENT, NamedSubtitle, SubtitleFile
 from .program import Verdict, verdict_of
 
 if TYPE_CHECKING:
@@ -47,7 +47,7 @@ class Blocks:
         one = self.file.block(block)
         return one[3] != USER_DATA and one[15] != COMMENT
 
-    def subtitle(self, block: int | None) -> Subtitle | None:
+    def subtitle(self, block: int | None) -> NamedSubtitle | None:
         """The subtitle of a block; `None` for the GSI block, and for one that is cut."""
         return None if block is None else self.file.at_block(block)
 
@@ -65,7 +65,7 @@ class Blocks:
         """The row of the first line of a block's subtitle (VP)."""
         return self.file.block(self.file.firsts[block])[13]
 
-    def before(self, block: int) -> Subtitle | None:
+    def before(self, block: int) -> NamedSubtitle | None:
         """The subtitle whose times those of a block's subtitle are held against."""
         for number in range(self.file.firsts[block] - 1, 0, -1):
             if self.is_text(number) and self.file.firsts[number] not in self.passed_over:
@@ -99,7 +99,7 @@ def block_place(report: Report, blocks: Blocks) -> str:
     return "".join(parts) + "</section>"
 
 
-def refused_subtitle(blocks: Blocks, subtitle: Subtitle, fault: Verdict) -> str:
+def refused_subtitle(blocks: Blocks, subtitle: NamedSubtitle, fault: Verdict) -> str:
     """The first refused subtitle, in tables."""
     assert fault.block is not None
     times, text = times_of(blocks, subtitle, [fault]), blocks.text(fault.block)
@@ -117,11 +117,11 @@ def refused_subtitle(blocks: Blocks, subtitle: Subtitle, fault: Verdict) -> str:
     return "".join(parts) + f"<p>{marked_text(text, [])}</p>"
 
 
-def name_of(subtitle: Subtitle, block: int) -> str:
+def name_of(subtitle: NamedSubtitle, block: int) -> str:
     return f"SN {subtitle.number}, block {block}"
 
 
-def times_of(blocks: Blocks, subtitle: Subtitle, faults: list[Verdict]) -> Times:
+def times_of(blocks: Blocks, subtitle: NamedSubtitle, faults: list[Verdict]) -> Times:
     """The times of a subtitle, marked where a fault is about them."""
     numbers = {one.number for one in faults}
     is_each = [frame_of(time) is None for time in (subtitle.begin, subtitle.end)] \
@@ -139,10 +139,10 @@ def refused_blocks(report: Report, blocks: Blocks) -> str:
     for index, (block, several) in enumerate(itertools.groupby(told, lambda one: one.block), 1):
         items.append(refused_item(blocks, index, block, list(several)))
     more = faults.count - len(faults.of_blocks)
-    left = f"<p><b>{more:,} more faults</b> are told by <code>check --all</code> and left out " \
-        "here.</p>" if more else ""
+    left = f"<p><b>{more:,} more fault{'s' * (more != 1)}</b> from <code>check --all</code> " \
+        f"{'are' if more != 1 else 'is'} left out here.</p>" if more else ""
     return (f"<p>{end_of_reading(report, blocks)} No PES file is read before all of them are "
-            f'mended.</p><ol class="faults">{"".join(items)}</ol>{left}')
+            f'repaired.</p><ol class="faults">{"".join(items)}</ol>{left}')
 
 
 def end_of_reading(report: Report, blocks: Blocks) -> str:
@@ -201,7 +201,7 @@ def listed(lines: list[str]) -> str:
     return f'<pre class="lines">{shown(chr(10).join(lines))}</pre>'
 
 
-def two_times(blocks: Blocks, subtitle: Subtitle, fault: Verdict) -> str:
+def two_times(blocks: Blocks, subtitle: NamedSubtitle, fault: Verdict) -> str:
     """The times of a subtitle and the one before; those that the refusal is about are marked."""
     rows = []
     before = blocks.before(fault.block or 0)

@@ -3,8 +3,11 @@ from __future__ import annotations
 
 from typing import TYPE_CHECKING
 
-from ..times import time_of
-from .manual import marked_up, shown
+from ..core.manual import marked_up, shown
+from ..core.times import time_of
+from ..core.told import told_of
+from ..qc.midnight import midnight_words
+from ..qc.subtitle_file import SubtitleFile
 from .program import Verdict, verdict_of
 
 if TYPE_CHECKING:
@@ -29,7 +32,9 @@ def place_words(fault: Verdict) -> str:
 def means_and_do(report: Report, number: int) -> tuple[str, str] | None:
     """What a number means, and what to do, as HTML; `None` where no manual says it."""
     meaning = report.meanings.get(number)
-    return (marked_up(meaning.means), marked_up(meaning.do)) if meaning else None
+    first = told_of(report.faults.firsts.get(number, ""))
+    of_night = midnight_words(first, SubtitleFile(report.stl)) if first else ""
+    return (marked_up(meaning.means), marked_up(of_night or meaning.do)) if meaning else None
 
 
 def meaning_of_verdict(report: Report) -> str:

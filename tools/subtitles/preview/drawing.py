@@ -12,9 +12,9 @@ import operator
 import re
 from typing import Any, Callable, Iterable, Iterator, NamedTuple, TypeVar
 
-from ..teletext import NEWSFLASH, SUBTITLE, has_bit
-from .letters import letters
-from .receiver import HIT, OLD, Rows, national_option
+from ..core.characters import letters
+from ..core.teletext import NEWSFLASH, SUBTITLE, has_bit
+from ..reading.receiver import HIT, OLD, Rows, national_option
 
 WIDTH, HEIGHT = 12, 15
 SPACE = 0x20

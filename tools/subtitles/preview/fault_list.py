@@ -3,17 +3,17 @@ from __future__ import annotations
 
 from typing import TYPE_CHECKING
 
-from ..qc.told import CONTENT, WITH_CAUSE
-from ..times import time_of
+from ..core.manual import number_link
+from ..core.times import time_of
+from ..core.told import CONTENT, WITH_CAUSE
+from ..reading.receiver import national_option
 from .counts import place_words
 from .drawing import text_of_code
 from .faults import Entry
 from .figures import NOT_READ
 from .fits import frames_words
-from .manual import number_link
 from .places import around, between_words, pes_words, units_table
 from .program import Program, Verdict
-from .receiver import national_option
 
 if TYPE_CHECKING:
     from .report import Looks, Report
@@ -40,10 +40,9 @@ class FaultList:
         one = self.report.programme.subtitle(frame)
         if one is None:
             return "no subtitle is due"
-        name = f"subtitle {one.index}"
         if one.index in self.looks.entries.drawn:
-            name = f'<a href="#s{one.index}">{name}</a>'
-        return f"{name} (SN {one.number})"
+            return f'<a href="#s{one.index}">{one.name}</a>'
+        return one.name
 
     def cell_words(self, fault: Verdict) -> str:
         """What is due and what is held in the cell that a fault names."""
@@ -81,13 +80,14 @@ class FaultList:
     def listed(self) -> str:
         """The list, as far as it goes, and how much more there is."""
         faults = self.report.faults
-        parts = ["<p>Faults of one number that are told one after another within one subtitle are "
-                 "one entry.</p>" if faults.count > faults.entry_count else "",
+        parts = ["<p>Faults of one number that follow one another within one subtitle are one "
+                 "entry.</p>" if faults.count > faults.entry_count else "",
                  f'<ol class="faults">{"".join(map(self.item, self.entries))}</ol>']
         more = faults.entry_count - len(self.entries)
         if more:
-            parts.append(f"<p><b>{more:,} more entries</b> are told by <code>check --all</code> and"
-                         " left out here.</p>")
+            words = f"{more:,} more entries</b> from <code>check --all</code> are" if more != 1 \
+                else "1 more entry</b> from <code>check --all</code> is"
+            parts.append(f"<p><b>{words} left out here.</p>")
         if len(self.entries) > MOST_PICTURED:
             parts.append(f"<p>The first {MOST_PICTURED} entries have pictures below.</p>")
         return "".join(parts)

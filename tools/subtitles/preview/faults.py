@@ -8,14 +8,13 @@ import functools
 import heapq
 from typing import Iterable, Iterator
 
-from ..times import FRAMES_A_SECOND
-from .program import Subtitle, Verdict, verdict_of
+from ..core.programme import Programme
+from ..core.told import ENDED, ENDS_READING, PASSED_OVER, REFUSED, frame_of_place, words_of
+from .program import Verdict, verdict_of
 
 MOST_ENTRIES = 1000  # that are listed; the others are counted
 MOST_OF_BLOCKS = 20_000  # faults of a subtitle file that are listed
 STANDING = ("72", "73", "77")  # are told where they begin, and a line tells where they end
-ENDS_READING = (30, 31, 32, 44)
-PASSED_OVER = {*range(33, 41), 61}  # the one PES packet can't be read, or has no frame
 
 Span = tuple[int, int]  # its first frame and its last
 Due = tuple[int, bool]  # how many subtitles have begun, and whether the last of them is due
@@ -80,29 +79,6 @@ def joined(several: Iterable[Spans]) -> Spans:
     return Spans(heapq.merge(*rising))
 
 
-def frame_at(time: str) -> int:
-    """The frame of a time that the program printed."""
-    hours, minutes, seconds, frames = map(int, time.split(":"))
-    return ((hours * 60 + minutes) * 60 + seconds) * FRAMES_A_SECOND + frames
-
-
-class Programme:
-    """Which subtitle is due at a frame."""
-
-    def __init__(self, subtitles: list[Subtitle]) -> None:
-        self.subtitles = subtitles
-        self.firsts = [one.first for one in subtitles]
-
-    def due(self, frame: int) -> Due:
-        at = bisect.bisect_right(self.firsts, frame)
-        return at, at > 0 and frame < self.subtitles[at - 1].end
-
-    def subtitle(self, frame: int) -> Subtitle | None:
-        """The subtitle that is due, `None` where none is."""
-        at, is_due = self.due(frame)
-        return self.subtitles[at - 1] if is_due else None
-
-
 class Faults:
     """The lines of `check --all`, read while it runs.
 
@@ -136,17 +112,17 @@ class Faults:
 
     def take(self, line: str) -> None:
         self.last_line = line
-        words = line.split(" ", 5)
+        words = words_of(line)
         if words[0] == "trusted":
-            self.trusted.add(frame_at(words[2]), frame_at(words[3]))
+            self.trusted.add(frame_of_place(words[2]), frame_of_place(words[3]))
             return
         self.first_line = self.first_line or line
-        if words[0] == "refused":
+        if words[0] == REFUSED:
             self.tell(line, words)
-        elif words[0] == "ended":
+        elif words[0] == ENDED:
             self.number = None
             if words[3] == "frame":
-                self.end(words[1], frame_at(words[4]))
+                self.end(words[1], frame_of_place(words[4]))
             elif words[1] in self.latest:
                 self.latest[words[1]].until_pes = int(words[4])
                 self.passed.add(self.passed.ends[-1], int(words[4]))
@@ -169,7 +145,7 @@ class Faults:
             if number in PASSED_OVER:
                 self.passed.add(int(words[4]), int(words[4]))
             self.tell_frame(line, words[1],
-                            frame_at(words[4]) if words[3:4] == ["frame"] else None)
+                            frame_of_place(words[4]) if words[3:4] == ["frame"] else None)
 
     def tell_block(self, line: str, number: int, block: str) -> None:
         """A fault of the subtitle file."""

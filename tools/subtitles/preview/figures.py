@@ -4,12 +4,12 @@ from __future__ import annotations
 import html
 from typing import TYPE_CHECKING
 
-from ..times import time_of
+from ..core.characters import option_name
+from ..core.times import time_of
+from ..reading.receiver import (
+    BLANK_PAGE, HIT, OLD, Rows, State, control_bits, lines_of, national_option)
 from .drawing import (
     HIDDEN, cut_of, differences, empty_picture, is_boxed, label_of, picture, words_of)
-from .letters import option_name
-from .receiver import (
-    BLANK_PAGE, HIT, OLD, Rows, State, control_bits, lines_of, national_option)
 
 if TYPE_CHECKING:
     from .listening import Heard

@@ -4,8 +4,8 @@ from __future__ import annotations
 import bisect
 from typing import TYPE_CHECKING
 
-from ..times import time_of
-from .receiver import BLANK_PAGE, Rows
+from ..core.times import time_of
+from ..reading.receiver import BLANK_PAGE, Rows
 
 if TYPE_CHECKING:
     from .listening import Changes
@@ -50,18 +50,19 @@ class Fits:
                      if first > frame and not is_change(self.held, first)), None)
 
     def words(self, frame: int) -> str:
-        """The nearest sending that would fit; nothing for a frame without pages."""
+        """The nearest page transmission that would fit; nothing for a frame without pages."""
         if frame not in self.pages:
             return ""
         late, early = self.late(frame), self.early(frame)
         if late is not None and (early is None or late <= early):
-            return (f"the nearest sending that fits is {frames_words(late - frame)} late: the due "
-                    f"page is held from {time_of(late)} on")
+            return ("the nearest page transmission that fits is "
+                    f"{frames_words(late - frame)} late: the due page is held from "
+                    f"{time_of(late)} on")
         if early is not None:
-            return (f"this sending is {frames_words(early - frame)} early: what is held is due "
-                    f"from {time_of(early)} on")
+            return (f"this page transmission is {frames_words(early - frame)} early: what is held "
+                    f"is due from {time_of(early)} on")
         before = [last for _, last in self.when_held[hash(self.pages[frame][0])] if last < frame]
         if before:
-            return ("no later sending fits: the due page was held last at "
+            return ("no later page transmission fits: the due page was held last at "
                     f"{time_of(before[-1])}, {frames_words(frame - before[-1])} before")
-        return "no sending fits: the due page is never held"
+        return "no page transmission fits: the due page is never held"

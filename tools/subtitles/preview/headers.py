@@ -3,11 +3,11 @@ from __future__ import annotations
 
 import collections
 
-from ..batch import Batch
-from ..teletext import Page
-from ..times import CLOCK
-from ..units import TELETEXT, header_in
-from .receiver import control_words
+from ..core.batch import Batch
+from ..core.teletext import Page
+from ..core.times import CLOCK, wrapped
+from ..core.units import TELETEXT, header_in
+from ..reading.receiver import control_words
 
 
 class PageCount:
@@ -60,10 +60,10 @@ class Headers:
             if header is None:
                 continue
             page = header[:2]
-            known = found.setdefault(page, PageCount(self.firsts[coded] % CLOCK))
+            known = found.setdefault(page, PageCount(wrapped(self.firsts[coded])))
             known.count += count
             known.bits[control_words(header[2])] += count
             lasts[page] = max(lasts.get(page, 0), self.lasts[coded])
         for page, last in lasts.items():
-            found[page].last = last % CLOCK
+            found[page].last = wrapped(last)
         return found

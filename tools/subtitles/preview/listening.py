@@ -7,16 +7,16 @@ import itertools
 import operator
 from typing import Iterable, Iterator, Sequence
 
-from ..batch import Batch
-from ..pes import UNIT
-from ..teletext import ERASE, SERIAL, Page, has_bit
-from ..times import FRAMES_OF_A_DAY, NO_FRAME, frames_at
-from ..units import header_in
+from ..core.batch import Batch
+from ..core.pes import UNIT
+from ..core.teletext import ERASE, SERIAL, Page, has_bit
+from ..core.times import FRAMES_OF_A_DAY, NO_FRAME, frames_at
+from ..core.units import header_in
+from ..reading.receiver import Receiver, Rows, State
 from .faults import Span, Spans
 from .headers import Found, Headers
 from .passed import Passed
 from .program import Listing
-from .receiver import Receiver, Rows, State
 
 NumberedPes = tuple[int, bytes]  # a PES packet with its number in the file
 
@@ -154,7 +154,7 @@ class Heard:
         self.sendings, self.falls = array.array("I"), array.array("I")
         self.halt: tuple[int, int] | None = None
         self.last = self.before = NO_FRAME  # of the last that was heard, of the one before
-        self.count = 0
+        self.begin = self.count = listing.pieces.first  # the number of the first one, of the next
         for batch in listing:
             self.take(batch)
         self.changes, self.state = self.receiver.changes, self.receiver.state

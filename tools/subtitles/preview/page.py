@@ -4,10 +4,11 @@ from __future__ import annotations
 import os
 from typing import TYPE_CHECKING, Iterable
 
+from ..core.manual import shown
+from ..core.words import counted
 from ..qc.delays import spread_of
-from ..words import counted
+from ..qc.hints import HINTED
 from .counts import heads, meaning_of_verdict, numbers_table
-from .manual import shown
 from .places import place_of_pts
 from .program import verdict_of
 from .scope import listed
@@ -169,7 +170,7 @@ def verdict_box(report: Report) -> str:
         if report.reasons:
             parts.append('<p class="count"><a href="#causes">Why the content is refused</a>, '
                          f"{report.reasons.counted()}</p>")
-        parts.append(meaning_of_verdict(report))
+        parts.append(advice(report))
     else:
         parts.append(f"<p>{ACCEPTED}</p>")
         if report.asked.within:
@@ -180,8 +181,20 @@ def verdict_box(report: Report) -> str:
         parts.append(lost_places(report.asked.lost))
         kind, shape = (kind, shape) if verdict.status else ("unseen", UNSEEN)
     parts += [f'<p class="note">{shown(words)}</p>' for words in report.asked.notes]
-    return (f'<div class="verdict {kind}">{shape}<div><p class="line" id="verdict">'
+    sentence = report.asked.sentence
+    said = f'<p class="sentence">{shown(sentence)}</p>' if sentence else ""
+    return (f'<div class="verdict {kind}">{shape}<div>{said}<p class="line" id="verdict">'
             f'{shown(verdict.line)}</p>{"".join(parts)}</div></div>')
+
+
+def advice(report: Report) -> str:
+    """What the manual says of the verdict's number; where the sentence says what to know of this
+    case it is unfolded."""
+    words, number = meaning_of_verdict(report), report.verdict.number
+    if report.asked.sentence is None or not report.reasons and number not in HINTED:
+        return words
+    return (f"<details><summary>what the manual says of {number}</summary>{words}"
+            "</details>")
 
 
 def lost_places(places: list[str]) -> str:
@@ -271,7 +284,7 @@ def pages_table(report: Report) -> str:
 
 def reading_words(held: Heard) -> str:
     """How far the PES file was read and heard."""
-    words = f"{held.count:,} PES packet{'s' * (held.count != 1)} read."
+    words = f"{counted(held.count - held.begin, 'PES packet')} read."
     passed = held.passed.count
     if passed:
         words += (f" A receiver is followed without {counted(passed, 'other')} that can't be read, "

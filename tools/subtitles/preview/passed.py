@@ -7,10 +7,11 @@ import contextlib
 import os
 from typing import Collection, Iterable, Iterator, Sequence
 
-from ..batch import Batch, of_packets
-from ..files import Damaged, Input
-from ..pes import pes_runs, pts_or_none
-from ..times import NO_FRAME, frame_at
+from ..core.batch import Batch, of_packets
+from ..core.files import Damaged
+from ..core.pes import pes_runs, pts_or_none
+from ..core.pieces import Pieces
+from ..core.times import NO_FRAME, frame_at
 from .faults import Spans
 
 Run = tuple[bytes, Sequence[int]]  # of PES packets: their bytes, and where each begins
@@ -23,7 +24,7 @@ class Passed:
     is none. `pts` are the PTS of those that are named.
     """
 
-    def __init__(self, spans: Spans, path: str = os.devnull, origin: int = 0,
+    def __init__(self, spans: Spans, pieces: Pieces = Pieces(os.devnull), origin: int = 0,
                  named: Collection[int] = (), within: int = 0) -> None:
         self.spans = spans
         # How many others stand before each span, and how many are passed over up to its end.
@@ -34,13 +35,13 @@ class Passed:
             gone += end + 1 - begin
             self.gone.append(gone)
         self.before, self.after = array.array("i"), array.array("i")
-        around = packets_at(path, (number for begin, end in spans for number in (begin - 1,
-                                                                                 end + 1)))
+        around = packets_at(pieces, (number for begin, end in spans for number in (begin - 1,
+                                                                                   end + 1)))
         for before in around if spans else ():
             self.before.append(frame_of_pes(before, origin, within))
             self.after.append(frame_of_pes(next(around), origin, within))
         inside = sorted(number for number in named if self.span_of(number) is not None)
-        found = packets_at(path, inside) if inside else iter(())
+        found = packets_at(pieces, inside) if inside else iter(())
         self.pts = {number: pts for number, pes in zip(inside, found)
                     if (pts := pts_or_none(pes)) is not None}
 
@@ -80,11 +81,11 @@ def frame_of_pes(pes: bytes, origin: int, within: int) -> int:
     return NO_FRAME if frame is None else frame
 
 
-def packets_at(path: str, numbers: Iterable[int]) -> Iterator[bytes]:
-    """The PES packets of a file with some numbers, which rise; no bytes where there is none."""
-    first = 0
+def packets_at(pieces: Pieces, numbers: Iterable[int]) -> Iterator[bytes]:
+    """Those of some PES packets with some numbers, which rise; no bytes where there is none."""
+    first = pieces.first
     run: Run | None = b"", range(1)
-    with Input(path) as file:
+    with pieces.open() as file:
         runs = readable(pes_runs(file))
         for number in numbers:
             while run and number - first >= len(run[1]) - 1:

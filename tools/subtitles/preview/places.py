@@ -4,15 +4,14 @@ from __future__ import annotations
 import bisect
 from typing import TYPE_CHECKING, Iterator
 
-from ..pes import UNIT
-from ..teletext import CODE_WORDS, NUMBER
-from ..times import CLOCK, FRAMES_OF_A_DAY, TICKS, frame_at, pts_of, time_of
-from ..timing import signed
-from ..units import Units
+from ..core.manual import shown
+from ..core.pes import UNIT
+from ..core.teletext import CODE_WORDS, NUMBER
+from ..core.times import FRAMES_OF_A_DAY, TICKS, frame_at, pts_of, ticks_between, time_of, wrapped
+from ..core.units import Units
+from ..reading.receiver import HIT, STORED
 from .fits import frames_words
-from .manual import shown
 from .program import Program, Verdict
-from .receiver import HIT, STORED
 
 if TYPE_CHECKING:
     from .listening import Heard, NumberedPes
@@ -28,10 +27,10 @@ BYTES_A_LINE = 14  # of a packet, at most
 def place_of_pts(pts: int, origin: int, within: int) -> str:
     """What a PTS is in frames of the day: its time, or why it is none."""
     if within and (frame := frame_at(pts, origin, within)) is not None:
-        off = signed(pts - pts_of(frame, origin))
+        off = ticks_between(pts_of(frame, origin), pts)
         more = f", {abs(off)} ticks {'later' if off > 0 else 'earlier'}" if off else ""
         return time_of(frame) + more
-    ticks = (pts - origin) % CLOCK
+    ticks = wrapped(pts - origin)
     if ticks >= TICKS * FRAMES_OF_A_DAY:
         return "none: after the day's end"
     time = time_of(ticks // TICKS)

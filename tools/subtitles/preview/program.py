@@ -3,55 +3,26 @@ from __future__ import annotations
 
 import contextlib
 import os
-import re
 import subprocess
 from typing import (
     TYPE_CHECKING, Callable, Iterable, Iterator, NamedTuple, Protocol, TypeVar)
 
-from ..batch import Batch, first_refused, is_listed
-from ..files import Damaged, Input
-from ..pes import pes_runs
-from ..times import FRAMES_OF_A_DAY, frame_of
-from ..words import Stop, counted, within_words
+from ..core.batch import Batch, first_refused, is_listed
+from ..core.files import Damaged
+from ..core.pes import pes_runs
+from ..core.pieces import Pieces
+from ..core.programme import Subtitle, subtitles_shown
+from ..core.times import FRAMES_OF_A_DAY
+from ..core.told import ENDED, accepted_of, count_of, told_of
+from ..core.words import Stop, within_words
+from ..qc.status import NOT_JUDGED, UNSAID, Said, word_of
 
 if TYPE_CHECKING:
     from .passed import Passed
 
-ACCEPTED = re.compile(r"accepted \d+ frames \d+ transmissions$")
-PLACE = re.compile(
-    r"(refused|fault|usage) (?P<number>\d+) (?P<name>\w+)"
-    r"(?: block (?P<block>\d+)(?: at (?P<at>\d+))?| pes (?P<pes>\d+)"
-    r"| frame (?P<frame>[\d:]+)(?: packet (?P<packet>\d+)"
-    r"| row (?P<row>\d+) column (?P<column>\d+))?)?$")
-
 
 class NoReport(Stop):
     """No report can be made; its text is the line for standard error."""
-
-
-class Subtitle:
-    """A subtitle: its place in the file from 1, its SN, the frames of its TCI and TCO; after how
-    many frames it was whole, and the frame of its pictures."""
-
-    def __init__(self, index: int, number: str, first: int, end: int, row: int, justify: int,
-                 text: bytes) -> None:
-        self.index, self.number, self.first, self.end = index, number, first, end
-        self.row, self.justify, self.text = row, justify, text
-        self.whole_after: int | None = None
-        self.look = first
-
-    def turn_to(self, frames: int | None, within: int) -> None:
-        """Takes after how many frames it was whole: its pictures are of that frame, if it is not
-        late, else of the first one at which it is."""
-        self.whole_after = frames
-        is_late = frames is None or frames > within
-        self.look = self.first + (min(within, self.end - 1 - self.first) if is_late
-                                  else frames or 0)
-
-    def whole_words(self) -> str:
-        """After how many frames it was whole."""
-        return "not seen whole while it is due" if self.whole_after is None else \
-            f"whole after {counted(self.whole_after, 'frame')}"
 
 
 class Verdict(NamedTuple):
@@ -83,40 +54,31 @@ AnyTold = TypeVar("AnyTold", bound=Told)
 
 def verdict_of(line: str, status: int) -> Verdict:
     """The last line of a command, with its place where it names one."""
-    found = PLACE.match(line)
-    if not found:
+    told = told_of(line)
+    if told is None or told.word == ENDED:
         return Verdict(line, status)
-    numbers = {name: int(found[name]) if found[name] else None
-               for name in ("number", "block", "at", "pes", "packet", "row", "column")}
-    frame = frame_of(found["frame"]) if found["frame"] else None
-    return Verdict(line, status, name=found["name"], frame=frame, **numbers)
-
-
-def subtitle_of(index: int, line: str) -> Subtitle:
-    """A subtitle from its line of `show`: SN TCI TCO vp V jc J text HEX."""
-    number, first, end, _, row, _, justify, _, text = line.split(" ")
-    return Subtitle(index, number, frame_of(first) or 0, frame_of(end) or 0, int(row),
-                    int(justify), b"" if text == "-" else bytes.fromhex(text))
+    return Verdict(line, status, told.number, told.name, told.block, told.at, told.pes, told.frame,
+                   told.packet, told.row, told.column)
 
 
 class Listing:
-    """The PES packets of a file that `packets` lists, as many at a time as were read.
+    """The PES packets that `packets` lists, as many at a time as were read.
 
     After that `last` is where they end: the refusal that `packets` tells, or no line. Where some
     were passed over these are left out, and `last` is `ending`, what ended the list of `check`.
     """
 
-    def __init__(self, program: Program, path: str, passed: Passed | None = None,
+    def __init__(self, program: Program, pieces: Pieces, passed: Passed | None = None,
                  ending: Verdict | None = None) -> None:
-        self.program, self.path, self.ending = program, path, ending
+        self.program, self.pieces, self.ending = program, pieces, ending
         self.passed = passed if passed and passed.spans else None
         self.last = Verdict("", 0)
 
     def __iter__(self) -> Iterator[Batch]:
-        count = 0
-        with Input(self.path) as file, contextlib.suppress(Damaged):
+        count = self.pieces.first
+        with self.pieces.open() as file, contextlib.suppress(Damaged):
             for data, begins in pes_runs(file):
-                read = Batch(data, begins[:FRAMES_OF_A_DAY - count + 1])
+                read = Batch(data, begins[:FRAMES_OF_A_DAY + self.pieces.first - count + 1])
                 batch = self.passed.others(read, count) if self.passed else read
                 listed = len(batch) if is_listed(batch) else first_refused(batch)
                 if listed:
@@ -127,7 +89,7 @@ class Listing:
                     break
             else:
                 return
-        self.last = self.program.refusal_of_packets(self.path, count) if not self.passed else \
+        self.last = self.program.refusal_of_packets(self.pieces, count) if not self.passed else \
             self.refusal_of_check(count)
 
     def refusal_of_check(self, count: int) -> Verdict:
@@ -176,10 +138,11 @@ class Program:
         lines, verdict = self.run(*words)
         return lines, answered(words[0], verdict)
 
-    def check(self, stl: str, pes: str,
+    def check(self, stl: str, pieces: Pieces,
               take: Callable[[Iterable[str]], AnyTold]) -> tuple[Verdict, AnyTold]:
         """The verdict, accepted or refused, and all that `take` makes of the lines of `--all`."""
-        command = self.command("check", *self.check_options, "--all", "--", stl, pes)
+        command = self.command("check", *self.check_options, *pieces.words(), "--all", "--", stl,
+                               pieces.path)
         try:
             with subprocess.Popen(command, stdin=subprocess.DEVNULL, stdout=subprocess.PIPE,
                                   text=True, errors="replace") as process:
@@ -188,30 +151,30 @@ class Program:
         except (OSError, ValueError) as error:
             raise self.cannot_run(error) from None
         verdict = verdict_of(told.first_line, process.returncode)
-        is_verdict = ACCEPTED.match(told.last_line) if verdict.status == 0 else \
-            verdict.status == 1 and told.last_line == f"{told.count} faults"
-        if not is_verdict:
-            raise NoReport(f"check was not answered: {told.last_line or 'it printed nothing'}")
+        said = Said(process.returncode, accepted_of(told.last_line) is not None, told.count,
+                    count_of(told.last_line), () if verdict.number is None else (verdict.number,))
+        if word_of(said) == NOT_JUDGED:
+            raise NoReport(f"{UNSAID}: {told.last_line or 'it printed nothing'}")
         return verdict, told
 
     def show(self, stl: str) -> tuple[list[str], list[Subtitle]]:
         """The lines of `show`, and its subtitles."""
         lines = self.answered("show", "--", stl)[0]
-        return lines, [subtitle_of(index, line) for index, line in enumerate(lines[:-1], 1)]
+        return lines, subtitles_shown(lines)
 
     def schedule(self, stl: str, pes: str) -> Verdict:
         words = [*self.schedule_options, "--every", "1500", "--", stl, pes]
         return self.answered("schedule", *words)[1]
 
-    def packets(self, pes: str, passed: Passed | None = None,
+    def packets(self, pieces: Pieces, passed: Passed | None = None,
                 ending: Verdict | None = None) -> Listing:
-        return Listing(self, pes, passed, ending)
+        return Listing(self, pieces, passed, ending)
 
-    def refusal_of_packets(self, pes: str, count: int) -> Verdict:
+    def refusal_of_packets(self, pieces: Pieces, count: int) -> Verdict:
         """The last line of `packets`, which is a refusal of the PES packet with that number."""
         try:
-            with subprocess.Popen(self.command("packets", "--", pes), stdin=subprocess.DEVNULL,
-                                  stdout=subprocess.PIPE) as process:
+            with subprocess.Popen(self.command("packets", *pieces.words(), "--", pieces.path),
+                                  stdin=subprocess.DEVNULL, stdout=subprocess.PIPE) as process:
                 assert process.stdout
                 line = b""
                 for line in process.stdout:
@@ -230,6 +193,6 @@ class Program:
 
 def answered(command: str, verdict: Verdict) -> Verdict:
     """The verdict of a command; with status 2 there is no report."""
-    if verdict.status == 2 or not verdict.line:
+    if verdict.status not in (0, 1) or not verdict.line:
         raise NoReport(f"{command} was not answered: {verdict.line or 'it printed nothing'}")
     return verdict

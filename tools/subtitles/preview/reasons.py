@@ -4,18 +4,18 @@ from __future__ import annotations
 import re
 from typing import TYPE_CHECKING, Collection, Iterator, NamedTuple, Sequence
 
-from ..cutting import Range
+from ..core.manual import shown
+from ..core.times import FRAMES_OF_A_DAY, frame_of, time_of
+from ..core.told import BEGIN, END, told_of
+from ..core.words import counted
 from ..qc.cause_words import Wording, names_line
 from ..qc.causes import Cause
 from ..qc.held import Held, Near, Span
 from ..qc.naming import Causes
-from ..qc.programme import Programme, programme_of
-from ..qc.told import BEGIN, END, told_of
+from ..qc.due_pages import DuePages, due_pages_of
 from ..qc.unclear import Unclear
-from ..times import FRAMES_OF_A_DAY, frame_of, time_of
-from ..words import counted
+from ..reading.cutting import Range
 from .counts import heads
-from .manual import shown
 from .program import NoReport
 
 if TYPE_CHECKING:
@@ -76,10 +76,10 @@ class Reasons:
     def link(self, cause: Cause) -> str:
         """The subtitle of a cause, which leads to its picture where it has one."""
         index, one = cause.place + 1, self.causes.programme.subtitles[cause.place]
-        name = f"subtitle {index}"
+        name = one.name
         if index in self.drawn:
             name = f'<a href="#s{index}">{name}</a>'
-        return f"{name}, SN {one.number:05}, {time_of(one.begin)}"
+        return f"{name}, {time_of(one.begin)}"
 
     def section(self) -> str:
         """All causes, as far as the list goes."""
@@ -103,22 +103,28 @@ class Reasons:
         return f'<tr><th scope="row">{self.link(cause)}</th>{named}</tr>'
 
 
-def due_programme(program: str, asked: Asked) -> Programme:
+def due_programme(program: str, asked: Asked) -> DuePages:
     """The subtitles with the pages that are due."""
     try:
-        return programme_of(program, asked.stl, asked.page, asked.option)
+        return due_pages_of(program, asked.stl, asked.page, asked.option)
     except Unclear as reason:
         raise NoReport(reason.reason) from None
 
 
-def held_of(asked: Asked, programme: Programme) -> Held:
+def held_of(asked: Asked, programme: DuePages) -> Held:
     """What is held of what was judged, or of the recording that this was cut out of."""
     if asked.around is None:
-        assert asked.pes is not None
-        return Held(asked.pes, asked.page, asked.origin, within=asked.within)
+        return held_of_judged(asked)
     due = Span(programme.begins[0], programme.subtitles[-1].end)
     return Held(asked.around.path, asked.page, asked.origin,
                 Near(due, asked.every, asked.around.packets), asked.within)
+
+
+def held_of_judged(asked: Asked) -> Held:
+    """What is held of what was judged."""
+    assert asked.pieces is not None
+    return Held(asked.pieces.path, asked.page, asked.origin, within=asked.within,
+                place=(asked.pieces.begin, asked.pieces.end))
 
 
 def lost_spans(places: Sequence[str]) -> Iterator[Span]:

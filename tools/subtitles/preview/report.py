@@ -7,31 +7,32 @@ import tempfile
 import time
 from typing import NamedTuple
 
-from ..built import behind_script
-from ..gsi import titles_in
+from ..core.built import behind_script
+from ..core.national import BY_WORD
+from ..core.gsi import titles_in
+from ..core.manual import meanings
+from ..core.pieces import Pieces
+from ..core.programme import Programme, Subtitle
+from ..core.teletext import Page, page_name
+from ..core.times import NO_FRAME, time_of
+from ..core.told import WITH_CAUSE
+from ..core.words import counted
 from ..qc.clock import FITTED
 from ..qc.delays import MOVED, frames_of
-from ..qc.held import Held
 from ..qc.made_with import program_at
 from ..qc.sums import File, Files
-from ..qc.told import WITH_CAUSE
-from ..teletext import Page, page_name
-from ..times import NO_FRAME, time_of
-from ..words import counted
+from ..reading.receiver import Rows
+from .counts import place_words
 from .fault_list import FaultList
-from .faults import MOST_ENTRIES, Faults, Programme
+from .faults import MOST_ENTRIES, Faults
 from .figures import Figures
 from .fits import Fits
-from .letters import ENGLISH, GERMAN
 from .listening import Changes, Heard
-from .manual import meanings
-from .counts import place_words
 from .passed import Passed
-from .program import NoReport, Program, Subtitle, Verdict
-from .reasons import Around, Reasons, due_programme
-from .receiver import Rows
+from .program import NoReport, Program, Verdict
+from .reasons import Around, Reasons, due_programme, held_of_judged
 from .scope import Recorded, Scope
-from .subtitles import Entries
+from .subtitles import Entries, looked_at
 from .timeline import Timeline
 
 NO_SUBTITLES, EMPTY = 82, 60
@@ -40,10 +41,11 @@ NO_SUBTITLES, EMPTY = 82, 60
 class Asked(NamedTuple):
     """What is asked for: files and the program as they were typed, and the options of `check`.
 
-    `words` are those of the command line. `pes` is `None` where there is none. `window` are the
+    `words` are those of the command line. `pieces` are the PES packets that are judged, of the file
+    `pes`, which is `None` where there is none. `window` are the
     first and the last frame of which subtitles get pictures. `lost` tells what is missing, `notes`
-    what else stands beside the verdict, `clock` which clock it is; causes are looked for `around`
-    what is judged.
+    what else stands beside the verdict, `clock` which clock it is, and `sentence` says the verdict
+    in one for a person; causes are looked for `around` what is judged.
     """
 
     words: list[str]
@@ -64,6 +66,8 @@ class Asked(NamedTuple):
     around: Around | None
     clock: str | None
     within: int = 0
+    sentence: str | None = None
+    pieces: Pieces | None = None
 
     def options(self) -> str:
         """All options as they hold."""
@@ -71,6 +75,7 @@ class Asked(NamedTuple):
                  f"--origin {self.origin}", f"--option {self.option}"]
         words += ["--complete"] * self.is_complete
         words += [f"--within {self.within}"] * (self.within > 0)
+        words += self.pieces.words() if self.pieces else []
         return " ".join([*words, *map("{} {}".format, ("--from", "--to"),
                                       map(time_of, self.window))])
 
@@ -91,10 +96,13 @@ class Report:
         self.command_line = shlex.join(["tools/preview", *asked.words])
         self.date = time.strftime("%Y-%m-%d %H:%M:%S UTC", time.gmtime())
         self.made_with = program_at(path)
-        summed = Files([name for name in (asked.stl, asked.pes) if name is not None])
+        # A range of PES packets is named by the recording that it is of, where that is known.
+        is_of_recording = asked.pieces is not None and asked.pieces.name is not None \
+            and asked.recording is not None
+        kinds = ["STL", "PES"] if asked.pes and not is_of_recording else ["STL"]
+        summed = Files([asked.stl, *([asked.pes] if asked.pes and len(kinds) > 1 else [])])
         self.read(program)
         # Each with what it is; those that come with the pair are summed up while they are read.
-        kinds = ["STL", "PES"] if asked.pes else ["STL"]
         own = File(asked.program, os.path.getsize(path), self.made_with.sha256)
         self.files: list[tuple[str, File | Recorded]] = \
             list(zip([*kinds, "Program"], [*summed.all(), own]))
@@ -107,9 +115,9 @@ class Report:
         asked = self.asked
         self.show_lines, self.subtitles = program.show(asked.stl)
         self.programme = Programme(self.subtitles)
-        path = asked.pes or os.devnull
+        pieces = asked.pieces or Pieces(os.devnull)
         self.verdict, self.faults = program.check(
-            asked.stl, path, lambda lines: Faults(lines, self.programme))
+            asked.stl, pieces, lambda lines: Faults(lines, self.programme))
         if asked.pes is None and self.verdict.number == EMPTY:
             raise NoReport(f"nothing is wrong with {asked.stl}, "
                            f"{counted(len(self.subtitles), 'subtitle')}: give the PES file, which "
@@ -118,7 +126,7 @@ class Report:
         self.is_refused_file = self.verdict.block is not None
         told = [entry.first.frame for entry in self.faults.entries
                 if entry.first.frame is not None]
-        self.passed = Passed(self.faults.passed, path, asked.origin, self.faults.named(),
+        self.passed = Passed(self.faults.passed, pieces, asked.origin, self.faults.named(),
                              asked.within)
         told += [frame for frame in self.passed.before[:MOST_ENTRIES] if frame != NO_FRAME]
         has_reasons = self.subtitles and any(map(self.faults.counts.get, WITH_CAUSE))
@@ -126,22 +134,22 @@ class Report:
         self.reasons: Reasons | None = reasons if reasons and reasons.causes.named else None
         self.delays: list[int | None] = [] if self.is_refused_file else \
             delays_of(self, program.path, reasons)
-        for one, frames in zip(self.subtitles, self.delays):
-            one.turn_to(frames, asked.within)
-        firsts = [one.look for one in self.subtitles]
+        self.looked = [looked_at(one, frames, asked.within)
+                       for one, frames in zip(self.subtitles, self.delays)]
+        firsts = [one.frame for one in self.looked]
         self.frames = [] if self.is_refused_file else [*told, *firsts]
         # Changes of the page are of interest where its content is refused.
         self.hears_all = asked.is_complete or any(entry.first.row is not None
                                                   for entry in self.faults.entries)
         self.held: Heard = Heard(
-            program.packets(path, self.passed, self.faults.ending()), self.frames, asked.page,
+            program.packets(pieces, self.passed, self.faults.ending()), self.frames, asked.page,
             asked.origin, told, self.passed, self.hears_all, asked.within)
 
     def scope(self) -> Scope | None:
         """What the page speaks of; `None` where the subtitle file is refused."""
         if self.is_refused_file or not self.subtitles:
             return None
-        return Scope(titles_in(self.stl), self.asked.recording, self.subtitles[0].first,
+        return Scope(titles_in(self.stl), self.asked.recording, self.subtitles[0].begin,
                      self.subtitles[-1].end, len(self.subtitles), self.asked.part,
                      FITTED in self.asked.notes, self.asked.part is not None, self.asked.clock)
 
@@ -163,15 +171,15 @@ class Looks:
         if last is not None and any(entry.first.pes == held.stop for entry in faults.entries):
             faults.mark([(last, last)])
         due = due_pages(program, asked, [*report.frames, last or 0], report.hears_all)
-        option = GERMAN if asked.option == "german" else ENGLISH
+        option = BY_WORD[asked.option].bits
         header = bytes([0, 0, 0, 8, 0, 8, 1, option << 1])  # C4, C6 and C7
         self.figures: Figures = Figures(due, held, header, report.page, asked.is_complete)
         self.fits: Fits = Fits(due.changes if due else Changes(), held.changes,
                                pages_of_content(faults, held, self.figures))
         pes = report.verdict.pes
         broken = report.verdict.frame if pes is None else held.last_before(pes)
-        self.entries: Entries = Entries(self.figures, held, report.subtitles, asked.window, faults,
-                                        broken)
+        self.entries: Entries = Entries(self.figures, held, report.subtitles, report.looked,
+                                        asked.window, faults, broken)
         if report.reasons:
             report.reasons.drawn = self.entries.drawn
         self.fault_list = FaultList(report, self, program)
@@ -187,8 +195,7 @@ def delays_of(report: Report, program: str, reasons: Reasons | None) -> list[int
     if reasons:
         programme, held = reasons.causes.programme, reasons.causes.held
     else:
-        programme, held = due_programme(program, asked), Held(asked.pes, asked.page, asked.origin,
-                                                              within=asked.within)
+        programme, held = due_programme(program, asked), held_of_judged(asked)
         held.follow()
     return frames_of(programme, held, asked.is_complete)
 
@@ -224,4 +231,4 @@ def due_pages(program: Program, asked: Asked, frames: list[int], hears_all: bool
             return None
         if verdict.status:
             raise NoReport(f"schedule was refused: {verdict.line}")
-        return Heard(program.packets(path), frames, asked.page, asked.origin, hears_all=hears_all)
+        return Heard(program.packets(Pieces(path)), frames, asked.page, asked.origin, hears_all=hears_all)

@@ -3,9 +3,9 @@ from __future__ import annotations
 
 from typing import NamedTuple, Sequence
 
-from ..times import time_of
-from ..words import counted
-from .manual import shown
+from ..core.manual import shown
+from ..core.times import time_of
+from ..core.words import counted
 
 ROW_0 = "row 0, which the page's header has"
 DELAY = "a delay that all subtitles share: the clock was fitted to the recording"

@@ -4,29 +4,52 @@ from __future__ import annotations
 import bisect
 import collections
 import itertools
-from typing import Iterable, Iterator
+from typing import Iterable, Iterator, NamedTuple
 
-from ..times import time_of
-from ..words import counted
+from ..core.programme import Subtitle
+from ..core.times import time_of
+from ..core.words import counted
 from .faults import Entry, Faults
 from .figures import DIFFERENT, KINDS, NOTHING, SAME, Figures
 from .listening import Heard
-from .program import Subtitle
 from .timeline import MINUTE, Timeline
 
 ROOM = 10_000_000  # bytes of pictures in a report
 NEAR, MOST_LARGE = 25, 500  # subtitles by the broken place, and with other cells, that come first
 
 
+class Looked(NamedTuple):
+    """After how many frames a subtitle was whole, `None` where it was not seen whole while it is
+    due; and the frame of its pictures."""
+
+    whole_after: int | None
+    frame: int
+
+    def words(self) -> str:
+        """After how many frames it was whole."""
+        return "not seen whole while it is due" if self.whole_after is None else \
+            f"whole after {counted(self.whole_after, 'frame')}"
+
+
+def looked_at(subtitle: Subtitle, frames: int | None, within: int) -> Looked:
+    """A subtitle that was whole after some frames: its pictures are of that frame, if it is not
+    late, else of the first one at which it is."""
+    if frames is None or frames > within:
+        return Looked(frames, min(subtitle.begin + within, subtitle.end - 1))
+    return Looked(frames, subtitle.begin + frames)
+
+
 class Entries:
     """The entries of subtitles: those with pictures, as many as there is room for."""
 
     def __init__(self, figures: Figures, held: Heard, subtitles: list[Subtitle],
-                 window: tuple[int, int], faults: Faults, broken: int | None) -> None:
+                 looked: list[Looked], window: tuple[int, int], faults: Faults,
+                 broken: int | None) -> None:
         self.figures, self.held, self.faults = figures, held, faults
-        self.subtitles = subtitles
+        self.subtitles, self.looked = subtitles, looked
         self.drawn: dict[int, str] = {}
-        self.kinds = {one.index: figures.kind_at(one.look) for one in subtitles}
+        self.kinds = {one.index: figures.kind_at(look.frame)
+                      for one, look in zip(subtitles, looked)}
         self.odd = {index for index, kind in self.kinds.items() if kind in (DIFFERENT, NOTHING)}
         self.unknown = {index for index, kind in self.kinds.items()
                         if kind not in (SAME, DIFFERENT, NOTHING)}
@@ -34,7 +57,7 @@ class Entries:
                   if (frame := self.frame_of(entry)) is not None]
         self.entry_frames = sorted(frame for frame, _ in listed)
         self.entry_at = dict(reversed(listed))
-        self.fill([one for one in subtitles if one.end > window[0] and one.first <= window[1]],
+        self.fill([one for one in subtitles if one.end > window[0] and one.begin <= window[1]],
                   broken)
 
     def frame_of(self, entry: Entry) -> int | None:
@@ -63,7 +86,7 @@ class Entries:
         """
         inside = [one for one in inside if one.index not in self.unknown]
         if broken is not None:
-            near = bisect.bisect_left([one.first for one in inside], broken)
+            near = bisect.bisect_left([one.begin for one in inside], broken)
             yield from inside[max(0, near - NEAR // 2):near + NEAR // 2]
         differing = (one for one in inside if one.index in self.odd)
         yield from itertools.islice(differing, MOST_LARGE)
@@ -71,9 +94,9 @@ class Entries:
 
     def faults_in(self, subtitle: Subtitle) -> str:
         """Words for the faults while it is due, with a link to the first that is listed."""
-        if not any(True for _ in self.faults.spans.between(subtitle.first, subtitle.end)):
+        if not any(True for _ in self.faults.spans.between(subtitle.begin, subtitle.end)):
             return ""
-        entry = self.entry_in(subtitle.first, subtitle.end)
+        entry = self.entry_in(subtitle.begin, subtitle.end)
         if not entry:
             return ' <b class="bad">faults while it is due</b>'
         return f' <a class="bad" href="#e{entry.index}"><b>fault {entry.index}</b></a>'
@@ -85,29 +108,32 @@ class Entries:
         return self.entry_at[self.entry_frames[at]] if is_one else None
 
     def small(self, subtitle: Subtitle) -> str:
-        first, end = time_of(subtitle.look), time_of(subtitle.end)
-        sent = counted(self.held.sendings_between(subtitle.first, subtitle.end), "time")
-        return (f'<figure class="small" id="s{subtitle.index}"><figcaption title="to {end}, SN '
-                f'{subtitle.number}, row {subtitle.row}, sent {sent}, {subtitle.whole_words()}">'
+        looked = self.looked[subtitle.index - 1]
+        first, end = time_of(looked.frame), time_of(subtitle.end)
+        sent = counted(self.held.sendings_between(subtitle.begin, subtitle.end), "time")
+        return (f'<figure class="small" id="s{subtitle.index}"><figcaption title="{subtitle.name} '
+                f'to {end}, row {subtitle.row}, sent {sent}, {looked.words()}">'
                 f"<b>{subtitle.index}</b>"
                 f" {first}{self.faults_in(subtitle)}</figcaption>"
-                f"{self.figures.small_at(subtitle.look)}</figure>")
+                f"{self.figures.small_at(looked.frame)}</figure>")
 
     def large(self, subtitle: Subtitle) -> str:
-        first, end = time_of(subtitle.first), time_of(subtitle.end)
-        sent = self.held.sendings_between(subtitle.first, subtitle.end)
-        words = f"sent {counted(sent, 'time')} while it is due, {subtitle.whole_words()}"
-        return (f'<section class="entry" id="s{subtitle.index}"><h3>Subtitle {subtitle.index} '
-                f"(SN {subtitle.number}) <code>{first}</code> to <code>{end}</code></h3><p>row "
+        looked = self.looked[subtitle.index - 1]
+        first, end = time_of(subtitle.begin), time_of(subtitle.end)
+        sent = self.held.sendings_between(subtitle.begin, subtitle.end)
+        words = f"sent {counted(sent, 'time')} while it is due, {looked.words()}"
+        name = subtitle.name.replace("s", "S", 1)
+        return (f'<section class="entry" id="s{subtitle.index}"><h3>{name} '
+                f"<code>{first}</code> to <code>{end}</code></h3><p>row "
                 f"{subtitle.row}, justification {subtitle.justify}; {words}"
-                f"{self.faults_in(subtitle)}</p>{self.figures.at(subtitle.look)}</section>")
+                f"{self.faults_in(subtitle)}</p>{self.figures.at(looked.frame)}</section>")
 
     def all(self, timeline: Timeline) -> str:
         """The entries in order, by minute where the timeline has strips of minutes."""
         if not timeline.has_minutes():
             return self.listed(self.subtitles)
         parts = []
-        groups = itertools.groupby(self.subtitles, lambda one: one.first // MINUTE)
+        groups = itertools.groupby(self.subtitles, lambda one: one.begin // MINUTE)
         members = {minute: list(group) for minute, group in groups}
         for minute in sorted(timeline.used(MINUTE)):
             parts.append(f'<section class="minute" id="m{minute}">{timeline.minute(minute)}'
@@ -131,7 +157,7 @@ class Entries:
 
     def left_out(self, group: list[Subtitle]) -> str:
         first, last = group[0], group[-1]
-        times = f"{time_of(first.first)} --to {time_of(last.first)}"
+        times = f"{time_of(first.begin)} --to {time_of(last.begin)}"
         names = f"Subtitle {first.index}" if first is last else \
             f"Subtitles {first.index} to {last.index}, {len(group)} of them"
         words = f" <code>--from {times}</code> draws them." if \

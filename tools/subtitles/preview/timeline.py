@@ -9,10 +9,10 @@ import bisect
 import itertools
 from typing import TYPE_CHECKING, Collection, Iterable, Iterator
 
-from ..times import time_of
+from ..core.manual import shown
+from ..core.programme import Subtitle
+from ..core.times import time_of
 from .faults import Faults, Span, Spans
-from .manual import shown
-from .program import Subtitle
 
 if TYPE_CHECKING:
     from .subtitles import Entries
@@ -67,7 +67,7 @@ class Timeline:
         self.broken, self.flag, self.end = broken, flag, end
         self.numbers: dict[int, set[int]] = {}  # of strips in use, by their length
         self.ends = [subtitle.end for subtitle in subtitles]
-        self.firsts = [subtitle.first for subtitle in subtitles]
+        self.firsts = [subtitle.begin for subtitle in subtitles]
         self.unit, self.called, self.step, self.words = next(
             (unit for unit in UNITS if len(self.used(unit[0])) <= MOST_STRIPS), UNITS[-1])
         self.close = CLOSE if len(self.used(MINUTE)) <= MANY_STRIPS else CLOSE_ON_MANY
@@ -76,7 +76,7 @@ class Timeline:
         """The numbers of the strips of that length with something on them."""
         if unit not in self.numbers:
             used = self.numbers[unit] = set[int]()
-            subtitles = ((subtitle.first, subtitle.end - 1) for subtitle in self.subtitles)
+            subtitles = ((subtitle.begin, subtitle.end - 1) for subtitle in self.subtitles)
             last: int | None = None
             for begin, end in itertools.chain(subtitles, self.sendings, self.spans):
                 if begin // unit != last or end // unit != last:
@@ -154,7 +154,7 @@ class Strip:
         place = bisect.bisect_right(line.ends, self.begin)
         while place < len(line.subtitles) and line.firsts[place] < self.end:
             subtitle = line.subtitles[place]
-            left, right = self.x(subtitle.first), self.x(subtitle.end)
+            left, right = self.x(subtitle.begin), self.x(subtitle.end)
             look = ODD if subtitle.index in entries.odd else \
                 UNKNOWN if subtitle.index in entries.unknown else GOOD
             place += 1
@@ -179,7 +179,7 @@ class Strip:
             words.append(f'<span class="in {kind}" style="left:{(left + right) / 20:.4g}%">'
                          f"{subtitle.index}</span>")
         shape = (f'<rect class="{kind}" x="{left}" y="{top}" width="{right - left:.1f}" '
-                 f'height="{height}"><title>{name}: {time_of(subtitle.first)} to '
+                 f'height="{height}"><title>{name}: {time_of(subtitle.begin)} to '
                  f"{time_of(subtitle.end)}</title></rect>")
         if subtitle.index in self.timeline.entries.drawn:
             return f'<a href="#s{subtitle.index}" aria-label="{name}">{shape}</a>'

@@ -7,15 +7,16 @@ import dataclasses
 import os
 from typing import Sequence
 
-from ..files import plain_name
-from ..teletext import page_name
-from ..words import (
+from ..core.files import plain_name
+from ..core.national import WORDS, named_by
+from ..core.teletext import page_name
+from ..core.words import (
     Stop, Words, add_page, add_within, breaks_word, every_word, origin_word, pid_word, run_word,
     start_word, within_words)
 
 AUTO = "auto"  # the national option is that of the language
 MOST_TRIED = 5  # frames within which a recording is tried, where it is not judged or refused
-LC, GERMAN = slice(14, 16), b"08"  # the field in the GSI block, and a language in it
+LC = slice(14, 16)  # the field in the GSI block
 
 
 @dataclasses.dataclass
@@ -39,6 +40,7 @@ class Asked:
     run: int | None
     start: str | None
     within: int = 0  # frames within which a page has to be whole
+    is_strict: bool = False  # warnings count
 
     @property
     def page_name(self) -> str:
@@ -79,7 +81,7 @@ def add_pair_options(parser: Words) -> None:
     parser.add_argument("--every", type=every_word, default=250, metavar="N",
                         help="the repeat bound, 250 frames where it is left out")
     add_within(parser)
-    parser.add_argument("--option", default="english", choices=("english", "german", AUTO),
+    parser.add_argument("--option", default="english", choices=(*WORDS, AUTO),
                         help="the national option, english where it is left out; auto: the one "
                              "of the language that the subtitle file names")
     parser.add_argument("--complete", dest="is_complete", action="store_true", default=True,
@@ -92,6 +94,8 @@ def add_pair_options(parser: Words) -> None:
                         help="the PID; the one that carries the page where it is left out")
     parser.add_argument("--allow-lost", dest="is_loss_allowed", action="store_true",
                         help="accept a recording of which TS packets are lost")
+    parser.add_argument("--strict", dest="is_strict", action="store_true",
+                        help="accept nothing of which there is a warning")
     parser.add_argument("--severity", metavar="FILE",
                         help="lines `NUMBER error` and `NUMBER warning`")
     parser.add_argument("--breaks", type=breaks_word, default=0, metavar="N",
@@ -131,7 +135,7 @@ def option_named_in(stl: str) -> str:
     if os.path.isfile(stl):
         with contextlib.suppress(OSError), open(stl, "rb") as file:
             language = file.read(LC.stop)[LC]
-    return "german" if language == GERMAN else "english"
+    return named_by(language).word
 
 
 def asked_of_line(line: Sequence[str], defaults: argparse.Namespace) -> Asked:

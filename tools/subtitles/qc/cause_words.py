@@ -3,9 +3,9 @@ from __future__ import annotations
 
 from typing import TypedDict
 
-from ..preview.letters import ENGLISH, GERMAN
-from ..times import time_of
-from ..words import counted
+from ..core.national import BY_WORD
+from ..core.times import time_of
+from ..core.words import counted
 from .causes import EARLY, LATE, NOT_ERASED, OTHER, Cause
 from .lettering import text_of
 from .naming import Causes, counts_of
@@ -14,8 +14,9 @@ LINE = "cause: "  # before each
 
 
 class SubtitleWords(TypedDict):
-    """A subtitle: SN, TCI and TCO."""
+    """A subtitle: its place in the file, SN, TCI and TCO."""
 
+    position: int
     number: int
     begin: str
     end: str
@@ -30,6 +31,7 @@ class CauseWords(TypedDict):
     text: str
     sent: str | None
     other: int | None
+    other_position: int | None
     words: str
 
 
@@ -38,25 +40,31 @@ class Wording:
 
     def __init__(self, causes: Causes, option: str) -> None:
         self.causes, self.subtitles = causes, causes.programme.subtitles
-        self.option = GERMAN if option == "german" else ENGLISH
+        self.pages = causes.programme.pages
+        self.option = BY_WORD[option].bits
 
     def values(self, cause: Cause) -> CauseWords:
         """A cause for machines."""
         one = self.subtitles[cause.place]
         return {
-            "subtitle": {"number": one.number, "begin": time_of(one.begin),
-                         "end": time_of(one.end)},
-            "cause": cause.name, "frames": cause.frames, "text": text_of(one.rows, self.option),
+            "subtitle": {"position": one.index, "number": one.number,
+                         "begin": time_of(one.begin), "end": time_of(one.end)},
+            "cause": cause.name, "frames": cause.frames, "text": self.due_text(cause),
             "sent": None if cause.sent is None else text_of(cause.sent, self.option),
             "other": None if cause.other is None else self.subtitles[cause.other].number,
+            "other_position": None if cause.other is None else cause.other + 1,
             "words": self.said(cause),
         }
+
+    def due_text(self, cause: Cause) -> str:
+        """The text that is due of the subtitle of a cause."""
+        return text_of(self.pages[cause.place], self.option)
 
     def line(self, cause: Cause) -> str:
         """The line of a cause."""
         one = self.subtitles[cause.place]
-        return (f'{LINE}subtitle {one.number} at {time_of(one.begin)}, '
-                f'"{text_of(one.rows, self.option)}": {self.said(cause)}')
+        return (f'{LINE}{one.name} at {time_of(one.begin)}, '
+                f'"{self.due_text(cause)}": {self.said(cause)}')
 
     def said(self, cause: Cause, has_text: bool = True) -> str:
         """What a cause is, in words, with the text that is sent where that is another one."""
@@ -70,12 +78,12 @@ class Wording:
             words += " at its time"
         if cause.words:
             words += f": {cause.words}"
-        if has_text and cause.sent not in (None, one.rows):
+        if has_text and cause.sent not in (None, self.pages[cause.place]):
             sent = text_of(cause.sent or (), self.option)
-            if sent != text_of(one.rows, self.option):
+            if sent != self.due_text(cause):
                 words += f', sent: "{sent}"'
         if cause.other is not None:
-            words += f" of subtitle {self.subtitles[cause.other].number}"
+            words += f" of {self.subtitles[cause.other].name}"
         return words
 
 

@@ -8,18 +8,21 @@ from __future__ import annotations
 import bisect
 from typing import NamedTuple
 
-from ..preview.receiver import BLANK_PAGE, Rows
-from ..times import time_of
-from ..words import counted
+from ..core.programme import Subtitle
+from ..core.teletext import page_name
+from ..core.times import time_of
+from ..core.words import counted
+from ..reading.receiver import BLANK_PAGE, Rows
+from .due_pages import DuePages
 from .held import LEAST, Held, Span
 from .lettering import attribute_words, is_moved, is_part, place_words, words_on
-from .programme import Programme, Subtitle
 
 LATE, EARLY, NEVER, OTHER = "late", "early", "never sent", "another subtitle's text"
 TEXT, PLACE, ATTRIBUTE = "wrong text", "wrong place", "wrong colour or attribute"
 NOT_ERASED, UNKNOWN = "not erased", "unknown"
 NAMES = (LATE, EARLY, NEVER, OTHER, TEXT, PLACE, ATTRIBUTE, NOT_ERASED, UNKNOWN)
 UNSEEN = "not all that was sent then can be read"
+NEXT = "the page that comes at the last TCO is the next programme's"
 IN_PARTS = "as it is due only after another PES packet of the same frame"
 
 
@@ -58,9 +61,9 @@ class Faulty:
 class Namer:
     """Names the causes of subtitles by what is held."""
 
-    def __init__(self, programme: Programme, held: Held) -> None:
+    def __init__(self, programme: DuePages, held: Held) -> None:
         self.programme, self.held = programme, held
-        self.subtitles = programme.subtitles
+        self.subtitles, self.pages = programme.subtitles, programme.pages
 
     # Whose the faults are.
 
@@ -68,7 +71,7 @@ class Namer:
         """Whether at a frame the page is held that is due."""
         place = self.programme.place_at(frame)
         is_subtitle = place >= 0 and frame < self.subtitles[place].end
-        due: Rows = self.subtitles[place].rows if is_subtitle else BLANK_PAGE
+        due: Rows = self.pages[place] if is_subtitle else BLANK_PAGE
         return self.held.page_at(frame) == due
 
     def split(self, first: int, last: int) -> list[Span]:
@@ -98,8 +101,9 @@ class Namer:
     def has_come(self, place: int) -> bool:
         """Whether the page of a subtitle came at its TCI, or before it."""
         came = self.sending(place)
-        one = self.subtitles[place]
-        return came is not None and came <= one.begin or self.held.page_at(one.begin) == one.rows
+        begin = self.subtitles[place].begin
+        return came is not None and came <= begin or \
+            self.held.page_at(begin) == self.pages[place]
 
     # What was sent.
 
@@ -120,14 +124,14 @@ class Namer:
 
     def sendings(self, place: int) -> list[int]:
         """All frames of those looked at at which the page of a subtitle came as its own."""
-        one, window = self.subtitles[place], self.window(place)
-        frames = self.held.when.get(one.rows)
-        if not frames or one.rows == BLANK_PAGE:
+        page, window = self.pages[place], self.window(place)
+        frames = self.held.when.get(page)
+        if not frames or page == BLANK_PAGE:
             return []
         first, end = (bisect.bisect_left(frames, frame)
                       for frame in (window.first, window.last + 1))
         return [frame for frame in frames[first:end]
-                if self.programme.of_page(one.rows, frame) == place]
+                if self.programme.of_page(page, frame) == place]
 
     def is_begin(self, frame: int) -> bool:
         """Whether a frame is the TCI of a subtitle."""
@@ -161,7 +165,7 @@ class Namer:
     def is_strange(self, number: int, place: int) -> bool:
         page = self.held.pages[number]
         return page != BLANK_PAGE and page not in self.programme.by_page and \
-            not is_part(page, self.subtitles[place].rows)
+            not is_part(page, self.pages[place])
 
     def length(self, number: int, begin: int, end: int) -> int:
         """For how many of some frames a page is held."""
@@ -192,9 +196,25 @@ class Namer:
     # The causes.
 
     def cause(self, place: int, faulty: Faulty) -> Cause:
-        """The cause of a subtitle."""
+        """The cause of a subtitle; where no PES packet came it is that."""
+        found, one = self.cause_of_sendings(place, faulty), self.subtitles[place]
+        pause = self.held.pause_at(one.end if found.name == NOT_ERASED else one.begin)
+        if pause is None:
+            return found
+        is_by_pause = {
+            LATE: one.begin + (found.frames or 0) == pause.last + 1,
+            NEVER: one.end - 1 <= pause.last,
+            NOT_ERASED: self.held.number_at(pause.last + 1) != self.held.number_at(pause.last)}
+        if not is_by_pause.get(found.name):
+            return found
+        return self.unknown(place, one.begin, found.known, "no PES packet for "
+                            f"{counted(pause.last + 1 - pause.first, 'frame')}, from "
+                            f"{time_of(pause.first)} on")
+
+    def cause_of_sendings(self, place: int, faulty: Faulty) -> Cause:
+        """The cause of a subtitle, by what was sent when."""
         one, came = self.subtitles[place], self.sending(place)
-        if self.held.page_at(one.begin) == one.rows:
+        if self.held.page_at(one.begin) == self.pages[place]:
             if came is not None and came < one.begin:
                 return self.moved(place, came)
             return self.later(place, faulty)
@@ -215,7 +235,9 @@ class Namer:
             return self.unknown(place, one.begin, came, UNSEEN)
         name, frames = (LATE, came - one.begin) if came > one.begin else (EARLY, one.begin - came)
         words = self.row_words(came) if name == LATE and frames <= self.held.within else ""
-        return Cause(place, name, frames, one.rows, None, words, max(came, one.begin))
+        if name == LATE and self.came_closed(place):
+            words = self.closed_words()
+        return Cause(place, name, frames, self.pages[place], None, words, max(came, one.begin))
 
     def is_in_time(self, place: int, came: int) -> bool:
         """Whether a page came as many frames after its TCI as are allowed, and the page was whole
@@ -247,10 +269,12 @@ class Namer:
             return self.of_other(place, other, window.last)
         if not self.held.is_seen(one.begin, one.end - 1):
             return self.unknown(place, one.begin, window.last, UNSEEN)
+        if self.came_closed(place):
+            return self.unknown(place, one.begin, window.last, self.closed_words())
         for number in self.held.numbers(one.begin, one.end):
             page = self.held.pages[number]
             if page != BLANK_PAGE and self.is_of_its_time(number, place) and \
-                    is_part(page, one.rows):
+                    is_part(page, self.pages[place]):
                 return Cause(place, TEXT, None, page, None, "rows are missing", window.last)
         sent = self.held.page_at(one.begin)
         is_all = self.held.last >= min(window.last, one.begin + LEAST)
@@ -258,22 +282,33 @@ class Namer:
         return Cause(place, NEVER, None, None if sent == BLANK_PAGE else sent, None, words,
                      window.last)
 
+    def came_closed(self, place: int) -> bool:
+        """Whether rows of a subtitle came in its time when the page was not open."""
+        one, page = self.subtitles[place], self.pages[place]
+        return any(one.begin <= frame < one.end and any(
+            content == page[row - 1] for row, content in rows.items())
+            for frame, rows in self.held.strays.items())
+
+    def closed_words(self) -> str:
+        """That in words."""
+        return f"rows came while {page_name(*self.held.page)} was not open"
+
     def differs(self, place: int, number: int) -> Cause:
         """Another page was sent at its time, which is that of no subtitle."""
-        one, sent = self.subtitles[place], self.held.pages[number]
+        one, due, sent = self.subtitles[place], self.pages[place], self.held.pages[number]
         words = words_on(sent)
-        if words != words_on(one.rows):
+        if words != words_on(due):
             places = self.programme.by_words.get(words)
             if places and words:
                 other = self.programme.nearest(places, one.begin)
                 return self.of_other(place, other, one.end)._replace(sent=sent)
             return Cause(place, TEXT, None, sent, None, "", one.end)
-        if is_moved(one.rows, sent):
-            return Cause(place, PLACE, None, sent, None, place_words(one.rows, sent), one.end)
-        return Cause(place, ATTRIBUTE, None, sent, None, attribute_words(one.rows, sent), one.end)
+        if is_moved(due, sent):
+            return Cause(place, PLACE, None, sent, None, place_words(due, sent), one.end)
+        return Cause(place, ATTRIBUTE, None, sent, None, attribute_words(due, sent), one.end)
 
     def of_other(self, place: int, other: int, known: int) -> Cause:
-        return Cause(place, OTHER, None, self.subtitles[other].rows, other, "", known)
+        return Cause(place, OTHER, None, self.pages[other], other, "", known)
 
     def later(self, place: int, faulty: Faulty) -> Cause:
         """It came at its TCI; something was wrong after that, or before."""
@@ -289,15 +324,31 @@ class Namer:
         until = self.held.stretch(number).last
         if self.held.frames[number] >= one.end:
             return self.unknown(place, faulty.after.first, one.end,
-                                f"sent after its TCO, at {time_of(faulty.after.first)}")
+                                self.after_words(place, number, faulty.after.first))
         if not self.held.is_seen(one.end, until):
             return self.unknown(place, one.end, one.end, UNSEEN)
         return Cause(place, NOT_ERASED, None, self.held.pages[number], None,
-                     self.gone_words(number, one.end), one.end)
+                     self.gone_words(place, number), one.end)
 
-    def gone_words(self, number: int, end: int) -> str:
-        """How long after a TCO another page comes than the one that is held there."""
-        until = self.held.stretch(number).last
+    def after_words(self, place: int, number: int, frame: int) -> str:
+        """What a page is that is held after a TCO, and came not before that. One of no subtitle
+        that comes just at the last TCO is no text of ours that stays."""
+        is_last = place == len(self.subtitles) - 1
+        came = self.held.frames[number] - self.subtitles[place].end
+        if is_last and came <= self.held.within and self.held.pages[number] not in \
+                self.programme.by_page:
+            return NEXT
+        return f"sent after its TCO, at {time_of(frame)}"
+
+    def gone_words(self, place: int, number: int) -> str:
+        """How long after the TCO of a subtitle another page comes than the one that is held there;
+        or the next subtitle that has the same."""
+        until, end = self.held.stretch(number).last, self.subtitles[place].end
+        following = self.subtitles[place + 1:place + 2]
+        if following and following[0].begin <= until and \
+                self.pages[place + 1] == self.held.pages[number]:
+            return f"it stays for {counted(following[0].begin - end, 'frame')}, up to " \
+                f"{following[0].name}, which is the same"
         if until == self.held.last or self.held.is_lost:
             return ""
         return f"gone {counted(until + 1 - end, 'frame')} later"

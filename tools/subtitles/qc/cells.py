@@ -5,12 +5,13 @@ import bisect
 import itertools
 from typing import Iterable, Iterator, NamedTuple
 
-from ..files import Damaged
-from ..pes import data_field, has_pts, pes_packets, pts_in, teletext_packets
-from ..preview.receiver import BLANK_PAGE, OLD, STORED, TUNED, Packet, hear
-from ..teletext import address_of, header_of
-from ..times import FRAMES_OF_A_DAY, frame_in
-from .told import PASSED_OVER, Told
+from ..core.files import Damaged
+from ..core.pes import data_field, has_pts, pes_packets, pts_in, teletext_packets
+from ..core.pieces import Pieces
+from ..core.teletext import address_of, header_of
+from ..core.times import FRAMES_OF_A_DAY, frame_in
+from ..core.told import CONTROL, PASSED_OVER, Told
+from ..reading.receiver import BLANK_PAGE, OLD, STORED, TUNED, Packet, hear
 
 ROWS = 24
 
@@ -79,11 +80,13 @@ class Due:
 
 
 class Place(NamedTuple):
-    """A PES packet, `None` in a gap between two, its PTS, and the page that is held then."""
+    """A PES packet, `None` in a gap between two, its PTS, and the page that is held then; of a
+    header whose control bits are refused (67) its eight numbers."""
 
     pes: int | None
     pts: int | None
     rows: tuple[bytes, ...] | None
+    header: bytes | None = None
 
 
 NOWHERE = Place(None, None, None)
@@ -109,18 +112,27 @@ class Sending:
         number, pts, _ = self.members[at]
         return Place(number, pts, self.rows)
 
+    def place_of(self, fault: Told) -> Place:
+        """The place of a fault of that frame."""
+        place = self.place(fault.packet)
+        if fault.number != CONTROL or fault.packet is None:
+            return place
+        packets = [one for _, _, data in self.members for one in teletext_packets(data_field(data))]
+        header = header_of(packets[fault.packet]) if fault.packet < len(packets) else None
+        return place._replace(header=header)
+
 
 class Places:
     """Walks through the sendings beside the faults, which are told in the order of these: those of
     a sending before the next one, and what names a frame at the end of one."""
 
-    def __init__(self, path: str, page: tuple[int, int], clock: tuple[int, int],
+    def __init__(self, pieces: Pieces, page: tuple[int, int], clock: tuple[int, int],
                  passed_over: Iterator[tuple[int, int]], is_heard: bool) -> None:
         (self.origin, self.within), self.is_heard = clock, is_heard
         self.listener = Listener(page)
         self.passed_over, self.span = passed_over, next(passed_over, None)
-        self.packets = self.read(path)
-        self.index, self.highest = -1, -1
+        self.packets = self.read(pieces)
+        self.index, self.highest = pieces.first - 1, -1
         self.before: Sending | None = None
         self.now: Sending | None = None
         self.next: tuple[int, int, bytes] | None = None  # which is of another sending
@@ -128,8 +140,8 @@ class Places:
         self.is_over = False
 
     @staticmethod
-    def read(path: str) -> Iterator[bytes]:
-        with open(path, "rb") as file:
+    def read(pieces: Pieces) -> Iterator[bytes]:
+        with pieces.open() as file:
             try:
                 yield from pes_packets(file)
             except Damaged:
@@ -152,9 +164,9 @@ class Places:
         if frame is None or now is None:
             return None
         if frame == now.frame:
-            return now.place(fault.packet)
+            return now.place_of(fault)
         if self.before and frame == self.before.frame:
-            return self.before.place(fault.packet)
+            return self.before.place_of(fault)
         is_between = self.before and self.highest < frame < now.frame
         return Place(None, None, self.before.rows) if is_between and self.before else None
 

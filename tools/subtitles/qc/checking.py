@@ -6,12 +6,13 @@ import shutil
 import subprocess
 from typing import BinaryIO, Callable, Iterator
 
-from ..files import naming
-from .told import ACCEPTED, COUNT, TRUSTED, Told, told_of
+from ..core.files import naming
+from ..core.told import (
+    Told, Trusted, accepted_of, count_of, is_line, number_of, told_of, trusted_of)
+from .status import NOT_JUDGED, UNSAID, Said, word_of
 from .unclear import Unclear
 
 TIME = re.compile(r"\d\d:\d\d:\d\d:\d\d")
-ACCEPTED_WORD, REFUSED_WORD, NOT_JUDGED = "accepted", "refused", "not judged"
 
 
 class Answer:
@@ -21,7 +22,10 @@ class Answer:
     """
 
     def __init__(self, path: str) -> None:
-        self.path, self.last, self.status = path, "", 2
+        self.path, self.last = path, ""
+        self.status: int | None = None  # until it has ended
+        self.is_accepted = False  # by the last line
+        self.strange: str | None = None  # the first line that is none of `check`
         self.count = 0
         self.numbers: set[int] = set()
         self.first: Told | None = None
@@ -34,24 +38,26 @@ class Answer:
         with naming(self.path):
             self.file.write(line.encode() + b"\n")
         self.last = line
-        if line.startswith("refused "):
+        number = number_of(line)
+        self.is_accepted = False
+        if number is not None:
             self.count += 1
-            self.numbers.add(int(line.split(" ", 2)[1]))
+            self.numbers.add(number)
             self.first = self.first or told_of(line)
-        elif accepted := ACCEPTED.fullmatch(line):
-            self.frames, self.transmissions = map(int, accepted.groups())
+        elif accepted := accepted_of(line):
+            self.frames, self.transmissions = accepted
+            self.is_accepted = True
+        elif self.strange is None and not is_line(line):
+            self.strange = line
 
     def end(self, status: int) -> None:
         """Takes the status; what is no answer is `Unclear`."""
         with naming(self.path):
             self.file.close()
         self.status = status
-        counted = COUNT.fullmatch(self.last)
-        is_answer = self.frames is not None if status == 0 else \
-            status == 1 and counted and int(counted[1]) == self.count and self.first
-        if not is_answer:
-            raise Unclear(f"check was not answered: {self.last or 'it printed nothing'}, status "
-                          f"{status}")
+        if self.verdict == NOT_JUDGED:
+            line = self.last if self.strange is None else self.strange
+            raise Unclear(f"{UNSAID}: {line or 'it printed nothing'}, status {status}")
 
     def stop(self) -> None:
         """Takes that nothing more is told: what was told so far is no answer."""
@@ -71,14 +77,24 @@ class Answer:
 
     def accept(self, line: str) -> None:
         """Takes a subtitle file without faults, which is all that was asked about."""
-        self.last, self.status = line, 0
+        self.last, self.status, self.is_accepted = line, 0, True
         self.count, self.numbers, self.first = 0, set(), None
         with open(self.path, "wb"):
             pass
 
+    def said(self, is_read: bool = True) -> Said:
+        """What the program said, as what decides the verdict; a line that is none of `check` makes
+        it no answer."""
+        is_clear = self.strange is None
+        is_list = is_clear and self.first is not None and self.frames is None
+        counted = count_of(self.last) if is_list else None
+        return Said(self.status, is_clear and self.is_accepted, self.count, counted, self.numbers,
+                    is_read)
+
     @property
     def verdict(self) -> str:
-        return {0: ACCEPTED_WORD, 1: REFUSED_WORD}.get(self.status, NOT_JUDGED)
+        """Its verdict in one word."""
+        return word_of(self.said())
 
     @property
     def line(self) -> str:
@@ -98,25 +114,26 @@ class Answer:
             if told:
                 yield told
 
-    def trusted(self) -> Iterator[tuple[str, str]]:
-        """The stretches that may be trusted, each by the times of its first and last frame."""
-        for line in self.lines():
-            found = TRUSTED.fullmatch(line)
-            if found:
-                yield found[1], found[2]
+    def trusted(self) -> Iterator[Trusted]:
+        """The stretches that may be trusted."""
+        return filter(None, map(trusted_of, self.lines()))
 
 
 def check(command: list[str], answer: Answer, hear: Callable[[str], None]) -> Answer:
-    """Runs `check --all`; `hear` gets each line as it comes."""
+    """Runs `check --all`; `hear` gets each line as it comes, a line `accepted` once the status says
+    so too."""
     with subprocess.Popen(command, stdin=subprocess.DEVNULL, stdout=subprocess.PIPE,
                           encoding="utf-8", errors="replace") as process:
         assert process.stdout
         try:
             for line in process.stdout:
                 answer.take(line.rstrip("\n"))
-                hear(line.rstrip("\n"))
+                if answer.frames is None:
+                    hear(answer.last)
         except BaseException:
             process.kill()
             raise
     answer.end(process.returncode)
+    if answer.frames is not None:
+        hear(answer.last)
     return answer

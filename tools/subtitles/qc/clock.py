@@ -6,8 +6,8 @@ from typing import NamedTuple
 RECORDING, GIVEN, START, TCP = "recording", "given", "start", "tcp"
 SOURCES = {RECORDING: "fitted to the recording", GIVEN: "given", START: "by the first picture",
            TCP: "by the first picture, TCP"}
-FITTED = "the clock was fitted to the recording: a delay that all subtitles share is not seen; " \
-    "give --origin or --start"
+FITTED_SHORT = "the clock was fitted to the recording"
+FITTED = f"{FITTED_SHORT}: a delay that all subtitles share is not seen; give --origin or --start"
 FITTED_LATER = "the clock after a break was fitted to the recording: a delay that all subtitles " \
     "of that part share is not seen"
 

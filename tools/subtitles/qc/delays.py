@@ -3,15 +3,18 @@ from __future__ import annotations
 
 from typing import Iterable, NamedTuple, Sequence
 
-from ..words import range_words
+from ..core.pieces import Pieces
+from ..core.programme import Subtitle
+from ..core.words import range_words
+from ..reading.receiver import Rows
 from .asked import Asked
 from .checking import Answer
+from .due_pages import DuePages, due_pages_of
 from .held import Held
 from .naming import Causes
-from .programme import Programme, Subtitle, programme_of
 
 # Where none of these is told, within 0, each page is whole at the end of the frame of its TCI.
-MOVED = {*range(30, 33), 44, 60, 62, 63, 71, 72, 74, 77}
+MOVED = {*range(30, 33), 44, 45, 60, 62, 63, 71, 72, 74, 77}
 
 Frames = Sequence[int | None]  # of each subtitle; `None` where nobody saw it whole while it is due
 
@@ -41,18 +44,19 @@ def spread_of(several: Iterable[int | None]) -> Spread | None:
     return Spread(known[0], known[len(known) // 2], known[-1], len(all_of) - len(known))
 
 
-def frames_of(programme: Programme, held: Held, is_complete: bool) -> list[int | None]:
+def frames_of(programme: DuePages, held: Held, is_complete: bool) -> list[int | None]:
     """After how many frames each subtitle was whole, and where complete pages are asked for
     closed."""
-    return [frames_until(one, held, is_complete) for one in programme.subtitles]
+    return [frames_until(one, page, held, is_complete)
+            for one, page in zip(programme.subtitles, programme.pages)]
 
 
-def frames_until(one: Subtitle, held: Held, is_complete: bool) -> int | None:
+def frames_until(one: Subtitle, page: Rows, held: Held, is_complete: bool) -> int | None:
     """The same of one; where nothing of the page was heard before its TCI nobody knows."""
     if held.first > one.begin:
         return None
     for number in held.numbers(one.begin, one.end):
-        if held.pages[number] != one.rows:
+        if held.pages[number] != page:
             continue
         stretch = held.stretch(number)
         first = max(stretch.first, one.begin)
@@ -62,16 +66,16 @@ def frames_until(one: Subtitle, held: Held, is_complete: bool) -> int | None:
     return None
 
 
-def frames_in(asked: Asked, program: str, files: tuple[str, str], origin: int, count: int,
+def frames_in(asked: Asked, program: str, stl: str, pieces: Pieces, origin: int, count: int,
               answer: Answer, causes: Causes | None) -> list[int | None]:
-    """The same of a part that was judged, of so many subtitles: of its two files, or where causes
-    were looked for by what was heard then."""
+    """The same of a part that was judged, of so many subtitles: of its subtitle file and its PES
+    packets, or where causes were looked for by what was heard then."""
     if not asked.within and not answer.numbers & MOVED:
         return [0] * count
-    stl, pes = files
     if causes:
         return frames_of(causes.programme, causes.held, asked.is_complete)
-    held = Held(pes, asked.page, origin, within=asked.within)
+    held = Held(pieces.path, asked.page, origin, within=asked.within,
+                place=(pieces.begin, pieces.end))
     held.follow()
-    return frames_of(programme_of(program, stl, asked.page, asked.option), held,
+    return frames_of(due_pages_of(program, stl, asked.page, asked.option), held,
                      asked.is_complete)

@@ -2,18 +2,21 @@
 from __future__ import annotations
 
 import os
-import re
 import subprocess
 import tempfile
 from typing import Iterator, TypedDict
 
-from ..preview.letters import ENGLISH, GERMAN, letters
-from ..preview.manual import meanings
-from ..times import frame_at, time_of
+from ..core.characters import letters
+from ..core.manual import meanings, plain
+from ..core.national import BY_WORD
+from ..core.times import frame_at, time_of
+from ..core.told import CHARACTER, CONTENT, LETTERS, STL_FAULTS, WITH_CAUSE, Told
 from .cause_words import CauseWords, SubtitleWords, Wording
 from .cells import NOWHERE, Due, Place, Places, code_at, passed_over
-from .subtitle_file import Subtitle, SubtitleFile
-from .told import CONTENT, LETTERS, STL_FAULTS, WITH_CAUSE, Told
+from .hints import control_words
+from .midnight import midnight_words
+from .option_advice import OptionAdvice
+from .subtitle_file import NamedSubtitle, SubtitleFile
 from .typed import Typed
 from .unclear import Unclear
 from .verdict import Part, Verdict
@@ -57,11 +60,6 @@ class Fault(TypedDict):
     cause: CauseWords | None
 
 
-def plain(text: str) -> str:
-    """A cell of the manual without marks: links as their words."""
-    return re.sub(r"\[([^]]*)\]\([^)]*\)", r"\1", text).replace("`", "")
-
-
 class Ends:
     """Where each fault ended that stood for some time, by its number in the list."""
 
@@ -87,20 +85,22 @@ class PartFaults:
 
     def __init__(self, verdict: Verdict, part: Part, typed: Typed) -> None:
         self.verdict, self.part, self.asked = verdict, part, verdict.asked
-        self.letters: list[str] = letters(GERMAN if self.asked.option == "german" else ENGLISH)
+        self.letters: list[str] = letters(BY_WORD[self.asked.option].bits)
         self.meanings = {number: (plain(one.means), plain(one.do))
                          for number, one in meanings().items()}
         self.ends = Ends(part.answer.told())
         self.wording = Wording(part.causes, self.asked.option) if part.causes else None
         self.subtitles = SubtitleFile(part.stl_path)
+        self.of_letters = OptionAdvice(self.subtitles, self.asked.option)
         self.due: Due | None = None
         self.places: Places | None = None
-        if part.pes is not None and part.origin is not None:
+        if part.pieces is not None and part.origin is not None:
             asked = [one.frame for one in part.answer.told()
                      if one.is_fault and one.number == CONTENT and one.frame is not None]
             if asked:
                 self.due = due_pages(typed, verdict, part, asked)
-            self.places = Places(part.pes, self.asked.page, (part.origin, self.asked.within),
+            self.places = Places(part.pieces, self.asked.page,
+                                 (part.origin, self.asked.within),
                                  passed_over(part.answer.told()), bool(asked))
 
     def __iter__(self) -> Iterator[Fault]:
@@ -116,6 +116,11 @@ class PartFaults:
             if told.number in LETTERS and told.block and told.at is not None else (None, None)
         until, until_pes = self.ends.of(index)
         means, do = self.meanings.get(told.number, ("", ""))
+        if told.number == CHARACTER and told.block and told.at is not None:
+            do = self.of_letters.of(told.block, told.at) or do
+        do = midnight_words(told, self.subtitles) or do
+        if place.header:
+            means = "; ".join(control_words(place.header, self.asked.option)) or means
         return {
             "part": self.part.number, "line": told.line, "number": told.number,
             "name": told.name, "severity": self.verdict.severity.of(told.number),
@@ -136,7 +141,7 @@ class PartFaults:
         cause = self.wording.causes.of(told.number, told.frame)
         return self.wording.values(cause) if cause else None
 
-    def subtitle_of(self, told: Told) -> Subtitle | None:
+    def subtitle_of(self, told: Told) -> NamedSubtitle | None:
         """The subtitle of a block, or the one that is due at a frame."""
         if told.block is not None:
             return self.subtitles.at_block(told.block)
@@ -169,13 +174,14 @@ class PartFaults:
         return {"code": f"{code:02X}", "character": self.letters[code] if code >= 0x20 else None}
 
 
-def words_of(subtitle: Subtitle | None) -> SubtitleWords | None:
+def words_of(subtitle: NamedSubtitle | None) -> SubtitleWords | None:
     return None if subtitle is None else words_of_subtitle(subtitle)
 
 
-def words_of_subtitle(subtitle: Subtitle) -> SubtitleWords:
+def words_of_subtitle(subtitle: NamedSubtitle) -> SubtitleWords:
     """A subtitle for machines."""
-    return {"number": subtitle.number, "begin": subtitle.begin, "end": subtitle.end}
+    return {"position": subtitle.position, "number": subtitle.number, "begin": subtitle.begin,
+            "end": subtitle.end}
 
 
 def due_pages(typed: Typed, verdict: Verdict, part: Part, frames: list[int]) -> Due:

@@ -1,23 +1,17 @@
 """A recording that comes through a pipe: kept as it comes, and judged as soon as that can be."""
 from __future__ import annotations
 
-import re
-import subprocess
 import time
 from typing import Callable, Iterator, NamedTuple
 
-from ..pes import pts_or_none
-from ..times import CLOCK, TICKS, frame_of
-from ..timing import signed
+from ..core.pes import pts_or_none
+from ..core.times import TICKS, ticks_between, wrapped
+from ..reading.finding import Agreement, Origin
 from .carriers import Carrier, Kept
 from .live import Live
 from .start import Starting
 
-ORIGIN = re.compile(r"(?:--pes (\d+)-\d+ )?--origin (\d+)\n")  # of all that has come
-PART = re.compile(r"--from \S+ --to (\S+) (?:--pes \S+ )?--origin (\d+)")
 LAST = 10 ** 12 - 1  # stands for the number of a PES packet that is still to come
-AGREE = re.compile(r"(\d+) of (\d+) edges? agrees?, (\d+) with the letters that are due; "
-                   r"(?:the file|this part) has (\d+)")
 ENOUGH = 5  # edges that agree on an origin before anything is judged by it
 WAIT = 5.0  # seconds between two looks for the origin, at least
 AGAIN = 8  # times as long as a look takes, at least
@@ -31,52 +25,49 @@ class At(NamedTuple):
 
 
 class Finder:
-    """Looks for the origin of what has come so far, by tools/origin."""
+    """Looks for the origin of what has come so far; `find` does it for a file of PES packets."""
 
-    def __init__(self, command: list[str]) -> None:
-        self.command = command
+    def __init__(self, find: Callable[[str], Origin]) -> None:
+        self.find = find
         self.next, self.count = time.monotonic() + WAIT, 0
 
     def is_due(self, kept: Kept) -> bool:
         """Whether it is time for another look, and there is something new."""
         return time.monotonic() >= self.next and kept.count > self.count
 
-    def ask(self, kept: Kept) -> subprocess.CompletedProcess[str]:
+    def ask(self, kept: Kept) -> Origin:
         """Asks for the origin of what has come so far."""
         began, self.count = time.monotonic(), kept.count
         kept.flush()
-        done = subprocess.run([*self.command, kept.path], stdin=subprocess.DEVNULL,
-                              stdout=subprocess.PIPE, stderr=subprocess.PIPE, encoding="utf-8",
-                              errors="replace", check=False)
+        origin = self.find(kept.path)
         self.next = time.monotonic() + max(WAIT, AGAIN * (time.monotonic() - began))
-        return done
+        return origin
 
     def look_for_end(self, kept: Kept, breaks: int, every: int) -> int | None:
         """The PTS at which all parts of a programme with breaks are over, once all are found."""
-        done = self.ask(kept)
-        lines = [one for one in map(PART.fullmatch, done.stdout.splitlines()) if one]
-        if done.returncode or len(lines) != breaks + 1:
+        origin = self.ask(kept)
+        last = origin.parts[-1] if len(origin.parts) == breaks + 1 else None
+        if origin.status or last is None or last.frames is None:
             return None
-        end = frame_of(lines[-1][1]) or 0
-        return (int(lines[-1][2]) + TICKS * (end + every)) % CLOCK
+        return wrapped(last.origin + TICKS * (last.frames[1] + every))
 
     def look(self, kept: Kept) -> At | None:
         """The origin, where it is clear and enough edges agree; or all that there are."""
-        done = self.ask(kept)
-        agree = AGREE.search(done.stderr)
-        found = ORIGIN.fullmatch(done.stdout)
-        is_clear = done.returncode == 0 and agree and is_enough(*map(int, agree.groups()))
-        if not found or not is_clear:
+        origin = self.ask(kept)
+        if origin.status or len(origin.parts) != 1 or not is_enough(origin.agreement):
             return None
-        return At(int(found[2]), (int(found[1]), LAST) if found[1] else None)
+        part = origin.parts[0]
+        return At(part.origin, (part.packets[0], LAST) if part.packets else None)
 
 
-def is_enough(agree: int, among: int, letters: int, count: int) -> bool:
+def is_enough(one: Agreement | None) -> bool:
     """Whether so many edges that agree are enough, of those that were due so far and of all that
     there are: some others may not agree, where the letters are those that are due."""
-    if agree == among:
-        return agree >= ENOUGH or agree == count
-    return agree >= ENOUGH and letters * 2 >= agree
+    if one is None:
+        return False
+    if one.agree == one.among:
+        return one.agree >= ENOUGH or one.agree == one.edges
+    return one.agree >= ENOUGH and one.letters * 2 >= one.agree
 
 
 class Feed:
@@ -97,22 +88,32 @@ class Feed:
         self.starting = starting  # waits for the first picture
         self.carrier: Kept | None = None
         self.live: Live | None = None
+        self.has_ended = False  # since nothing more is needed, or a second PID carries the page
 
     def follow(self, packets: Iterator[tuple[Kept, bytes]], show: Callable[[], None]) -> None:
         """Takes the PES packets as they come; `show` tells how much is read where none is judged.
         """
         for kept, data in packets:
-            if kept is not self.carrier and kept.has_page:
-                if self.carrier:
-                    self.drop()
-                    return
-                self.carrier = kept
-            if kept is self.carrier and data:
-                self.take(kept, data)
-            if not self.live:
+            is_over = self.hear(kept, data)
+            if not self.live and not is_over:
                 show()
-            if kept is self.carrier and self.is_over(kept, data):
+            if is_over:
                 return
+
+    def hear(self, kept: Kept, data: bytes) -> bool:
+        """Takes a PES packet, or that time goes on; whether nothing more is needed."""
+        if self.has_ended:
+            return True
+        if kept is not self.carrier and kept.has_page:
+            if self.carrier:
+                self.drop()
+                self.has_ended = True
+                return True
+            self.carrier = kept
+        if kept is self.carrier and data:
+            self.take(kept, data)
+        self.has_ended = kept is self.carrier and self.is_over(kept, data)
+        return self.has_ended
 
     def is_over(self, kept: Kept, data: bytes) -> bool:
         """Whether nothing more is needed."""
@@ -121,14 +122,14 @@ class Feed:
                 not data and self.live.is_past(kept.pcr(), kept.late())
         now = pts_or_none(data) if data else kept.pcr()
         self.now = self.now if now is None else now
-        return self.until is not None and now is not None and signed(now - self.until) > 0
+        return self.until is not None and now is not None and ticks_between(self.until, now) > 0
 
     def is_settled(self) -> bool:
         """Whether nothing more is needed of a feed that stands still."""
         if self.carrier and not self.live:
             self.begin(self.carrier)
-        if self.until is not None and self.now is not None:
-            return signed(self.now - self.until) >= -TICKS * self.every  # the last TCO has come
+        if self.until is not None and self.now is not None:  # whether the last TCO has come
+            return ticks_between(self.until, self.now) >= -TICKS * self.every
         return self.live is not None and (self.live.is_over() or self.live.has_last())
 
     def take(self, kept: Kept, data: bytes) -> None:

@@ -5,14 +5,17 @@ import array
 import bisect
 from typing import Iterator, NamedTuple
 
-from ..batch import Batch, is_listed, of_packets
-from ..cutting import Cut, Range
-from ..pes import AT_A_TIME, UNIT, begins_in, sliced
-from ..preview.receiver import BLANK_PAGE, HIT, OLD, Receiver, Rows
-from ..teletext import Page
-from ..times import FRAMES_OF_A_DAY, NO_FRAME, frames_at
+from ..core.batch import Batch, is_listed, of_packets
+from ..core.pes import AT_A_TIME, UNIT, begins_in, sliced
+from ..core.teletext import Page
+from ..core.times import FRAMES_OF_A_DAY, NO_FRAME, frames_at
+from ..reading.cutting import Cut, Range
+from ..reading.receiver import BLANK_PAGE, HIT, OLD, Receiver, Rows, strays
+from ..reading.repeat import coded_header
 
 CLEARED = bytes(0x20 if code in (OLD, HIT) else code for code in range(256))
+PAUSE = 2  # frames in a row without a PES packet: more are a pause of what sends one in each frame
+FEW = 20  # PES packets at least for each pause, of one that does
 LEAST = 250  # frames around those that are due in which more is looked for
 
 
@@ -41,14 +44,16 @@ class Held:
 
     `first` and `last` are the frames of the first and the last PES packet there. `doubts` are
     frames of which not all is known that was sent: from the PES packet before one that is passed
-    over to the next one. Where a frame is before that of the PES packet before nothing more is
-    heard: `is_lost`; but `near` frames that are due what comes before these is forgotten.
+    over, as a mark is, to the next one. Where a frame is before that of the PES packet before
+    nothing more is heard: `is_lost`; but `near` frames that are due what comes before these is
+    forgotten. What is heard stands in the file at some bytes, from its `place` on.
     """
 
     def __init__(self, path: str, page: Page, origin: int, near: Near | None = None,
-                 within: int = 0) -> None:
+                 within: int = 0, place: tuple[int, int | None] = (0, None)) -> None:
         self.path, self.page, self.origin, self.within = path, page, origin, within
-        self.at, self.rest = 0, b""
+        self.header = coded_header(page)
+        (self.at, self.stop), self.rest = place, b""  # bytes of the file
         self.cut = near.cut(page, origin, within) if near else None
         self.begin = near.span.first if near else NO_FRAME
         self.lost: list[Span] = []  # frames of which something is lost, whoever knows it
@@ -64,18 +69,25 @@ class Held:
         self.first = self.last = NO_FRAME
         self.is_settled, self.field, self.is_doubted = False, b"", False
         self.doubts: list[Span] = []
+        self.count = 0  # PES packets
+        self.pauses: list[Span] = []  # frames without one
+        self.strays: dict[int, dict[int, bytes]] = {}  # rows of a frame for which it was not open
 
     def follow(self) -> None:
         """Hears what has come since the last time."""
         with open(self.path, "rb") as file:
             file.seek(self.at)
-            while not self.is_over() and (piece := file.read(AT_A_TIME)):
+            while not self.is_over() and (piece := file.read(self.size())):
                 self.at += len(piece)
                 data = self.rest + piece
                 begins = begins_in(data)
                 self.rest = data[begins[-1]:]
                 if len(begins) > 1:
                     self.take_near(Batch(data, begins))
+
+    def size(self) -> int:
+        """How many bytes are read at once."""
+        return AT_A_TIME if self.stop is None else min(AT_A_TIME, self.stop - self.at)
 
     def is_over(self) -> bool:
         """Whether nothing more is heard."""
@@ -118,6 +130,9 @@ class Held:
             self.doubts.append(Span(max(self.last, 0), frame))
             self.is_doubted = False
         self.first = frame if self.first == NO_FRAME else self.first
+        if self.last != NO_FRAME and frame - self.last - 1 > PAUSE:
+            self.pauses.append(Span(self.last + 1, frame - 1))
+        self.count += 1
         self.last = frame
         field = data[UNIT:]
         if self.is_settled and field == self.field:
@@ -129,6 +144,9 @@ class Held:
             self.turn(frame)
         if self.receiver.state.rows is not before.rows:
             self.change(frame, cleared(self.receiver.state.rows))
+        has_header = not self.receiver.state.is_open and self.header in data
+        if has_header and (stray := strays(data, self.page)):
+            self.strays[frame] = stray
 
     def turn(self, frame: int) -> None:
         """The page is open from the end of a frame on, or no more."""
@@ -177,6 +195,13 @@ class Held:
         """From when to when a page is held."""
         is_last = number + 1 == len(self.frames)
         return Span(self.frames[number], self.last if is_last else self.frames[number + 1] - 1)
+
+    def pause_at(self, frame: int) -> Span | None:
+        """The frames around one in which no PES packet came, of what else sends one in each frame
+        but few."""
+        at = bisect.bisect_right(self.pauses, frame, key=lambda one: one.first) - 1
+        is_steady = len(self.pauses) * FEW <= self.count
+        return self.pauses[at] if is_steady and at >= 0 and self.pauses[at].last >= frame else None
 
     def is_seen(self, first: int, last: int) -> bool:
         """Whether all is known that was sent in some frames."""

@@ -1,9 +1,9 @@
 """What a recording is, told by its first bytes."""
 from __future__ import annotations
 
-from ..pes import START
-from ..transport import STRIDES, SYNC
-from ..words import Stop
+from ..core.pes import START
+from ..core.words import Stop
+from ..reading.transport import STRIDES, SYNC
 from .source import Source
 
 BEHIND_TIME = 4  # bytes before the first TS packet of 192 bytes, of any value

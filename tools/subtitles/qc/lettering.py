@@ -4,8 +4,9 @@ from __future__ import annotations
 import functools
 from typing import NamedTuple
 
-from ..preview.letters import letters
-from ..preview.receiver import Rows
+from ..core.characters import letters
+from ..core.words import counted
+from ..reading.receiver import Rows
 
 ATTRIBUTES = (
     "alpha black", "alpha red", "alpha green", "alpha yellow", "alpha blue", "alpha magenta",
@@ -54,6 +55,8 @@ def text_of(rows: Rows, option: int) -> str:
 
 def code_words(code: int) -> str:
     """A cell's code as a person reads it."""
+    if code == SPACE:
+        return "a space"
     return ATTRIBUTES[code] if code < SPACE else f"{code:02X}"
 
 
@@ -68,13 +71,32 @@ def place_words(due: Rows, sent: Rows) -> str:
 
 
 def attribute_words(due: Rows, sent: Rows) -> str:
-    """The first cell that differs."""
+    """The first cell that differs, and by how far its row begins or ends elsewhere."""
     for number, (row, other) in enumerate(zip(due, sent), 1):
         for column, (code, held) in enumerate(zip(row, other)):
             if code != held:
                 return (f"row {number} column {column}: {code_words(held)} instead of "
-                        f"{code_words(code)}")
+                        f"{code_words(code)}{ends_words(row, other)}")
     return ""
+
+
+def ends_words(due: bytes, sent: bytes) -> str:
+    """How many columns a row begins or ends early or late, with its attributes."""
+    (first, end), (begins, ends) = extent(due), extent(sent)
+    words = [] if begins == first else [columns_words("begins", begins - first)]
+    words += [] if ends == end else [columns_words("ends", ends - end)]
+    return "".join(f", {one}" for one in words)
+
+
+def extent(row: bytes) -> tuple[int, int]:
+    """The columns of the first cell of a row that is no space, and of the one after the last."""
+    return len(row) - len(row.lstrip(b" ")), len(row.rstrip(b" "))
+
+
+def columns_words(what: str, columns: int) -> str:
+    """`begins a column early`, of columns to the right."""
+    count = "a column" if abs(columns) == 1 else counted(abs(columns), "column")
+    return f"{what} {count} {'late' if columns > 0 else 'early'}"
 
 
 def is_moved(due: Rows, sent: Rows) -> bool:

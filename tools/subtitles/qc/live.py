@@ -5,11 +5,11 @@ import subprocess
 import threading
 from typing import TYPE_CHECKING, BinaryIO
 
-from ..cutting import Cut
-from ..files import naming
-from ..pes import pes_packets
-from ..times import FRAMES_OF_A_DAY, frame_in, time_of
-from ..words import counted
+from ..core.files import naming
+from ..core.pes import pes_packets
+from ..core.times import FRAMES_OF_A_DAY, frame_in, time_of
+from ..core.words import counted
+from ..reading.cutting import Cut
 from .checking import Answer
 from .names import Names
 from .speech import Speech
@@ -33,7 +33,7 @@ class Live:
         self.path = names.cut_path
         self.kept: BinaryIO = open(self.path, "wb")
         self.has_ended = False  # the program, before all was handed on
-        self.failed: OSError | None = None  # why a line could not be written
+        self.failed: Exception | None = None  # why a line could not be taken
         self.following = following
         self.process = subprocess.Popen(command, stdin=subprocess.PIPE, stdout=subprocess.PIPE)
         self.listener = threading.Thread(target=self.listen, daemon=True)
@@ -46,10 +46,11 @@ class Live:
             line = data.decode("utf-8", "replace").rstrip("\n")
             try:
                 self.answer.take(line)
-                self.speech.of_list(line)
-            except OSError as reason:
+                if self.answer.frames is None:
+                    self.speech.of_list(line)
+                self.following.hear(line)
+            except Exception as reason:  # all is read, so that the program does not wait
                 self.failed = self.failed or reason
-            self.following.hear(line)
 
     def put_all(self, path: str) -> None:
         """Hands on what has come before."""
@@ -113,11 +114,14 @@ class Live:
             pass
         status = self.process.wait()
         self.listener.join()
+        if self.failed:
+            self.answer.stop()
+            raise self.failed
         self.answer.end(status)
+        if self.answer.frames is not None:
+            self.speech.of_list(self.answer.last)
         self.speech.end_list(self.answer.last)
         self.following.follow(is_over=True)
-        if self.failed:
-            raise self.failed
         return self.answer
 
     def stop_early(self) -> Answer:

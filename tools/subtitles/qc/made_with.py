@@ -5,8 +5,8 @@ import os
 import re
 from typing import NamedTuple
 
-from ..built import TOP, behind_script, read
-from ..words import version
+from ..core.built import TOP, behind_script, read
+from ..core.words import version
 from .sums import file_of
 
 PROVED = "PROVED"  # lies beside a program, or over the folder of one that is installed

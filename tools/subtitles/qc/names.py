@@ -3,9 +3,10 @@ from __future__ import annotations
 
 import glob
 import os
+import shutil
 
-from ..files import is_utf_8
-from ..words import shown
+from ..core.files import is_utf_8
+from ..core.words import shown
 from .asked import Asked
 from .typed import Typed, line_of
 
@@ -16,8 +17,8 @@ LINK = ".out"  # in the temporary folder
 class Names:
     """The files that the steps make: as a person types them, and where they stand here.
 
-    What is judged is kept in the folder that was asked for; the rest is temporary, under the names
-    that a person would type. The program asks for names that are UTF-8: `here` is another one of
+    What is judged of a feed stands in the folder that was asked for; the rest is temporary, under
+    the names that a person would type. The program asks for names that are UTF-8: `here` is another one of
     that folder, where its own is none.
     """
 
@@ -56,22 +57,34 @@ class Names:
         """What an earlier call may have left in the folder: files of the pair, and of its parts."""
         if self.out is None:
             return []
-        own = [self.cut_path, self.list_path, self.report, self.typed("json")]
+        own = [self.cut_path, self.place("recording.pes"), self.list_path, self.report,
+               self.typed("json")]
         return own + [path for ending in ("stl", "cut.pes", "txt", "html") for path in
                       glob.glob(os.path.join(glob.escape(self.out), f"{glob.escape(self.name)}."
                                              f"[1-9]*.{ending}"))
                       if os.path.basename(path)[len(self.name) + 1:-len(ending) - 1].isdecimal()]
 
     def give(self, stl: str) -> None:
-        """Takes the subtitle file; the program asks for a name that is UTF-8."""
-        self.given = self.given_typed = stl
-        if not is_utf_8(stl):
-            self.given = os.path.join(self.folder, shown(os.path.basename(stl)))
-            os.symlink(os.path.abspath(stl), self.given)
+        """Takes the subtitle file."""
+        self.given, self.given_typed = self.as_program(stl), stl
+
+    def as_program(self, name: str) -> str:
+        """A file by a name that is UTF-8, as the program asks."""
+        if is_utf_8(name):
+            return name
+        path = os.path.join(self.folder, shown(os.path.basename(name)))
+        if not os.path.lexists(path):
+            os.symlink(os.path.abspath(name), path)
+        return path
 
     def judged(self) -> list[str]:
         """The PES packets that were judged, where they stand in the folder that was asked for."""
         return [path for path in self.kept() if path.endswith(".cut.pes") and os.path.exists(path)]
+
+    def keep(self) -> None:
+        """Keeps the PES packets of the recording, as `extract` wrote them, in that folder."""
+        if self.here is not None and os.path.exists(self.whole_path):
+            shutil.copyfile(self.whole_path, self.place("recording.pes"))
 
     def as_typed(self, line: str) -> str:
         """A line of a tool, in which files have the names that a person types."""

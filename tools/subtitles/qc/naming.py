@@ -4,13 +4,13 @@ from __future__ import annotations
 import collections
 from typing import Callable, Iterable
 
+from ..core.told import BEGIN, CONTENT, END, Told
 from .causes import EARLY, NAMES, NEVER, Cause, Faulty, Namer
 from .held import Held, Span
-from .programme import Programme
-from .told import BEGIN, CONTENT, END, Told
+from .due_pages import DuePages
 
 FEW = 3  # subtitles, which have the edges of a part
-BEFORE = f"its sending stands before what was cut, so {BEGIN} is told"
+BEFORE = f"its page transmission is before what was cut, so {BEGIN} is reported"
 
 
 class Causes:
@@ -22,7 +22,7 @@ class Causes:
     the frames of which the recording is, where that is known of more than its PES packets.
     """
 
-    def __init__(self, programme: Programme, held: Held,
+    def __init__(self, programme: DuePages, held: Held,
                  unseen: Callable[[], Iterable[Span]] = tuple,
                  reach: Callable[[], Span | None] = lambda: None) -> None:
         self.programme, self.held, self.unseen, self.reach = programme, held, unseen, reach

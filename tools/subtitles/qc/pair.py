@@ -1,19 +1,24 @@
 """A pair judged: from a recording to a verdict, step by step."""
 from __future__ import annotations
 
+import dataclasses
 import os
-from typing import NamedTuple
+from typing import NamedTuple, Sequence
 
-from ..extracting import TOLD, what_of
-from ..joining import Place
-from ..times import CLOCK, FRAMES_OF_A_DAY, TICKS, frame_in, time_of
-from ..words import counted, shown
+from ..core.pieces import Pieces
+from ..core.programme import Subtitle
+from ..core.times import FRAMES_OF_A_DAY, TICKS, frame_in, ticks_between, time_of
+from ..core.told import EMPTY, LOST_PACKETS
+from ..core.words import counted, pid_name, shown
+from ..reading.losses import TOLD, Place, what_of
+from ..reading.origin_words import runs_line
 from .carriers import Carrier, Kept
 from .checking import Answer
 from .clock import GIVEN, RECORDING, TCP, Clock
 from .delays import frames_in
 from .feed import At, Feed, Finder
-from .fitting import Found, found_in, notes_of, runs_in, with_delay
+from .fitting import Found, found_in, with_delay
+from .hints import words_of
 from .kinds import is_recording
 from .live import Live
 from .names import Names
@@ -23,14 +28,15 @@ from .source import STANDARD_INPUT
 from .speech import Speech
 from .stall import Stall
 from .start import Starting, refuse_outside
-from .steps import Steps, Stretch, origin_words, packets_words
+from .status import REFUSED, UNSAID
+from .steps import Steps, Stretch, origin_in, origin_words, packets_words
 from .subtitle_file import SubtitleFile
 from .sums import File, file_of
-from .told import EMPTY
 from .typed import Typed
 from .unclear import Unclear
 from .verdict import Gap, Part, Verdict
-from .warned import Warned, of_repeat, of_tables, of_timing
+from .warned import (
+    Warned, of_character_sets, of_counts, of_jumps, of_pauses, of_repeat, of_tables, of_timing)
 from .whole import of_end, of_growth
 from .why import Asking, Following, Heard, Telling
 from .within import Trying, line_of
@@ -39,10 +45,11 @@ NO_CLOCK = Clock(0, RECORDING)  # stands for one that is not found yet
 
 
 class Begun(NamedTuple):
-    """A part that is being judged: its number, what it is, and what was told of it."""
+    """A part that is being judged: its number, what it is, its PES packets, what was told of it."""
 
     number: int
     one: Stretch
+    pieces: Pieces
     answer: Answer
 
 
@@ -77,15 +84,16 @@ class Pair:
         if self.is_summed:
             self.verdict.stl = file_of(asked.stl, asked.stl)
         answer = self.steps.check_alone()
-        is_refused = answer.first is not None and answer.first.number != EMPTY
+        if answer.verdict != REFUSED:
+            raise Unclear(f"{UNSAID}: {answer.last}, where there is no PES packet")
+        self.verdict.warnings += of_counts(SubtitleFile(self.names.given))
+        is_refused = answer.numbers != {EMPTY}
         if is_refused or asked.recording is None:
             self.judge_alone(answer, is_refused)
         else:
             self.judge_transmission()
-        if asked.recording is not None and not self.verdict.has_errors() and \
-                not all(part.is_read() for part in self.verdict.parts):
-            raise Unclear("nothing of the recording was read, and --severity leaves no fault an "
-                          "error")
+        for part in self.verdict.parts:
+            part.was_read = part.was_read or asked.recording is None
 
     def stop(self, now: str) -> str:
         """Takes what was told before a signal came; at which time that was, of a feed or of `now`,
@@ -95,9 +103,9 @@ class Pair:
             return self.stop_live(live, live.cut.frame)
         if self.begun is None or len(self.verdict.parts) >= self.begun.number:
             return now
-        number, one, answer = self.begun
+        answer = self.begun.answer
         answer.stop()
-        self.verdict.parts.append(part_of(number, one, None, answer))
+        self.verdict.parts.append(self.part_of(self.begun))
         time = answer.told_up_to()
         return f"{now}, when check had told {f'all up to {time}' if time else 'nothing yet'}"
 
@@ -107,7 +115,7 @@ class Pair:
         clock = self.starting.began.clock if self.starting and self.starting.began else \
             self.given() or Clock(live.origin, RECORDING)
         self.verdict.parts.append(Part(
-            1, self.asked.stl, self.names.given, self.names.cut_path, live.origin,
+            1, self.asked.stl, self.names.given, Pieces(self.names.cut_path), live.origin,
             self.whole.begin, frame, None, answer, clock))
         return time_of(min(frame, FRAMES_OF_A_DAY))
 
@@ -120,27 +128,35 @@ class Pair:
                 self.speech.of_list(line)
             self.speech.end_list(answer.last)
         else:
-            count = len(self.steps.times(self.names.given))
+            count = self.verdict.count = len(self.steps.subtitles(self.names.given))
             answer.accept(f"{counted(count, 'subtitle')}, nothing is wrong with "
                           f"{'it' if count == 1 else 'them'}")
         stl, given = self.asked.stl, self.names.given
-        self.verdict.parts.append(Part(1, stl, given, None, None, None, None, None, answer))
+        part = Part(1, stl, given, None, None, None, None, None, answer)
+        part.was_read = self.asked.recording is None
+        self.verdict.parts.append(part)
+        if answer.first:
+            part.hint = words_of(answer.first, part, self.verdict)
         if is_refused:
             unread = [f"{shown(self.asked.recording)} was not read"] if self.asked.recording else []
-            self.steps.draw(self.names, [given], [stl], Clock(0, GIVEN), [], unread)
+            warned = map(Warned.said, self.verdict.warnings)
+            self.steps.draw(self.names, [given], [stl], Clock(0, GIVEN), [], [*unread, *warned],
+                            self.verdict.sentence)
 
     def judge_transmission(self) -> None:
         """Judges what was recorded, part by part."""
         asked, steps = self.asked, self.steps
-        times = self.times = steps.times(self.names.given)
-        if not times:
+        subtitles = steps.subtitles(self.names.given)
+        self.times = [(one.begin, one.end) for one in subtitles]
+        self.verdict.count = len(subtitles)
+        if not subtitles:
             raise Unclear(f"{asked.stl} has no subtitle")
         given = self.given()
-        self.whole = Found(times[0][0], times[-1][1], given or NO_CLOCK)
+        self.whole = Found(subtitles[0].begin, subtitles[-1].end, given or NO_CLOCK)
         stall = Stall(self.stalled_after, self.speech.tell)
         recording = Recording(asked, self.typed, self.names, self.speech, stall)
         self.recording = recording
-        finder = Finder([*self.typed.call("origin"), *steps.fit_words(None), "--", asked.stl])
+        finder = Finder(lambda path: origin_in(path, asked.stl, steps.fit_words(None)))
         recording.read(self.is_summed, Feed(asked.origin, finder, self.start, self.starting,
                                             asked.breaks, asked.every))
         self.verdict.recording = recording.file
@@ -149,17 +165,18 @@ class Pair:
             answer = recording.live.end()
             clock = self.clock_of_live(recording, recording.live.origin, given)
             self.warn(recording, clock.origin)
-            self.end_part(1, self.all_of(Found(0, 0, clock)), answer, recording)
+            self.end_part(Begun(1, self.all_of(Found(0, 0, clock)), Pieces(self.names.cut_path),
+                                answer), recording)
         else:
             found = self.found(recording, given)
             self.warn(recording, found[0].origin)
-            stretches = self.stretches(found, len(times))
+            stretches = self.stretches(found, subtitles)
             self.count = len(stretches)
             for number, one in enumerate(stretches, 1):
-                steps.cut(recording, one)
-                self.begun = Begun(number, one, Answer(one.names.list_path))
-                steps.check(one, self.begun.answer)
-                self.end_part(number, one, self.begun.answer, recording)
+                pieces = steps.cut(recording, one)
+                self.begun = Begun(number, one, pieces, Answer(one.names.list_path))
+                steps.check(recording, one, pieces, self.begun.answer)
+                self.end_part(self.begun, recording)
         if not any(warned.kind == "grew" for warned in self.verdict.warnings):
             self.verdict.warnings += of_growth(recording)
         self.note_gaps(recording.places())
@@ -172,31 +189,30 @@ class Pair:
 
     def found(self, recording: Recording, given: Clock | None) -> list[Found]:
         """The parts with their clocks; the first one has the one that was given."""
-        done = self.steps.fit(recording, given)
-        runs = runs_in(done)
-        if runs > 1 and self.asked.run is None and recording.is_feed:
-            self.verdict.notes.append(f"{done.told[0]}: of a feed the first run is judged")
-            done = self.steps.fit(recording, given, "--run", "1")
-        self.verdict.notes += notes_of(done)
-        is_other = runs > 1 and self.asked.run is None and not recording.is_feed
+        origin = self.steps.fit(recording, given)
+        is_other = origin.runs > 1 and self.asked.run is None and not recording.is_feed
+        if origin.runs > 1 and self.asked.run is None and recording.is_feed:
+            self.verdict.notes.append(first_run_words(origin.runs))
+            origin = self.steps.fit(recording, given, "--run", "1")
+        self.verdict.notes += origin.shifts
         if given is None or self.asked.breaks or is_other:
-            found = self.steps.fitted(done, self.whole, recording)
+            found = self.steps.fitted(origin, self.whole, recording)
         else:
-            found = found_in(done, self.whole) or [self.whole]
+            found = found_in(origin, self.whole) or [self.whole]
         if given:
-            clock, notes = with_delay(given, done)
+            clock, notes = with_delay(given, origin)
             self.verdict.notes[:0] = notes
             found[0] = found[0]._replace(clock=clock)
         return found
 
     def clock_of_live(self, recording: Recording, origin: int, given: Clock | None) -> Clock:
         """The clock of a feed that was judged while it came, with what is seen of it at its end."""
-        done = self.steps.ask_origin(recording, given)
-        if runs_in(done) > 1 and self.asked.run is None:
-            self.verdict.notes.append(f"{done.told[0]}: of a feed the first run is judged")
-            done = self.steps.ask_origin(recording, given, "--run", "1")
-        clock, notes = with_delay(given, done) if given else (Clock(origin, RECORDING), [])
-        self.verdict.notes += [*notes, *(notes_of(done) or self.unsent(recording))]
+        seen = self.steps.ask_origin(recording, given)
+        if seen.runs > 1 and self.asked.run is None:
+            self.verdict.notes.append(first_run_words(seen.runs))
+            seen = self.steps.ask_origin(recording, given, "--run", "1")
+        clock, notes = with_delay(given, seen) if given else (Clock(origin, RECORDING), [])
+        self.verdict.notes += [*notes, *(seen.shifts or self.unsent(recording))]
         return clock
 
     @staticmethod
@@ -223,59 +239,78 @@ class Pair:
         self.verdict.warnings += [*of_growth(recording), *of_end(recording)]
         carrier, carriers = recording.carrier, recording.carriers
         if carrier and carriers:
+            if carrier.timing.first is None:
+                self.verdict.notes.append(
+                    f"there is no PCR of the programme of {pid_name(carrier.pid)}: a hole that its "
+                    "counter does not show, as one of 16 TS packets, can't be seen")
             self.verdict.warnings += [*of_timing(carrier.timing, origin),
+                                      *of_jumps(carrier.holes, origin, self.whole.begin,
+                                                self.whole.end),
                                       *of_tables(carriers.listing, carrier.pid, self.asked)]
+        self.verdict.warnings += of_character_sets(recording.path, self.asked)
 
     def all_of(self, found: Found) -> Stretch:
         """All subtitles, with one clock."""
         whole = self.whole._replace(clock=found.clock, packets=found.packets)
         return Stretch(self.asked.stl, self.names.given, self.names, whole)
 
-    def stretches(self, found: list[Found], count: int) -> list[Stretch]:
-        """What is judged, one after another; each of the subtitles has to be in one."""
+    def stretches(self, found: list[Found], subtitles: list[Subtitle]) -> list[Stretch]:
+        """What is judged, one after another; each of the subtitles has to be in one, once and as it
+        is in the file."""
         if len(found) == 1:
             return [self.all_of(found[0])]
         stretches = [self.steps.part(number, one) for number, one in enumerate(found, 1)]
-        left = count - sum(len(self.steps.times(one.stl_path)) for one in stretches)
-        if left:
+        parted = [one for part in stretches for one in self.steps.subtitles(part.stl_path)]
+        left = len(subtitles) - len(parted)
+        if left > 0:
             raise Unclear(f"{counted(left, 'subtitle')} of {self.asked.stl} would be in no part, "
                           "and nobody would look at it: mend its times")
+        if not are_same(parted, subtitles):
+            raise Unclear(f"the parts of {self.asked.stl} would hold other subtitles than it has")
         return stretches
 
-    def end_part(self, number: int, one: Stretch, answer: Answer, recording: Recording) -> None:
+    def end_part(self, begun: Begun, recording: Recording) -> None:
         """Takes what `check` said of a part, and draws its report, with what is missing there."""
-        cut = one.names.cut_path
-        judged = file_of(cut, one.names.cut) if self.is_summed else None
+        number, one, pieces, answer = begun
         found, origin = one.found, one.found.origin
-        part = part_of(number, one, judged, answer)
+        part = self.part_of(begun)
         self.verdict.parts.append(part)
         part.causes = self.causes(one, answer, recording)
         self.measure(part, one, recording)
+        part.was_read = part.is_read()
+        if answer.first:
+            part.hint = words_of(answer.first, part, self.verdict)
         within = [] if part.accepted_within is None else [line_of(part.accepted_within)]
-        for warned in of_repeat(cut, self.asked, origin, self.times):
+        for warned in (*of_pauses(pieces, self.asked, origin),
+                       *of_repeat(pieces, self.asked, origin, self.times)):
             if warned not in self.verdict.warnings:
                 self.verdict.warnings.append(warned)
-        lost = [gap_of(place, origin, True).line() for place in recording.places()
-                if is_in(place, part)]
+        gaps = [gap_of(place, origin, True) for place in recording.places() if is_in(place, part)]
+        lost = [gap.line() for gap in gaps]
         if len(lost) > TOLD:
             lost = [*lost[:TOLD], f"and at {counted(len(lost) - TOLD, 'more place')}"]
-        self.steps.draw(one.names, [one.stl_path, cut], [one.stl, one.names.cut], found.clock,
+        typed = one.names.cut if recording.live else recording.shown
+        path = self.names.as_program(pieces.path)
+        self.steps.draw(one.names, [one.stl_path, path], [one.stl, typed], found.clock,
                         lost, [*self.verdict.notes, *map(Warned.said, self.verdict.warnings),
                                *within],
-                        self.verdict.recording,
-                        ["--part", str(number), str(self.count)] if self.count > 1 else [],
+                        self.verdict.of_part(part, gaps).sentence, self.verdict.recording,
+                        [*pieces.words(),
+                         *(["--part", str(number), str(self.count)] if self.count > 1 else [])],
                         around_words(recording, found) if part.causes else ((), ()))
 
     def measure(self, part: Part, one: Stretch, recording: Recording) -> None:
         """Takes after how many frames the subtitles of a part were whole, and of one that is
         refused within how many it would be accepted."""
         answer, asked = part.answer, self.asked
+        assert part.pieces
         if self.is_summed or asked.within:
             part.delays = frames_in(
-                asked, self.typed.program_path, (one.stl_path, one.names.cut_path),
+                asked, self.typed.program_path, one.stl_path, part.pieces,
                 one.found.origin, len(SubtitleFile(one.stl_path).begins), answer, part.causes)
-        is_lost = any(is_in(place, part) for place in recording.places())
-        if answer.status and not (recording.is_feed or is_lost and not asked.is_loss_allowed):
+        is_lost = LOST_PACKETS in answer.numbers or \
+            any(is_in(place, part) for place in recording.places())
+        if part.is_refused and not (recording.is_feed or is_lost):
             part.accepted_within = Trying(self.steps, recording, one, part.number,
                                           self.count).least(answer.numbers, part.causes)
 
@@ -290,6 +325,15 @@ class Pair:
             telling.tell(causes, causes.all())
             telling.end()
         return causes
+
+    def part_of(self, begun: Begun) -> Part:
+        """A part of which something was told."""
+        number, one, pieces, answer = begun
+        found, recording = one.found, self.recording
+        judged = file_of(pieces.path, one.names.cut) \
+            if self.is_summed and recording and not recording.is_file else None
+        return Part(number, one.stl, one.stl_path, pieces, found.origin, found.begin, found.end,
+                    judged, answer, found.clock, recording.stream() if recording else None)
 
     # A feed.
 
@@ -323,16 +367,21 @@ class Pair:
             self.verdict.gaps.append(gap_of(place, origin, bool(parts)))
 
 
-def part_of(number: int, one: Stretch, judged: File | None, answer: Answer) -> Part:
-    """A part of which something was told."""
-    found = one.found
-    return Part(number, one.stl, one.stl_path, one.names.cut_path, found.origin, found.begin,
-                found.end, judged, answer, found.clock)
+def are_same(some: Sequence[Subtitle], others: Sequence[Subtitle]) -> bool:
+    """Whether subtitles of two files are the same, one after another, wherever they stand."""
+    placed = [[dataclasses.replace(one, index=0) for one in several] for several in (some, others)]
+    return placed[0] == placed[1]
+
+
+def first_run_words(runs: int) -> str:
+    """What is judged of a feed in which the programme is more than once."""
+    return f"{runs_line(runs)}: of a feed the first run is judged"
 
 
 def around_words(recording: Recording, found: Found) -> tuple[list[str], list[str]]:
     """Where the report looks for causes: words as they are given, and as they are typed."""
-    heard, packets = Heard(recording.path, recording.carrier), packets_words(found.packets)
+    heard = Heard(recording.path, recording.carrier)
+    packets = packets_words(found.packets, "--around-pes")
     return ([*heard.words(found, recording.path), *packets],
             [*heard.words(found, recording.shown), *packets])
 
@@ -344,20 +393,16 @@ def gap_of(place: Place, origin: int, is_judged: bool) -> Gap:
 
 
 def is_in(place: Place, part: Part) -> bool:
-    """Whether frames of a part may lack what is missing at a place."""
+    """Whether a mark is one of those that are judged with a part; or where none stands, or these
+    have no such numbers, whether frames of the part may lack what is missing there."""
     if part.begin is None or part.end is None or part.origin is None:
         return False
+    if place.mark is not None and part.pieces and part.pieces.last is not None:
+        return part.pieces.first <= place.mark <= part.pieces.last
     first, last = (part.origin + TICKS * frame for frame in (part.begin, part.end))
     is_before = place.after is not None and ticks_between(first, place.after) <= 0
-    # One that is filled up has its time before it.
-    is_after = place.before is not None and \
-        ticks_between(last, place.before) >= (1 if place.filled else 0)
+    is_after = place.before is not None and ticks_between(last, place.before) >= 0
     return not is_before and not is_after
-
-
-def ticks_between(first: int, second: int) -> int:
-    """How much later than a PTS another one is, which may be earlier."""
-    return (second - first + CLOCK // 2) % CLOCK - CLOCK // 2
 
 
 def time_at(pts: int | None, origin: int) -> str | None:

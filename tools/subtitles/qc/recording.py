@@ -1,17 +1,21 @@
 """A recording as a file of PES packets: itself, or what was taken out of a transport stream."""
 from __future__ import annotations
 
+import contextlib
 import os
 from typing import Iterator
 
-from ..extracting import NoTeletext
-from ..files import Damaged
-from ..joining import Place
-from ..pes import pes_packets
-from ..pictures import NoFirst
-from ..words import counted, pid_name
+from ..core.files import Damaged, Input
+from ..core.pes import pes_packets
+from ..core.pieces import gaps_in
+from ..core.words import counted, pid_name, stream_words
+from ..reading.listing import Listing
+from ..reading.losses import TOLD, Place, line_of, of_gaps
+from ..reading.pictures import NoFirst
+from ..reading.refused import why_refused
+from ..reading.transport import Reader
 from .asked import Asked
-from .carriers import Carrier, Carriers, Kept
+from .carriers import Carrier, Carriers, Kept, NoTeletext
 from .feed import Feed
 from .kinds import is_pes_packets
 from .live import Live
@@ -32,7 +36,8 @@ class Recording:
     """A recording that is read: the file of its PES packets is `path`, typed as `shown`.
 
     `carrier` is what was taken out of a transport stream; `live` the call of `check` that judged a
-    feed while it came, where there was one.
+    feed while it came, where there was one. What is judged of a file is a range of the PES packets
+    of that file itself, `name`, which the program reads by the `words`.
     """
 
     def __init__(self, asked: Asked, typed: Typed, names: Names, speech: Speech,
@@ -46,6 +51,7 @@ class Recording:
         self.carriers: Carriers | None = None
         self.live: Live | None = None
         self.file: File | None = None
+        self.known: list[Place] | None = None  # where something is missing
         self.size = size_of(self.name)
         self.is_feed = False
 
@@ -75,8 +81,35 @@ class Recording:
             source.close()
 
     def places(self) -> list[Place]:
-        """Where TS packets are missing."""
-        return self.carrier.places() if self.carrier else []
+        """Where something is missing."""
+        if self.carrier:
+            return self.carrier.places()
+        if self.known is None:
+            self.known = of_gaps(gaps_in(self.path), [])
+        return self.known
+
+    def words(self) -> list[str]:
+        """The options by which the program reads the recording."""
+        stream = self.stream()
+        return stream_words(*stream) if stream and self.is_file else []
+
+    @property
+    def is_file(self) -> bool:
+        """Whether the program can read the recording once more."""
+        return not self.is_feed and self.name != STANDARD_INPUT
+
+    def stream(self) -> tuple[int, int] | None:
+        """The PID, and the bytes from a TS packet to the next one, of a transport stream."""
+        if self.carrier is None or self.carriers is None:
+            return None
+        return self.carrier.pid, self.carriers.packet_size
+
+    def judged(self) -> tuple[str, str]:
+        """The file that is judged, as it is given to the program and as it is typed: the recording
+        itself; what was kept of one that comes through a pipe."""
+        if self.is_file:
+            return self.names.as_program(self.name), self.name
+        return self.path, self.shown
 
     def take(self, source: Source) -> None:
         """Takes a file of PES packets as it is."""
@@ -114,34 +147,54 @@ class Recording:
     def take_out(self, source: Source, feed: Feed) -> None:
         """Takes the PES packets of the PID that carries the page out of a transport stream."""
         has_start = self.asked.start is not None
-        carriers = Carriers(source, self.asked.page, self.asked.pid, self.names.folder, has_start)
+        carriers = Carriers(source, self.asked.page, self.asked.pid, self.names.folder,
+                            self.typed.program_path, has_start)
         self.carriers = carriers
         if feed.starting:
             feed.starting.videos = carriers.videos
         try:
             if source.is_feed:
+                source.calls = carriers.calls
+                source.hear = lambda: any(feed.hear(*one) for one in carriers.come())
                 feed.follow(carriers.packets(), lambda: self.show(source, feed))
             else:
                 for _ in carriers.packets():
                     self.show(source, feed)
+                for carrier in carriers.by_pid.values():
+                    carrier.read()
         except NoTeletext as reason:
-            raise Unclear(said(f"{self.name}: {reason}", carriers),
+            raise Unclear(self.said(f"{self.name}: {reason}", carriers),
                           *self.other_pids(carriers)) from None
         except NoFirst as reason:
             raise self.without_first(reason) from None
-        carriers.close()
+        finally:
+            carriers.close()
         self.carrier = carrier = self.chosen(carriers)
         if not feed.live:
-            self.speech.command(self.typed.tool("ts2pes"), self.name, f"0x{carrier.pid:X}", ">",
-                                self.names.whole)
-            for line in carrier.extractor.last_lines():
-                self.speech.say(line)
+            self.say_taken(carrier, carriers)
         if carriers.skipped:
             self.speech.say(f"{counted(carriers.skipped, 'byte')} of no TS packet passed over")
         carrier.move(self.path)
         for other in carriers.by_pid.values():
             if other is not carrier:
                 os.unlink(other.path)
+
+    def say_taken(self, carrier: Carrier, carriers: Carriers) -> None:
+        """Says the call of `extract`, what it said, and where something is missing."""
+        words = stream_words(carrier.pid, carriers.packet_size)
+        name = "/dev/stdin" if self.name == STANDARD_INPUT else self.name
+        self.speech.command(self.typed.program_word, "extract", name, self.names.whole, *words)
+        made, first = carrier.made, carrier.losses.first
+        if made and made.refusal:
+            self.speech.say(made.refusal.line)
+            self.speech.say(why_refused(made, carrier.losses) or "")
+        elif made:
+            self.speech.say(f"written {made.count} pes {made.gaps} gaps")
+        places = [place for place in carrier.places() if place.mark is not None]
+        for place in places[:TOLD]:
+            self.speech.say(line_of(place, first))
+        if len(places) > TOLD:
+            self.speech.say(f"and at {counted(len(places) - TOLD, 'more place')}")
 
     def wait(self, source: Source, feed: Feed, still: float) -> bool:
         """Hears that nothing has come for some seconds; whether nothing more is needed."""
@@ -163,18 +216,20 @@ class Recording:
         """The only PID that carries the page, or the one that was asked for."""
         page = self.asked.page_name
         if carriers.pid is not None:
-            carrier = carriers.by_pid[carriers.pid]
+            carrier = carriers.by_pid[carriers.pid]  # a reader without packets has told it
             if carrier.count:
                 return carrier
-            raise Unclear(said(f"{self.name} has no PES packets of {pid_name(carrier.pid)}",
-                               carriers), *self.other_pids(carriers))
+            why = carrier.made and why_refused(carrier.made, carrier.losses) or \
+                f"there are no PES packets of {pid_name(carrier.pid)}"
+            raise Unclear(self.said(f"{self.name}: {why}", carriers), *self.other_pids(carriers))
         found = carriers.with_page()
         if len(found) == 1:
             return found[0]
         if not found:
-            raise Unclear(said(f"{self.name} has no header of page {page}", carriers),
+            raise Unclear(self.said(f"{self.name} has no header of page {page}", carriers),
                           *([self.again("--page", "P")] if carriers.by_pid else []))
-        raise Unclear(said(f"page {page} is sent on {len(found)} PIDs of {self.name}", carriers),
+        raise Unclear(self.said(f"page {page} is sent on {len(found)} PIDs of {self.name}",
+                                carriers),
                       *(self.again("--pid", f"0x{carrier.pid:X}") for carrier in found))
 
     def other_pids(self, carriers: Carriers) -> list[str]:
@@ -209,8 +264,17 @@ class Recording:
     def again(self, *more: str) -> str:
         return again(self.asked, self.typed, *more)
 
+    def said(self, reason: str, carriers: Carriers) -> str:
+        """A reason, and what there is; of a file the pages that are sent are looked for now."""
+        if not self.is_feed:
+            carriers.listing = listing_of(self.name)
+        return "\n".join([reason, *(carriers.lines() or ["there is no PID with Teletext"])])
 
-def said(reason: str, carriers: Carriers) -> str:
-    """A reason, and what there is."""
-    lines = carriers.lines() or ["there is no PID with Teletext"]
-    return "\n".join([reason, *lines])
+
+def listing_of(path: str) -> Listing:
+    """What there is in a transport stream."""
+    listing = Listing()
+    with Input(path) as file, contextlib.suppress(Damaged):
+        for piece in Reader(file):
+            listing.take(piece)
+    return listing

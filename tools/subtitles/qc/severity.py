@@ -1,23 +1,25 @@
 """Which faults count for the exit status."""
 from __future__ import annotations
 
-from ..files import refuse_device
-from ..words import Stop
+from ..core.files import refuse_device
+from ..core.told import ENDS_READING, LOST_PACKETS
+from ..core.words import Stop
 
 ERROR, WARNING = "error", "warning"
 OTHERS = "others"  # the word for all numbers that are not named
 # The numbers that a command of the program refuses by: packets and files, texts, transmissions.
-REFUSALS = {3, 4, *range(10, 26), *range(30, 41), 44, *range(50, 58), *range(60, 75), 76, 77, 82}
-# Where reading a recording ended: nobody saw what comes after that, whatever is a warning.
-ENDS_READING = {30, 31, 32, 44}
+REFUSALS = {3, 4, *range(10, 26), *range(30, 41), 44, LOST_PACKETS, *range(50, 58), *range(60, 75),
+            76, 77, 82}
 
 
 class Severity:
-    """The severity of each number: an error, but for what a file says."""
+    """The severity of each number: an error, but for what a file says. `is_loss_allowed` names lost
+    packets a warning; `others` in a file never does."""
 
-    def __init__(self, path: str | None) -> None:
+    def __init__(self, path: str | None, is_loss_allowed: bool = False) -> None:
         self.named: dict[int, str] = {}
         self.others = ERROR
+        self.is_loss_allowed = is_loss_allowed
         if path is not None:
             with open(path, encoding="utf-8", errors="replace") as file:
                 refuse_device(file, path)
@@ -41,7 +43,11 @@ class Severity:
 
     def of(self, number: int) -> str:
         """The severity of a number."""
-        return ERROR if number in ENDS_READING else self.named.get(number, self.others)
+        if number in ENDS_READING:
+            return ERROR
+        if number == LOST_PACKETS:
+            return WARNING if self.is_loss_allowed else self.named.get(number, ERROR)
+        return self.named.get(number, self.others)
 
     def is_error(self, number: int) -> bool:
         """Whether a number counts."""

@@ -5,8 +5,9 @@ import os
 import select
 import stat
 import time
-from typing import BinaryIO, Callable
+from typing import BinaryIO, Callable, Sequence
 
+from ..reading.handed import Answering
 from .sums import File, Summing
 
 STANDARD_INPUT = "-"
@@ -18,7 +19,8 @@ class Source:
 
     `read` gives what is there: of a feed what has come, without waiting for more. `wait` hears how
     many seconds a feed has stood still, and ends it where it answers True; `gone_on` hears that it
-    goes on after that.
+    goes on after that. What `calls` have to tell comes when it comes: `hear` takes it meanwhile, and
+    answers whether nothing more is wanted.
     """
 
     def __init__(self, name: str, is_summed: bool) -> None:
@@ -31,6 +33,8 @@ class Source:
         self.count, self.ahead = 0, b""
         self.wait: Callable[[float], bool | None] | None = None
         self.gone_on: Callable[[], None] | None = None
+        self.calls: Callable[[], Sequence[Answering]] = tuple
+        self.hear: Callable[[], bool] = bool
         self.summing = Summing() if is_summed else None
 
     def look(self, count: int) -> bytes:
@@ -55,13 +59,20 @@ class Source:
     def waits_for_more(self) -> bool:
         """Waits until something has come or the feed has ended, unless nobody wants more."""
         began, has_stood = time.monotonic(), False
-        while not select.select([self.file], [], [], PATIENCE)[0]:
-            has_stood = True
-            if self.wait and self.wait(time.monotonic() - began):
+        while self.file not in (ready := self.ready()):
+            if ready and self.hear():
                 return False
+            if not ready:
+                has_stood = True
+                if self.wait and self.wait(time.monotonic() - began):
+                    return False
         if has_stood and self.gone_on:
             self.gone_on()
         return True
+
+    def ready(self) -> Sequence[object]:
+        """What has come, of the feed and of the calls, within a while."""
+        return select.select([self.file, *self.calls()], [], [], PATIENCE)[0]
 
     def summed(self) -> File | None:
         """What was read, where that is asked; to be called once."""

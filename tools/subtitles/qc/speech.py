@@ -5,7 +5,7 @@ import sys
 import threading
 from typing import TextIO
 
-from ..words import shown, silence, tell
+from ..core.words import shown, silence, tell
 from .progress import Progress
 from .typed import line_of
 

@@ -3,7 +3,7 @@ from __future__ import annotations
 
 from typing import Callable
 
-from ..words import counted
+from ..core.words import counted
 
 
 class Stall:

@@ -4,10 +4,11 @@ from __future__ import annotations
 import collections
 from typing import NamedTuple
 
-from ..pictures import First, NoFirst, Videos
-from ..stl import GSI
-from ..times import CLOCK, EARLY, TICKS, frame_in, frame_of, frame_of_code, time_of
-from ..words import counted, shown
+from ..core.stl import GSI
+from ..core.times import (
+    EARLY, TICKS, frame_in, frame_of, frame_of_code, ticks_between, time_of, wrapped)
+from ..core.words import counted, shown
+from ..reading.pictures import First, Videos
 from .asked import Asked
 from .clock import START, TCP, Clock
 from .speech import Speech
@@ -39,14 +40,14 @@ class Grid:
     def take(self, pts: int) -> None:
         """Takes the PTS of a PES packet."""
         self.first = pts if self.first is None else self.first
-        self.ticks[(pts - self.first) % CLOCK % TICKS] += 1
+        self.ticks[wrapped(pts - self.first) % TICKS] += 1
         self.count += 1
 
     def after(self, pts: int, within: int) -> int:
         """How many ticks after a frame that begins at a PTS most of them are, less than a frame;
         within 1 and more, where there are some, of those that are near it: fields have two."""
         assert self.first is not None
-        distance = (self.first - pts + CLOCK // 2) % CLOCK - CLOCK // 2
+        distance = ticks_between(pts, self.first)
         known = [(distance + rest) % TICKS for rest, _ in self.ticks.most_common()]
         near = [ticks for ticks in known if ticks <= EARLY or ticks >= TICKS - EARLY]
         return (near if within and near else known)[0]
@@ -72,13 +73,13 @@ def start_frame(asked: Asked) -> int:
 def began(asked: Asked, first: First, grid: Grid) -> Began:
     """The clock, moved to the PTS of the Teletext by less than half a frame."""
     frame = start_frame(asked)
-    origin = (first.pts - TICKS * frame) % CLOCK
+    origin = wrapped(first.pts - TICKS * frame)
     after = grid.after(first.pts, asked.within)
     if after * 2 == TICKS:
         raise Unclear(f"{first.line()}. The PTS of the Teletext are half a frame after it: the "
                       "frame of neither is clear")
     ticks = after if after * 2 < TICKS else after - TICKS
-    moved = (origin + ticks) % CLOCK
+    moved = wrapped(origin + ticks)
     source = TCP if asked.start == TCP else START
     name = f"the TCP {time_of(frame)}" if source == TCP else f"--start {time_of(frame)}"
     return Began(Clock(moved, source), [

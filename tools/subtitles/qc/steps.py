@@ -2,17 +2,20 @@
 from __future__ import annotations
 
 import os
-import re
 import subprocess
 from typing import NamedTuple, Sequence
 
-from ..finding import main as find_origin
-from ..times import frame_of, time_of
-from ..words import heard, within_words
+from ..core.files import Input
+from ..core.pieces import Pieces
+from ..core.programme import Subtitle, subtitles_shown
+from ..core.times import time_of
+from ..core.words import Stop, line_of, within_words
+from ..reading.cutting import Cut, cut_out, times_of_file
+from ..reading.finding import Origin, Packets, find, read_words
 from .asked import MOST_TRIED, Asked
 from .checking import Answer, check
 from .clock import START, TCP, Clock
-from .fitting import Done, Found, Packets, breaks_in, found_in, refuse, runs_in
+from .fitting import Found, found_in, refuse
 from .names import Names, again
 from .recording import Recording
 from .speech import Speech
@@ -21,7 +24,14 @@ from .typed import Typed
 from .unclear import Unclear
 
 NO_PES = os.devnull
-SHOWN = re.compile(r"\d{5} (\S+) (\S+) ")  # a line of `show`
+
+
+class Done(NamedTuple):
+    """How a tool ended: its status, its lines, and those on standard error without its name."""
+
+    status: int
+    printed: list[str]
+    told: list[str]
 
 
 class Stretch(NamedTuple):
@@ -73,26 +83,28 @@ class Steps:
         self.speech.command(self.typed.program_word, "check", self.asked.stl, NO_PES,
                             *self.asked.option_words(), "--all")
 
-    def times(self, stl: str) -> list[tuple[int, int]]:
-        """The frames at which each subtitle of a file comes and goes."""
+    def subtitles(self, stl: str) -> list[Subtitle]:
+        """The subtitles of a file, as the program shows them."""
         command = [self.typed.program_path, "show", "--", stl]
         done = subprocess.run(command, stdin=subprocess.DEVNULL, stdout=subprocess.PIPE,
                               encoding="utf-8", errors="replace", check=False)
         if done.returncode:
             raise Unclear(f"show was not answered: {''.join(done.stdout.splitlines()[-1:])}")
-        found = (SHOWN.match(line) for line in done.stdout.splitlines())
-        return [(frame_of(one[1]) or 0, frame_of(one[2]) or 0) for one in found if one]
+        return subtitles_shown(done.stdout.splitlines())
 
-    def fit(self, recording: Recording, clock: Clock | None, *more: str) -> Done:
-        """What tools/origin says of the clock, also compared with one that is known."""
+    def fit(self, recording: Recording, clock: Clock | None, *more: str) -> Origin:
+        """What is found of the clock, also compared with one that is known; said as tools/origin
+        does."""
         words = [self.asked.stl, recording.shown, *self.fit_words(clock, *more)]
         self.speech.command(self.typed.tool("origin"), *words)
-        return self.say("origin", self.ask_origin(recording, clock, *more))
+        origin = self.ask_origin(recording, clock, *more)
+        _, origin.printed, origin.told = self.say(
+            "origin", Done(origin.status, origin.printed, origin.told))
+        return origin
 
-    def ask_origin(self, recording: Recording, clock: Clock | None, *more: str) -> Done:
+    def ask_origin(self, recording: Recording, clock: Clock | None, *more: str) -> Origin:
         """The same, where a feed was judged already, and nothing is said of it."""
-        return Done(*heard(lambda words: find_origin("", words),
-                           [*self.fit_words(clock, *more), "--", self.asked.stl, recording.path]))
+        return origin_in(recording.path, self.asked.stl, self.fit_words(clock, *more))
 
     def fit_words(self, clock: Clock | None, *more: str) -> list[str]:
         """The options of tools/origin."""
@@ -101,23 +113,23 @@ class Steps:
         return [*asked.page_words(), *asked.option_words(), *known, *asked.clock_words(),
                 *asked.within_words(), *more]
 
-    def fitted(self, done: Done, whole: Found, recording: Recording) -> list[Found]:
-        """The parts that tools/origin finds; else `Unclear`."""
-        found = found_in(done, whole)
+    def fitted(self, origin: Origin, whole: Found, recording: Recording) -> list[Found]:
+        """The parts that are found; else `Unclear`."""
+        found = found_in(origin, whole)
         if not found:
-            runs, breaks = runs_in(done), breaks_in(done)
-            if runs > 1:
-                refuse(done, [self.again("--run", str(one)) for one in range(1, runs + 1)])
-            others = [self.again("--origin", "T"), self.again("--page", "P")] if breaks is None \
-                else [self.again("--breaks", str(breaks))]
-            refuse(done, [*self.within_more(whole, recording), *others])
+            if origin.runs > 1:
+                refuse(origin, [self.again("--run", str(one))
+                                for one in range(1, origin.runs + 1)])
+            others = [self.again("--breaks", str(origin.breaks))] if origin.breaks is not None \
+                else [self.again("--origin", "T"), self.again("--page", "P")]
+            refuse(origin, [*self.within_more(whole, recording), *others])
         return found
 
     def within_more(self, whole: Found, recording: Recording) -> list[str]:
         """The call within more frames, where these make it clear."""
-        done = self.ask_origin(recording, None, *within_words(MOST_TRIED)) \
+        origin = self.ask_origin(recording, None, *within_words(MOST_TRIED)) \
             if self.asked.within < MOST_TRIED else None
-        is_clear = done and found_in(done, whole)
+        is_clear = origin and found_in(origin, whole)
         return [self.again("--within", str(MOST_TRIED))] if is_clear else []
 
     def part(self, number: int, found: Found) -> Stretch:
@@ -130,33 +142,40 @@ class Steps:
             raise Unclear(f"a part of the subtitle file is not clear: {'; '.join(done.told)}")
         return Stretch(names.stl, names.stl_path, names, found)
 
-    def cut(self, recording: Recording, one: Stretch) -> None:
-        """Cuts the PES packets of the time of the subtitles out of the recording."""
-        more = [*self.asked.page_words(), *self.asked.every_words(),
-                *self.asked.within_words(), *origin_words(one.found.origin),
-                *packets_words(one.found.packets)]
-        done = self.tool(
-            "cut", [recording.path, "--stl", one.stl_path, *more, "-o", one.names.cut_path],
-            [recording.shown, "--stl", one.stl, *more, "-o", one.names.cut])
-        if done.status == 2:
-            raise Unclear(f"the recording was not cut: {'; '.join(done.told)}")
-        if not os.path.exists(one.names.cut_path):
+    def cut(self, recording: Recording, one: Stretch) -> Pieces:
+        """The PES packets of the time of the subtitles in the recording, by their numbers."""
+        asked, found = self.asked, one.found
+        self.speech.command(self.typed.tool("cut"), recording.shown, "--stl", one.stl,
+                            *asked.page_words(), *asked.every_words(), *asked.within_words(),
+                            *origin_words(found.origin), *packets_words(found.packets))
+        cut = Cut(*times_of_file(one.stl_path), asked.page, found.origin, asked.every,
+                  found.packets, asked.within)
+        with Input(recording.path) as source:
+            pieces, damage = cut_out(cut, recording.path, source)
+        told = cut.told() + ([f"{recording.shown}: {damage}; it was read up to there"]
+                             if damage else [])
+        self.say("cut", Done(0, [" ".join(pieces.words())] if pieces else [], told))
+        if pieces is None:
             raise Unclear("nothing of the page is in the recording at the time of the subtitles",
                           self.again("--origin", "T"), self.again("--page", "P"))
+        return pieces
 
-    def check(self, one: Stretch, answer: Answer) -> None:
-        """Tells all that is broken."""
-        words = [*self.asked.check_words(), *origin_words(one.found.origin), "--all"]
-        self.speech.command(self.typed.program_word, "check", one.stl, one.names.cut, *words)
-        check([self.typed.program_path, "check", *words, "--", one.stl_path, one.names.cut_path],
-              answer, self.speech.of_list)
+    def check(self, recording: Recording, one: Stretch, pieces: Pieces, answer: Answer) -> None:
+        """Tells all that is broken in these PES packets of the recording."""
+        path, shown = recording.judged()
+        words = [*recording.words(), *pieces.words(), *self.asked.check_words(),
+                 *origin_words(one.found.origin), "--all"]
+        self.speech.command(self.typed.program_word, "check", one.stl, shown, *words)
+        check([self.typed.program_path, "check", *words, "--", one.stl_path, path], answer,
+              self.speech.of_list)
         self.speech.end_list(answer.last)
 
     def draw(self, names: Names, given: list[str], typed: list[str], clock: Clock,
-             lost: list[str], notes: Sequence[str] = (), recording: File | None = None,
+             lost: list[str], notes: Sequence[str], sentence: str, recording: File | None = None,
              part: Sequence[str] = (),
              around: tuple[Sequence[str], Sequence[str]] = ((), ())) -> None:
-        """Draws the report of some files, of what is lost and what else is said, of a recording or
+        """Draws the report of some files, of a verdict in a sentence, of what is lost and what else
+        is said, of a recording or
         of a part of it, where there is a folder for it; causes are looked for `around` what was
         judged, by words as they are given and as they are typed."""
         if names.out is None:
@@ -165,7 +184,7 @@ class Steps:
         words = [*self.asked.check_words(), *origin_words(clock.origin),
                  *(word for words in lost for word in ("--lost", words)),
                  *(word for words in notes for word in ("--note", words)),
-                 *["--fitted"] * clock.is_fitted,
+                 "--sentence", sentence, *["--fitted"] * clock.is_fitted,
                  *(["--clock", clock.words()] if is_by_picture else []), *part]
         # What was read is not read once more; a person can do that, but not with a feed.
         sums = ["--recording", recording.name, str(recording.size), recording.sha256] \
@@ -179,9 +198,17 @@ class Steps:
             raise Unclear(f"no report was made: {'; '.join(done.told)}")
 
 
-def packets_words(packets: Packets | None) -> list[str]:
+def origin_in(recording: str, stl: str, words: Sequence[str]) -> Origin:
+    """What is found of the origin of a recording, by the options of tools/origin."""
+    try:
+        return find(read_words("", [*words, "--", stl, recording]), recording)
+    except (Stop, OSError) as reason:
+        return Origin(2, told=[line_of(reason)])
+
+
+def packets_words(packets: Packets | None, option: str = "--pes") -> list[str]:
     """The option for the PES packets of a part, where PTS go back."""
-    return ["--pes", f"{packets[0]}-{packets[1]}"] if packets else []
+    return [option, f"{packets[0]}-{packets[1]}"] if packets else []
 
 
 def origin_words(origin: int) -> list[str]:

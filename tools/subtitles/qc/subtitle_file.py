@@ -5,16 +5,17 @@ import array
 import bisect
 from typing import Iterator, NamedTuple
 
-from ..letters import ACCENTS, letters_of
-from ..stl import GSI, LAST, TTI, UNUSED, USER_DATA
-from ..times import frame_of_code
+from ..core.letters import ACCENTS, letters_of
+from ..core.stl import GSI, LAST, TTI, UNUSED, USER_DATA
+from ..core.times import frame_of_code, time_of_code
 
 COMMENT = 1  # CF
 
 
-class Subtitle(NamedTuple):
-    """A subtitle (SN), from TCI to TCO."""
+class NamedSubtitle(NamedTuple):
+    """A subtitle, its place in the file from 1 and its SN; from TCI to TCO, as words."""
 
+    position: int
     number: int
     begin: str
     end: str
@@ -27,6 +28,7 @@ class SubtitleFile:
         with open(path, "rb") as file:
             self.data = file.read()
         self.firsts = array.array("I", [0])  # of each block the first one of its subtitle
+        self.starts = array.array("I")  # the first block of each subtitle
         self.begins, self.blocks = array.array("I"), array.array("I")
         first, is_open = 0, False
         for block in range(1, (len(self.data) - GSI) // TTI + 1):
@@ -34,6 +36,8 @@ class SubtitleFile:
             if one[3] == USER_DATA or one[15] == COMMENT:
                 self.firsts.append(block)
                 continue
+            if not is_open:
+                self.starts.append(block)
             first, is_open = first if is_open else block, one[3] != LAST
             self.firsts.append(first)
             begin = frame_of_code(one[5:9])
@@ -45,21 +49,38 @@ class SubtitleFile:
         at = GSI + TTI * (number - 1)
         return self.data[at:at + TTI]
 
-    def at_block(self, block: int) -> Subtitle | None:
+    def at_block(self, block: int) -> NamedSubtitle | None:
         """The subtitle that a block is of; `None` for the GSI block, and for one that is cut."""
         if not 0 < block < len(self.firsts):
             return None
         one = self.block(self.firsts[block])
-        return Subtitle(one[1] + 256 * one[2], time_of_code(one[5:9]), time_of_code(one[9:13]))
+        return NamedSubtitle(bisect.bisect_right(self.starts, self.firsts[block]),
+                             one[1] + 256 * one[2], time_of_code(one[5:9]),
+                             time_of_code(one[9:13]))
 
-    def all(self) -> Iterator[Subtitle]:
+    def count(self) -> int:
+        """How many blocks there are."""
+        return len(self.firsts) - 1
+
+    def ended(self) -> tuple[int, int]:
+        """How many subtitles have a last block: without comments, and with them."""
+        own = sum(1 for _ in self.lasts())
+        lasts = sum(self.block(number)[3] == LAST for number in range(1, len(self.firsts)))
+        return own, lasts
+
+    def first_before(self, block: int) -> int | None:
+        """The first block of the subtitle before the one of a block."""
+        at = bisect.bisect_left(self.blocks, self.firsts[block])
+        return self.blocks[at - 1] if at else None
+
+    def all(self) -> Iterator[NamedSubtitle]:
         """All subtitles, of a file that is read without a fault."""
         for block in self.blocks:
             one = self.at_block(block)
             assert one
             yield one
 
-    def at_frame(self, frame: int) -> Subtitle | None:
+    def at_frame(self, frame: int) -> NamedSubtitle | None:
         """The subtitle that is due at a frame, of a file whose subtitles rise."""
         at = bisect.bisect_right(self.begins, frame) - 1
         if at < 0:
@@ -74,6 +95,13 @@ class SubtitleFile:
         return b"".join(one[16:].split(UNUSED)[0] for one in blocks
                         if one[3] != USER_DATA and one[15] != COMMENT)
 
+    def lasts(self) -> Iterator[int]:
+        """The last block of each subtitle."""
+        for number in range(1, len(self.firsts)):
+            one = self.block(number)
+            if one[3] == LAST and one[15] != COMMENT:
+                yield number
+
     def letter(self, block: int, at: int) -> tuple[str | None, str | None]:
         """A byte of that text in hexadecimal, and its character; a control code has none."""
         text = self.text(block) if 0 < block < len(self.firsts) else b""
@@ -83,8 +111,3 @@ class SubtitleFile:
         letter = letters_of(text[at:at + 1 + has_accent])
         is_letter = 0x20 <= text[at] <= 0x7E or text[at] >= 0xA0
         return f"{text[at]:02X}", letter if is_letter else None
-
-
-def time_of_code(code: bytes) -> str:
-    """The four bytes of a time as they stand."""
-    return ":".join(f"{part:02}" for part in code)

@@ -5,8 +5,8 @@ import os
 import shutil
 import sys
 
-from ..built import TOP, behind_script
-from ..words import INSTALLED, Stop, quoted
+from ..core.built import TOP, behind_script
+from ..core.words import INSTALLED, Stop, quoted
 
 
 class Typed:

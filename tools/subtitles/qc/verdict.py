@@ -4,52 +4,69 @@ from __future__ import annotations
 import dataclasses
 from typing import Sequence
 
-from ..joining import Place
-from ..pes import pes_runs
-from ..times import time_of
+from ..core.pes import pes_runs
+from ..core.pieces import Pieces
+from ..core.times import time_of
+from ..core.told import EMPTY, LOST_PACKETS, PASSED_OVER
+from ..reading.losses import Place
+from . import sentence
 from .asked import Asked
 from .cells import passed_over
-from .checking import ACCEPTED_WORD, NOT_JUDGED, REFUSED_WORD, Answer
+from .checking import Answer
 from .clock import FITTED, FITTED_LATER, Clock
 from .delays import Spread, spread_of
 from .naming import Causes
 from .severity import Severity
+from .status import LOST, NOT_JUDGED, REFUSED, WAIVED, WARNED, Decision, Said, Seen, decide
 from .sums import File
-from .told import EMPTY, PASSED_OVER
 from .warned import Warned
 
-LOST = "lost"  # the verdict where all that was seen is accepted, and TS packets are lost
+FITTED_KIND = "fitted"  # a warning where warnings count: the clock was fitted to the recording
 
 
 @dataclasses.dataclass
 class Part:
     """A part of a pair that was judged by itself: its files, and what `check --all` said.
 
-    `stl` is the subtitle file as it is typed, `stl_path` and `pes` are the files to be read.
-    `begin` and `end` are the first and the last frame of which the verdict speaks.
+    `stl` is the subtitle file as it is typed, `stl_path` and `pieces` are to be read. `begin` and
+    `end` are the first and the last frame of which the verdict speaks. `stream` is the PID, and the
+    bytes from a TS packet to the next one, of what is judged of a transport stream; `judged` what
+    is judged of a feed, which nobody can read once more.
     """
 
     number: int
     stl: str
     stl_path: str
-    pes: str | None
+    pieces: Pieces | None
     origin: int | None
     begin: int | None
     end: int | None
     judged: File | None
     answer: Answer
     clock: Clock | None = None
+    stream: tuple[int, int] | None = None
     causes: Causes | None = None
     delays: Sequence[int | None] = ()  # after how many frames each subtitle was whole
     accepted_within: int | None = None  # the least number of frames, of one that is refused
+    was_read: bool = False  # something of its recording, or it has none
+    hint: str = ""  # what to know of its first fault
+
+    def said(self) -> Said:
+        """What the program said of it."""
+        return self.answer.said(self.was_read)
+
+    @property
+    def is_refused(self) -> bool:
+        """Whether it has faults, of any severity."""
+        return self.answer.verdict == REFUSED
 
     def is_read(self) -> bool:
         """Whether one of its PES packets at least could be read; the file has to be there still."""
-        if self.pes is None:
+        if self.pieces is None:
             return False
         if not self.answer.numbers or self.answer.numbers - PASSED_OVER - {EMPTY}:
             return True
-        with open(self.pes, "rb") as file:
+        with self.pieces.open() as file:
             count = sum(len(begins) - 1 for _, begins in pes_runs(file))
         passed = passed_over(self.answer.told())
         return count > sum(last + 1 - first for first, last in passed)
@@ -62,8 +79,9 @@ class Part:
 
 @dataclasses.dataclass
 class Gap:
-    """A place at which TS packets are missing: the times before and after it, what is missing, and
-    whether the verdict speaks of frames between."""
+    """A place at which something is missing: the times before and after it, what is missing, and
+    whether the verdict speaks of frames between. Where a mark stands in what is judged `check` has
+    told it, as 45."""
 
     after: str | None
     before: str | None
@@ -79,9 +97,10 @@ class Gap:
 
 @dataclasses.dataclass
 class Verdict:
-    """All there is to say of a pair; `notes` are what else was seen, a line each. `found` is what
-    its files were like when judging began, `seconds` how long it took. `was_fitted`: the origin
-    that is given was found in the recording, by who calls this tool."""
+    """All there is to say of a pair; `notes` are what else was seen, a line each, `hints` what to
+    know of the first letter and of the first header that are refused. `found` is what its files
+    were like when judging began, `seconds` how long it took. `was_fitted`: the origin that is given
+    was found in the recording, by who calls this tool."""
 
     asked: Asked
     severity: Severity
@@ -90,21 +109,30 @@ class Verdict:
     gaps: list[Gap] = dataclasses.field(default_factory=list)
     warnings: list[Warned] = dataclasses.field(default_factory=list)
     notes: list[str] = dataclasses.field(default_factory=list)
+    hints: list[str] = dataclasses.field(default_factory=list)
     commands: list[str] = dataclasses.field(default_factory=list)
     stl: File | None = None
     recording: File | None = None
     is_kept: bool = False  # what was judged stays in the folder
     is_stopped: bool = False  # by a signal
-    reason: str | None = None
+    reason: str | None = None  # why it is not judged
+    failed: list[str] = dataclasses.field(default_factory=list)  # why outputs are not written
     to_type: tuple[str, ...] = ()
     found: dict[str, object] = dataclasses.field(default_factory=dict)
     seconds: float = 0.0
     was_fitted: bool = False
+    count: int = 0  # of the subtitles
 
     @property
     def is_lost(self) -> bool:
         """Whether the verdict speaks of frames of which TS packets are lost."""
         return any(gap.is_judged for gap in self.gaps)
+
+    @property
+    def is_lost_alone(self) -> bool:
+        """Whether nothing but that is refused."""
+        numbers = {number for part in self.parts for number in part.answer.numbers}
+        return self.word == LOST or self.word == REFUSED and numbers == {LOST_PACKETS}
 
     def said(self) -> list[str]:
         """What the report and the object say beside the verdict."""
@@ -118,20 +146,53 @@ class Verdict:
             return None
         return FITTED if are_fitted[0] else FITTED_LATER
 
+    def seen(self) -> Seen:
+        """All that decides it."""
+        kinds = [*(warned.kind for warned in self.warnings), *[FITTED_KIND] * bool(self.fitted)]
+        return Seen([part.said() for part in self.parts], self.severity,
+                    [gap.is_judged and gap.place.mark is None for gap in self.gaps], kinds,
+                    self.asked.is_strict, [] if self.reason is None else [self.reason],
+                    self.failed)
+
+    @property
+    def decision(self) -> Decision:
+        """What comes of that."""
+        return decide(self.seen())
+
     @property
     def word(self) -> str:
         """The verdict in one word."""
-        if self.reason is not None or not self.parts:
-            return NOT_JUDGED
-        if any(part.answer.status for part in self.parts):
-            return REFUSED_WORD
-        return LOST if self.is_lost and not self.asked.is_loss_allowed else ACCEPTED_WORD
+        return self.decision.word
+
+    @property
+    def why_not(self) -> str | None:
+        """Why it is not judged, in lines; `None` where it is."""
+        reasons = [one for one in (self.reason, *self.failed) if one is not None]
+        return "\n".join(reasons) if reasons else self.decision.reason
+
+    @property
+    def sentence(self) -> str:
+        """It in one sentence for a person."""
+        refused = next((part for part in self.parts if part.is_refused), None)
+        said = sentence.Seen(
+            self.word, self.count, option=self.asked.option, faults=self.faults,
+            lost=[gap.line() for gap in self.gaps if gap.is_judged], warnings=self.seen().warnings,
+            reason=self.why_not, is_file=self.asked.recording is None, within=self.asked.within,
+            accepted_within=self.accepted_within)
+        if refused:
+            said = said._replace(first=refused.answer.first, hint=refused.hint,
+                                 causes=refused.causes)
+        return sentence.sentence_of(said)
+
+    def of_part(self, part: Part, gaps: list[Gap]) -> Verdict:
+        """The verdict on a part alone, with what is missing of it."""
+        return dataclasses.replace(self, parts=[part], gaps=gaps)
 
     @property
     def accepted_within(self) -> int | None:
         """The least number of frames within which all parts would be accepted, where one is
         refused and it is known."""
-        refused = [part.accepted_within for part in self.parts if part.answer.status]
+        refused = [part.accepted_within for part in self.parts if part.is_refused]
         known = [one for one in refused if one is not None]
         return max(known) if known and len(known) == len(refused) else None
 
@@ -145,34 +206,37 @@ class Verdict:
         """How many faults there are in all parts."""
         return sum(part.answer.count for part in self.parts)
 
-    def has_errors(self) -> bool:
-        """Whether one of the faults is an error."""
-        return any(self.severity.is_error(number) for part in self.parts
-                   for number in part.answer.numbers)
-
     @property
     def status(self) -> int:
-        """0 accepted, 1 not, 2 not judged; a fault that is a warning does not count."""
-        word = self.word
-        if word == NOT_JUDGED:
-            return 2
-        is_lost = self.is_lost and not self.asked.is_loss_allowed
-        return 1 if is_lost or word == REFUSED_WORD and self.has_errors() else 0
+        """The exit status."""
+        return self.decision.status
 
     @property
     def line(self) -> str | None:
         """The line of `check` of the first part that is refused; else of the only one, or of all.
-        """
-        word, answers = self.word, [part.answer for part in self.parts]
+        Before it stands what became of it."""
+        word = self.word
         if word == NOT_JUDGED:
             return None
-        if word == REFUSED_WORD:
-            return next(answer.line for answer in answers if answer.status)
-        line = answers[0].line if len(answers) == 1 else \
-            (f"accepted {sum(answer.frames or 0 for answer in answers)} frames "
-             f"{sum(answer.transmissions or 0 for answer in answers)} transmissions in "
-             f"{len(answers)} parts")
-        return f"not accepted, since TS packets are lost: {line}" if word == LOST else line
+        refused = next((part.answer.line for part in self.parts if part.is_refused), None)
+        if word == REFUSED:
+            return refused
+        line = self.accepted_line() if refused is None else f"{WAIVED}: {refused}"
+        if word == LOST:
+            return f"not accepted, since TS packets are lost: {line}"
+        if word == WARNED:
+            kinds = ", ".join(dict.fromkeys(self.seen().warnings))
+            return f"not accepted, since warnings count ({kinds}): {line}"
+        return line
+
+    def accepted_line(self) -> str:
+        """The line of the only part, or the sums of all."""
+        answers = [part.answer for part in self.parts]
+        if len(answers) == 1:
+            return answers[0].line
+        return (f"accepted {sum(answer.frames or 0 for answer in answers)} frames "
+                f"{sum(answer.transmissions or 0 for answer in answers)} transmissions in "
+                f"{len(answers)} parts")
 
     def lines(self) -> list[str]:
         """A line for each of several parts: from when to when it is, and what is said of it."""

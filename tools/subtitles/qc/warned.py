@@ -1,19 +1,29 @@
 """What is strange of a recording and breaks no rule of `check`: said, and the status stays."""
 from __future__ import annotations
 
+import contextlib
 from typing import Iterator, NamedTuple
 
-from ..languages import ANY, names_of
-from ..listing import Listing
-from ..programmes import KINDS, SUBTITLE_KINDS, Announced
-from ..repeat import measured, sendings
-from ..stl import GSI
-from ..times import FRAMES_OF_A_DAY, frame_in, time_of
-from ..timing import SECOND, Timing
-from ..words import counted, pid_name, shown
+from ..core.files import Damaged
+from ..core.national import BY_WORD, OTHER_REGIONS, as_sent, of_track
+from ..core.pes import has_pts, pes_packets, pts_in
+from ..core.pieces import Pieces
+from ..core.stl import GSI
+from ..core.times import FRAMES_OF_A_DAY, frame_at, frame_in, time_of
+from ..core.words import counted, pid_name, shown
+from ..reading.character_sets import character_sets
+from ..reading.holes import Holes
+from ..reading.languages import ANY, names_of
+from ..reading.listing import Listing
+from ..reading.programmes import KINDS, SUBTITLE_KINDS, Announced
+from ..reading.repeat import measured, sendings
+from ..reading.timing import SECOND, Timing
 from .asked import Asked
+from .held import FEW, PAUSE
+from .subtitle_file import SubtitleFile
 
 LC = slice(14, 16)  # of a GSI block
+TNB, TNS = slice(238, 243), slice(243, 248)  # the same: how many TTI blocks and subtitles there are
 SAID = {"behind": "are behind the PCR", "early": "are more than a second ahead of the PCR",
         "changed": "moved against the PCR by more than half a second"}
 
@@ -39,6 +49,25 @@ def of_timing(timing: Timing, origin: int) -> Iterator[Warned]:
         yield Warned(f"pts_{one.kind}", f"{where} PTS of the Teletext {SAID[one.kind]}, by up to "
                      f"{abs(one.worst) / SECOND:.2f} s: {one.number} of {one.among} that were "
                      "looked at", time)
+
+
+def of_jumps(holes: Holes, origin: int, first: int, last: int) -> Iterator[Warned]:
+    """Where the clock goes on elsewhere, and no packet is missing, from a frame to another one."""
+    for jump in holes.jumps:
+        frame = FRAMES_OF_A_DAY if jump.before is None else frame_in(jump.before, origin)
+        if first <= frame <= last:
+            way = "by" if jump.ticks > 0 else "back by"
+            yield Warned("clock_jump", f"the clock jumps {way} {length_words(abs(jump.ticks))} at "
+                         f"{time_of(frame)}: an encoder that was started anew? --breaks 1",
+                         time_of(frame))
+
+
+def length_words(ticks: int) -> str:
+    """Hours, minutes and seconds, as `2:24:01`; of less than a minute seconds alone."""
+    seconds = round(ticks / SECOND)
+    if seconds < 60:
+        return f"{ticks / SECOND:.2f} s"
+    return f"{seconds // 3600}:{seconds // 60 % 60:02}:{seconds % 60:02}"
 
 
 def of_tables(listing: Listing, pid: int, asked: Asked) -> Iterator[Warned]:
@@ -72,6 +101,37 @@ def of_page(own: list[Announced], asked: Asked) -> Iterator[Warned]:
         yield Warned("language", f"the PMT announces page {name} in "
                      f"{' and '.join(map(shown, languages))}; the LC of the GSI block is {code}, "
                      f"{' or '.join(names_of(code))}")
+    yield from of_option([*languages], asked)
+
+
+def of_option(languages: list[str], asked: Asked) -> Iterator[Warned]:
+    """Where no language that a PMT has for the page may be of the national option: receivers may
+    take the letters of that language."""
+    options = [of_track(one) for one in languages]
+    is_other = [bool(option and option.word != asked.option) or language in OTHER_REGIONS
+                for language, option in zip(languages, options)]
+    if not languages or not all(is_other):
+        return
+    words = list(dict.fromkeys(f"--option {one.word}" if one else "another region"
+                               for one in options))
+    yield Warned("option", f"the PMT announces page {asked.page_name} in "
+                 f"{' and '.join(languages)}, which is of {' and '.join(words)}; it was judged by "
+                 f"--option {asked.option}")
+
+
+def of_character_sets(path: str, asked: Asked) -> Iterator[Warned]:
+    """Where packets name another character set than that of the national option."""
+    with open(path, "rb", buffering=0) as file:
+        found = character_sets(file, asked.page)
+    for one in found:
+        if one.region is None or one.option is None:
+            named = "an unreadable character set"
+        elif one.region or one.option != as_sent(BY_WORD[asked.option]):
+            named = f"character set {one.option:03b} of region {one.region:04b}"
+        else:
+            continue
+        yield Warned("character_set", f"packet {asked.page_name[0]}/{one.number}/{one.designation} "
+                     f"names {named}: receivers above level 1 may show other letters")
 
 
 def listed(announced: list[Announced]) -> str:
@@ -85,11 +145,50 @@ def language_of(stl: str) -> str:
         return file.read(GSI)[LC].decode("latin-1")
 
 
-def of_repeat(path: str, asked: Asked, origin: int, times: list[tuple[int, int]]) \
+def of_counts(subtitles: SubtitleFile) -> Iterator[Warned]:
+    """Where the GSI block counts other blocks or subtitles than there are, as in a file that was
+    cut at the end of a block. A count that is no number tells nothing; comments may be counted."""
+    told = stated(subtitles.data[TNB])
+    there = subtitles.count()
+    if told is not None and told != there:
+        yield Warned("blocks", f"the GSI block counts {counted(told, 'TTI block')} (TNB), and "
+                     f"{there_are(there)}: is the subtitle file whole?")
+    told, known = stated(subtitles.data[TNS]), subtitles.ended()
+    if told is not None and told not in known:
+        yield Warned("subtitles", f"the GSI block counts {counted(told, 'subtitle')} (TNS), and "
+                     f"{there_are(known[0])}: is the subtitle file whole?")
+
+
+def stated(digits: bytes) -> int | None:
+    """A count of a GSI block, `None` where there is none."""
+    return int(digits) if digits.isdigit() else None
+
+
+def there_are(count: int) -> str:
+    """How many there are."""
+    return "there is 1" if count == 1 else f"there are {count:,}"
+
+
+def of_pauses(pieces: Pieces, asked: Asked, origin: int) -> Iterator[Warned]:
+    """Where no PES packet came for some frames, of what else sends one in each frame but few."""
+    frames: list[int] = []
+    with pieces.open() as file, contextlib.suppress(Damaged):
+        for data in pes_packets(file):
+            frame = frame_at(pts_in(data), origin, asked.within) if has_pts(data) else None
+            frames += [] if frame is None else [frame]
+    pauses = [(first + 1, second) for first, second in zip(frames, frames[1:])
+              if second - first - 1 > PAUSE]
+    if len(pauses) * FEW <= len(frames):
+        for first, second in pauses:
+            yield Warned("pause", f"no PES packet for {counted(second - first, 'frame')} from "
+                         f"{time_of(first)} on", time_of(first))
+
+
+def of_repeat(pieces: Pieces, asked: Asked, origin: int, times: list[tuple[int, int]]) \
         -> Iterator[Warned]:
     """Where the page is repeated so often that `--every` would not see a repeat that is missing."""
     edges = sorted({frame for pair in times for frame in pair})
-    with open(path, "rb", buffering=0) as file:
+    with pieces.open() as file:
         frames = [frame_in(pts, origin, asked.within) for pts in sendings(file, asked.page)]
     every = measured(frames, edges)
     if every is not None and every * 2 < asked.every:

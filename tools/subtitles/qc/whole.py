@@ -5,9 +5,9 @@ import os
 import stat
 from typing import TYPE_CHECKING, Iterator
 
-from ..files import Damaged
-from ..pes import pes_runs
-from ..words import shown
+from ..core.files import Damaged
+from ..core.pes import pes_runs
+from ..core.words import shown
 from .source import STANDARD_INPUT
 from .warned import Warned
 
@@ -35,10 +35,11 @@ def of_end(recording: Recording) -> Iterator[Warned]:
     up to which `cut` reads it."""
     if recording.live:
         return
-    if recording.carrier:
-        if recording.carrier.extractor.joiner.data is not None:
-            yield Warned("cut", f"{shown(recording.name)} ends within a PES packet of the page's "
-                         "PID, which is left out")
+    carrier = recording.carrier
+    if carrier and carrier.is_cut():
+        yield Warned("cut", f"{shown(recording.name)} ends within a PES packet of the page's PID, "
+                     "which is left out")
+    if carrier and not (carrier.made and carrier.made.refusal):
         return
     with open(recording.path, "rb") as file:
         try:

@@ -4,9 +4,9 @@ from __future__ import annotations
 import collections
 from typing import Callable, Iterator, NamedTuple, Sequence
 
-from ..joining import Place
-from ..times import FRAMES_OF_A_DAY, TICKS, frame_in, pts_of, time_of
-from ..timing import signed
+from ..core.times import FRAMES_OF_A_DAY, TICKS, frame_in, pts_of, ticks_between, time_of
+from ..core.told import WITH_CAUSE, Told, told_of
+from ..reading.losses import Place
 from .asked import Asked
 from .carriers import Carrier, Kept
 from .cause_words import Wording
@@ -15,9 +15,8 @@ from .checking import Answer
 from .fitting import Found
 from .held import Held, Near, Span
 from .naming import Causes
-from .programme import programme_of
+from .due_pages import due_pages_of
 from .speech import MOST_LINES, Speech
-from .told import WITH_CAUSE, Told, told_of
 from .typed import Typed
 
 
@@ -37,7 +36,7 @@ class Heard(NamedTuple):
         pts = self.carrier.reach() if self.carrier and not found.packets else None
         if pts is None:
             return None
-        first, last = (signed(one - pts_of(found.begin, found.origin)) for one in pts)
+        first, last = (ticks_between(pts_of(found.begin, found.origin), one) for one in pts)
         return Span(found.begin - -first // TICKS, found.begin + last // TICKS)
 
 
@@ -57,7 +56,7 @@ class Asking:
     def begin(self, stl: str, heard: Heard, found: Found) -> Causes:
         """The causes of a subtitle file and a part of a recording, none of which is named yet."""
         asked = self.asked
-        programme = programme_of(self.program, stl, asked.page, asked.option)
+        programme = due_pages_of(self.program, stl, asked.page, asked.option)
         near = Near(Span(found.begin, found.end), asked.every, found.packets)
         return Causes(programme, Held(heard.path, asked.page, found.origin, near, asked.within),
                       lambda: unseen(heard.places(), found.origin, asked.within),

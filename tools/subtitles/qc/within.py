@@ -2,20 +2,23 @@
 asked for, and 5 at most."""
 from __future__ import annotations
 
-import os
 import subprocess
 
-from ..words import within_words
+from ..core.files import Input
+from ..core.pieces import Pieces
+from ..core.told import LOST_PACKETS, accepted_of, told_of
+from ..core.words import within_words
+from ..reading.cutting import Cut, cut_out, times_of_file
 from .asked import MOST_TRIED, Asked
 from .causes import EARLY, LATE, NOT_ERASED, UNKNOWN, Cause
 from .fitting import Found, found_in
 from .naming import Causes
 from .recording import Recording
-from .steps import Steps, Stretch, origin_words, packets_words
-from .told import told_of
+from .status import ACCEPTED, Said, word_of
+from .steps import Steps, Stretch, origin_words
 
 # Faults that stay whatever N is: of the subtitle file, of PES packets that can't be read.
-FIXED = {*range(10, 26), *range(30, 41), 44, *range(50, 58), 60}
+FIXED = {*range(10, 26), *range(30, 41), 44, LOST_PACKETS, *range(50, 58), 60}
 # Faults that stay where each PES packet has a frame of its own, and others that N may take away.
 OF_PACKETS, OF_FRAMES = {*range(63, 72), 73}, {61, 62}
 OF_ENDS = {72, 77}
@@ -35,7 +38,7 @@ class Trying:
         self.steps, self.recording, self.one = steps, recording, one
         self.number, self.count = number, count
         self.asked: Asked = steps.asked
-        self.path = one.names.temporary("within.pes")
+        self.pieces: Pieces | None = None  # of the recording, within the most frames
 
     def least(self, numbers: set[int], causes: Causes | None) -> int | None:
         """The least such number; `None` where there is none."""
@@ -44,17 +47,13 @@ class Trying:
         found = self.clocked(MOST_TRIED)
         if found is None or not self.cut(found):
             return None
-        try:
-            for within in range(self.asked.within + 1, MOST_TRIED + 1):
-                line = self.check(found, within)
-                told = told_of(line)
-                if told is None:
-                    return within if line.startswith("accepted ") and \
-                        self.is_same(found, within) else None
-                if told.number not in OF_ENDS:
-                    return None
-        finally:
-            os.unlink(self.path)
+        for within in range(self.asked.within + 1, MOST_TRIED + 1):
+            line, status = self.check(found, within)
+            if is_accepted(line, status):
+                return within if self.is_same(found, within) else None
+            told = told_of(line) if status == 1 else None
+            if told is None or told.number not in OF_ENDS:
+                return None
         return None
 
     def may_be(self, numbers: set[int], causes: Causes | None) -> bool:
@@ -75,8 +74,8 @@ class Trying:
         found = self.one.found
         if not found.clock.is_fitted:
             return found
-        done = self.steps.ask_origin(self.recording, None, *within_words(within))
-        parts = found_in(done, found)
+        origin = self.steps.ask_origin(self.recording, None, *within_words(within))
+        parts = found_in(origin, found)
         other = parts[self.number - 1] if len(parts) == self.count else None
         return other if other and other[:2] == found[:2] else None
 
@@ -84,22 +83,29 @@ class Trying:
         """Whether the clock is the same within fewer frames, or accepted by too."""
         other = self.clocked(within) if within < MOST_TRIED else found
         return other is not None and (other.origin == found.origin or self.cut(other) and
-                                      self.check(other, within).startswith("accepted "))
+                                      is_accepted(*self.check(other, within)))
 
     def cut(self, found: Found) -> bool:
-        """Cuts the PES packets out; whether there are some."""
-        words = [*self.asked.page_words(), *self.asked.every_words(), *within_words(MOST_TRIED),
-                 *origin_words(found.origin), *packets_words(found.packets)]
-        subprocess.run([*self.steps.typed.call("cut"), *words, "--stl", self.one.stl_path, "-o",
-                        self.path, "--", self.recording.path], stdin=subprocess.DEVNULL,
-                       stdout=subprocess.DEVNULL, stderr=subprocess.DEVNULL, check=False)
-        return os.path.exists(self.path)
+        """Finds the PES packets; whether there are some."""
+        asked, path = self.asked, self.recording.path
+        cut = Cut(*times_of_file(self.one.stl_path), asked.page, found.origin, asked.every,
+                  found.packets, MOST_TRIED)
+        with Input(path) as source:
+            self.pieces = cut_out(cut, path, source)[0]
+        return self.pieces is not None
 
-    def check(self, found: Found, within: int) -> str:
-        """The line of `check`."""
-        words = [*self.asked.within_more(within).check_words(), *origin_words(found.origin)]
+    def check(self, found: Found, within: int) -> tuple[str, int]:
+        """The line of `check`, and its status."""
+        assert self.pieces
+        words = [*self.asked.within_more(within).check_words(), *self.pieces.words(),
+                 *origin_words(found.origin)]
         done = subprocess.run([self.steps.typed.program_path, "check", *words, "--",
-                               self.one.stl_path, self.path], stdin=subprocess.DEVNULL,
+                               self.one.stl_path, self.pieces.path], stdin=subprocess.DEVNULL,
                               stdout=subprocess.PIPE, encoding="utf-8", errors="replace",
                               check=False)
-        return "".join(done.stdout.splitlines()[-1:])
+        return "".join(done.stdout.splitlines()[-1:]), done.returncode
+
+
+def is_accepted(line: str, status: int) -> bool:
+    """Whether `check` accepts."""
+    return word_of(Said(status, accepted_of(line) is not None)) == ACCEPTED

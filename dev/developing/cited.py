@@ -1,0 +1,102 @@
+"""Names that the documents cite in backquotes, and whether the sources have them; and how much has
+to be read for some of them."""
+from __future__ import annotations
+
+import os
+import re
+from typing import Iterator
+
+from .definitions import Library, counts
+
+# The documents, and with what a line begins that is looked at.
+DOCUMENTS = {"docs/HEADLINE.md": "", "docs/ASSURANCE.md": "", "docs/WRONG-PROGRAMS.md": "",
+             "docs/ARCHITECTURE.md": "|"}
+# A row of the table of what has to be read: what is read, how it is printed, and the counts.
+ROW = re.compile(r"^\| (.*) \| `tools/reading-list (\S+)` \| (\d+) \| (\d+) \| (\d+) \|$", re.M)
+PARTS = ("src", "specs", "must-fail", "release-edits")  # of a crate, whose words are taken
+LEFT_OUT = ("out", ".git", "__pycache__")
+TOOLS = ("tools", "dev")
+MADE = ("out/", "dist/")  # by the gate and by tools/release
+BLOCK = re.compile(r"^```.*?^```$", re.M | re.S)
+QUOTED = re.compile(r"(?<!`)`([^`]+)`(?!`)")
+PATH = re.compile(r"[\w.-]+(?:/[\w.-]+)+/?|[\w-]+/")
+WORD = re.compile(r"[A-Za-z_]\w*")
+COMMENT = {".rt": re.compile(r"//.*"), ".antt": re.compile(r"(?:^|(?<=\s))--.*", re.M)}
+
+
+class Sources:
+    """The words of the sources, and the names of all files and folders."""
+
+    def __init__(self, top: str) -> None:
+        self.words: set[str] = set()
+        self.paths: set[str] = set()
+        for place, folders, names in os.walk(top):
+            folders[:] = [name for name in folders if name not in LEFT_OUT]
+            for name in [*folders, *names]:
+                self.take(top, os.path.relpath(os.path.join(place, name), top))
+
+    def take(self, top: str, path: str) -> None:
+        """Takes a file or a folder, under its whole name and as a crate calls it; and its words."""
+        parts = path.split(os.sep)
+        for start in {0, *((1, 2) if parts[0] == "crates" else ())}:
+            self.paths |= {"/".join(parts[start:]), os.path.splitext("/".join(parts[start:]))[0]}
+        is_source = parts[0] in TOOLS or parts[0] == "crates" and parts[2:3] and parts[2] in PARTS
+        if len(parts) == 2 or is_source:
+            self.words.update(WORD.findall(os.path.splitext(parts[-1])[0]))
+        if is_source and os.path.isfile(os.path.join(top, path)):
+            self.read(os.path.join(top, path))
+
+    def read(self, path: str) -> None:
+        """Takes the words of a file, without its comments; of an edit only its name counts."""
+        ending = os.path.splitext(path)[1]
+        if ending != ".edit":
+            with open(path, encoding="utf-8", errors="replace") as file:
+                text = file.read()
+            text = COMMENT[ending].sub("", text) if ending in COMMENT else text
+            self.words.update(WORD.findall(text))
+
+    def lacks(self, quoted: str) -> list[str]:
+        """The names in a quoted text that the sources do not have.
+
+        A word in capitals in a path stands for any name; a word before `=`, as in a line of the
+        prover, is not looked at.
+        """
+        found: list[str] = []
+        for token in quoted.split():
+            if PATH.fullmatch(token):
+                is_there = token.startswith(MADE) or self.has_path(token.rstrip("/"))
+                found += [] if is_there else [token]
+            elif "=" not in token or token == "=":
+                found += [word for word in WORD.findall(token) if word not in self.words]
+        return found
+
+    def has_path(self, path: str) -> bool:
+        parts = [r"[^/]+" if re.fullmatch("[A-Z]+", part) else re.escape(part)
+                 for part in path.split("/")]
+        form = re.compile("/".join(parts))
+        return path in self.paths or any(map(form.fullmatch, self.paths))
+
+
+def unknown_names(top: str) -> dict[str, list[str]]:
+    """By document, `DOCUMENT:LINE: NAME` of each name that is quoted and that no source has."""
+    sources = Sources(top)
+    found: dict[str, list[str]] = {}
+    for name, start in DOCUMENTS.items():
+        with open(os.path.join(top, name), encoding="utf-8") as file:
+            text = file.read()
+        text = BLOCK.sub(lambda block: "\n" * block[0].count("\n"), text)
+        if start:
+            text = "\n".join(line if line.startswith(start) else "" for line in text.split("\n"))
+        found[name] = [f"{name}:{text.count(chr(10), 0, quoted.start()) + 1}: {one}"
+                       for quoted in QUOTED.finditer(text) for one in sources.lacks(quoted[1])]
+    return found
+
+
+def rows_of_counts(top: str) -> Iterator[tuple[str, str]]:
+    """The rows of the table in ASSURANCE, each with the row that it has to be."""
+    with open(os.path.join(top, "docs", "ASSURANCE.md"), encoding="utf-8") as file:
+        rows, library = list(ROW.finditer(file.read())), Library(top)
+    for row in rows:
+        found = counts(*library.reading(row[2]))
+        yield row[0], "| {} | `tools/reading-list {}` | {} | {} | {} |".format(
+            row[1], row[2], *found)

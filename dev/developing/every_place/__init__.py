@@ -1,0 +1,40 @@
+"""What the program prints, from the definitions, for dev/check-every-place.
+
+Of `check --all`:
+
+reading            subtitle files, PES packets and Teletext packets, and what is wrong with one
+words              the options of `check`, and what is wrong with one
+national           national options: the bits of a header, and the bytes that give a cell
+rows               the page that a subtitle draws
+definitions        everything that is broken in a pair of files, as lines
+trust              which frames may be trusted beside it
+recordings         the PES packets that a transport stream carries, and ranges of them
+
+Of other commands:
+
+scheduling         what `schedule` writes
+listening          what `packets` and `listen` print
+calls              calls of the program, and what the definitions answer
+
+What is known:
+
+known              pairs of files whose lines are known
+within             such pairs where a page may be some frames late
+one_file           such pairs for each field of a subtitle file and each kind of text
+one_rule           pairs of files that break one rule
+of_options         calls whose answers are known, for each national option
+recorded           such calls about transport streams and ranges of PES packets
+wrong_options      mistakes with national options, each of which such a call tells
+wrong_recordings   mistakes in reading a recording
+mistakes           tries such a mistake
+carried_laws       what is promised of a recording, tried at random
+
+At random:
+
+pairs              pairs of files, broken
+broken             transmissions, broken
+late               transmissions sent late, in fields, with PTS that are a bit off
+streams            transport streams, with losses and worse
+random_calls       calls about these
+trying             calls the program, and compares
+"""

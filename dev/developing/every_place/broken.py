@@ -1,0 +1,211 @@
+"""Transmissions broken at random: their bytes, Teletext packets, PES packets, order and length."""
+from __future__ import annotations
+
+import io
+from random import Random
+from typing import Callable
+
+from subtitles.core.pes import DATA, STUFFING_UNIT, UNIT, pes_packet, pes_packets, pts_bytes, pts_in
+from subtitles.core.teletext import CODE_WORDS, MIRROR, mirrored, odd, packet as teletext_packet
+from subtitles.core.times import CLOCK, FRAMES_OF_A_DAY, TICKS
+
+Change = Callable[[Random, bytearray], None]  # of a PES packet
+
+PACKET = 4  # where a data unit has its Teletext packet
+MOST_LINES = 16  # that `pes_packet` has room for
+LETTERS = b"ABCDEFGHIJKLMNOPQRSTUVWXYZabcdefghijklmnopqrstuvwxyz 0123456789.,?!'"
+
+
+def units_in(packet: bytes | bytearray) -> list[int]:
+    """Where the data units of a PES packet that carry Teletext begin."""
+    return [at for at in range(DATA, len(packet), UNIT) if packet[at] in (2, 3)]
+
+
+def teletext_in(packet: bytes | bytearray) -> list[bytes]:
+    """The Teletext packets of a PES packet."""
+    return [mirrored(bytes(packet[at + PACKET:at + UNIT])) for at in units_in(packet)]
+
+
+def random_header(chance: Random) -> bytes:
+    """A header of the page, of another one, or of another magazine, with any control bits."""
+    units, tens = chance.choice([8, 8, 15]), chance.choice([8, 8, 15])
+    numbers = [units, tens, 0, chance.choice([8, 8, 0]), 0, chance.choice([8, 8, 12]),
+               chance.choice([1, 1, 9]), chance.choice([0, 0, 8, 1])]
+    return teletext_packet(chance.choice([0, 0, 1]), 0, numbers, b" " * 32)
+
+
+def random_packet(chance: Random) -> bytes:
+    """A header, a row, or a packet of enhancement."""
+    if chance.random() < 0.4:
+        return random_header(chance)
+    number = chance.choice([1, 22, 23, 24, 25, 26, 27, 28, 29, 30])
+    return teletext_packet(chance.choice([0, 0, 0, 2]), number, [], chance.choices(LETTERS, k=40))
+
+
+def change_bit(chance: Random, packet: bytearray) -> None:
+    at = chance.choice(units_in(packet))
+    place = chance.choice([chance.randrange(2), chance.randrange(10), chance.randrange(42)])
+    packet[at + PACKET + place] ^= 1 << chance.randrange(8)
+
+
+def change_code(chance: Random, packet: bytearray) -> None:
+    """Another code word in an address or a header, or another letter in a row."""
+    at = chance.choice(units_in(packet)) + PACKET
+    place = chance.choice([chance.randrange(2, 10), chance.randrange(10, 42)])
+    code = chance.choice([CODE_WORDS[chance.randrange(16)], odd(chance.randrange(128))])
+    packet[at + place] = MIRROR[code]
+
+
+def change_byte(chance: Random, packet: bytearray) -> None:
+    packet[chance.randrange(len(packet))] = chance.randrange(256)
+
+
+def change_field(chance: Random, packet: bytearray) -> None:
+    """Another bit in a field: flags, header length, PTS, data_identifier, or those of a unit."""
+    unit = chance.choice(units_in(packet))
+    at = chance.choice([6, 7, 8, 9, DATA - 1, unit, unit + 1, unit + 2, unit + 3])
+    # Seldom a bit by which the PTS is hours away, since the frames between are judged one by one.
+    bits = [0, 4, 5, 6, 7] if at == 9 and chance.random() < 0.9 else range(8)
+    packet[at] ^= 1 << chance.choice(bits)
+
+
+def drop_unit(chance: Random, packet: bytearray) -> None:
+    at = chance.choice(units_in(packet))
+    packet[at:at + UNIT] = STUFFING_UNIT
+
+
+def add_unit(chance: Random, packet: bytearray) -> None:
+    """One more packet at any place: a new one, or one of those there, changed or not."""
+    teletext = teletext_in(packet)
+    if len(teletext) >= MOST_LINES:
+        return
+    made, way = random_packet(chance), chance.random()
+    if way < 0.6:
+        made = chance.choice(teletext)
+        if way < 0.3:
+            at = chance.randrange(10, 42)
+            made = made[:at] + bytes([odd(chance.choice(LETTERS))]) + made[at + 1:]
+    teletext.insert(chance.randrange(len(teletext) + 1), made)
+    packet[:] = pes_packet(pts_in(packet), teletext)
+
+
+def add_enhancement(chance: Random, packet: bytearray) -> None:
+    """One more packet X/25 to X/28 of magazine 8, at the second place."""
+    teletext = teletext_in(packet)
+    if len(teletext) < MOST_LINES:
+        made = teletext_packet(0, chance.randrange(25, 29), [], b" " * 40)
+        packet[:] = pes_packet(pts_in(packet), [*teletext[:1], made, *teletext[1:]])
+
+
+def swap_units(chance: Random, packet: bytearray) -> None:
+    """Two packets change places: a row before its header, or rows after the closing header."""
+    one, other = (chance.choice(units_in(packet)) + PACKET for _ in range(2))
+    end = UNIT - PACKET
+    packet[one:one + end], packet[other:other + end] = \
+        packet[other:other + end], packet[one:one + end]
+
+
+def move_frame(chance: Random, packet: bytearray) -> None:
+    frames = chance.choice([-1, 1, 2, chance.randrange(-60, 60)])
+    ticks = chance.choice([TICKS * frames] * 6 + [frames])
+    packet[9:14] = pts_bytes((pts_in(packet) + ticks) % CLOCK)
+
+
+WITHIN: list[Change] = [
+    change_bit, change_bit, change_code, change_code, change_code, drop_unit, add_unit, add_unit,
+    add_enhancement, swap_units, move_frame, change_byte, change_field]
+
+
+def change_order(chance: Random, packets: list[bytearray]) -> None:
+    """PES packets twice, left out, or in another order."""
+    at, way = chance.randrange(len(packets)), chance.randrange(5)
+    if way == 0 and len(packets) > 1:
+        del packets[at]
+    elif way == 1:
+        packets.insert(at, bytearray(packets[at]))
+    elif way == 2:
+        other = chance.randrange(len(packets))
+        packets[at], packets[other] = packets[other], packets[at]
+    elif way == 3:
+        packets += [bytearray(packet) for packet in packets[at:]]
+    else:
+        del packets[at:at + chance.randrange(3)]
+
+
+def change_some(chance: Random, packets: list[bytearray]) -> None:
+    """One PES packet is changed, or some after each other in the same ways."""
+    ways = [(chance.choice(WITHIN), chance.random()) for _ in range(chance.choice([1, 1, 1, 2, 3]))]
+    first = chance.randrange(len(packets))
+    count = chance.choice([1, 1, 1, 2, 3, len(packets)])
+    for packet in packets[first:first + count]:
+        for way, seed in ways:
+            if units_in(packet):
+                way(Random(seed), packet)
+
+
+# What keeps a PES packet from being read: bits of a byte of its head, or of its data units.
+HEAD_BITS = [(6, 0xC0), (7, 0x40), (7, 0x80), (8, 1), (9, 0x10), (11, 1), (13, 1), (DATA - 1, 0x30)]
+UNIT_BITS = [(1, 1), (1, 0x80), (3, 1), (2, 0x1E), (2, 0x20)]
+
+
+def damage(chance: Random, packet: bytearray) -> None:
+    """A PES packet that, most often, can't be read any more, or has no frame; now and then for two
+    reasons."""
+    for _ in range(chance.choice([1, 1, 1, 1, 2])):
+        way = chance.random()
+        if way < 0.25:
+            ticks = chance.choice([1, 90, TICKS // 2] * 6 + [TICKS * FRAMES_OF_A_DAY])
+            packet[9:14] = pts_bytes((pts_in(packet) + ticks) % CLOCK)
+        elif way < 0.65:
+            at, bits = chance.choice(HEAD_BITS)
+            packet[at] ^= bits
+        else:
+            at, bits = chance.choice(UNIT_BITS)
+            packet[chance.choice(range(DATA, len(packet), UNIT)) + at] ^= bits
+
+
+def damage_some(chance: Random, packets: list[bytearray]) -> None:
+    """Some PES packets after each other are damaged, in one way or each in its own; some between
+    are not, and a packet of before may stand beside them, where frames then don't rise."""
+    first = chance.randrange(len(packets))
+    count = chance.choice([1, 1, 2, 3, 4, 8, len(packets)])
+    seed = chance.random() if chance.random() < 0.6 else None
+    if chance.random() < 0.15:
+        packets.insert(min(first + chance.randrange(count + 1), len(packets)),
+                       bytearray(packets[max(0, first - chance.randrange(1, 4))]))
+    for packet in packets[first:first + count]:
+        if chance.random() < 0.85:
+            damage(Random(chance.random() if seed is None else seed), packet)
+
+
+def damage_head(chance: Random, packets: list[bytearray]) -> None:
+    """Another start code, or another length: one that no PES packet has, or that of a shorter or a
+    longer one, whose end is then within a packet, or at the end of another."""
+    packet = chance.choice(packets)
+    if chance.random() < 0.3:
+        packet[chance.randrange(4)] ^= 1 << chance.randrange(8)
+    elif chance.random() < 0.4:
+        packet[chance.choice([4, 5])] ^= 1 << chance.randrange(8)
+    else:
+        packet[4:6] = (chance.choice([*range(11)]) * 184 - 6 & 0xFFFF).to_bytes(2, "big")
+
+
+def break_pes(chance: Random, data: bytes) -> bytes:
+    """A transmission with some of its packets, their order, or its length otherwise."""
+    packets = list(map(bytearray, pes_packets(io.BytesIO(data))))
+    for _ in range(chance.choice([0, 1, 1, 2, 3, 6, 12])):
+        if packets:
+            (change_order if chance.random() < 0.12 else change_some)(chance, packets)
+    if chance.random() < 0.5:
+        for _ in range(chance.choice([1, 1, 2, 3])):
+            if packets:
+                damage_some(chance, packets)
+    if packets and chance.random() < 0.06:
+        damage_head(chance, packets)
+    data = b"".join(packets)
+    way = chance.random()
+    if way < 0.05:
+        data = data[:chance.randrange(len(data) + 1)]
+    elif way < 0.08:
+        data += bytes(chance.choices(b"\0\1\xbd\xff", k=chance.choice([1, 5, 6, 200])))
+    return data

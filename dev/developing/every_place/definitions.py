@@ -1,0 +1,445 @@
+"""What `check --all` has to print, from the definitions: a second implementation, plain and slow.
+
+Nothing is kept from one PES packet to the next but the list of the packets before it: what a
+receiver holds is looked up there at the end of each frame.
+"""
+from __future__ import annotations
+
+from typing import Iterable, Iterator, NamedTuple, Sequence
+
+from subtitles.core.teletext import CODE_WORDS, Page, address_of, is_odd
+from subtitles.core.times import time_of
+from .national import ALL_BITS, BITS
+from .reading import (
+    Header, Record, StlFault, found_in, header_of, pieces_of, records_of, sending_in)
+from .recordings import Range, carried, range_of
+from .rows import BLANK, COLUMNS, SPACE, TextFault, drawn
+from .trust import Course, End, Event, Sent, lines_of
+from .words import Options, options_of
+
+NAMES = dict(
+    (int(words[0]), words[1]) for words in map(str.split, """
+    10 Truncated|11 Format|12 Rate|13 Display|14 Alphabet|15 Extension|16 Cumulative|17 CommentFlag
+    |18 Justify|19 Row|20 Time|21 EmptyTime|22 Sequence|23 TooLong|24 Unfinished|25 TooManyBlocks
+    |30 Truncated|31 Start|32 Length|33 Flags|34 NoTime|35 HeaderLength|36 Time|37 DataId
+    |38 UnitLength|39 Framing|40 LineOrder|44 TooMany|45 Lost|50 Character|51 Control|52 RowTooLong
+    |53 PastBottom|54 DoubleRow|55 Hidden|56 OutOfOrder|57 Overlap|60 Empty|61 OffFrame|62 Order
+    |63 Early|64 Address|65 HeaderCode|66 Mode|67 Control|68 Parity|69 RowChanged|70 Enhancement
+    |71 NoFirstHeader|72 Content|73 Gap|74 Late|77 Incomplete""".split("|")))
+
+
+class Packet(NamedTuple):
+    """A Teletext packet as it is read: `header` is `None` in any other packet, and where it is
+    none."""
+
+    data: bytes
+    address: tuple[int, int] | None
+    header: Header | None
+
+
+def refused(number: int, place: str = "") -> str:
+    return f"refused {number} {NAMES[number]} {place}".rstrip()
+
+
+def ended(number: int, place: str) -> str:
+    return f"ended {number} {NAMES[number]} {place}"
+
+
+# The subtitle file
+
+def stl_faults(data: bytes, option: str) -> Iterator[str]:
+    """The lines for everything that is broken in a subtitle file."""
+    before: Record | None = None
+    for found in found_in(data):
+        if isinstance(found, StlFault):
+            yield refused(found.number, f"block {found.block}")
+            continue
+        if before and found.tci < before.tci:
+            yield refused(56, f"block {found.block}")
+        elif before and found.tci < before.tco:
+            yield refused(57, f"block {found.block}")
+        try:
+            drawn(found, option)
+        except TextFault as fault:
+            yield refused(fault.number, f"block {found.block} at {fault.at}")
+        before = found
+
+
+class Due:
+    """The page that is due at each frame."""
+
+    def __init__(self, records: list[Record], option: str) -> None:
+        self.pages = [(one.tci, one.tco, drawn(one, option)) for one in records]
+
+    def at(self, frame: int) -> bytes:
+        return next((page for tci, tco, page in self.pages if tci <= frame < tco), BLANK)
+
+    def first(self) -> int | None:
+        return self.pages[0][0] if self.pages else None
+
+    def last(self) -> int | None:
+        return self.pages[-1][1] if self.pages else None
+
+    def begins_of(self, end: int) -> list[int]:
+        """Where the subtitles begin that end at a frame."""
+        return [tci for tci, tco, _ in self.pages if tco == end]
+
+
+# What is on air
+
+def span_of(packets: Sequence[Packet], page: Page) -> tuple[Sequence[Packet], bool]:
+    """What follows the last header of the page, up to the header that ends it.
+
+    Answers these packets, and whether the page is still open after them.
+    """
+    begin = next((at for at in reversed(range(len(packets)))
+                  if page_of(packets[at]) == page), None)
+    if begin is None:
+        return [], False
+    for end, packet in enumerate(packets[begin + 1:], begin + 1):
+        if packet.header and (packet.header[0][0] == page[0] or 11 in packet.header[1]):
+            return packets[begin + 1:end], False
+    return packets[begin + 1:], True
+
+
+def page_of(packet: Packet) -> Page | None:
+    return packet.header[0] if packet.header else None
+
+
+def is_row(packet: Packet, page: Page) -> bool:
+    address = packet.address
+    return address is not None and address[0] == page[0] and 1 <= address[1] <= 24
+
+
+def first_of_row(packets: Sequence[Packet], page: Page, row: int) -> bytes | None:
+    """The codes of the first packet of a row in the span of the packets, `None` where none is."""
+    for packet in span_of(packets, page)[0]:
+        if is_row(packet, page) and packet.address == (page[0], row):
+            return codes_of(packet)
+    return None
+
+
+def codes_of(packet: Packet) -> bytes:
+    return bytes(byte & 0x7F for byte in packet.data[2:])
+
+
+class Held(NamedTuple):
+    """What a receiver holds: 960 codes, and whether the page is open."""
+
+    page: bytes
+    is_open: bool
+
+
+def held_after(packets: Sequence[Packet], page: Page) -> Held:
+    """What a receiver holds after the packets."""
+    rows: dict[int, bytes] = {}
+    span, is_open = span_of(packets, page)
+    for packet in span:
+        if packet.address and is_row(packet, page):
+            rows.setdefault(packet.address[1], codes_of(packet))
+    return Held(b"".join(rows.get(row, BLANK[:COLUMNS]) for row in range(1, 25)), is_open)
+
+
+def first_difference(page: bytes, other: bytes) -> int | None:
+    return next((at for at, code in enumerate(page) if code != other[at]), None)
+
+
+# The rules of a packet
+
+def is_exact(codes: bytes) -> bool:
+    return all(byte in CODE_WORDS for byte in codes)
+
+
+def is_plain_subtitle_header(control: set[int], option: str) -> bool:
+    """C4, C6 and C7 set; C5 and C10 clear; C12, C13 and C14 those of the national option."""
+    return control >= {4, 6, 7} and not control & {5, 10} and control & ALL_BITS == BITS[option]
+
+
+def packet_faults(packet: Packet, before: Sequence[Packet], options: Options) -> list[int]:
+    """The numbers of the rules that a packet breaks after those before it."""
+    address, header, page = packet.address, packet.header, options.page
+    is_open = span_of(before, page)[1]
+    is_stored = is_open and is_row(packet, page)
+    headers = (one.header for one in before if one.header)
+    known = first_of_row(before, page, address[1]) if address and is_stored else None
+    broken: dict[int, object] = {
+        64: not is_exact(packet.data[:2]),
+        65: address and address[1] == 0 and not is_exact(packet.data[2:10]),
+        66: header and (11 in header[1]) != (11 in next(headers, header)[1]),
+        67: header and header[0] == page and not is_plain_subtitle_header(header[1],
+                                                                         options.option),
+        68: is_stored and not all(map(is_odd, packet.data[2:])),
+        69: known is not None and known != codes_of(packet),
+        70: is_open and address and address[0] == page[0] and 25 <= address[1] <= 28,
+    }
+    return [number for number, is_so in broken.items() if is_so]
+
+
+# The ends of frames
+
+NO_CELL = -1  # of what stands at no cell
+
+class Ends:
+    """What stands at the end of a frame, beside what stood at the end before."""
+
+    def __init__(self, due: Due, options: Options) -> None:
+        self.due, self.options = due, options
+        self.first = self.frame = 0  # the first frame, and that of the end before
+        self.standing: dict[int, int] = {}  # a number, and for 72 its cell
+        # Where the last end is unfinished: the frame of the first of those in a row up to it.
+        self.since: int | None = None
+        self.is_late = False  # of the last end
+
+    def stands(self, frame: int, held: Held, headers: list[int]) -> dict[int, int]:
+        """The numbers that stand at an end; `headers` are the frames with a header of the page."""
+        options, due = self.options, self.due.at(frame)
+        is_open = options.is_complete and held.is_open
+        is_finished = held.page == due and not is_open
+        self.since = None if is_finished else frame if self.since is None else self.since
+        self.is_late = self.has_to_be_whole(frame)
+        found: dict[int, int] = {}
+        if held.page != due:
+            cell = first_difference(held.page, due) if self.is_late \
+                else self.first_wrong(held.page, frame)
+            if cell is not None:
+                found[72] = cell
+        is_window = frame >= self.first + options.every - 1
+        if is_window and not any(frame < one + options.every for one in headers):
+            found[73] = NO_CELL
+        if self.is_late and is_open:
+            found[77] = NO_CELL
+        return found
+
+    def has_to_be_whole(self, frame: int) -> bool:
+        """Whether an end is unfinished and late: as many frames as are allowed have passed, or a
+        subtitle is over at none of whose ends the page was whole."""
+        since, within = self.since, self.options.within
+        return since is not None and (within == 0 or frame >= since + within or any(
+            begin >= since or begin < self.first == since
+            for begin in self.due.begins_of(frame + 1)))
+
+    def first_wrong(self, page: bytes, frame: int) -> int | None:
+        """The first cell that holds neither a space nor what is due there, or was due up to so many
+        frames before."""
+        frames = [frame, *range(max(self.first, frame - self.options.within), frame)]
+        dues = [self.due.at(one) for one in frames]
+        return next((at for at, code in enumerate(page)
+                     if code != SPACE and all(due[at] != code for due in dues)), None)
+
+    def at(self, frame: int, held: Held, headers: list[int]) -> Iterator[tuple[int, str]]:
+        """The numbers and the lines of an end."""
+        found = self.stands(frame, held, headers)
+        for number in (72, 73, 77):
+            now, before = found.get(number), self.standing.get(number)
+            if now == before:
+                continue
+            if before is not None:
+                yield number, ended(number, f"frame {time_of(self.frame)}")
+            if now is not None:
+                yield number, refused(number, self.place(number, frame, now))
+        self.standing, self.frame = found, frame
+
+    @staticmethod
+    def place(number: int, frame: int, cell: int) -> str:
+        words = f"frame {time_of(frame)}"
+        return f"{words} row {cell // COLUMNS + 1} column {cell % COLUMNS}" if number == 72 \
+            else words
+
+    def after_the_last(self) -> Iterator[tuple[int, str]]:
+        """The numbers and the lines of what still stands after the last end."""
+        for number in sorted(self.standing):
+            yield number, ended(number, f"frame {time_of(self.frame)}")
+
+
+class Transmission:
+    """The pieces of a file, one after another, and what is told of them. The first of them has this
+    index."""
+
+    def __init__(self, due: Due, options: Options, first: int) -> None:
+        self.due, self.options, self.first = due, options, first
+        self.course, self.ends = Course(), Ends(due, options)
+        self.frames: list[int] = []  # of the PES packets that were read
+        self.packets: list[Packet] = []
+        self.headers: list[int] = []  # the frames with a header of the page
+        # Of the PES packets that are sent together: the last one, where the end of their frame is
+        # still to come; how many Teletext packets they have; whether they are the first ones.
+        self.sending: int | None = None
+        self.count, self.is_first = 0, True
+        # The number of the pieces in a row that were passed over last, the first and the last one.
+        self.passed: tuple[int, int, int] | None = None
+
+    def place_of(self, pes: int) -> str:
+        """The place of a piece."""
+        return f"pes {self.first + pes}"
+
+    def tell(self, number: int, place: str, pes: int | None, frame: int | None = None) -> None:
+        self.add(Event(refused(number, place), number, pes, frame))
+
+    def add(self, event: Event) -> None:
+        """The next event, with the end of the pieces before it that were passed over."""
+        self.end_passed()
+        self.course.events.append(event)
+
+    def pass_over(self, pes: int, number: int) -> None:
+        """A piece that is not read: the first of those in a row with one number is told."""
+        self.course.passed.append(pes)
+        if self.passed and (self.passed[0], self.passed[2]) == (number, pes - 1):
+            self.passed = number, self.passed[1], pes
+        else:
+            self.tell(number, self.place_of(pes), pes)
+            self.passed = number, pes, pes
+
+    def end_passed(self) -> None:
+        """Where a number was told of the first of some pieces, it ended with the last."""
+        if self.passed and self.passed[1] < self.passed[2]:
+            number, _, last = self.passed
+            self.course.events.append(Event(ended(number, self.place_of(last)), number, last))
+        self.passed = None
+
+    def take(self, pes: int, frame: int, teletext: list[bytes]) -> None:
+        """The next PES packet. Where a page may be late, those of one frame are sent together."""
+        if self.options.within == 0 or self.frames[-1:] != [frame]:
+            self.end_sending()
+            self.begin(pes, frame)
+            self.count = 0
+        has_header = self.take_packets(pes, frame, teletext)
+        self.frames.append(frame)
+        self.sending = pes
+        if self.course.is_rising:
+            self.course.sent.append(Sent(pes, frame, has_header))
+        if self.options.within == 0:
+            self.end_sending()
+
+    def begin(self, pes: int, frame: int) -> None:
+        """What is told before the packets of a frame."""
+        begin = self.due.first()
+        if not self.frames:
+            self.ends.first = frame
+            if begin is not None and begin < frame:
+                self.tell(63, f"frame {time_of(frame)}", pes)
+            return
+        if frame <= self.frames[-1]:
+            self.course.is_rising = False
+            self.tell(62, self.place_of(pes), pes)
+        self.end(pes, range(max(self.frames) + 1, frame))
+
+    def take_packets(self, pes: int, frame: int, teletext: list[bytes]) -> bool:
+        """Its Teletext packets; answers whether one of them is a header of the page."""
+        page, before = self.options.page, len(self.headers)
+        for one in teletext:
+            packet = Packet(one, address_of(one), header_of(one))
+            for fault in packet_faults(packet, self.packets, self.options):
+                self.tell(fault, f"frame {time_of(frame)} packet {self.count}", pes, frame)
+            self.packets.append(packet)
+            self.count += 1
+            if page_of(packet) == page:
+                self.headers.append(frame)
+        return len(self.headers) > before
+
+    def end_sending(self) -> None:
+        """The end of the frame that was read last, where it is still to come."""
+        if self.sending is None:
+            return
+        pes, frame, self.sending = self.sending, self.frames[-1], None
+        if self.is_first and not self.headers:
+            self.tell(71, f"frame {time_of(frame)}", pes)
+        self.is_first = False
+        self.end(pes, [frame])
+
+    def end(self, pes: int, frames: Iterable[int]) -> None:
+        """The ends of frames between which nothing is sent: those before a PES packet, or its own
+        after the last one of it."""
+        held, ends = held_after(self.packets, self.options.page), self.ends
+        for frame in frames:
+            for number, line in ends.at(frame, held, self.headers):
+                self.add(Event(line, number, pes, frame, True))
+            if self.course.is_rising:
+                self.course.ends.append(
+                    End(frame, bool(ends.standing), ends.since, ends.is_late))
+
+    def close(self, broken: int | None, pes: int) -> Course:
+        """The end after so many pieces, and what is wrong with the bytes after them, if any are."""
+        self.end_sending()
+        self.end_passed()
+        for number, line in self.ends.after_the_last():
+            self.add(Event(line, number, None))
+        end = self.due.last()
+        if broken is not None:
+            self.course.is_left = True
+            self.tell(broken, self.place_of(pes), None)
+        elif pes == 0:
+            self.tell(60, "", None)
+        elif self.frames and (self.ends.since is not None and not self.ends.is_late
+                              or end is not None and end > self.frames[-1]):
+            self.tell(74, f"frame {time_of(self.frames[-1])}", None)
+        return self.course
+
+    def fail(self, pes: int) -> Course:
+        """The source failed after so many pieces: nothing more is told, and nothing ends."""
+        self.course.failed = self.first + pes
+        return self.course
+
+
+CUT = 30  # where the bytes end before a piece does
+
+
+def course_of(due: Due, read: Range, options: Options, is_failing: bool = False) -> Course:
+    """What is told of a transmission, and what was read of it.
+
+    A source that is failing fails where the bytes end, if they are read so far.
+    """
+    pieces, broken = pieces_of(read.data)
+    transmission = Transmission(due, options, read.first)
+    for pes, piece in enumerate(pieces):
+        sending = sending_in(piece, options.origin, options.within)
+        if isinstance(sending, int):
+            transmission.pass_over(pes, sending)
+        else:
+            transmission.take(pes, *sending)
+    if is_failing and read.is_end and broken in (None, CUT):
+        return transmission.fail(len(pieces))
+    return transmission.close(broken, len(pieces))
+
+
+def transmissions(data: bytes, options: Options) -> tuple[int, int]:
+    """The frames and the headers of the page of a file that is accepted."""
+    frames, count = [], 0
+    for piece in pieces_of(data)[0]:
+        sending = sending_in(piece, options.origin, options.within)
+        if not isinstance(sending, int):
+            frames.append(sending[0])
+            headers = [header_of(one) for one in sending[1]]
+            count += sum(header is not None and header[0] == options.page for header in headers)
+    return frames[-1] - frames[0] + 1, count
+
+
+def read_by(data: bytes, options: Options) -> Range:
+    """What is read of a PES file, or of a transport stream, by the options."""
+    pes = data if options.pid is None else carried(data, options.pid, options.size).data
+    return range_of(pes, options.first, options.last)
+
+
+def check_all(stl: bytes, pes: bytes, words: list[str], is_failing: bool = False) -> Iterator[str]:
+    """The lines of `check --all` with these words, as they are found. A PES file, or a transport
+    stream, may fail where its bytes end."""
+    options = options_of(words)
+    if isinstance(options, str):
+        yield options
+        return
+    count, failed = 0, None
+    for line in stl_faults(stl, options.option):
+        count += 1
+        yield line
+    if not count:
+        read = read_by(pes, options)
+        course = course_of(Due(records_of(stl), options.option), read, options, is_failing)
+        failed = course.failed
+        for line in lines_of(course):
+            count += line.startswith("refused")
+            yield line
+    if failed is not None:
+        yield f"fault 41 Read pes {failed}"
+    elif count:
+        yield f"{count} faults"
+    else:
+        yield "accepted {} frames {} transmissions".format(*transmissions(read.data, options))

@@ -1,0 +1,195 @@
+"""Transmissions as they come out of an inserter and a multiplexer, at random.
+
+A page is sent in several PES packets, of two fields or of frames that follow, later than it is due,
+with a PTS that is some ticks off, or again while it is being sent: most often by no more frames
+than are allowed, now and then by more. PES packets that can't be read stand between.
+"""
+from __future__ import annotations
+
+import io
+from random import Random
+from typing import Callable, NamedTuple
+
+from subtitles.core.pes import pes_packet, pes_packets, pts_bytes, pts_in
+from subtitles.core.teletext import odd
+from subtitles.core.times import CLOCK, FRAMES_OF_A_DAY, TICKS
+from .broken import LETTERS, MOST_LINES, damage, random_packet, teletext_in
+
+
+class Part(NamedTuple):
+    """A PES packet: how many ticks after the first one it is sent, and its Teletext packets."""
+
+    time: int
+    packets: list[bytes]
+
+
+Change = Callable[[Random, list[Part]], None]
+
+FIELD = TICKS // 2
+EARLIEST, LATEST = -(TICKS // 4), TICKS - TICKS // 4 - 1  # ticks by which a PTS is of its frame
+
+
+def frame_in(time: int) -> int:
+    """Where the frame of a time begins."""
+    return (time - EARLIEST) // TICKS * TICKS
+
+
+# How each page is sent
+
+def spread(chance: Random, part: Part, most: int) -> list[Part]:
+    """The packets of a page in one to four PES packets, in some fields up to so many frames
+    later."""
+    count = len(part.packets)
+    ways = [chance.randrange(count + 1) for _ in range(chance.choice([0, 0, 1, 1, 2, 3]))]
+    cuts = [0, *sorted(ways), count]
+    fields = sorted(chance.randrange(2 * most + 2) for _ in cuts[1:])
+    if chance.random() < 0.5:
+        fields[0] = 0
+    return [Part(part.time + field * FIELD, part.packets[begin:end])
+            for field, begin, end in zip(fields, cuts, cuts[1:])]
+
+
+def send(chance: Random, parts: list[Part], most: int) -> list[Part]:
+    """All pages, each in its own way or all in the same; where one is late, the next one is sent
+    after it or between."""
+    seed = chance.random() if chance.random() < 0.5 else None
+    made: list[Part] = []
+    for part in parts:
+        made += spread(Random(chance.random() if seed is None else seed), part, most)
+    if chance.random() < 0.5:
+        return sorted(made, key=lambda one: one.time)
+    for at in range(1, len(made)):
+        made[at] = made[at]._replace(time=max(made[at].time, made[at - 1].time))
+    return made
+
+
+def move(chance: Random, parts: list[Part]) -> None:
+    """The PTS a bit off, each otherwise, by no more than keeps them in their frames; seldom by
+    more."""
+    first, last = chance.choice([(EARLIEST, LATEST)] * 6 + [(EARLIEST - 1, LATEST + 1), (-2000, 0)])
+    for at, part in enumerate(parts):
+        ticks = chance.choice([first, last, chance.randrange(first, last + 1)])
+        parts[at] = part._replace(time=frame_in(part.time) + ticks)
+
+
+# What is wrong, or sent besides
+
+def leave_out(chance: Random, parts: list[Part]) -> None:
+    """A PES packet is lost, often the first; seldom the last."""
+    del parts[chance.choice([0, chance.randrange(max(1, len(parts) - 1))])]
+
+
+def empty_last(chance: Random, parts: list[Part]) -> None:
+    """The last page is not sent, or a part of it; seldom the last pages."""
+    for at in range(max(0, len(parts) - chance.choice([1, 1, 1, 2])), len(parts)):
+        packets = parts[at].packets
+        parts[at] = parts[at]._replace(packets=packets[len(packets) - chance.choice([0, 0, 1]):])
+
+
+def open_last(chance: Random, parts: list[Part]) -> None:
+    """A page without its closing header."""
+    at = chance.choice([-1, chance.randrange(len(parts))])
+    parts[at] = parts[at]._replace(packets=parts[at].packets[:-1])
+
+
+def hold_back(chance: Random, parts: list[Part]) -> None:
+    """A PES packet some frames later or earlier, and seldom all that follow it too."""
+    at, by = chance.randrange(len(parts)), TICKS * chance.choice([1, 1, 2, 3, 4, 5, 6, -1, -2])
+    end = len(parts) if chance.random() < 0.2 else at + 1
+    parts[at:end] = [part._replace(time=part.time + by) for part in parts[at:end]]
+    parts.sort(key=lambda one: one.time)
+
+
+def send_again(chance: Random, parts: list[Part]) -> None:
+    """A PES packet of now or of before again, some fields later."""
+    at = chance.randrange(len(parts))
+    old = parts[max(0, at - chance.choice([0, 0, 1, 1, 2, 3]))]
+    again = parts[at].time + FIELD * chance.choice([0, 1, 1, 2, 2, 3, 4, 6])
+    parts.append(Part(again, list(old.packets)))
+    parts.sort(key=lambda one: one.time)
+
+
+def erase(chance: Random, parts: list[Part]) -> None:
+    """The header of a page alone, or a PES packet without Teletext, or any packet."""
+    at = chance.randrange(len(parts))
+    header, none = parts[at].packets[:1], parts[at].packets[:0]
+    packets = chance.choice([header, header, none, [random_packet(chance)]])
+    parts.insert(at + 1, Part(parts[at].time + FIELD * chance.choice([1, 1, 2, 3, 4]), packets))
+    parts.sort(key=lambda one: one.time)
+
+
+def misspell(chance: Random, parts: list[Part]) -> None:
+    """Another letter in a row, or an even byte in it; often the whole PES packet is sent before or
+    after it, in the other field or the next frame."""
+    at = chance.randrange(len(parts))
+    rows = [place for place, one in enumerate(parts[at].packets) if one[1] not in (0x15, 0xEA)]
+    if not rows:
+        return
+    place, packets = chance.choice(rows), list(parts[at].packets)
+    one = bytearray(packets[place])
+    if chance.random() < 0.4:
+        one[chance.randrange(2, 42)] ^= 0x80
+    else:
+        one[chance.randrange(10, 42)] = odd(chance.choice(LETTERS))
+    packets[place] = bytes(one)
+    time = parts[at].time
+    other = parts[at]._replace(packets=packets)
+    way = chance.random()
+    if way < 0.3:
+        parts[at] = other
+    elif way < 0.6:
+        parts[at:at + 1] = [other, parts[at]._replace(time=time + FIELD * chance.choice([0, 1, 2]))]
+    else:
+        parts.insert(at + 1, other._replace(time=time + FIELD * chance.choice([1, 1, 2, 3])))
+    parts.sort(key=lambda one: one.time)
+
+
+ACCIDENTS: list[Change] = [leave_out, leave_out, empty_last, empty_last, open_last, hold_back,
+                           hold_back, send_again, send_again, erase, erase, misspell, misspell]
+
+
+# Transmissions
+
+def parts_in(data: bytes) -> list[Part]:
+    packets = list(pes_packets(io.BytesIO(data)))
+    return [Part((pts_in(packet) - pts_in(packets[0])) % CLOCK, teletext_in(packet))
+            for packet in packets]
+
+
+def joined(parts: list[Part], first: int) -> list[bytearray]:
+    """The PES packets, from the PTS of the first on."""
+    return [bytearray(pes_packet((first + part.time) % CLOCK, part.packets[:MOST_LINES]))
+            for part in parts]
+
+
+def stand_between(chance: Random, packets: list[bytearray], origin: int) -> None:
+    """Some PES packets can't be read, or have no frame; most often more than stood there."""
+    for _ in range(chance.choice([1, 1, 2])):
+        at = chance.randrange(len(packets))
+        count = chance.choice([1, 1, 1, 2, 3])
+        one = bytearray(packets[at])
+        if chance.random() < 0.2:
+            ticks = chance.choice([EARLIEST - 1, -TICKS, TICKS * FRAMES_OF_A_DAY + EARLIEST])
+            one[9:14] = pts_bytes((origin + ticks) % CLOCK)
+        else:
+            damage(chance, one)
+        packets[at:at + (chance.random() < 0.3)] = [bytearray(one) for _ in range(count)]
+
+
+def sent_late(chance: Random, data: bytes, within: int, origin: int) -> bytes:
+    """A transmission that is late by no more than some frames, or by a bit more; now and then with
+    something wrong besides."""
+    parts = parts_in(data)
+    if not parts:
+        return data
+    first = pts_in(data)
+    parts = send(chance, parts, max(0, within + chance.choice([0, 0, 0, 0, -1, 1])))
+    for _ in range(chance.choice([0, 0, 0, 0, 1, 1, 2, 3])):
+        if parts:
+            chance.choice(ACCIDENTS)(chance, parts)
+    if chance.random() < 0.5:
+        move(chance, parts)
+    packets = joined(parts, first)
+    if packets and chance.random() < 0.15:
+        stand_between(chance, packets, origin)
+    return b"".join(packets)

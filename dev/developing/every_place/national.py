@@ -1,0 +1,49 @@
+"""National option character sub-sets (EN 300 706, table 36, region 0000): the bits of a page header
+that name one, and the bytes of a subtitle text that give its characters.
+
+A text is of code table 00 of EBU Tech 3264, ISO 6937: a letter with a diacritical mark is two
+bytes, the mark's first.
+"""
+from __future__ import annotations
+
+# Control bits of a page header: which of C12, C13 and C14 are set.
+BITS: dict[str, set[int]] = {
+    "english": set(), "german": {14}, "swedish": {13}, "italian": {13, 14}, "french": {12},
+    "spanish": {12, 14}, "czech": {12, 13}}
+ALL_BITS = {12, 13, 14}
+
+# The bytes that give the same cell in each sub-set: spacing attributes, figures, letters, signs.
+SAME = (*range(0x01, 0x0E), 0x1C, 0x1D, *range(0x20, 0x23), *range(0x25, 0x40), *range(0x41, 0x5B),
+        *range(0x61, 0x7B))
+
+# What gives each cell that a sub-set has of its own, by sub-set: a byte, several of them, or a pair
+# of bytes. Each sub-set has 13 such cells; English and German have bytes for some of them alone.
+OF_CELLS = """
+23  A3     23     23     A3     C2.65  CB.63  23
+24  24,A4  24,A4  A8     24,A4  C8.69  24,A4  CA.75
+40  40     A7     C2.45  C2.65  C1.61  A1     CF.63
+5B  -      C8.41  C8.41  B0     C8.65  C2.61  CF.74
+5C  -      C8.4F  C8.4F  CB.63  C3.65  C2.65  CF.7A
+5D  -      C8.55  CA.41  AE     C1.75  C2.69  C2.79
+5E  -      -      C8.55  AD     C3.69  C2.6F  C2.69
+5F  23     -      5F     23     23     C2.75  CF.72
+60  -      B0     C2.65  C1.75  C1.65  BF     C2.65
+7B  -      C8.61  C8.61  C1.61  C3.61  C8.75  C2.61
+7C  -      C8.6F  C8.6F  C1.6F  C3.6F  C4.6E  CF.65
+7D  -      C8.75  CA.61  C1.65  C3.75  C1.65  C2.75
+7E  -      FB     C8.75  C1.69  CB.63  C1.61  CF.73
+"""
+
+
+def cells_by_option() -> dict[str, dict[bytes, int]]:
+    """The cell that each byte, or pair of bytes, gives, by sub-set."""
+    found = {option: {bytes([code]): code for code in SAME} for option in BITS}
+    for line in OF_CELLS.split("\n")[1:-1]:
+        cell, *columns = line.split()
+        for option, words in zip(BITS, columns):
+            for word in words.split(",") if words != "-" else []:
+                found[option][bytes.fromhex(word.replace(".", ""))] = int(cell, 16)
+    return found
+
+
+CELLS = cells_by_option()

@@ -1,0 +1,236 @@
+"""Pairs of a subtitle file and a transmission, made and broken at random.
+
+First both are made whole: `schedule` of the program writes the transmission. Then bytes, Teletext
+packets, PES packets and subtitles of them are changed. A `Pair` is what `check` is asked about.
+"""
+from __future__ import annotations
+
+from random import Random
+from typing import Callable, NamedTuple
+
+from subtitles.core.stl import GSI, TTI, USER_DATA, gsi_block, subtitle_blocks
+from subtitles.core.times import FRAMES_OF_A_DAY
+from .broken import LETTERS, break_pes
+from .late import sent_late
+from .national import BITS, CELLS, SAME
+
+Schedule = Callable[[bytes, list[str]], bytes]  # of a subtitle file, by words
+OPTIONS = [*BITS]  # national options
+
+
+class Pair(NamedTuple):
+    """Two files, and the words of a check. `is_failing` asks for a PES file that also fails where
+    its bytes end."""
+
+    seed: int
+    stl: bytes
+    pes: bytes
+    words: list[str]
+    is_failing: bool
+
+
+class Shown(NamedTuple):
+    """A subtitle; TCI and TCO are frames of the day."""
+
+    tci: int
+    tco: int
+    row: int
+    justify: int
+    text: bytes
+
+
+# Subtitle files
+
+def with_letters(chance: Random, text: bytes, option: str) -> bytes:
+    """A text with some letters of a national option in the place of others; seldom of another one,
+    or a byte of a pair alone."""
+    if chance.random() < 0.1:
+        option = chance.choice(OPTIONS)
+    own = [letter for letter, cell in CELLS[option].items() if cell not in SAME] * 4 + [b"\xc2"]
+    for _ in range(chance.choice([1, 2, 5])):
+        letter = bytes([chance.choice(LETTERS)])
+        text = text.replace(letter, chance.choice(own), chance.choice([1, 2]))
+    return text
+
+
+def random_text(chance: Random, row: int, option: str) -> bytes:
+    """Some lines that fit at a row; at times with letters of the national option."""
+    lines = []
+    for _ in range(chance.choice([1, 1, 2, 3])):
+        line = bytes(chance.choices(LETTERS, k=chance.randrange(1, 30)))
+        if chance.random() < 0.2:
+            line = bytes([chance.randrange(1, 8)]) + line
+        lines.append(line)
+    separator = b"\x8a"
+    if chance.random() < 0.4:
+        lines, separator = [b"\x0d\x0b\x0b" + line + b"\x0a\x0a" for line in lines], b"\x8a\x8a"
+    text = separator.join(lines[:max(1, (23 - row) // len(separator))])
+    return with_letters(chance, text, option) if chance.random() < 0.3 else text
+
+
+def random_subtitles(chance: Random, option: str) -> list[Shown]:
+    """Some subtitles in order, at any time of the day, some of them next to each other."""
+    frame = chance.choice([0, 25, 900_000, chance.randrange(FRAMES_OF_A_DAY - 2000)])
+    made = []
+    for _ in range(chance.choice([1, 1, 2, 3, 4, 6])):
+        frame += chance.choice([0, 0, 1, 2, chance.randrange(80)])
+        end = frame + chance.choice([1, 2, 25, 25, *(chance.randrange(1, 120) for _ in range(3))])
+        row = chance.randrange(1, 23)
+        text = random_text(chance, row, option)
+        made.append(Shown(frame, end, row, chance.randrange(4), text))
+        frame = end
+    return made
+
+
+def stl_file(chance: Random, subtitles: list[Shown]) -> bytes:
+    """A subtitle file; now and then a comment or user data stands among its blocks."""
+    made = gsi_block(b"At random", 0, len(subtitles))
+    for number, one in enumerate(subtitles):
+        made += subtitle_blocks(number, *one)
+        if chance.random() < 0.1:
+            passed = bytearray(made[-TTI:])
+            at, value = chance.choice([(15, 1), (3, USER_DATA)])
+            passed[at] = value
+            made += passed
+    return made
+
+
+def other_subtitles(chance: Random, subtitles: list[Shown], option: str) -> list[Shown]:
+    """The subtitles with one of them changed: a transmission of the others shows another page."""
+    subtitles = list(subtitles)
+    at = chance.randrange(len(subtitles))
+    one = subtitles[at]
+    way = chance.randrange(5)
+    if way == 0:
+        one = one._replace(tci=min(max(0, one.tci + chance.randrange(-30, 30)), one.tco - 1))
+    elif way == 1:
+        one = one._replace(tco=one.tci + chance.randrange(1, 90))
+    elif way == 2:
+        one = one._replace(text=random_text(chance, one.row, option))
+    elif way == 3:
+        one = one._replace(justify=chance.randrange(4))
+    else:
+        del subtitles[at]
+        return subtitles
+    subtitles[at] = one
+    return subtitles
+
+
+# Values of fields that are told, or just not: EBN, CS, TCI and TCO, VP, JC, CF.
+FIELDS = {3: [0, 1, 0xF0, 0xFD, 0xFE, 0xFF], 4: [0, 1], 5: [0, 10, 24], 8: [0, 24, 25], 9: [0, 24],
+          12: [0, 24, 25], 13: [0, 1, 20, 22, 23, 24], 14: [0, 3, 4], 15: [0, 1, 2]}
+CODES = [0x00, 0x0B, 0x0D, 0x0E, 0x23, 0x24, 0x40, 0x5B, 0x80, 0x8A, 0x8F, 0xA7, 0xC2, 0xC8]
+
+
+def break_block(chance: Random, data: bytearray, block: int) -> None:
+    """Another byte in a block: a field, or one of its text."""
+    way = chance.random()
+    if way < 0.5:
+        data[block + 16 + chance.randrange(20)] = chance.choice([*CODES, chance.randrange(256)])
+    elif way < 0.9:
+        at = chance.choice([*FIELDS])
+        data[block + at] = chance.choice([*FIELDS[at], chance.randrange(256)])
+    else:
+        data[block + chance.randrange(3)] ^= 1  # SGN, SN
+
+
+def blocks_of_one(chance: Random, block: bytearray) -> bytearray:
+    """A block left out, or some times; now and then as blocks of one subtitle."""
+    count = chance.choice([0, 2, 2, 3, 10])
+    if chance.random() < 0.6:
+        block[3] = chance.choice([0, 1])
+        last = block[:3] + bytes([0xFF]) + block[4:]
+        return block * (count - 1) + last if count else last
+    return block * count
+
+
+def break_stl(chance: Random, whole: bytes) -> bytes:
+    """A subtitle file with some bytes, blocks or its length otherwise."""
+    data = bytearray(whole)
+    for _ in range(chance.choice([1, 1, 2, 5])):
+        blocks = (len(data) - GSI) // TTI
+        if blocks < 1:
+            break
+        one, other = (GSI + TTI * chance.randrange(blocks) for _ in range(2))
+        way = chance.random()
+        if way < 0.75:
+            break_block(chance, data, one)
+        elif way < 0.8:
+            data[chance.choice([3, 6, 11, 12, chance.randrange(GSI)])] = chance.randrange(256)
+        elif way < 0.88:
+            data[one:one + TTI], data[other:other + TTI] = \
+                data[other:other + TTI], data[one:one + TTI]
+        elif way < 0.91:
+            data[one:one + TTI] = blocks_of_one(chance, data[one:one + TTI])
+        elif way < 0.95:
+            data[one + 16:one + TTI] = chance.choice([b"xx", b"x\x8a"]) * 56
+        else:
+            del data[chance.randrange(len(data)):]
+    return bytes(data)
+
+
+# Pairs
+
+def random_words(chance: Random) -> dict[str, str]:
+    """The options that `schedule` and `check` share."""
+    return {"--page": chance.choice(["888", "888", "888", "1A0", "8f0"]),
+            "--every": str(chance.choice([1, 2, 25, 25, 50, 250])),
+            "--origin": str(chance.choice([0, 0, 3600, 2**33 - 3600 * 900_001, 5])),
+            "--option": chance.choice(["english"] * 4 + OPTIONS)}
+
+
+def other_words(chance: Random, words: dict[str, str]) -> dict[str, str]:
+    """The options with one of them otherwise, seldom."""
+    if chance.random() >= 0.25:
+        return words
+    name = chance.choice(["--every"] * 4 + ["--page", "--origin", "--origin", "--option"])
+    origin = int(words["--origin"]) + chance.choice([3600, -3600, 1, 90_000])
+    other = {"--every": str(chance.choice([1, 10, 24, 49, 1500])), "--page": "100",
+             "--origin": str(origin % 2**33),
+             "--option": chance.choice([*OPTIONS, "polish", "French", ""])}
+    return {**words, name: other[name]}
+
+
+def listed(words: dict[str, str]) -> list[str]:
+    return [word for pair in words.items() for word in pair]
+
+
+WRONG_NUMBERS = ["51", "x", "", "+1", "1 ", "4294967297", "00000000001"]
+
+
+def within_words(chance: Random, within: int) -> list[str]:
+    """The word for how many frames late a page may be; seldom left out for none, or no such
+    number."""
+    if chance.random() < 0.02:
+        return ["--within", chance.choice(WRONG_NUMBERS)]
+    if within == 0 and chance.random() < 0.8:
+        return []
+    return ["--within", chance.choice([str(within)] * 9 + [f"{within:010}"])]
+
+
+def random_pair(seed: int, schedule: Schedule) -> Pair:
+    """A pair at random. `schedule` gives the transmission of a subtitle file, by words."""
+    chance = Random(seed)
+    words = random_words(chance)
+    subtitles = random_subtitles(chance, words["--option"])
+    within = chance.choice([0] * 8 + [1, 1, 1, 2, 2, 3, 3, 4])
+    stl = stl_file(chance, subtitles)
+    modes: list[list[str]] = [[], [], ["--serial"]]
+    pes = schedule(stl, [*listed(words), *chance.choice(modes)])
+    is_late = chance.random() < (0.9 if within else 0.1)
+    if is_late:
+        pes = sent_late(chance, pes, within or chance.randrange(3), int(words["--origin"]))
+        if chance.random() < 0.7:
+            words["--every"] = str(int(words["--every"]) + within)
+    # Of one that is late, often nothing else is broken.
+    if not is_late or chance.random() < 0.4:
+        if chance.random() < 0.3:
+            stl = stl_file(chance, other_subtitles(chance, subtitles, words["--option"]))
+        if chance.random() < 0.2:
+            stl = break_stl(chance, stl)
+        pes = break_pes(chance, pes)
+        words = other_words(chance, words)
+    asked = [*listed(words), *within_words(chance, within)]
+    if chance.random() < 0.4:
+        asked.append("--complete")
+    return Pair(seed, stl, pes, asked, chance.random() < 0.25)

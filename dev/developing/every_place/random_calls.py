@@ -1,0 +1,105 @@
+"""Calls about transport streams at random: of `check`, `extract`, `packets` and `listen`."""
+from __future__ import annotations
+
+import shlex
+from random import Random
+
+from subtitles.core.times import FRAMES_OF_A_DAY, time_of
+from .calls import ALL, Call
+from .pairs import Pair, Schedule, listed, random_pair, random_subtitles, random_words, stl_file
+from .reading import pieces_of, sending_in
+from .recordings import SIZES
+from .streams import random_stream
+from .words import Options, options_of
+
+MOST_PACKETS = 40  # PES packets of a stream
+MOST_BYTES = 65_535  # of one whose end may fail, so that it is read at once
+OF_LISTEN = ("--page", "--origin", "--within")  # the words that `listen` has too
+
+
+def spelled(chance: Random, pid: int) -> str:
+    """A PID as words: seldom one that is none."""
+    if chance.random() < 0.02:
+        return chance.choice(["8191", "0x1FFF", "x", "", "0x", "257 ", "0X101"])
+    return chance.choice([str(pid), f"{pid:010}", hex(pid), f"0x{pid:08X}"])
+
+
+def range_words(chance: Random, count: int) -> list[str]:
+    """A range of so many pieces, or more; most often none, seldom a wrong one."""
+    way = chance.random()
+    if way < 0.6:
+        return []
+    if way < 0.62:
+        return ["--pes", chance.choice(["2-1", "1", "-", "x-", "00000000000-1"])]
+    first = chance.choice([0, chance.randrange(count + 2)])
+    last = chance.choice(["", str(first + chance.choice([0, 1, chance.randrange(count + 2)]))])
+    return ["--pes", f"{first}-{last}"]
+
+
+def recording_words(chance: Random, pid: int, size: int, count: int) -> list[str]:
+    """The words of a recording: seldom of another PID or another size."""
+    asked = pid ^ 1 if chance.random() < 0.03 else pid
+    words = ["--pid", spelled(chance, asked)]
+    if size != SIZES[0] or chance.random() < 0.2:
+        wrong = chance.choice(["188", "204", "189", "", "0188"])
+        words += ["--packet-size", wrong if chance.random() < 0.03 else str(size)]
+    return words
+
+
+def flips(chance: Random, count: int) -> str:
+    """Some wrong bits, in no byte two."""
+    places = {(chance.randrange(count + 2), chance.choice([0, 5, 20, chance.randrange(42)]))
+              for _ in range(chance.randrange(1, 9))}
+    return ",".join(f"{packet}:{byte}:{chance.randrange(1, 9)}" for packet, byte in sorted(places))
+
+
+def listen_words(chance: Random, options: Options | str, packets: list[bytes]) -> list[str]:
+    """Words of `listen` alone: a time near that of a PES packet, and what is hit and lost."""
+    frames = [0]
+    if not isinstance(options, str):
+        sendings = (sending_in(one, options.origin, options.within) for one in packets)
+        frames += [one[0] for one in sendings if not isinstance(one, int)]
+    frame = chance.choice(frames) + chance.choice([0, 0, 1, -1, 30])
+    words = ["--at", time_of(min(max(0, frame), FRAMES_OF_A_DAY - 1))]
+    count = 3 * len(packets)
+    if chance.random() < 0.3:
+        words += ["--skip", str(chance.randrange(count + 2))]
+    if chance.random() < 0.4:
+        words += ["--flip", flips(chance, count)]
+    if chance.random() < 0.3:
+        lost = {chance.randrange(count + 2) for _ in range(3)}
+        words += ["--lose", ",".join(map(str, sorted(lost)))]
+    if chance.random() < 0.6:
+        words += ["--receiver", chance.choice(["blank", "keep", "drop"])]
+    return words + ["--complete"] * (chance.random() < 0.3)
+
+
+def whole_pair(chance: Random, schedule: Schedule) -> Pair:
+    """A subtitle file with its transmission, which is accepted."""
+    words = random_words(chance)
+    stl = stl_file(chance, random_subtitles(chance, words["--option"]))
+    return Pair(0, stl, schedule(stl, listed(words)), listed(words), False)
+
+
+def random_calls(seed: int, schedule: Schedule) -> list[Call]:
+    """Calls about a stream at random that carries a transmission at random. `schedule` gives the
+    transmission of a subtitle file, by words."""
+    chance = Random(f"recording {seed}")
+    pair = whole_pair(chance, schedule) if chance.random() < 0.6 else random_pair(seed, schedule)
+    packets = pieces_of(pair.pes)[0][:MOST_PACKETS]
+    pid, size = chance.choice([0x101, 0x1001, chance.randrange(0x1FFF)]), chance.choice(SIZES)
+    stream = random_stream(chance, packets, pid, size)
+    name, of_stream = f"recording {seed}", recording_words(chance, pid, size, len(packets))
+    given = dict(zip(pair.words[::2], pair.words[1::2]))
+    shared = [word for key in OF_LISTEN if key in given for word in (key, given[key])]
+    pieces = range_words(chance, len(packets))
+    is_failing = chance.random() < 0.2 and 0 < len(stream) < MOST_BYTES
+    heard = listen_words(chance, options_of(pair.words), packets)
+
+    def call(command: str, words: list[str], *files: bytes) -> Call:
+        return Call(name, command, (*files, stream), shlex.join(words), is_failing)
+
+    return [call("check", [*pair.words, *of_stream, *pieces], pair.stl),
+            call("check", [*pair.words, *of_stream, *pieces, ALL], pair.stl),
+            call("extract", of_stream), call("packets", [*of_stream, *pieces]),
+            call("listen", [*shared, *of_stream, *pieces, *heard])]

@@ -1,0 +1,258 @@
+"""Subtitle files, PES packets and page headers, read as the standards say it, and what is wrong.
+
+Subtitle files are read by EBU Tech 3264, PES packets by EN 300 472, Teletext packets by EN 300 706,
+with the limits of docs/manual/limits.md. Numbers of faults are those of the manual's tables.
+Nothing here was written from the program's sources.
+"""
+from __future__ import annotations
+
+from typing import Iterator, NamedTuple
+
+from subtitles.core.pes import pts_in
+from subtitles.core.stl import GSI, LAST, TTI, USER_DATA
+from subtitles.core.teletext import NUMBER, Page, address_of, mirrored
+from subtitles.core.times import CLOCK, FRAMES_OF_A_DAY, TICKS, frame_at, frame_of_code
+
+MOST_BLOCKS, MOST_BLOCKS_OF_ONE, MOST_PES_PACKETS = 99_999, 9, 2_160_000
+
+Sending = tuple[int, list[bytes]]  # a PES packet that is read: its frame, its Teletext packets
+Header = tuple[Page, set[int]]  # the page of a header, and which of the control bits 4 to 14 it has
+
+
+class Record(NamedTuple):
+    """A subtitle as the blocks of the file hold it.
+
+    `block` is the number of its last block, and `text` what its blocks hold before their unused
+    space, joined.
+    """
+
+    block: int
+    tci: int
+    tco: int
+    row: int
+    justify: int
+    text: bytes
+
+
+class StlFault(NamedTuple):
+    """A fault of a subtitle file that its blocks have: its number, and its block."""
+
+    number: int
+    block: int
+
+
+# Those of what the first block of a subtitle says of it: CS, JC, VP, TCI and TCO.
+OF_FIRST_BLOCK = {16, 18, 19, 20, 21}
+
+
+# Subtitle files
+
+def general_fault(data: bytes) -> int | None:
+    """The number of what is wrong with the GSI block, `None` where nothing is."""
+    if len(data) < GSI:
+        return 10
+    format_code, display, table = data[3:11], data[11:12], data[12:14]
+    if format_code not in (b"STL25.01", b"STL30.01"):
+        return 11
+    if format_code == b"STL30.01":
+        return 12
+    if display not in (b"1", b"2"):
+        return 13
+    return None if table == b"00" else 14
+
+
+def first_block_fault(block: bytes) -> int | None:
+    """The number of what is wrong with the first block of a subtitle."""
+    tci, tco = frame_of_code(block[5:9]), frame_of_code(block[9:13])
+    questions = [(16, block[4] != 0), (18, block[14] > 3), (19, not 1 <= block[13] <= 23),
+                 (20, tci is None or tco is None)]
+    for number, is_broken in questions:
+        if is_broken:
+            return number
+    return 21 if tci is not None and tco is not None and tci >= tco else None
+
+
+def block_fault(block: bytes, group: list[bytes]) -> int | None:
+    """The number of what is wrong with a block after the blocks `group` of its subtitle.
+
+    A block that is passed over has none: user data, or a comment.
+    """
+    extension, comment = block[3], block[15]
+    if extension == USER_DATA:
+        return None
+    if 0xF0 <= extension <= 0xFD:
+        return 15
+    if comment > 1:
+        return 17
+    if comment == 1:
+        return None
+    if not group:
+        return first_block_fault(block)
+    if block[0:3] != group[0][0:3]:
+        return 22
+    return 23 if len(group) == MOST_BLOCKS_OF_ONE else None
+
+
+def record_of(group: list[bytes], number: int) -> Record:
+    """The subtitle that a whole group of blocks holds."""
+    head = group[0]
+    text = b"".join(block[16:].partition(b"\x8f")[0] for block in group)
+    tci, tco = frame_of_code(head[5:9]), frame_of_code(head[9:13])
+    assert tci is not None and tco is not None  # else its first block has a fault
+    return Record(number, tci, tco, head[13], head[14], text)
+
+
+def found_in(data: bytes) -> Iterator[Record | StlFault]:
+    """What a subtitle file holds, by block: records, and faults.
+
+    Where what the first block of a subtitle says of it is broken, its blocks are known all the
+    same. They are no record, and reading goes on; any other fault is the last.
+    """
+    number = general_fault(data)
+    if number:
+        yield StlFault(number, 0)
+        return
+    group: list[bytes] = []
+    is_record, count = True, 0
+    while GSI + TTI * count < len(data):
+        block = data[GSI + TTI * count:GSI + TTI * (count + 1)]
+        count += 1
+        number = 25 if count > MOST_BLOCKS else 10 if len(block) < TTI \
+            else block_fault(block, group)
+        if number:
+            yield StlFault(number, count)
+            is_record = False
+            if number not in OF_FIRST_BLOCK:
+                return
+        elif block[3] == USER_DATA or block[15] == 1:
+            continue
+        group.append(block)
+        if block[3] == LAST:
+            if is_record:
+                yield record_of(group, count)
+            group, is_record = [], True
+    if group:
+        yield StlFault(24, count)
+
+
+def records_of(data: bytes) -> list[Record]:
+    """The subtitles of a file."""
+    return [found for found in found_in(data) if isinstance(found, Record)]
+
+
+# PES packets
+
+def is_pts(field: bytes) -> bool:
+    """Whether five bytes are a PTS: 0010, and the three bits between its parts."""
+    return field[0] >> 4 == 2 and field[0] & field[2] & field[4] & 1 == 1
+
+
+def is_mark(packet: bytes) -> bool:
+    """Whether a whole packet has nothing but FF behind its length: it stands where packets of a
+    recording were lost, and no PES packet is so."""
+    return packet[6:] == b"\xff" * len(packet[6:])
+
+
+def head_fault(packet: bytes) -> int | None:
+    """The number of what is wrong before the data units of a whole packet."""
+    questions = [(45, not is_mark(packet)), (33, packet[6] >> 4 == 8), (34, packet[7] >> 6 == 2),
+                 (35, packet[8] == 0x24), (36, is_pts(packet[9:14])),
+                 (37, 0x10 <= packet[45] <= 0x1F)]
+    return next((number for number, is_kept in questions if not is_kept), None)
+
+
+def unit_fault(unit: bytes, last_line: tuple[int, int]) -> int | None:
+    """The number of what is wrong with a data unit, after a line of the field."""
+    if unit[1] != 0x2C:
+        return 38
+    if unit[0] not in (2, 3):
+        return None
+    if unit[3] != 0xE4:
+        return 39
+    return 40 if unit[2] & 31 and line_of(unit) <= last_line else None
+
+
+def line_of(unit: bytes) -> tuple[int, int]:
+    """The field and the line of a data unit, which rise; the first field has the bit set."""
+    return (0 if unit[2] & 32 else 1, unit[2] & 31)
+
+
+def units_of(packet: bytes) -> tuple[list[bytes], int | None]:
+    """The Teletext packets of the data units, and the number of what is wrong with one."""
+    packets: list[bytes] = []
+    last_line = 0, 0
+    for at in range(46, len(packet), 46):
+        unit = packet[at:at + 46]
+        number = unit_fault(unit, last_line)
+        if number:
+            return packets, number
+        if unit[0] in (2, 3):
+            packets.append(mirrored(unit[4:]))
+            if unit[2] & 31:
+                last_line = line_of(unit)
+    return packets, None
+
+
+def piece_at(data: bytes, begin: int) -> bytes | int:
+    """The piece that begins there, as long as it says that it is; or a number."""
+    head = data[begin:begin + 6]
+    if len(head) < 6:
+        return 30
+    if head[:4] != b"\0\0\1\xbd":
+        return 31
+    length = int.from_bytes(head[4:], "big") + 6
+    if length not in range(184, 184 * 9 + 1, 184):
+        return 32
+    piece = data[begin:begin + length]
+    return piece if len(piece) == length else 30
+
+
+def pieces_of(data: bytes) -> tuple[list[bytes], int | None]:
+    """The pieces with which a file begins, and the number of what is wrong with the bytes after
+    them; `None` where there are none."""
+    found: list[bytes] = []
+    begin = 0
+    while begin < len(data):
+        piece = piece_at(data, begin) if len(found) < MOST_PES_PACKETS else 44
+        if isinstance(piece, int):
+            return found, piece
+        found.append(piece)
+        begin += len(piece)
+    return found, None
+
+
+def frame_near(pts: int, origin: int) -> int | None:
+    """The frame of the day in which a PTS lies, a quarter of a frame early or less than three
+    quarters late; `None` where it lies in none."""
+    frame = (pts - origin + TICKS // 4) % CLOCK // TICKS
+    return frame if frame < FRAMES_OF_A_DAY else None
+
+
+def sending_in(piece: bytes, origin: int, within: int) -> Sending | int:
+    """The frame and the Teletext packets of a piece, or the number of what is wrong with it."""
+    number = head_fault(piece)
+    if number is not None:
+        return number
+    packets, number = units_of(piece)
+    if number is not None:
+        return number
+    frame = frame_near(pts_in(piece), origin) if within else frame_at(pts_in(piece), origin)
+    return 61 if frame is None else (frame, packets)
+
+
+# Teletext packets
+
+def header_of(packet: bytes) -> Header | None:
+    """The page and the control bits of a packet with number 0, with correction; else `None`.
+
+    The page is magazine and page number. The control bits are a set of 4 to 14.
+    """
+    address = address_of(packet)
+    numbers = [number for number in map(NUMBER.__getitem__, packet[2:10]) if number is not None]
+    if address is None or address[1] != 0 or len(numbers) < 8:
+        return None
+    bits = [(4, 3, 3), (5, 5, 2), (6, 5, 3), *((7 + at, 6, at) for at in range(4)),
+            *((11 + at, 7, at) for at in range(4))]
+    control = {name for name, number, bit in bits if numbers[number] >> bit & 1}
+    return (address[0], numbers[0] + 16 * numbers[1]), control
+

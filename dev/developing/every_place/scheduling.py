@@ -1,0 +1,82 @@
+"""What `schedule` writes, from the definitions: plain and slow."""
+from __future__ import annotations
+
+from typing import NamedTuple
+
+from subtitles.core.pes import START, STUFFING_UNIT, pts_bytes
+from subtitles.core.teletext import Page, mirrored, packet
+from subtitles.core.times import pts_of
+from .definitions import Due, stl_faults
+from .national import BITS
+from .reading import records_of
+from .rows import BLANK, COLUMNS, ROWS, SPACE
+from .words import Options, options_of
+
+SERIAL = "--serial"
+FIRST_LINE, LAST_LINE = 7, 22
+
+
+class Written(NamedTuple):
+    """The last line, and the bytes of the file."""
+
+    line: str
+    data: bytes
+
+
+def header(page: Page, option: str, is_serial: bool) -> bytes:
+    """A header of the page: subcode 0, C4, C6 and C7 set."""
+    national = sum(1 << bit - 11 for bit in BITS[option])
+    numbers = [page[1] % 16, page[1] // 16, 0, 8, 0, 8, 1, national + is_serial]
+    return packet(page[0], 0, numbers, b" " * 32)
+
+
+def closing_header(page: Page, is_serial: bool) -> bytes:
+    """A header of page FF, subcode 3F7F, of the same magazine."""
+    return packet(page[0], 0, [15, 15, 15, 7, 15, 3, 0, int(is_serial)], b" " * 32)
+
+
+def unit(number: int, data: bytes) -> bytes:
+    """A data unit: lines 7 to 22 of the first field, then of the second."""
+    field, line = divmod(number, LAST_LINE - FIRST_LINE + 1)
+    return bytes([3, 0x2C, 0xC0 | (field == 0) << 5 | FIRST_LINE + line, 0xE4]) + mirrored(data)
+
+
+def pes_of(pts: int, packets: list[bytes]) -> bytes:
+    """A PES packet with as few stuffing units as it can have."""
+    count = len(packets) // 4 + 1
+    units = b"".join(unit(number, data) for number, data in enumerate(packets))
+    return START + (184 * count - 6).to_bytes(2, "big") + b"\x84\x80\x24" + pts_bytes(pts) \
+        + b"\xff" * 31 + b"\x10" + units + STUFFING_UNIT * (4 * count - 1 - len(packets))
+
+
+def sending(page: bytes, options: Options, is_serial: bool) -> list[bytes]:
+    """The packets of a page: its header, the rows that are not blank, and a closing header."""
+    made = [header(options.page, options.option, is_serial)]
+    for row in range(1, ROWS + 1):
+        codes = page[(row - 1) * COLUMNS:row * COLUMNS]
+        if codes.strip(bytes([SPACE])):
+            made.append(packet(options.page[0], row, [], codes))
+    return [*made, closing_header(options.page, is_serial)]
+
+
+def schedule(stl: bytes, words: list[str]) -> Written:
+    """What is written of a subtitle file, and the line that is printed."""
+    options = options_of([word for word in words if word != SERIAL])
+    if isinstance(options, str):
+        return Written(options, b"")
+    fault = next(stl_faults(stl, options.option), None)
+    due = Due(records_of(stl), options.option) if fault is None else None
+    if fault is not None or due is None:
+        return Written(fault or "", b"")
+    first, last = due.first(), due.last()
+    if first is None or last is None:
+        return Written("refused 82 NoSubtitles", b"")
+    made, base, before = [], first, BLANK
+    for frame in range(first, last + 1):
+        page = due.at(frame)
+        if page != before:
+            base, before = frame, page
+        if (frame - base) % options.every == 0 or frame == last:
+            made.append(pes_of(pts_of(frame, options.origin),
+                               sending(page, options, SERIAL in words)))
+    return Written(f"written {len(made)} transmissions", b"".join(made))

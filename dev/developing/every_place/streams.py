@@ -1,0 +1,314 @@
+"""Transport streams at random: what a multiplexer sends, what is lost of it, and worse.
+
+`multiplexed` sends PES packets as a multiplexer may. `with_losses` leaves units out of that and
+makes some wrong, as a recording that lost packets. `random_stream` also repeats, moves and changes
+units, puts bytes between them and cuts the ends.
+"""
+from __future__ import annotations
+
+from random import Random
+from typing import Callable, NamedTuple
+
+from .recordings import PACKET, SYNC, TIME_STAMP, UNSEEN
+
+MOST = 184  # bytes of payload of a packet
+JUMP, BEGINS, WRONG = 0x80, 0x40, 0x80  # bits of b5, b1 and b1
+NULL_PID = 0x1FFF
+
+
+class Unit(NamedTuple):
+    """A packet of a stream. Of one of the PID: the number of its PES packet, that of the packet
+    among those with a payload (`None` without one), and whether it is one once more."""
+
+    packet: bytes
+    pes: int | None = None
+    number: int | None = None
+    is_repeat: bool = False
+
+    @property
+    def is_wrong(self) -> bool:
+        """Whether it was made wrong."""
+        return bool(self.packet[1] & WRONG or self.packet[3] & 0xC0)
+
+
+def random_bytes(chance: Random, count: int) -> bytes:
+    """Bytes of which many are those that a reader looks for."""
+    if chance.random() < 0.5:
+        return bytes([chance.choice([0, 0xFF, SYNC])]) * count
+    return bytes(chance.choices([0, 1, 0x47, 0xBD, 0xFF, *range(256)], k=count))
+
+
+# Packets
+
+def adaptation_field(chance: Random, length: int, is_jump: bool) -> bytes:
+    """One whose length field says so; a jump takes one byte at least."""
+    if length == 0:
+        return b"\0"
+    flags = chance.choice([0, 0, 0x40, 0x10]) | JUMP * is_jump
+    return bytes([length, flags]) + random_bytes(chance, length - 1)
+
+
+def packet(chance: Random, pid: int, counter: int, payload: bytes, begins: bool = False,
+           is_jump: bool = False) -> bytes:
+    """A packet with a payload; one of fewer than 184 bytes stands behind an adaptation field."""
+    field = b""
+    if len(payload) < MOST:
+        field = adaptation_field(chance, MOST - 1 - len(payload), is_jump)
+    priority = chance.choice([0, 0, 0x20])
+    head = [SYNC, BEGINS * begins | priority | pid >> 8, pid & 255,
+            counter | (0x30 if field else 0x10)]
+    return bytes(head) + field + payload
+
+
+def without_payload(chance: Random, pid: int, is_jump: bool) -> bytes:
+    """A packet of an adaptation field alone; its counter is any."""
+    head = bytes([SYNC, pid >> 8, pid & 255, chance.randrange(16) | 0x20])
+    return head + adaptation_field(chance, MOST - 1, is_jump)
+
+
+def of_another_pid(chance: Random, pid: int) -> bytes:
+    """A packet of another PID, of any form."""
+    other = chance.choice([NULL_PID, pid ^ 1, pid ^ 0x1000, chance.randrange(0x2000)])
+    if other == pid:
+        other ^= 1
+    head = bytes([SYNC, chance.choice([0, BEGINS, WRONG]) | other >> 8, other & 255,
+                  chance.randrange(256)])
+    return head + chance.choice([b"\xb7\x80", b"\1\x80", b"\0\0"]) + random_bytes(chance, 182)
+
+
+# A multiplexer
+
+class Multiplexer:
+    """Sends PES packets of a PID. The counter may jump where that is announced, between two of
+    them."""
+
+    def __init__(self, chance: Random, pid: int, has_jumps: bool) -> None:
+        self.chance, self.pid, self.has_jumps = chance, pid, has_jumps
+        self.units: list[Unit] = []
+        self.counter, self.number = chance.randrange(16), 0
+        self.repeats = chance.choice([0.0, 0.0, 0.1, 0.5, 1.0])
+        self.others = chance.choice([0.0, 0.2, 0.6])
+        self.empty = chance.choice([0.0, 0.1, 0.3])
+
+    def between(self, pes: int | None) -> None:
+        """Packets of other PIDs, and those of this one without a payload."""
+        while self.chance.random() < self.others:
+            self.units.append(Unit(of_another_pid(self.chance, self.pid)))
+        while self.chance.random() < self.empty:
+            self.units.append(Unit(without_payload(self.chance, self.pid, False), pes))
+
+    def jump(self, pes: int) -> bool:
+        """Now and then announces a jump; answers whether the next packet has to announce it."""
+        if not self.has_jumps or self.chance.random() < 0.6:
+            return False
+        self.counter = self.chance.choice([self.counter, self.chance.randrange(16)])
+        if self.chance.random() < 0.5:
+            return True
+        self.units.append(Unit(without_payload(self.chance, self.pid, True), pes))
+        self.between(pes)
+        return False
+
+    def send(self, pes: int, data: bytes) -> None:
+        """One PES packet."""
+        chance = self.chance
+        self.between(None)
+        is_jump = self.jump(pes)
+        sizes = chance.choice([[MOST], [MOST, 183, 182, 1, 92, 100], [*range(1, 185)]])
+        place = 0
+        while place < len(data):
+            size = min(chance.choice(sizes), len(data) - place)
+            if is_jump and place == 0:
+                size = min(size, 182)
+            payload = data[place:place + size]
+            times = 2 if chance.random() < self.repeats else 1
+            for turn in range(times):
+                made = packet(chance, self.pid, self.counter, payload, place == 0,
+                              is_jump and place == 0 and (turn == 0 or chance.random() < 0.7))
+                if turn:  # b1 to b3 are those of the first one
+                    made = self.units_packet(pes)[:4] + made[4:]
+                self.units.append(Unit(made, pes, self.number, turn == 1))
+                self.between(pes)
+            self.counter = (self.counter + 1) % 16
+            self.number += 1
+            place += size
+
+    def units_packet(self, pes: int) -> bytes:
+        """The last packet with a payload."""
+        return next(one.packet for one in reversed(self.units)
+                    if one.pes == pes and one.number is not None)
+
+
+def multiplexed(chance: Random, packets: list[bytes], pid: int, has_jumps: bool) -> list[Unit]:
+    """PES packets as a multiplexer sends them."""
+    sender = Multiplexer(chance, pid, has_jumps)
+    for number, data in enumerate(packets):
+        sender.send(number, data)
+    sender.between(None)
+    return sender.units
+
+
+def stream_of(chance: Random, units: list[Unit], size: int) -> bytes:
+    """The bytes of units: a time stamp before each, or 16 bytes behind each; the last may lack
+    them."""
+    before, behind = (TIME_STAMP, 0) if size == 192 else (0, size - PACKET)
+    data = b"".join(random_bytes(chance, before) + one.packet + random_bytes(chance, behind)
+                    for one in units)
+    return data[:-behind] if behind and data and chance.random() < 0.3 else data
+
+
+# Losses
+
+def made_wrong(chance: Random, unit: Unit) -> Unit:
+    """The unit with a bit that says that it can't be believed."""
+    changed = bytearray(unit.packet)
+    at, bits = chance.choice([(1, WRONG), (3, 0x40), (3, 0x80), (3, 0xC0)])
+    changed[at] |= bits
+    return unit._replace(packet=bytes(changed))
+
+
+def with_losses(chance: Random, units: list[Unit]) -> list[Unit]:
+    """Some units left out and some of the PID made wrong. Fewer than 15 packets with a payload in a
+    row are gone, each with its repeat."""
+    lost = chance.choice([0.02, 0.1, 0.4, 0.8])
+    wrong = chance.choice([0.0, 0.0, 0.05, 0.3])
+    made: list[Unit] = []
+    kept: set[int] = set()  # numbers of packets of which one is there and not wrong
+    bursts = 0
+    for unit in units:
+        bursts = chance.randrange(1, 30) if chance.random() < lost / 10 else max(0, bursts - 1)
+        is_lost = bursts > 0 or chance.random() < lost / 4
+        is_wrong = unit.pes is not None and chance.random() < wrong / 4
+        if unit.number is not None and (is_lost or is_wrong) and gone(units, unit, kept):
+            is_lost = is_wrong = False
+        if is_lost:
+            continue
+        unit = made_wrong(chance, unit) if is_wrong else unit
+        if unit.number is not None and not is_wrong:
+            kept.add(unit.number)
+        made.append(unit)
+    return made
+
+
+def gone(units: list[Unit], unit: Unit, kept: set[int]) -> bool:
+    """Whether too many packets in a row would be gone with this one: the 14 before it are."""
+    number = unit.number
+    assert number is not None
+    return number not in kept and number >= UNSEEN - 1 and \
+        not any(one in kept for one in range(number - UNSEEN + 1, number))
+
+
+# Worse
+
+Change = Callable[[Random, list[Unit], int], None]  # of some units, of this size
+
+
+def is_packet(unit: Unit) -> bool:
+    """Whether it is no bytes between packets."""
+    return len(unit.packet) == PACKET
+
+
+def any_place(chance: Random, units: list[Unit]) -> int:
+    """That of a packet, most often of the PID."""
+    places = [at for at, one in enumerate(units) if one.pes is not None]
+    if places and chance.random() < 0.9:
+        return chance.choice(places)
+    return chance.choice([at for at, one in enumerate(units) if is_packet(one)])
+
+
+def leave_out(chance: Random, units: list[Unit], size: int) -> None:
+    at = any_place(chance, units)
+    del units[at:at + chance.choice([1, 1, 2, 3, 14, 15, 16])]
+
+
+def send_again(chance: Random, units: list[Unit], size: int) -> None:
+    """A unit once or twice more, at once or a few units later."""
+    at = any_place(chance, units)
+    for _ in range(chance.choice([1, 1, 2])):
+        units.insert(min(at + chance.choice([1, 1, 1, 2, 3]), len(units)), units[at])
+
+
+def spoil(chance: Random, units: list[Unit], size: int) -> None:
+    at = any_place(chance, units)
+    units[at] = made_wrong(chance, units[at])
+
+
+def change_head(chance: Random, units: list[Unit], size: int) -> None:
+    """Another bit in the head of a packet, or in the first bytes behind it."""
+    at = any_place(chance, units)
+    changed = bytearray(units[at].packet)
+    changed[chance.choice([0, 1, 1, 2, 3, 3, 3, 3, 4, 5, 5, 6, 7, 8, 9])] ^= \
+        1 << chance.randrange(8)
+    units[at] = units[at]._replace(packet=bytes(changed))
+
+
+def change_length(chance: Random, units: list[Unit], size: int) -> None:
+    """An adaptation field of another length, up to more than there are bytes."""
+    at = any_place(chance, units)
+    changed = bytearray(units[at].packet)
+    changed[3] |= 0x20
+    changed[4] = chance.choice([0, 1, 7, 181, 182, 183, 184, 255])
+    changed[5] = chance.choice([0, 0, JUMP, 0xFF])
+    units[at] = units[at]._replace(packet=bytes(changed))
+
+
+def announce(chance: Random, units: list[Unit], size: int) -> None:
+    """A jump that is announced at any place, by a packet of the PID or of another one."""
+    at = any_place(chance, units)
+    one = bytearray(without_payload(chance, 0, True))
+    one[1] |= units[at].packet[1] & 0x1F
+    one[2] = units[at].packet[2]
+    if chance.random() < 0.2:
+        one[4] = 0
+    units.insert(at, Unit(bytes(one), units[at].pes))
+
+
+def move_counters(chance: Random, units: list[Unit], size: int) -> None:
+    """The counters from a unit on, with or without a jump that is announced there."""
+    at = any_place(chance, units)
+    more = chance.randrange(1, 16)
+    for place in filter(lambda place: is_packet(units[place]), range(at, len(units))):
+        changed = bytearray(units[place].packet)
+        changed[3] = changed[3] & 0xF0 | (changed[3] + more) % 16
+        units[place] = units[place]._replace(packet=bytes(changed))
+    if chance.random() < 0.6:
+        announce(chance, units, size)
+
+
+def change_payload(chance: Random, units: list[Unit], size: int) -> None:
+    """Other bytes at the end of a packet, or one whose payload is shorter or longer there."""
+    at = any_place(chance, units)
+    data = units[at].packet
+    count = chance.choice([1, 16, 100])
+    units[at] = units[at]._replace(packet=data[:-count] + random_bytes(chance, count))
+
+
+def put_bytes(chance: Random, units: list[Unit], size: int) -> None:
+    """Bytes between two units: few, a packet's, or so many that packets may be among them."""
+    unseen = UNSEEN * size
+    count = chance.choice([1, 5, 187, 188, size, *[unseen - 1, unseen] * 3, 15 * 188, 3000])
+    units.insert(any_place(chance, units), Unit(random_bytes(chance, count)))
+
+
+CHANGES: list[Change] = [
+    leave_out, leave_out, leave_out, send_again, send_again, spoil, spoil, change_head, change_head,
+    change_head, change_length, announce, announce, move_counters, change_payload, put_bytes,
+    put_bytes]
+
+
+def random_stream(chance: Random, packets: list[bytes], pid: int, size: int) -> bytes:
+    """PES packets as a multiplexer sends them, with losses, and with some changes of any kind."""
+    units = multiplexed(chance, packets, pid, chance.random() < 0.5)
+    if chance.random() < 0.3:
+        units = with_losses(chance, units)
+    for _ in range(chance.choice([0, 0, 1, 1, 2, 4])):
+        if any(map(is_packet, units)):
+            chance.choice(CHANGES)(chance, units, size)
+    data = stream_of(chance, units, size)
+    way = chance.random()
+    if way < 0.1:
+        data = data[chance.randrange(len(data) + 1):]
+    elif way < 0.2:
+        data = data[:chance.randrange(len(data) + 1)]
+    elif way < 0.25:
+        data = random_bytes(chance, chance.choice([1, 4, 188, 400])) + data
+    return data

@@ -1,0 +1,148 @@
+"""What is installed under a folder: the program, its man page and the tools beside it."""
+from __future__ import annotations
+
+import glob
+import os
+import re
+import shutil
+
+from subtitles.core.built import TOP, read
+from subtitles.core.words import INSTALLED, Stop
+
+TOOLS = ["cut", "origin", "part", "pes2ts", "poke", "preview", "qc", "text", "ts2pes"]
+PAGES = ["subttx.1", "subttx-qc.1"]
+MANUAL = os.path.join("docs", "manual")
+READ = [os.path.join("docs", "MANUAL.md"), os.path.join("docs", "verdict.schema.json"), "VERSION"]
+COMPLETION = os.path.join("tools", "completion.bash")
+HOME = os.path.join("lib", "subttx")
+MAN = os.path.join("share", "man", "man1")
+COMPLETIONS = os.path.join("share", "bash-completion", "completions")
+FOLDERS = "FOLDERS"  # in HOME: the folders that were made for it, and that others may use too
+LINK = re.compile(r"!?\[([^\]]*)\]\(([^)\s#]+)[^)\s]*\)")
+
+
+def copy(source: str, target: str, mode: int = 0o644) -> None:
+    """Copies a file under another name first, so that a program that runs can be replaced."""
+    os.makedirs(os.path.dirname(target), exist_ok=True)
+    shutil.copyfile(source, target + ".new")
+    os.chmod(target + ".new", mode)
+    os.replace(target + ".new", target)
+
+
+def link(words: str, name: str) -> None:
+    """A link that says the words."""
+    os.makedirs(os.path.dirname(name), exist_ok=True)
+    if os.path.lexists(name):
+        os.remove(name)
+    os.symlink(words, name)
+
+
+def copy_tools(prefix: str) -> None:
+    """The tools, what they share and what they read, as they stand in the repository."""
+    home = os.path.join(prefix, HOME)
+    shutil.rmtree(os.path.join(home, "tools"), ignore_errors=True)
+    for name in TOOLS:
+        copy(os.path.join(TOP, "tools", name), os.path.join(home, "tools", name), 0o755)
+        link(os.path.join("..", "lib", "subttx", "tools", name),
+             os.path.join(prefix, "bin", INSTALLED + name))
+    shutil.copytree(os.path.join(TOP, "tools", "subtitles"),
+                    os.path.join(home, "tools", "subtitles"),
+                    ignore=shutil.ignore_patterns("__pycache__"))
+    copy_manual(home)
+    link(os.path.join("..", "..", "bin", "subttx"), os.path.join(home, "subttx"))
+
+
+def copy_manual(home: str) -> None:
+    """The manual, with the pictures that it shows; a link to what is not installed is its words."""
+    shutil.rmtree(os.path.join(home, MANUAL), ignore_errors=True)
+    shutil.copytree(os.path.join(TOP, MANUAL), os.path.join(home, MANUAL))
+    pictures = [os.path.relpath(path, TOP)
+                for path in glob.glob(os.path.join(glob.escape(TOP), "docs", "*.png"))]
+    for name in [*READ, *pictures]:
+        copy(os.path.join(TOP, name), os.path.join(home, name))
+    for path in glob.glob(os.path.join(glob.escape(home), "docs", "**", "*.md"), recursive=True):
+        text = read(path) or ""
+        with open(path, "w", encoding="utf-8") as file:
+            file.write(without_dead_links(text, os.path.dirname(path)))
+
+
+def without_dead_links(text: str, folder: str) -> str:
+    """A document of a folder in which a link to a file that is not there is its words alone."""
+    def kept(found: re.Match[str]) -> str:
+        is_there = ":" in found[2] or os.path.exists(os.path.join(folder, found[2]))
+        return found[0] if is_there else found[1]
+
+    return LINK.sub(kept, text)
+
+
+def copy_completion(prefix: str) -> None:
+    """Completion for the program and for each tool."""
+    folder = os.path.join(prefix, COMPLETIONS)
+    copy(os.path.join(TOP, COMPLETION), os.path.join(folder, "subttx"))
+    for name in TOOLS:
+        link("subttx", os.path.join(folder, INSTALLED + name))
+
+
+def install(program: str, prefix: str) -> list[str]:
+    """Puts all there is under a folder; answers the files that a user calls or reads."""
+    copy(program, os.path.join(prefix, "bin", "subttx"), 0o755)
+    pages = [os.path.join(prefix, MAN, page) for page in PAGES]
+    for page in pages:
+        copy(os.path.join(TOP, "docs", os.path.basename(page)), page)
+    copy_tools(prefix)
+    copy_completion(prefix)
+    names = ["subttx", *(INSTALLED + name for name in TOOLS)]
+    return [os.path.join(prefix, "bin", name) for name in names] + pages
+
+
+def shared_folders(prefix: str) -> list[str]:
+    """The folders in which others may have files too, the innermost ones first."""
+    names = ["bin", MAN, COMPLETIONS, "lib"]
+    found: list[str] = []
+    for name in names:
+        while name:
+            found.append(name)
+            name = os.path.dirname(name)
+    return [os.path.join(prefix, name) for name in sorted({*found, ""}, key=len, reverse=True)]
+
+
+def install_and_note(program: str, prefix: str) -> list[str]:
+    """The same, and what `remove` has to know: which folders were not there before."""
+    made = [os.path.relpath(path, prefix) for path in shared_folders(prefix)
+            if not os.path.isdir(path)]
+    paths = install(program, prefix)
+    note = os.path.join(prefix, HOME, FOLDERS)
+    known = (read(note) or "").splitlines()
+    with open(note, "w", encoding="utf-8") as file:
+        file.writelines(f"{name}\n" for name in dict.fromkeys([*known, *made]))
+    return paths
+
+
+def remove(prefix: str) -> list[str]:
+    """Takes away what was put under a folder, and the folders that were made for it, as far as
+    nobody else has a file there; answers what was taken away."""
+    home = os.path.join(prefix, HOME)
+    if not os.path.isfile(os.path.join(home, "tools", "qc")):
+        raise Stop(f"{prefix} has no subttx: there is no {os.path.join(home, 'tools', 'qc')}")
+    made = {os.path.normpath(os.path.join(prefix, name))
+            for name in (read(os.path.join(home, FOLDERS)) or "").splitlines()}
+    paths = [os.path.join(prefix, "bin", "subttx"), *links_into(prefix),
+             *(os.path.join(prefix, MAN, page) for page in PAGES),
+             os.path.join(prefix, COMPLETIONS, "subttx")]
+    removed = [path for path in paths if os.path.lexists(path)]
+    for path in removed:
+        os.remove(path)
+    shutil.rmtree(home)
+    for path in shared_folders(prefix):
+        if os.path.normpath(path) in made and os.path.isdir(path) and not os.listdir(path):
+            os.rmdir(path)
+    return [*removed, home]
+
+
+def links_into(prefix: str) -> list[str]:
+    """The tools, and the completion of each, of this version or of another."""
+    starts = {"bin": os.path.join("..", HOME, "tools", ""), COMPLETIONS: "subttx"}
+    return [path for folder, start in starts.items()
+            for path in sorted(glob.glob(os.path.join(glob.escape(prefix), folder,
+                                                      INSTALLED + "*")))
+            if os.path.islink(path) and os.readlink(path).startswith(start)]

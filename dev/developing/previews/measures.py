@@ -1,0 +1,138 @@
+"""How a report looks in a browser: contrast, what is cut, broken words, and pictures without words.
+
+The contrast of the style's colours is computed by WCAG 2. For the rest headless Chromium opens the
+report in a frame of some width, with a script that the report itself has not.
+"""
+from __future__ import annotations
+
+import json
+import os
+import re
+import shutil
+import subprocess
+
+from subtitles.core.built import TOP
+
+LEAST_CONTRAST = 4.5
+BROWSERS = ("chromium", "chromium-browser", "google-chrome")
+# Text colours and the grounds on which they stand, as variables of the style.
+PAIRS = [(text, ground) for text in ("words", "soft", "link", "bad")
+         for ground in ("ground", "shade")]
+PAIRS += [("words", "named"), ("bad", "named"), ("on-bar", "bar"), ("on-bar", "odd")]
+
+SCRIPT = r"""
+const told = [], wide = document.documentElement.clientWidth;
+const colour = text => text.match(/[\d.]+/g).map(Number);
+const light = ([r, g, b]) => [r, g, b].map(x => x / 255).map(
+  x => x <= 0.04045 ? x / 12.92 : ((x + 0.055) / 1.055) ** 2.4)
+  .reduce((sum, x, at) => sum + x * [0.2126, 0.7152, 0.0722][at], 0);
+const contrast = (one, other) => {
+  const [low, high] = [light(one), light(other)].sort((a, b) => a - b);
+  return (high + 0.05) / (low + 0.05);
+};
+const ground = item => {
+  for (; item; item = item.parentElement) {
+    const found = colour(getComputedStyle(item).backgroundColor);
+    if (found.length < 4 || found[3] > 0) return found;
+  }
+  return [255, 255, 255];
+};
+const name = item => `${item.tagName} ${item.className.baseVal ?? item.className} ` +
+  (item.textContent || "").trim().slice(0, 40);
+for (const item of document.querySelectorAll("body *")) {
+  if (item.closest("svg") && item.tagName !== "svg") continue;
+  const box = item.getBoundingClientRect();
+  if (box.right > wide + 1 || box.left < -1) told.push(`cut: ${name(item)}`);
+  if (item.scrollWidth > item.clientWidth + 1 && getComputedStyle(item).overflowX !== "visible")
+    told.push(`scrolls: ${name(item)}`);
+}
+if (document.documentElement.scrollWidth > wide) told.push("the page is wider than the window");
+const walk = document.createTreeWalker(document.body, NodeFilter.SHOW_TEXT);
+for (let node; (node = walk.nextNode());) {
+  const item = node.parentElement;
+  if (!node.data.trim() || item.closest("svg, script, style, title")) continue;
+  const style = getComputedStyle(item);
+  if (!item.getClientRects().length || style.display === "none") continue;
+  if (!item.closest("span.in") && contrast(colour(style.color), ground(item)) < 4.5)
+    told.push(`contrast: ${name(item)} ${style.color} on ${ground(item)}`);
+  if (item.closest(".long, pre.lines")) continue;
+  for (const word of node.data.matchAll(/[^\s\-\/\u2010-\u2015]+/g)) {
+    const range = document.createRange();
+    range.setStart(node, word.index);
+    range.setEnd(node, word.index + word[0].length);
+    const tops = new Set([...range.getClientRects()].map(box => Math.round(box.top / 4)));
+    if (tops.size > 1) told.push(`broken word: ${word[0]}`);
+  }
+}
+parent.postMessage(JSON.stringify(told), "*");
+"""
+WRAPPER = """<!DOCTYPE html><html><body style="margin:0"><script>
+addEventListener("message", event => {{
+  document.getElementById("told").textContent = event.data;
+}});
+</script><iframe src="{name}" style="border:0;width:{width}px;height:2000px"></iframe>
+<pre id="told"></pre></body></html>
+"""
+
+
+def luminance(colour: str) -> float:
+    parts = [int(colour[at:at + 2], 16) / 255 for at in (0, 2, 4)]
+    linear: list[float] = [one / 12.92 if one <= 0.04045 else ((one + 0.055) / 1.055) ** 2.4
+                           for one in parts]
+    return sum(weight * one for weight, one in zip((0.2126, 0.7152, 0.0722), linear))
+
+
+def contrast(one: str, other: str) -> float:
+    low, high = sorted((luminance(one), luminance(other)))
+    return (high + 0.05) / (low + 0.05)
+
+
+def schemes() -> dict[str, dict[str, str]]:
+    """The variables of the style, light and dark."""
+    path = os.path.join(TOP, "tools", "subtitles", "preview", "style.css")
+    with open(path, encoding="utf-8") as file:
+        light, dark = (dict(re.findall(r"--([\w-]+): #(\w+);", block))
+                       for block in re.findall(r":root \{([^}]*)\}", file.read()))
+    dark = {**light, **dark}
+    return {name: {key: value if len(value) == 6 else "".join(2 * one for one in value)
+                   for key, value in scheme.items()}
+            for name, scheme in (("light", light), ("dark", dark))}
+
+
+def weak_contrasts() -> list[str]:
+    """The pairs of colours of the style with too little contrast."""
+    return [f"{text} on {ground}, {name}: {contrast(scheme[text], scheme[ground]):.2f}"
+            for name, scheme in schemes().items() for text, ground in PAIRS
+            if contrast(scheme[text], scheme[ground]) < LEAST_CONTRAST]
+
+
+def browser() -> str | None:
+    """The path of a browser, `None` where there is none."""
+    return next(filter(None, map(shutil.which, BROWSERS)), None)
+
+
+def measured(path: str, folder: str, width: int, is_dark: bool) -> list[str]:
+    """What a browser finds wrong with a report in a window of some width, as lines."""
+    with open(path, encoding="utf-8") as file:
+        text = file.read()
+    name = f"measured-{width}-{is_dark}-{os.path.basename(path)}"
+    text = re.sub(r"<details(?! open)", '<details open="open"', text)
+    if is_dark:
+        text = text.replace("(prefers-color-scheme: dark)", "(min-width: 1px)")
+    with open(os.path.join(folder, name), "w", encoding="utf-8") as file:
+        file.write(text.replace("</body>", f"<script>{SCRIPT}</script></body>"))
+    wrapper = os.path.join(folder, f"around-{name}")
+    with open(wrapper, "w", encoding="utf-8") as file:
+        file.write(WRAPPER.format(name=name, width=width))
+    profile = os.path.join(folder, f"profile-{name}")
+    command = [browser() or BROWSERS[0], "--headless", "--no-sandbox", "--disable-gpu",
+               "--hide-scrollbars", f"--user-data-dir={profile}",
+               "--virtual-time-budget=10000", "--dump-dom", f"file://{wrapper}"]
+    done = subprocess.run(command, stdin=subprocess.DEVNULL, stdout=subprocess.PIPE,
+                          stderr=subprocess.DEVNULL, timeout=120, check=False)
+    found = re.search(r'<pre id="told">(.*?)</pre>', done.stdout.decode("utf-8", "replace"), re.S)
+    if not found or not found.group(1):
+        return ["the browser told nothing"]
+    told: list[str] = json.loads(found.group(1).replace("&lt;", "<").replace("&gt;", ">")
+                                 .replace("&amp;", "&"))
+    return told

@@ -1,0 +1,171 @@
+"""The program and the folders of tests, the tools that they call, and what the machine lacks.
+
+A test is a method `test_..` of a `Case`, by Python's own unittest. It has a folder of its own, and
+goes on where something does not hold. From dev/ it runs also as `python3 -m unittest
+developing.tests.test_clocks`.
+"""
+from __future__ import annotations
+
+import atexit
+import io
+import os
+import random
+import shutil
+import subprocess
+import tempfile
+import threading
+import unittest
+from typing import Callable, NamedTuple, Sequence, TypeVar
+
+from subtitles.core.built import TOP, built_program
+from subtitles.core.pes import pes_packets, pts_bytes, pts_in
+from subtitles.core.stl import gsi_block, subtitle_blocks
+from subtitles.core.times import CLOCK
+
+EXAMPLES = os.path.join(TOP, "examples")
+SECONDS = 300  # for one call, on a machine that does other things too
+Test = TypeVar("Test", bound=Callable[..., None])
+
+
+class Done(NamedTuple):
+    """How a call ended: its status, what it printed, and its lines on standard error."""
+
+    status: int
+    out: bytes
+    told: list[str]
+
+
+class Bench:
+    """What all tests share: the program that is tried, a folder for theirs, whether speed is
+    measured, and in `over` what the machine lacks."""
+
+    def __init__(self) -> None:
+        self.folder, self.is_timed, self.over = "", False, list[str]()
+        self.chosen: str | None = None
+        self.lock = threading.Lock()
+
+    @property
+    def program(self) -> str:
+        """The path of the program: the chosen one, or the one that ./subttx runs."""
+        with self.lock:
+            if self.chosen is None:
+                self.chosen = os.path.realpath(built_program(None))
+        return self.chosen
+
+    def make_folder(self, name: str) -> str:
+        """Makes the folder of a test, which another user can look into."""
+        with self.lock:
+            if not self.folder:
+                self.folder = tempfile.mkdtemp()
+                os.chmod(self.folder, 0o755)
+                atexit.register(shutil.rmtree, self.folder, ignore_errors=True)
+            made = os.path.join(self.folder, name)
+            os.mkdir(made)
+        return made
+
+
+BENCH = Bench()
+
+
+def alone(test: Test) -> Test:
+    """A test that is timed, and so runs while no other one does."""
+    setattr(test, "is_alone", True)
+    return test
+
+
+class Case(unittest.TestCase):
+    """Tests; the files of each stand in a folder of its own."""
+
+    bench = BENCH
+    folder = ""
+
+    def setUp(self) -> None:
+        self.folder = self.bench.make_folder(self.id().rpartition("tests.")[2])
+
+    def must(self, name: str, is_right: object, told: object = "") -> bool:
+        """Tests that something holds, and goes on where it does not."""
+        with self.subTest(name):
+            self.assertTrue(is_right, told)
+        return bool(is_right)
+
+    def path(self, name: str) -> str:
+        """A file of the test."""
+        return os.path.join(self.folder, name)
+
+    def write(self, name: str, data: bytes | bytearray) -> str:
+        """Writes a file of the test; answers its path."""
+        with open(self.path(name), "wb") as file:
+            file.write(data)
+        return self.path(name)
+
+    def read(self, name: str) -> bytes:
+        """The bytes of a file of the test."""
+        with open(self.path(name), "rb") as file:
+            return file.read()
+
+    def call(self, command: Sequence[str], data: bytes | None = None,
+             env: dict[str, str] | None = None, user: int | None = None) -> Done:
+        """Runs a command in the folder; what it prints, and its lines on standard error."""
+        done = subprocess.run(command, cwd=self.folder, check=False, stdout=subprocess.PIPE,
+                              stderr=subprocess.PIPE, timeout=SECONDS, input=data or b"",
+                              env=env, user=user)
+        return Done(done.returncode, done.stdout, done.stderr.decode().splitlines())
+
+    def tool(self, name: str, *words: str, data: bytes | None = None) -> Done:
+        """Runs one of the tools."""
+        return self.call([tool_path(name), *words], data)
+
+    def program(self, *words: str) -> tuple[int, list[str]]:
+        """The status of the program, and its lines."""
+        done = self.call([self.bench.program, *words])
+        return done.status, done.out.decode().splitlines()
+
+    def schedule(self, stl: str, name: str, *options: str) -> str:
+        """The program's own transmission of a subtitle file."""
+        done = self.call([self.bench.program, "schedule", stl, self.path(name), *options])
+        assert done.status == 0, done
+        return self.path(name)
+
+
+def tool_path(name: str) -> str:
+    """The file of a tool, of tools/ where it has one there, else of dev/."""
+    path = os.path.join(TOP, "tools", name)
+    return path if os.path.exists(path) else os.path.join(TOP, "dev", name)
+
+
+def example(name: str) -> str:
+    """The file of an example."""
+    return os.path.join(EXAMPLES, name)
+
+
+def example_bytes(name: str) -> bytes:
+    """The bytes of an example."""
+    with open(example(name), "rb") as file:
+        return file.read()
+
+
+def packets(data: bytes) -> list[bytes]:
+    """The PES packets of a file's bytes."""
+    return list(pes_packets(io.BytesIO(data)))
+
+
+def moved(data: bytes, new_pts: Callable[[int, int], int]) -> bytes:
+    """The file with other PTS, by number and old PTS."""
+    return b"".join(one[:9] + pts_bytes(new_pts(number, pts_in(one)) % CLOCK) + one[14:]
+                    for number, one in enumerate(packets(data)))
+
+
+def random_subtitles(seed: int, count: int = 40) -> tuple[bytes, list[int]]:
+    """A subtitle file at random, with touching subtitles and repeated texts; and its edges."""
+    chance = random.Random(seed)
+    made: list[bytes] = []
+    edges: list[int] = []
+    frame = chance.randrange(1_900_000)
+    for number in range(count):
+        begin = frame + chance.choice([0, chance.randrange(1, 200)])
+        end = begin + chance.randrange(12, 150)
+        text = b"Number %d" % chance.randrange(count // 2)
+        made.append(subtitle_blocks(number, begin, end, chance.randrange(18, 23), 2, text))
+        edges += [begin, end]
+        frame = end
+    return gsi_block(b"At random", len(made), len(made), edges[0]) + b"".join(made), edges

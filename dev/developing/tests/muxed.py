@@ -1,0 +1,164 @@
+"""Transport streams of a programme with video and Teletext, made for tests."""
+from __future__ import annotations
+
+from typing import Iterator
+
+from subtitles.core.pes import pts_bytes, pts_in
+from subtitles.core.times import CLOCK, TICKS, ticks_between, wrapped
+from subtitles.reading.multiplex import head, section
+from subtitles.reading.transport import BEGINS, PACKET, PAYLOAD, RANDOM_ACCESS
+from .bench import packets
+
+PMT_PID, VIDEO_PID, TELETEXT_PID = 0x100, 0x200, 0x101
+MPEG_2, H_264, HEVC, PRIVATE = 0x02, 0x1B, 0x24, 0x06
+SLICES = b"\0\0\1\1" + b"slice data " * 9  # of a picture of MPEG-2
+AHEAD = 18_000  # ticks by which PTS are ahead of the PCR
+
+
+def mpeg_2_picture(structure: int = 3) -> bytes:
+    """A picture of MPEG-2: a frame, or with 1 or 2 a field."""
+    extension = bytes([0x80, 0, structure, 0, 0])
+    return b"\0\0\1\0\0\0\0\0" + b"\0\0\1\xb5" + extension + SLICES
+
+
+def h_264_picture(field: int | None = None) -> bytes:
+    """A picture of H.264, a frame or one of two fields, behind a sequence parameter set that allows
+    fields."""
+    # Baseline profile, level 3, id 0, frame_num of 4 bits, order of type 2, one reference, 16
+    # macroblocks both ways, frame_mbs_only_flag 0.
+    sequence = bits_of("01000010 00000000 00011110 1 1 011 010 0 00001111 00001111 0 1 0 0 1")
+    # first_mb_in_slice 0, slice_type 2, pic_parameter_set_id 0, frame_num 0, field_pic_flag
+    flags = "0" if field is None else f"1{field}"
+    return (b"\0\0\0\1\x09\xf0" + b"\0\0\0\1\x67" + sequence + b"\0\0\1\x65"
+            + bits_of(f"1 011 1 0000 {flags} 1") + b"\x55" * 40)
+
+
+def bits_of(text: str) -> bytes:
+    """Bits as bytes, with zeros after the last."""
+    digits = text.replace(" ", "")
+    digits += "0" * (-len(digits) % 8)
+    return bytes(int(digits[at:at + 8], 2) for at in range(0, len(digits), 8))
+
+
+def hevc_picture() -> bytes:
+    """A picture of HEVC in two slice segments."""
+    return b"\0\0\0\1\x46\x01\x50" + b"\0\0\1\x26\x01\xaf" + b"\x55" * 40 \
+        + b"\0\0\1\x26\x01\x2f" + b"\x55" * 40
+
+
+def video_packet(pts: int | None, data: bytes) -> bytes:
+    """A PES packet of video, whose length is not told."""
+    if pts is None:
+        return b"\0\0\1\xe0\0\0\x80\0\0" + data
+    return b"\0\0\1\xe0\0\0\x80\x80\x05" + pts_bytes(pts % CLOCK) + data
+
+
+class Maker:
+    """TS packets one after another; the PMT has components, each a PID, its stream_type and its
+    descriptors."""
+
+    def __init__(self, components: list[tuple[int, int, bytes]], pcr_pid: int = VIDEO_PID) -> None:
+        self.data = b""
+        self.counters: dict[int, int] = {}
+        self.pcr_pid = pcr_pid
+        pat = section(0, 1, b"\0\1" + (0xE000 | PMT_PID).to_bytes(2, "big"))
+        body = (0xE000 | pcr_pid).to_bytes(2, "big") + b"\xf0\0" + b"".join(
+            bytes([kind]) + (0xE000 | pid).to_bytes(2, "big")
+            + (0xF000 | len(more)).to_bytes(2, "big") + more for pid, kind, more in components)
+        self.tables = (0, pat), (PMT_PID, section(2, 1, body))
+
+    def put_tables(self) -> None:
+        for pid, data in self.tables:
+            self.put_packet(pid, BEGINS, data.ljust(PACKET - 4, b"\xff"))
+
+    def put_packet(self, pid: int, begins: int, payload: bytes, field: bytes = b"") -> None:
+        """A TS packet; what its payload and its adaptation field leave is stuffed."""
+        room = PACKET - 4
+        control = PAYLOAD if payload else 0
+        if field or len(payload) < room:
+            control |= 0x20
+            length = room - 1 - len(payload)
+            field = bytes([length]) + (field or (b"\0" if length else b"")).ljust(length, b"\xff")
+        counter = self.counters.get(pid, 15 if payload else 0)
+        counter = counter + 1 & 15 if payload else counter
+        self.counters[pid] = counter
+        made = head(pid, begins, control | counter) + field + payload
+        assert len(made) == PACKET
+        self.data += made
+
+    def put(self, pid: int, data: bytes, is_access: bool = False) -> None:
+        """A PES packet."""
+        first = 160 if is_access else PACKET - 4
+        self.put_packet(pid, BEGINS, data[:first], bytes([RANDOM_ACCESS]) if is_access else b"")
+        for at in range(first, len(data), PACKET - 4):
+            self.put_packet(pid, 0, data[at:at + PACKET - 4])
+
+    def put_pcr(self, pcr: int) -> None:
+        field = b"\x10" + ((pcr % CLOCK) << 15 | 0x3F << 9).to_bytes(6, "big")
+        self.put_packet(self.pcr_pid, 0, b"", field)
+
+
+def teletext_descriptor(language: bytes = b"eng", kind: int = 2, page: int = 0x88,
+                        magazine: int = 0) -> bytes:
+    return b"\x56\x05" + language + bytes([kind << 3 | magazine, page])
+
+
+def components(kind: int = MPEG_2, descriptor: bytes = teletext_descriptor()) \
+        -> list[tuple[int, int, bytes]]:
+    """Video of a kind, and Teletext."""
+    return [(VIDEO_PID, kind, b""), (TELETEXT_PID, PRIVATE, descriptor)]
+
+
+def programme(pes: bytes, first: int, kind: int = MPEG_2, picture: bytes = b"",
+              passed: int = 3, leading: int = 2) -> Maker:
+    """A stream whose first picture has this PTS. Of the video `passed` pictures come before, and
+    `leading` ones are sent after the one with the flag and shown before it."""
+    maker = Maker(components(kind))
+    made = picture or {MPEG_2: mpeg_2_picture(), H_264: h_264_picture(),
+                       HEVC: hevc_picture()}[kind]
+    maker.put_tables()
+    for number in range(passed):
+        maker.put(VIDEO_PID, video_packet(first + TICKS * (number - passed), made))
+    for number in range(2):
+        group = first + TICKS * (leading + 12) * number
+        maker.put(VIDEO_PID, video_packet(group + TICKS * leading, made), True)
+        for place in range(leading):
+            maker.put(VIDEO_PID, video_packet(group + TICKS * place, made))
+        for place in range(leading + 1, leading + 12):
+            maker.put(VIDEO_PID, video_packet(group + TICKS * place, made))
+    put_teletext(maker, pes)
+    return maker
+
+
+def put_teletext(maker: Maker, pes: bytes, ahead: int = AHEAD) -> None:
+    """PES packets of Teletext, each behind a PCR."""
+    for one in packets(pes):
+        maker.put_pcr(pts_in(one) - ahead)
+        maker.put(TELETEXT_PID, one)
+
+
+def in_frames(pes: list[bytes], begin: int, count: int, rounds: int = 66,
+              page: int = 0x88) -> Iterator[bytes]:
+    """A multiplex, frame after frame from a PTS on: a PCR, the PES packets of Teletext that are due
+    by then, and video, 16 TS packets in each of some rounds: 66 make 40 Mbit/s."""
+    maker = Maker(components(descriptor=teletext_descriptor(page=page)))
+    filler = b"".join(head(VIDEO_PID, 0, PAYLOAD | counter) + b"\x55" * (PACKET - 4)
+                      for counter in range(16)) * rounds
+    at = 0
+    for frame in range(count):
+        now = begin + TICKS * frame
+        if frame % 12 == 0:
+            maker.put_tables()
+        maker.put_pcr(now - AHEAD)
+        while at < len(pes) and ticks_between(pts_in(pes[at]), wrapped(now)) >= 0:
+            maker.put(TELETEXT_PID, pes[at])
+            at += 1
+        yield maker.data + filler
+        maker.data = b""
+
+
+def spaced(data: bytes, size: int) -> bytes:
+    """TS packets of 188 bytes as packets of 192 or 204 bytes."""
+    before, behind = (b"time", b"") if size == 192 else (b"", b"\xa5" * (size - PACKET))
+    return b"".join(before + data[at:at + PACKET] + behind
+                    for at in range(0, len(data), PACKET))

@@ -1,0 +1,58 @@
+"""Values of tests in process: parts with answers, carriers, sendings."""
+from __future__ import annotations
+
+import argparse
+import os
+from typing import Sequence
+
+from subtitles.core.teletext import packet
+from subtitles.core.words import Words
+from subtitles.qc.asked import Asked, add_pair_options, asked_with
+from subtitles.qc.carriers import Carrier
+from subtitles.qc.checking import Answer
+from subtitles.qc.clock import GIVEN, Clock
+from subtitles.qc.verdict import Part
+from subtitles.reading.listing import Listing
+
+PAGE = (0, 0x88)
+HEADER = packet(0, 0, [8, 8, 0, 8, 0, 8, 1, 0], b" " * 32)  # of page 888, which it erases
+CLOSING = packet(0, 0, [15, 15, 15, 7, 15, 3, 0, 0], b" " * 32)
+
+
+def row(number: int, text: bytes) -> bytes:
+    """A row of the magazine of page 888."""
+    return packet(0, number, (), b"\x0b\x0b" + text.ljust(38))
+
+
+def answer(lines: Sequence[str] = ("accepted 10 frames 2 transmissions",),
+           status: int | None = None) -> Answer:
+    """What `check --all` answered, by its lines."""
+    made = Answer(os.devnull)
+    for line in lines:
+        made.take(line)
+    made.end(int(made.frames is None) if status is None else status)
+    return made
+
+
+def part_with(begin: int | None, end: int | None, origin: int | None,
+              said: Answer | None = None, number: int = 1) -> Part:
+    """A part of some frames."""
+    clock = None if origin is None else Clock(origin, GIVEN)
+    return Part(number, "a.stl", "a.stl", None, origin, begin, end, None, said or answer(), clock,
+                was_read=True)
+
+
+def carrier_with(first: int | None, last: int | None) -> Carrier:
+    """A PID of which the first PCR and the last one are known."""
+    made = Carrier(1, PAGE, os.devnull, Listing())
+    made.close()
+    made.timing.first, made.timing.pcr = first, last
+    return made
+
+
+def asked_for(stl: str, recording: str | None, *words: str) -> Asked:
+    """What is asked of two files, by the words of a command line."""
+    parser = Words("")
+    add_pair_options(parser)
+    options: argparse.Namespace = parser.parse_args(words)
+    return asked_with(stl, recording, options)

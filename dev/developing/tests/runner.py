@@ -1,0 +1,119 @@
+"""Finds the tests of this folder and runs them side by side."""
+from __future__ import annotations
+
+import itertools
+import os
+import unittest
+from concurrent.futures import ThreadPoolExecutor
+from types import TracebackType
+from typing import Iterator, Sequence, Tuple, Type, Union
+
+from subtitles.core.words import Stop
+from .. import DEV
+
+FOLDER = os.path.dirname(os.path.realpath(__file__))
+PATTERN = "test_*.py"
+Error = Union[Tuple[Type[BaseException], BaseException, TracebackType], Tuple[None, None, None]]
+Several = Sequence[unittest.TestCase]
+
+
+class Counts(unittest.TestResult):
+    """Counts what holds, also of each part of a test, and tells of each thing that does not."""
+
+    def __init__(self, is_verbose: bool) -> None:
+        super().__init__()
+        self.is_verbose = is_verbose
+        self.passed = self.failed = 0
+        self.over: list[str] = []  # what was passed over, and why
+        self.in_parts: set[str] = set()  # tests of which a part was counted
+
+    def count(self, test: unittest.TestCase, error: Error | None) -> None:
+        """Counts a test, or a part of one."""
+        self.passed += error is None
+        self.failed += error is not None
+        if error is not None:
+            told = self._exc_info_to_string(error, test)  # type: ignore[attr-defined]
+            print(f"FAILED: {name_of(test)}: {told}", flush=True)
+        elif self.is_verbose:
+            print(f"passed: {name_of(test)}", flush=True)
+
+    def addSubTest(self, test: unittest.TestCase, subtest: unittest.TestCase,
+                   err: Error | None) -> None:
+        self.in_parts.add(test.id())
+        self.count(subtest, err)
+
+    def addSuccess(self, test: unittest.TestCase) -> None:
+        if test.id() not in self.in_parts:
+            self.count(test, None)
+
+    def addFailure(self, test: unittest.TestCase, err: Error) -> None:
+        self.count(test, err)
+
+    def addError(self, test: unittest.TestCase, err: Error) -> None:
+        self.count(test, err)
+
+    def addSkip(self, test: unittest.TestCase, reason: str) -> None:
+        self.over.append(reason)
+
+
+def name_of(test: unittest.TestCase) -> str:
+    """The name of a test, or of a part of one: module, class, method, then what it is about."""
+    return test.id().replace("developing.tests.", "")
+
+
+def flattened(tests: unittest.TestSuite) -> Iterator[unittest.TestCase]:
+    """The tests of a suite one by one."""
+    for one in tests:
+        if isinstance(one, unittest.TestSuite):
+            yield from flattened(one)
+        else:
+            yield one
+
+
+def found(names: Sequence[str]) -> list[unittest.TestCase]:
+    """All tests, or those in whose names one of some words is; each word has to be in one."""
+    everything = list(flattened(unittest.TestLoader().discover(FOLDER, PATTERN, DEV)))
+    for name in names:
+        if not any(name in one.id() for one in everything):
+            raise Stop(f"no test is named {name}")
+    return [one for one in everything
+            if not names or any(name in one.id() for name in names)]
+
+
+def has_fixture(kind: Type[unittest.TestCase]) -> bool:
+    """Whether the tests of a class share something that is made for them once."""
+    return "setUpClass" in kind.__dict__
+
+
+def is_alone(several: Several) -> bool:
+    """Whether a test runs while no other one does."""
+    return any(getattr(getattr(one, one.id().rpartition(".")[2], None), "is_alone", False)
+               for one in several)
+
+
+def in_units(tests: Several) -> Iterator[Several]:
+    """What runs in one go: a test, or those of a class that share something."""
+    for kind, several in itertools.groupby(tests, type):
+        if has_fixture(kind):
+            yield list(several)
+        else:
+            yield from ([one] for one in several)
+
+
+def run_all(tests: Several, at_once: int, is_verbose: bool) -> Counts:
+    """Runs tests, some at once; before them those that run alone."""
+
+    def run(several: Several) -> Counts:
+        counts = Counts(is_verbose)
+        unittest.TestSuite(several).run(counts)
+        return counts
+
+    units = list(in_units(tests))
+    done = [run(one) for one in units if is_alone(one)]
+    with ThreadPoolExecutor(at_once) as pool:
+        done += pool.map(run, [one for one in units if not is_alone(one)])
+    whole = Counts(is_verbose)
+    for one in done:
+        whole.passed, whole.failed = whole.passed + one.passed, whole.failed + one.failed
+        whole.over += one.over
+    return whole

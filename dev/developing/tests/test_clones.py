@@ -1,0 +1,261 @@
+"""./subttx in a clone in which nothing is built: which program it runs, and why not another; and
+how tools/release brings a program there, with lines of the prover that a log tells."""
+from __future__ import annotations
+
+import os
+import shutil
+import subprocess
+from typing import Iterable
+
+from subtitles.core.built import TOP, read
+from ..proved import Proved, digest_of, parsed, text_of
+from ..trial import ANOTHER_USER, Trial
+from .bench import SECONDS, Case, Done
+
+PACKET = ["packet", "00"]
+SOURCE = os.path.join("crates", "ttx_packet", "src", "parity.rt")
+VERSION = "a toolchain"
+# What stands in for the toolchain: it tells its version, and proves nothing.
+TOOLCHAIN = f'#!/bin/sh\n[ "$1" = version ] && echo {VERSION!r}\n'
+LINE = "logic=proved functions=7"
+NEITHER, PASSED, FAILED = (b"\n%d passed, %d failed\n" % it for it in ((0, 0), (1, 0), (0, 1)))
+NEEDED = ["subttx", "crates.txt", "HANDLES", "tools", "dev", "crates"]
+
+
+def left_out(folder: str, names: list[str]) -> set[str]:
+    """What a copy of the repository does without."""
+    del folder
+    return {"out", "must-fail", "release-edits", "__pycache__"} & set(names)
+
+
+class Clone:
+    """A copy of the repository in a case's folder, whose dist/ holds the program of its sources."""
+
+    def __init__(self, case: Case) -> None:
+        self.case, self.top = case, case.path("clone")
+        os.mkdir(self.top)
+        for name in NEEDED:
+            here, there = os.path.join(TOP, name), self.path(name)
+            if os.path.isdir(here):
+                shutil.copytree(here, there, ignore=left_out)
+            else:
+                shutil.copy(here, there)
+        self.crates = dict(line.split(" ") for line in self.tool("sources", "--crates"))
+        self.put("dist", case.bench.program)
+
+    def path(self, *names: str) -> str:
+        return os.path.join(self.top, *names)
+
+    def tool(self, name: str, *words: str) -> list[str]:
+        """What a tool of the clone prints, as lines."""
+        return self.case.call([self.path("tools", name), *words]).out.decode().splitlines()
+
+    def put(self, folder: str, program: str, line: str = LINE) -> None:
+        """Puts a program into a folder, with what PROVED has to say for the sources as they are."""
+        os.makedirs(self.path(folder), exist_ok=True)
+        shutil.copy(program, self.path(folder, "subttx"))
+        os.chmod(self.path(folder, "subttx"), 0o755)
+        crates = {name: (digest, line) for name, digest in self.crates.items()}
+        self.write(os.path.join(folder, "PROVED"), text_of(
+            Proved(self.tool("sources")[0], digest_of(program), VERSION, crates)))
+
+    def write(self, name: str, text: str) -> None:
+        os.makedirs(os.path.dirname(self.path(name)), exist_ok=True)
+        with open(self.path(name), "w", encoding="utf-8") as file:
+            file.write(text)
+
+    def add_to(self, name: str, text: str) -> None:
+        with open(self.path(name), "a", encoding="utf-8") as file:
+            file.write(text)
+
+    def give(self, name: str, text: str) -> None:
+        """Puts a script beside rt."""
+        self.write(os.path.join("bin", name), text)
+        os.chmod(self.path("bin", name), 0o755)
+
+    def give_toolchain(self, text: str = TOOLCHAIN) -> str:
+        """Puts an rt into the clone; the PATH that finds it."""
+        self.give("rt", text)
+        return os.pathsep.join([self.path("bin"), path_without_rt()])
+
+    def call(self, command: list[str], path: str, user: int | None = None) -> Done:
+        """Runs a command with this PATH, as another user where one is given."""
+        done = subprocess.run(command, cwd=self.case.folder, env={**os.environ, "PATH": path},
+                              user=user, stdin=subprocess.DEVNULL, stdout=subprocess.PIPE,
+                              stderr=subprocess.PIPE, timeout=SECONDS, check=False)
+        return Done(done.returncode, done.stdout, done.stderr.decode().splitlines())
+
+    def run(self, *words: str, script: str | None = None, user: int | None = None) -> Done:
+        """What ./subttx does where no rt is on the PATH."""
+        return self.call([script or self.path("subttx"), *words], path_without_rt(), user)
+
+    def release(self, *words: str) -> Done:
+        return self.call([self.path("tools", "release"), *words], self.give_toolchain())
+
+    def runs(self, name: str, done: Done | None = None) -> None:
+        """The program is run, and nothing else is told."""
+        done = done or self.run(*PACKET)
+        self.case.must(name, done == self.case.call([self.case.bench.program, *PACKET]), done)
+
+    def does_not_run(self, name: str, why: str) -> None:
+        """There is no program: that is told, and why, on two lines."""
+        done = self.run(*PACKET)
+        self.case.must(name, done.status == 2 and not done.out and len(done.told) == 2
+                       and why in done.told[0] and "rt is not on the PATH" in done.told[1], done)
+
+
+def path_without_rt() -> str:
+    folders = os.environ["PATH"].split(os.pathsep)
+    return os.pathsep.join(one for one in folders if not os.path.exists(os.path.join(one, "rt")))
+
+
+def a_log(clone: Clone, kept: Iterable[str] = ()) -> str:
+    """What rt ci prints: a crate with its tests, one that fails, and those that are kept."""
+    lines = []
+    for name in clone.crates:
+        if name in kept:
+            lines.append(f"rt: {name} is kept: an earlier run proved the same files")
+        else:
+            lines += [f"== {name}", f"fn {name}::a: proved", f"{LINE} of={name}",
+                      f"rt: {name} proved", f"== {name}: its tests", "logic=proved tests=1",
+                      f"rt: {name}: its tests are proved"]
+    return "\n".join([*lines, "== other", LINE, "rt: other NOT PROVED", "1 passed, 1 failed", ""])
+
+
+class Clones(Case):
+    """Copies of the repository."""
+
+    def test_runs_what_stands_there(self) -> None:
+        """A clone as it comes, twice; from another folder; through a link."""
+        clone = Clone(self)
+        clone.runs("at first")
+        clone.runs("again, with the choice kept")
+        os.symlink(clone.path("subttx"), self.path("link"))
+        clone.runs("through a link", clone.run(*PACKET, script=self.path("link")))
+        self.must("its path", clone.tool("program") == [clone.path("dist", "subttx")])
+
+    def test_helps_who_asks(self) -> None:
+        """Without a command, or with one word that asks for help, the script tells how it is
+        called, and then the program answers as ever; with other words it tells nothing."""
+        clone = Clone(self)
+        helping: list[list[str]] = [[], ["--help"], ["-h"], ["help"]]
+        for words in helping:
+            done = clone.run(*words)
+            self.must(f"{words}", done.status == 2 and done.out == b"usage 0 Words\n"
+                      and done.told[0] == "usage: subttx COMMAND FILES [options]", done)
+        for words in [["help", "check"], ["check"], ["chec"]]:
+            self.must(f"{words}", clone.run(*words) == Done(2, b"usage 0 Words\n", []))
+
+    def test_finds_damage(self) -> None:
+        """One byte of the program is another; also after the choice was kept."""
+        clone = Clone(self)
+        clone.runs("whole")
+        with open(clone.path("dist", "subttx"), "r+b") as file:
+            file.seek(-100, os.SEEK_END)
+            byte = file.read(1)[0]
+            file.seek(-1, os.SEEK_CUR)
+            file.write(bytes([byte ^ 1]))
+        clone.does_not_run("one byte", "dist/subttx is damaged")
+        os.remove(clone.path("dist", "subttx"))
+        clone.does_not_run("no file", "dist/subttx is no program")
+
+    def test_finds_changes(self) -> None:
+        """A source is another one, is new, or is gone; also after the choice was kept."""
+        clone = Clone(self)
+        clone.runs("as it is")
+        clone.add_to(SOURCE, "// changed\n")
+        clone.does_not_run("a source", "dist/subttx was built from other sources")
+        clone.put("dist", self.bench.program)
+        clone.runs("with a program of its own")
+        os.rename(clone.path(SOURCE), clone.path(SOURCE + "2"))
+        clone.does_not_run("another name", "dist/subttx was built from other sources")
+
+    def test_runs_where_nothing_may_be_written(self) -> None:
+        """The clone belongs to another user, or may only be read."""
+        clone, user = Clone(self), None if os.geteuid() else ANOTHER_USER
+        if user and not Trial.can(["test", "-x", clone.path("subttx")], user=user):
+            self.skipTest("a read-only clone, since no other user can read it")
+        subprocess.run(["chmod", "-R", "a-w", clone.top], check=True)
+        clone.runs("read only", clone.run(*PACKET, user=user))
+        subprocess.run(["chmod", "-R", "u+w", clone.top], check=True)
+        self.must("nothing was written", not os.path.exists(clone.path("out")))
+
+    def test_tells_of_another_machine(self) -> None:
+        """What lies there can't be run, or answers something else."""
+        clone = Clone(self)
+        for name, text in (("no program of this machine", "\x7fELF\x02 and no more"),
+                           ("another answer", "#!/bin/sh\necho nothing\n"),
+                           ("it ends by a signal", "#!/bin/sh\nkill -ILL $$\n")):
+            clone.write("other", text)
+            clone.put("dist", clone.path("other"))
+            clone.does_not_run(name, "dist/subttx does not run here")
+
+    def test_takes_first_what_was_built_here(self) -> None:
+        """out/ comes before dist/, as long as it is of the sources; what is left has no word."""
+        clone = Clone(self)
+        stored = clone.path("crates", "subttx", "stdout")
+        clone.write("other", f"#!/bin/sh\n[ $2 = 00 ] && exec echo built\ncat {stored}\n")
+        clone.put("out", clone.path("other"))
+        done = clone.run(*PACKET)
+        self.must("out/", (done.status, done.out, done.told) == (0, b"built\n", []), done)
+        clone.add_to(SOURCE, "// changed\n")
+        clone.put("dist", self.bench.program)
+        clone.runs("dist/, where out/ is older")
+
+    def test_release_takes_what_was_proved(self) -> None:
+        """From a log of rt ci into dist/, also where a part is kept; and not without all lines."""
+        clone = Clone(self)
+        built = os.path.join("crates", "subttx", "out", "subttx")
+        os.makedirs(os.path.dirname(clone.path(built)))
+        shutil.copy(self.bench.program, clone.path(built))
+        os.remove(clone.path("dist", "PROVED"))
+        first, *others = clone.crates
+        clone.write("log", a_log(clone, kept=[first]))
+        done = clone.release("--note", clone.path("log"))
+        self.must("a log is noted", done.status == 0 and not done.told, done)
+        done = clone.release("--keep")
+        self.must("a crate without a line is told", first.encode() in done.out, done)
+        done = clone.release()
+        self.must("and refused", done.status == 2 and first in done.told[0], done)
+        clone.write("log", a_log(clone, kept=others))
+        clone.release("--note", clone.path("log"))
+        done = clone.release("--compare")
+        self.must("no dist/ yet", done.status == 0 and done.out.endswith(NEITHER), done)
+        done = clone.release()
+        self.must("taken", done.status == 0, done)
+        told = parsed(read(clone.path("dist", "PROVED")))
+        self.must("each crate's own line", told.crates == {
+            name: (digest, f"{LINE} of={name}") for name, digest in clone.crates.items()}, told)
+        done = clone.release("--compare")
+        self.must("the same bytes", done.status == 0 and done.out.endswith(PASSED), done)
+        shutil.rmtree(clone.path("out"))
+        clone.runs("it runs")
+
+    def test_release_keeps_lines_of_unchanged_sources(self) -> None:
+        """A line of dist/PROVED is kept for the crate whose sources are the same, and for no other.
+        """
+        clone = Clone(self)
+        built = os.path.join("crates", "subttx", "out", "subttx")
+        os.makedirs(os.path.dirname(clone.path(built)))
+        shutil.copy(self.bench.program, clone.path(built))
+        clone.add_to(SOURCE, "// changed\n")
+        clone.write("log", a_log(clone, kept=clone.crates))
+        clone.release("--note", clone.path("log"))
+        done = clone.release("--keep")
+        told = parsed(read(clone.path("out", "PROVED"))).crates
+        self.must("all but one", set(clone.crates) - set(told) == {"ttx_packet"}, told)
+        done = clone.release("--compare")
+        self.must("other sources are told", done.status == 0 and b"other sources" in done.out, done)
+
+    def test_compare_finds_other_bytes(self) -> None:
+        """Both are of the same sources, and the programs differ; or dist/ is damaged."""
+        clone = Clone(self)
+        shutil.copy(clone.path("dist", "subttx"), self.path("other"))
+        with open(self.path("other"), "ab") as file:
+            file.write(b"\0")
+        clone.put("out", self.path("other"))
+        done = clone.release("--compare")
+        self.must("other bytes", done.status == 1 and done.out.endswith(FAILED), done)
+        shutil.copy(self.path("other"), clone.path("dist", "subttx"))
+        done = clone.release("--compare")
+        self.must("damage", done.status == 1 and b"is not the program" in done.out, done)

@@ -1,0 +1,73 @@
+"""The documents: links lead to files and headings that are there, and quoted sources are sources."""
+from __future__ import annotations
+
+import glob
+import os
+import re
+from typing import Iterator
+
+from subtitles.core.built import TOP, read
+from .bench import Case
+
+NAMES = ["*.md", "docs/*.md", "docs/manual/*.md", "examples/*.md", "tools/*.md", "dev/*.md"]
+LINK = re.compile(r"\]\(([^)\s]*)\)")
+HEADING = re.compile(r"^#+ (.*)$", re.M)
+BLOCK = re.compile(r"^```(\w*)\n(.*?)^```$", re.M | re.S)
+CODE = re.compile(r"`[^`\n]*`")
+
+
+def documents() -> Iterator[tuple[str, str]]:
+    """Each document: its path, and its text."""
+    for form in NAMES:
+        for path in sorted(glob.glob(os.path.join(TOP, form))):
+            yield path, read(path) or ""
+
+
+def anchors(text: str) -> set[str]:
+    """The headings of a document as links name them."""
+    text = BLOCK.sub("", text)
+    return {re.sub(r"[^\w\- ]", "", found.lower()).replace(" ", "-")
+            for found in HEADING.findall(text)}
+
+
+def sources() -> str:
+    """All definitions and all code."""
+    paths = [*glob.glob(os.path.join(TOP, "crates", "*", "specs", "**", "*.antt"), recursive=True),
+             *glob.glob(os.path.join(TOP, "crates", "*", "src", "**", "*.rt"), recursive=True)]
+    return "\n".join(read(path) or "" for path in sorted(paths))
+
+
+class Documents(Case):
+    """README, docs/ and the READMEs of folders."""
+
+    def test_have_links_that_lead_somewhere(self) -> None:
+        """Each link leads to a file, and to a heading of it where it names one."""
+        count = 0
+        for path, text in documents():
+            for target in LINK.findall(CODE.sub("", BLOCK.sub("", text))):
+                if ":" in target:
+                    continue
+                count += 1
+                name, _, heading = target.partition("#")
+                there = os.path.join(os.path.dirname(path), name) if name else path
+                self.must(f"{os.path.relpath(path, TOP)}: {target}", os.path.exists(there) and (
+                    not heading or heading in anchors(read(there) or "")))
+        self.must("links", count > 100, count)
+
+    def test_quote_sources(self) -> None:
+        """A block of definitions stands in the sources; so does what a change takes away."""
+        code, count = sources(), 0
+        for path, text in documents():
+            for kind, block in BLOCK.findall(text):
+                where = f"{os.path.relpath(path, TOP)}: {block[:60]!r}"
+                if kind == "antt":
+                    count += 1
+                    self.must(where, block in code)
+                elif kind == "diff":
+                    count += 1
+                    changed = re.search(r"^--- a/(.*)$", block, re.M)
+                    old = (read(os.path.join(TOP, changed[1])) if changed else None) or ""
+                    gone = re.findall(r"^-(?!-- )(.*)$", block, re.M)
+                    self.must(where, bool(gone) and all(
+                        old.count(line + "\n") == 1 for line in gone), gone)
+        self.must("blocks", count > 2, count)

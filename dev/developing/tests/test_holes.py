@@ -1,0 +1,241 @@
+"""Holes of a recording that the counters of its PID do not tell, and clocks that jump."""
+from __future__ import annotations
+
+import io
+import unittest
+from typing import NamedTuple
+
+from subtitles.core.pes import pts_in
+from subtitles.core.stl import boxed, gsi_block, subtitle_blocks
+from subtitles.core.times import CLOCK, TICKS
+from subtitles.qc.carriers import Carrier
+from subtitles.reading.holes import Way, counters
+from subtitles.reading.listing import Listing
+from subtitles.reading.multiplex import head
+from subtitles.reading.transport import PACKET, Piece, Reader
+from .bench import Case, packets
+from .muxed import (
+    AHEAD, MPEG_2, PRIVATE, TELETEXT_PID, VIDEO_PID, Maker, in_frames, teletext_descriptor)
+from .test_qc import lines_of, qc
+
+SECOND = 90_000
+AUDIO_PID, NULL_PID = 0x201, 0x1FFF
+BEGIN, COUNT = 900_000, 8  # the first frame, and how many subtitles there are
+PAGE = 0, 0x88
+PAYLOAD = b"\x55" * (PACKET - 4)
+
+
+class Shape(NamedTuple):
+    """A multiplex: TS packets a second, ticks from a PCR to the next one, whether it has null
+    packets; the frames in which no PCR is sent, and from which frame on all times are later by so
+    many ticks, which may be announced."""
+
+    rate: int = 1000
+    every: int = 3600
+    has_null: bool = False
+    pause: tuple[int, int] = (0, 0)
+    jump: tuple[int, int] = (0, 0)
+    is_announced: bool = False
+
+
+class Sent(NamedTuple):
+    """A TS packet: its bytes, and its PID."""
+
+    data: bytes
+    pid: int
+
+
+def sent_of(pes: list[bytes], shape: Shape) -> list[Sent]:
+    """A multiplex of some PES packets, video with the PCR, and audio."""
+    maker = Maker([(VIDEO_PID, MPEG_2, b""), (TELETEXT_PID, PRIVATE, teletext_descriptor())])
+    made: list[Sent] = []
+
+    def take(pid: int) -> None:
+        made.extend(Sent(maker.data[at:at + PACKET], pid)
+                    for at in range(0, len(maker.data), PACKET))
+        maker.data = b""
+
+    maker.put_tables()
+    take(0)
+    begin, end = (pts_in(pes[at]) for at in (0, -1))
+    frames, due, waiting = (end - begin) // TICKS + 30, begin - SECOND, list(pes)
+    for number in range(frames * shape.rate // 25):
+        now = begin - SECOND + number * SECOND // shape.rate
+        frame = (now - begin) // TICKS
+        later = shape.jump[1] if shape.jump[1] and frame >= shape.jump[0] else 0
+        if now >= due:
+            due += shape.every
+            if not shape.pause[0] <= frame < shape.pause[1]:
+                maker.put_pcr(now - AHEAD + later)
+                is_first = later and shape.is_announced
+                take(VIDEO_PID)
+                if is_first:
+                    made[-1] = Sent(announced(made[-1].data), VIDEO_PID)
+        if waiting and pts_in(waiting[0]) <= now:
+            maker.put(TELETEXT_PID, waiting.pop(0))
+            take(TELETEXT_PID)
+        pid = NULL_PID if shape.has_null and number % 3 else \
+            AUDIO_PID if number % 9 == 0 else VIDEO_PID
+        maker.put_packet(pid, 0, PAYLOAD)
+        take(pid)
+    return made
+
+
+def announced(data: bytes) -> bytes:
+    """A TS packet that says that its clock goes on elsewhere."""
+    return data[:5] + bytes([data[5] | 0x80]) + data[6:]
+
+
+def without(made: list[Sent], first: int, count: int) -> list[Sent]:
+    """All but what was sent from a packet of Teletext on to another one, so many behind it."""
+    own = [at for at, one in enumerate(made) if one.pid == TELETEXT_PID]
+    return made[:own[first]] + made[own[first + count]:]
+
+
+class Counters(unittest.TestCase):
+    """Whether the counters of other PIDs are whole between two PCR."""
+
+    def told(self, *parts: str, own: int = TELETEXT_PID) -> bool | None:
+        """By the packets before the first PCR, between, and behind the second, each a PID as a
+        letter and its counter, with `!` an error, with `-` no payload, with `~` it may jump."""
+        ways = []
+        for number, text in enumerate(parts):
+            data = b"".join(map(self.packet, text.split()))
+            ways.append(Way(Piece(data, 0, len(data) // PACKET, PACKET), 0, len(data), number))
+        return counters(iter(ways), own)
+
+    def packet(self, word: str) -> bytes:
+        pid = {"a": 0x201, "b": 0x202, "n": NULL_PID, "t": TELETEXT_PID}[word[0]]
+        control = (0 if "-" in word else 0x10) | (0x20 if "~" in word else 0)
+        made = head(pid, 0x80 if "!" in word else 0, control | int(word[1:].rstrip("!-~")))
+        return (made + (b"\1\x80" if "~" in word else b"")).ljust(PACKET, b"\x55")
+
+    def test_counters(self) -> None:
+        for parts, wanted in (
+                (("a1", "a2 a3", "a4"), True), (("a14", "a15 a0", "a1"), True),
+                (("a15", "a0", ""), True), (("a14", "a0", ""), False),
+                (("a1", "a2 a2 a3", ""), True),
+                (("a1", "a3", ""), False), (("", "a1 a3", ""), False), (("", "a1", ""), None),
+                (("", "", ""), None), (("a1 a9", "a10", ""), True), (("a1 a9", "", "a10"), True),
+                (("a1", "", "a3"), False), (("a1", "a2", "a3 a9"), True),
+                (("a1 b1", "a2", "b3"), False), (("a1 b1", "a2 b2", "a3 b3 a9 b9"), True),
+                (("a1 b1", "a2 b2", "a3 a9 b9"), False), (("t1", "t9", ""), None),
+                (("n1", "n9", ""), None), (("a1", "a9!", "a2"), True),
+                (("a1", "a9-", "a2"), True), (("a1", "a9~ a10", ""), True),
+                (("a1", "a9~ a11", ""), False)):
+            with self.subTest(parts=parts):
+                self.assertEqual(self.told(*parts), wanted)
+
+
+class Holes(Case):
+    """Holes, pauses and jumps."""
+
+    def programme(self, every: int = 1) -> list[bytes]:
+        """PES packets of a programme of eight seconds."""
+        blocks = [subtitle_blocks(number, begin, begin + 20, 20, 2, boxed(b"Number %d" % number))
+                  for number, begin in enumerate(range(BEGIN, BEGIN + 25 * COUNT, 25))]
+        stl = self.write("story.stl", gsi_block(b"Holes", COUNT, COUNT) + b"".join(blocks))
+        self.schedule(stl, "story.pes", "--every", str(every))
+        return packets(self.read("story.pes"))
+
+    def heard(self, made: list[Sent], size: int = 1 << 20) -> Carrier:
+        """What a carrier knows of a multiplex that is read in pieces of a size."""
+        listing, data = Listing(), io.BytesIO(b"".join(one.data for one in made))
+        carrier = Carrier(TELETEXT_PID, PAGE, self.path("taken.pes"), listing)
+
+        class Pieces:
+            def read(self, most: int, /) -> bytes:
+                return data.read(min(most, size))
+
+        for piece in Reader(Pieces()):
+            listing.find(piece)
+            carrier.take(piece)
+        carrier.close()
+        return carrier
+
+    def test_of_whole_streams(self) -> None:
+        """No loss and no jump: rates, PCR each 20 to 100 ms, with null packets, a pause of the
+        PCR, and a jump that is announced."""
+        pes = self.programme()
+        for shape in (Shape(), Shape(700), Shape(4000, 1800), Shape(700, 9000), Shape(1000, 1800),
+                      Shape(2000, 3600, True), Shape(pause=(60, 100)), Shape(700, 9000, True),
+                      Shape(jump=(60, 500_000), is_announced=True)):
+            for size in (1 << 20, 5000):
+                carrier = self.heard(sent_of(pes, shape), size)
+                self.must(f"{shape} {size}", not carrier.places() and not carrier.holes.jumps,
+                          (carrier.places(), carrier.holes.jumps))
+
+    def test_of_fast_streams(self) -> None:
+        """At 40 Mbit/s nothing is seen where nothing is missing, and a hole of 16 packets is."""
+        pes = self.programme()
+        made = b"".join(in_frames(pes, pts_in(pes[0]), 120))
+        own = [at for at in range(0, len(made), PACKET)
+               if made[at + 1] & 0x1F == TELETEXT_PID >> 8 and made[at + 2] == TELETEXT_PID & 255]
+        torn = made[:own[60]] + made[own[76] - 5 * PACKET:]
+        for name, data, count in (("whole", made, 0), ("torn", torn, 1)):
+            carrier = self.heard([Sent(data[at:at + PACKET], 0)
+                                  for at in range(0, len(data), PACKET)])
+            self.must(name, (len(carrier.places()), len(carrier.holes.jumps)) == (count, 0),
+                      (carrier.places(), carrier.holes.jumps))
+
+    def test_of_holes(self) -> None:
+        """16 packets of the PID and more lost: between which PTS, whatever the pieces are."""
+        pes = self.programme()
+        for shape in (Shape(), Shape(4000, 1800), Shape(2000, 3600, True)):
+            made = sent_of(pes, shape)
+            own = sum(one.pid == TELETEXT_PID for one in made)
+            self.must("a packet for each", own == len(pes), (own, len(pes)))
+            for count in (16, 32, 64):
+                for size in (1 << 20, 5000):
+                    carrier = self.heard(without(made, 70, count), size)
+                    known = [(one.before, one.after) for one in carrier.places()]
+                    first, last = known[0] if known else (None, None)
+                    self.must(f"{shape} {count} {size}", len(known) == 1 and first is not None
+                              and last is not None and
+                              pts_in(pes[66]) <= first <= pts_in(pes[69]) and
+                              pts_in(pes[70 + count]) <= last <= pts_in(pes[74 + count]), known)
+            carrier = self.heard(without(made, 70, 17))
+            self.must("by its counter", [one.lost for one in carrier.losses.places] == [1])
+
+    def test_of_jumps(self) -> None:
+        """Forward and back, also over the end of the clock."""
+        pes = self.programme()
+        for ticks in (8641 * SECOND, SECOND, -SECOND, CLOCK // 2 - 10 * SECOND):
+            carrier = self.heard(sent_of(pes, Shape(jump=(60, ticks))))
+            found = [one.ticks for one in carrier.holes.jumps]
+            self.must(f"{ticks}", len(found) == 1 and abs(found[0] - ticks) < 400
+                      and not carrier.places(), (found, carrier.places()))
+
+    def test_of_jumps_where_packets_are_lost(self) -> None:
+        """Forward it is a hole; back nobody can tell, and it is neither."""
+        pes = self.programme()
+        for ticks, count in ((SECOND, 1), (20 * SECOND, 1), (-SECOND, 0), (-20 * SECOND, 0)):
+            made = sent_of(pes, Shape(jump=(60, ticks)))
+            number = [at for at, one in enumerate(made) if one.pid == TELETEXT_PID][60]
+            carrier = self.heard(made[:number - 40] + made[number + 5:])
+            found = [one.missing > 0 for one in carrier.holes.places]
+            self.must(f"{ticks}", found == [True] * count and not carrier.holes.jumps,
+                      (carrier.holes.places, carrier.holes.jumps))
+
+    def test_is_judged(self) -> None:
+        """A hole of 2.56 s, in which nothing that is due changed for the repeat bound."""
+        pes = self.programme()
+        made = sent_of(pes, Shape())
+        words = [self.path("story.stl"), "one.ts", "--origin", "0"]
+        self.write("one.ts", b"".join(one.data for one in made))
+        done = qc(self, *words)
+        self.must("whole", done.status == 0, done)
+        blank = b"".join(one.data for one in without(made, 21, 16))
+        self.write("one.ts", blank)
+        done = qc(self, *words)
+        self.must("a hole", done.status == 1 and any(
+            "s are missing, by the PCR and the counters of other PIDs" in line
+            for line in done.told), done)
+        done = qc(self, *words, "--allow-lost")
+        self.must("as check says", lines_of(done)[-1].split()[0] in ("accepted", "refused"), done)
+        jumped = b"".join(one.data for one in sent_of(pes, Shape(jump=(60, 8641 * SECOND))))
+        self.write("one.ts", jumped)
+        done = qc(self, *words, "-o", "out")
+        self.must("a jump", any("warning: the clock jumps by 2:24:01 at 10:00:02:" in line and
+                                line.endswith("an encoder that was started anew? --breaks 1")
+                                for line in done.told), done)

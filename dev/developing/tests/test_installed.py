@@ -1,0 +1,220 @@
+"""tools/install and tools/dist: what they make is run from another folder."""
+from __future__ import annotations
+
+import glob
+import os
+import re
+import shutil
+import subprocess
+import tarfile
+
+from subtitles.core.built import TOP, chosen, read
+from ..prefix import PAGES, without_dead_links
+from ..proved import lacking, parsed
+from .bench import Case, Done, example
+
+TIMES = ["--from", "20:15:00:00", "--to", "20:15:09:00"]
+COMPLETE = '''source "$1"
+COMP_WORDS=("${@:2}")
+COMP_CWORD=$((${#COMP_WORDS[@]} - 1))
+if [ "$2" = subttx ]; then _subttx; else _subttx_tool "$2"; fi
+printf '%s\\n' "${COMPREPLY[@]}"
+'''
+
+
+def runs_the_whole_way(case: Case, prefix: str) -> None:
+    """From a recording to a verdict, with the tools of a prefix."""
+    def run(name: str, *words: str) -> Done:
+        return case.call([os.path.join(prefix, "bin", name), *words])
+
+    stl = example("story.stl")
+    stream = run("subttx-pes2ts", example("story.pes"), "0x101")
+    recording = run("subttx-ts2pes", case.write("story.ts", stream.out), "0x101")
+    pes = case.write("recording.pes", recording.out)
+    origin = run("subttx-origin", stl, pes).out.decode().split()
+    case.must("origin", origin == ["--origin", "0"], origin)
+    done = run("subttx-cut", pes, *TIMES, *origin, "-o", "cut.pes")
+    case.must("cut", done.status == 0, done)
+    done = run("subttx", "check", stl, "cut.pes", *origin)
+    case.must("check", done.out == b"accepted 226 frames 5 transmissions\n", done)
+    done = run("subttx-text", stl)
+    case.must("text", done.out.endswith(b"3 subtitles\n"), done)
+    done = run("subttx-preview", stl, "cut.pes", *origin, "-o", "report.html")
+    case.must("preview", (done.status, done.out) ==
+              (0, b"accepted 226 frames 5 transmissions\n"), done)
+    done = run("subttx-qc", stl, "story.ts")
+    case.must("qc", done.out.endswith(b"accepted 226 frames 5 transmissions\n") and
+              os.path.join(prefix, "bin", "subttx-origin").encode() in done.out, done)
+    done = run("subttx-poke", stl, "11=20")
+    case.must("poke", done.status == 0 and done.out[11:12] == b" ", done.told)
+    done = run("subttx-cut", "--help")
+    case.must("its own names in the help", b"subttx-cut PES" in done.out
+              and b"tools/" not in done.out, done)
+
+
+def proved_here(case: Case) -> str:
+    """The file PROVED beside the program; the test is passed over where the gate has not proved
+    that."""
+    program, _ = chosen(TOP)
+    proved = os.path.join(os.path.dirname(program), "PROVED")
+    if not program or lacking(parsed(read(proved))):
+        case.skipTest("tools/dist, since the gate has not proved the program here")
+    return proved
+
+
+class Installed(Case):
+    """What is installed and packed."""
+
+    def test_installs(self) -> None:
+        """The program and the tools, also when the folder was moved."""
+        done = self.tool("install", "-p", self.bench.program, "first/prefix")
+        self.must("status", done.status == 0, done)
+        os.rename(self.path("first/prefix"), self.path("moved"))
+        paths = [path.replace("first/prefix", self.path("moved"))
+                 for path in done.out.decode().splitlines()]
+        self.must("each file that is told", paths and all(map(os.path.exists, paths)), paths)
+        again = self.tool("install", "-p", self.bench.program, "moved")
+        self.must("once more over it", again.status == 0, again)
+        runs_the_whole_way(self, self.path("moved"))
+
+    def test_removes(self) -> None:
+        """All that was installed goes, and its folders where nobody else has a file in them."""
+        tool = ("install", "--remove")
+        done = self.tool("install", "-p", self.bench.program, "own/prefix")
+        told = done.out.decode().splitlines()
+        done = self.tool(*tool, "own/prefix")
+        self.must("what is told", done.status == 0 and {*told} <= {*done.out.decode().splitlines()},
+                  done)
+        self.must("its folder", not os.path.exists(self.path("own/prefix"))
+                  and os.path.isdir(self.path("own")))
+        os.makedirs(self.path("shared/bin"))
+        os.makedirs(self.path("shared/share/man/man1"))
+        self.write("shared/bin/subttx-own", b"of somebody else")
+        self.tool("install", "-p", self.bench.program, "shared")
+        self.tool("install", "-p", self.bench.program, "shared")  # once more over it
+        self.write("shared/share/man/other", b"")
+        os.symlink("../lib/subttx/tools/older", self.path("shared/bin/subttx-older"))
+        done = self.tool(*tool, "shared")
+        left = sorted(os.path.relpath(os.path.join(place, name), self.path("shared"))
+                      for place, folders, names in os.walk(self.path("shared"))
+                      for name in [*folders, *names])
+        self.must("of others nothing", done.status == 0 and left == [
+            "bin", "bin/subttx-own", "share", "share/man", "share/man/man1", "share/man/other"],
+                  left)
+        for words in ([*tool, "shared"], [*tool, "none"],
+                      [*tool, "-p", self.bench.program, "shared"],
+                      list(tool)):
+            done = self.tool(*words)
+            self.must(" ".join(words[1:]), done.status == 2 and len(done.told) == 1, done)
+
+    def test_has_no_dead_links(self) -> None:
+        """Each link of the installed manual leads to a file there, and each tool that an example of
+        it calls beside the program is installed."""
+        self.tool("install", "-p", self.bench.program, "prefix")
+        home = self.path("prefix/lib/subttx")
+        paths = [os.path.join(home, "docs", "MANUAL.md"),
+                 *glob.glob(os.path.join(home, "docs", "manual", "*.md"))]
+        self.must("chapters", len(paths) > 10, paths)
+        count = 0
+        for path in paths:
+            text = read(path) or ""
+            for target in re.findall(r"\]\(([^)\s#]+)", text):
+                count += 1
+                self.must(f"{os.path.relpath(path, home)}: {target}", ":" in target or
+                          os.path.exists(os.path.join(os.path.dirname(path), target)))
+            called = set(re.findall(r"^\$ .*?\btools/(\w+)", text, re.MULTILINE))
+            self.must(f"{os.path.relpath(path, home)}: tools", all(
+                os.path.exists(os.path.join(home, "tools", name)) for name in called
+                if name not in ("install", "dist")), called)
+        self.must("links", count > 40, count)
+        text = without_dead_links("![a](x.png) [`b`](y.md#z) [c](http://d) [e](f.md)", self.folder)
+        self.must("their words", text == "a `b` [c](http://d) e", text)
+
+    def test_refuses_a_dash(self) -> None:
+        """A word that begins with a dash is no folder, also after `--`."""
+        for words in (["-x"], ["--", "-x"], ["--prefix"]):
+            done = self.tool("install", "-p", self.bench.program, *words)
+            self.must(" ".join(words), done.status == 2 and len(done.told) == 1
+                      and not os.listdir(self.folder), done)
+
+    def test_completes(self) -> None:
+        """Commands, and the options of each command that the manual names; those of a tool."""
+        if not shutil.which("bash"):
+            self.skipTest("completion, since there is no bash")
+
+        def offered(*words: str) -> set[str]:
+            done = self.call(["bash", "-c", COMPLETE, "bash",
+                              os.path.join(TOP, "tools", "completion.bash"), *words])
+            return set(done.out.decode().split())
+
+        paths = glob.glob(os.path.join(TOP, "docs", "manual", "*.md"))
+        manual = "".join(read(path) or "" for path in paths)
+        headings = re.findall(r"^## `(\w+) (.*)`$", manual, re.MULTILINE)
+        self.must("commands", offered("subttx", "") == {name for name, _ in headings}, headings)
+        for name, words in headings:
+            options = set(re.findall(r"--[\w-]+", words))
+            self.must(name, options <= offered("subttx", name, "-"), (options, name))
+        self.must("values", offered("subttx", "check", "--option", "g") == {"german"})
+        tool = os.path.join(TOP, "tools", "cut")
+        self.must("a tool", {"--from", "--to", "--page", "--origin", "-o"} <= offered(tool, "-"),
+                  offered(tool, "-"))
+        tool = os.path.join(TOP, "tools", "qc")
+        self.must("qc", {"--batch", "--allow-lost", "--severity", "-o"} <= offered(tool, "-"),
+                  offered(tool, "-"))
+
+    def test_names_one_version(self) -> None:
+        version = (read(os.path.join(TOP, "VERSION")) or "none").strip()
+        for name in PAGES:
+            page = read(os.path.join(TOP, "docs", name)) or ""
+            self.must(name, re.search(rf'^\.TH .*"subttx {re.escape(version)}"', page, re.M))
+        log = re.search(r"^## (\S+)", read(os.path.join(TOP, "CHANGELOG.md")) or "", re.M)
+        self.must("the change log", log and log[1].rstrip(",") == version, log)
+
+    def test_makes_an_archive(self) -> None:
+        """The archive's sums are right, and what is in it runs; twice the same bytes."""
+        proved = proved_here(self)
+        done = self.tool("dist")
+        path = self.path(done.out.decode().strip())
+        self.must("status", done.status == 0, done)
+        before = self.read(path)
+        done = self.tool("dist", "new/folder")
+        self.must("the same bytes again, in a folder that is made",
+                  self.read(done.out.decode().strip()) == before, done)
+        done = self.tool("dist", self.write("file", b""))
+        self.must("no folder", done.status == 2 and done.told == [
+            f"dist: {self.path('file')} is no folder"], done)
+        with tarfile.open(path) as archive:
+            archive.extractall(self.folder)
+            folder = self.path(archive.getnames()[0])
+        sums = subprocess.run(["sha256sum", "--quiet", "-c", "SHA256SUMS"], cwd=folder, check=False)
+        self.must("its sums", sums.returncode == 0)
+        self.must("what was proved", read(os.path.join(folder, "PROVED")) == read(proved))
+        runs_the_whole_way(self, folder)
+
+    def test_makes_a_package(self) -> None:
+        """A package of Debian: twice the same bytes, unpacked it judges, and lintian finds no
+        error."""
+        proved = proved_here(self)
+        if not shutil.which("dpkg-deb"):
+            self.skipTest("tools/dist --deb, since there is no dpkg-deb")
+        done = self.tool("dist", "--deb")
+        path = self.path(done.out.decode().strip())
+        self.must("status", done.status == 0, done)
+        before = self.read(path)
+        self.tool("dist", "--deb")
+        self.must("the same bytes again", self.read(path) == before)
+        done = self.call(["dpkg-deb", "-f", path, "Version", "Depends"])
+        self.must("version, and what it needs", done.out.decode().splitlines() == [
+            f"Version: {(read(os.path.join(TOP, 'VERSION')) or '').strip()}",
+            "Depends: libc6 (>= 2.34), python3"], done)
+        done = self.call(["dpkg-deb", "-x", path, "empty"])
+        self.must("unpacked", done.status == 0, done)
+        runs_the_whole_way(self, self.path("empty/usr"))
+        documents = self.path("empty/usr/share/doc/subttx")
+        self.must("the manual", os.path.isfile(os.path.join(documents, "manual", "qc.md")))
+        self.must("what was proved", read(os.path.join(documents, "PROVED")) == read(proved))
+        if shutil.which("lintian"):
+            done = self.call(["lintian", "--allow-root", "--fail-on", "error", path])
+            self.must("lintian", done.status == 0, done)
+        else:
+            self.bench.over.append("the package by lintian, which is not there")

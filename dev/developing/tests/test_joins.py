@@ -1,0 +1,202 @@
+"""Marks among PES packets, ranges of these, and what the counters tell of a PID: the first one, the
+second and the last."""
+from __future__ import annotations
+
+from typing import Sequence
+
+from subtitles.core.pes import MARK, has_pts, is_mark, pes_packet, pts_in, pts_or_none
+from subtitles.core.pieces import Gap, Gaps, Pieces, gaps_in, pieces_of
+from subtitles.core.times import CLOCK, TICKS
+from subtitles.reading.losses import Losses, Place, line_of, of_gaps, overlap, what_of
+from subtitles.reading.transport import PACKET, Piece
+from .bench import Case
+from .parts import CLOSING, HEADER, row
+
+PID, OTHER = 0x101, 0x102
+PAYLOAD = 184
+COUNT = 8  # PES packets of a stream, of two TS packets each
+
+
+def sendings(first: int, count: int = COUNT) -> list[bytes]:
+    """PES packets, a frame apart, each as long as two payloads."""
+    rows = [row(18 + at, b"row %d" % at) for at in range(4)]
+    return [pes_packet((first + TICKS * at) % CLOCK, [HEADER, *rows, CLOSING])
+            for at in range(count)]
+
+
+def carried(pes: Sequence[bytes], pid: int = PID, counter: int = 0) -> list[bytes]:
+    """TS packets with PES packets whose lengths are whole payloads."""
+    made = []
+    for one in pes:
+        for at in range(0, len(one), PAYLOAD):
+            made.append(bytes([0x47, 0x40 * (at == 0) | pid >> 8, pid & 255, 0x10 | counter & 15])
+                        + one[at:at + PAYLOAD])
+            counter += 1
+    return made
+
+
+def heard(ts: Sequence[bytes], at_a_time: int = 1000, pid: int = PID) -> Losses:
+    """What is counted of TS packets of a PID, so many in a piece."""
+    losses = Losses(pid)
+    for at in range(0, len(ts), at_a_time):
+        some = ts[at:at + at_a_time]
+        losses.take(Piece(b"".join(some), 0, len(some), PACKET))
+    return losses
+
+
+def changed(ts: Sequence[bytes], at: int, byte: int, bits: int) -> list[bytes]:
+    """TS packets, bits of one of which are set."""
+    one = bytearray(ts[at])
+    one[byte] |= bits
+    return [*ts[:at], bytes(one), *ts[at + 1:]]
+
+
+class Marks(Case):
+    """What a mark is, and where marks stand."""
+
+    def test_are_no_pes_packets(self) -> None:
+        sent = sendings(0, 1)[0]
+        for name, data, is_one in [
+                ("a mark", MARK, True), ("a longer one", b"\0\0\1\xbd\1\x6a" + b"\xff" * 362, True),
+                ("less its last byte", MARK[:-1] + b"\0", False), ("a PES packet", sent, False),
+                ("byte 6 alone", sent[:6] + b"\xff" + sent[7:], False), ("a head", MARK[:6], False),
+                ("nothing", b"", False)]:
+            self.must(name, is_mark(data) == is_one)
+        self.must("its PTS", not has_pts(MARK) and pts_or_none(MARK) is None and has_pts(sent))
+
+    def test_have_pts_around(self) -> None:
+        """Of each mark the PTS before and after, whatever comes in one step."""
+        pes = sendings(CLOCK - 2 * TICKS, 4)
+        untimed = pes[0][:7] + b"\0" + pes[0][8:]
+        pts = list(map(pts_in, pes))
+        rows: list[tuple[str, list[bytes], list[Gap]]] = [
+                ("none", pes, []),
+                ("one", [pes[0], MARK, pes[1]], [Gap(1, pts[0], pts[1])]),
+                ("the last", [pes[0], MARK], [Gap(1, pts[0], None)]),
+                ("the first", [MARK, pes[0]], [Gap(0, None, pts[0])]),
+                ("two in a row", [pes[0], MARK, MARK, pes[1]],
+                 [Gap(1, pts[0], pts[1]), Gap(2, pts[0], pts[1])]),
+                ("each second", [pes[0], MARK, pes[1], MARK, pes[2], MARK, pes[3]],
+                 [Gap(1, pts[0], pts[1]), Gap(3, pts[1], pts[2]), Gap(5, pts[2], pts[3])]),
+                ("beside what has no PTS", [pes[0], untimed, MARK, untimed, pes[1]],
+                 [Gap(2, pts[0], pts[1])])]
+        for name, row_of, wanted in rows:
+            made = gaps_in(self.write("some.pes", b"".join(row_of)))
+            self.must(name, made == wanted, made)
+            gaps, found = Gaps(), list[Gap]()
+            for one in row_of:
+                found += gaps.take(one, (0, len(one)))
+            self.must(f"{name}, one by one", [*found, *gaps.waiting] == wanted, found)
+            self.must(f"{name}, counted", gaps.count == len(row_of))
+
+
+class Ranges(Case):
+    """PES packets by their numbers."""
+
+    def test_are_read(self) -> None:
+        row_of = [*sendings(0, 3), MARK, *sendings(9 * TICKS, 2)]
+        path = self.write("some.pes", b"".join(row_of) + b"rest")
+        for first, last in ((0, 0), (0, 5), (1, 3), (3, 3), (5, 5), (2, 9), (6, 6), (9, 12)):
+            pieces = pieces_of(path, first, last)
+            with pieces.open() as file:
+                data = b"".join(iter(lambda: file.read(100), b""))
+            self.must(f"{first}-{last}", data == b"".join(row_of[first:last + 1]), len(data))
+            self.must(f"{first}-{last}, words", pieces.words() == ["--pes", f"{first}-{last}"])
+        with Pieces(path).open() as file:
+            self.must("all", file.read() == b"".join(row_of) + b"rest")
+        self.must("all, words", Pieces(path).words() == [] and Pieces(path).name is None)
+
+
+class Counts(Case):
+    """What is counted of a PID, between which PTS."""
+
+    def setUp(self) -> None:
+        super().setUp()
+        self.pes = sendings(CLOCK - 3 * TICKS)  # PTS begin again between the third and the fourth
+        self.pts = list(map(pts_in, self.pes))
+        self.ts = carried(self.pes, counter=9)  # so do counters
+
+    def test_whole(self) -> None:
+        for at_a_time in (1, 2, 3, 5, 16):
+            losses = heard(self.ts, at_a_time)
+            self.must(f"{at_a_time}", (losses.places, losses.count, losses.first, losses.before)
+                      == ([], 2 * COUNT, self.pts[0], self.pts[-1]), losses.places)
+
+    def test_places(self) -> None:
+        """Each place has the PTS before and after it, and how many are lost there."""
+        pts = self.pts
+        rows: list[tuple[tuple[int, ...], list[Place]]] = [
+                ((3,), [Place(pts[1], pts[2], 1)]), ((2,), [Place(pts[0], pts[2], 1)]),
+                ((2, 3), [Place(pts[0], pts[2], 2)]), ((3, 4), [Place(pts[1], pts[3], 2)]),
+                ((1, 15), [Place(pts[0], pts[1], 1)]),
+                ((3, 9, 13), [Place(pts[at], pts[at + 1], 1) for at in (1, 4, 6)]),
+                ((2, 14), [Place(pts[0], pts[2], 1), Place(pts[6], None, 1)]), ((0,), [])]
+        for lost, wanted in rows:
+            ts = [one for number, one in enumerate(self.ts) if number not in lost]
+            for at_a_time in (1, 3, 16):
+                losses = heard(ts, at_a_time)
+                self.must(f"{lost}, {at_a_time}", losses.places == wanted, losses.places)
+                self.must(f"{lost}, {at_a_time}, in all",
+                          losses.total().lost == sum(one.lost for one in wanted))
+
+    def test_others(self) -> None:
+        """Scrambled ones, wrong ones, repeats, a jump that is announced."""
+        rows: list[tuple[str, list[bytes], int, int]] = [
+                ("scrambled", changed(changed(self.ts, 3, 3, 0x80), 9, 3, 0x40), 0, 2),
+                ("a beginning that is", changed(self.ts, 2, 3, 0xC0), 0, 1),
+                ("wrong", changed(self.ts, 5, 1, 0x80), 1, 0),
+                ("each twice", [one for one in self.ts for _ in range(2)], 0, 0),
+                ("ten lost", self.ts[:4] + self.ts[14:], 10, 0)]
+        for name, ts, lost, scrambled in rows:
+            for at_a_time in (1, 3, 64):
+                losses = heard(ts, at_a_time)
+                total = losses.total()
+                self.must(f"{name}, {at_a_time}", (total.lost, total.scrambled) ==
+                          (lost, scrambled), losses.places)
+
+    def test_each_pid_has_its_own(self) -> None:
+        """Of two PIDs one after the other, and packet by packet."""
+        other = carried(self.pes, OTHER)
+        rows: list[tuple[str, set[int], set[int]]] = [
+            ("the first", {3}, set()), ("the second", set(), {5, 11}), ("both", {3, 9}, {6})]
+        for name, lost, others in rows:
+            own = [one for at, one in enumerate(self.ts) if at not in lost]
+            rest = [one for at, one in enumerate(other) if at not in others]
+            for ts in ([*own, *rest], [one for pair in zip(own, rest) for one in pair]):
+                for pid, count in ((PID, len(lost)), (OTHER, len(others))):
+                    self.must(f"{name}, {pid}", heard(ts, 5, pid).total().lost == count)
+
+    def test_go_with_marks(self) -> None:
+        """A mark has what is counted between the PES packets around it."""
+        pts = self.pts
+        counts = [Place(pts[1], pts[2], 1), Place(pts[3], pts[5], 4), Place(pts[6], None, 0, 2)]
+        rows: list[tuple[str, list[Gap], list[Place]]] = [
+                ("no mark", [], []),
+                ("the first", [Gap(1, pts[0], pts[2])], [Place(pts[0], pts[2], 1, mark=1)]),
+                ("the second", [Gap(4, pts[3], pts[5])], [Place(pts[3], pts[5], 4, mark=4)]),
+                ("elsewhere", [Gap(3, pts[2], pts[3])], [Place(pts[2], pts[3], mark=3)]),
+                ("all", [Gap(1, pts[0], pts[2]), Gap(4, pts[3], pts[5]), Gap(6, pts[5], None)],
+                 [Place(pts[0], pts[2], 1, mark=1), Place(pts[3], pts[5], 4, mark=4),
+                  Place(pts[5], None, 0, 2, mark=6)])]
+        for name, gaps, wanted in rows:
+            made = of_gaps(gaps, counts)
+            self.must(name, made == wanted, made)
+        for one, other, is_one in ((Place(1, 5), Place(5, 9), False),
+                                   (Place(1, 5), Place(4, 9), True), (Place(None, 5), Place(5, None), False),
+                                   (Place(3, None), Place(1, 4), True),
+                                   (Place(None, None), Place(1, 2), True)):
+            self.must(f"{one} and {other}", overlap(one, other) == overlap(other, one) == is_one)
+
+    def test_words(self) -> None:
+        for place, words in (
+                (Place(1, 2), "a break in the stream"), (Place(1, 2, 1), "1 TS packet lost"),
+                (Place(1, 2, 2, 1), "2 TS packets lost, 1 TS packet scrambled"),
+                (Place(1, 2, missing=225_000), "TS packets of 2.50 s are missing, by the PCR and "
+                 "the counters of other PIDs")):
+            self.must(words, what_of(place) == words, what_of(place))
+        for place, words in (
+                (Place(3600, 7200, 1), "between PTS 3600 and 7200, 00:00:00:01 and 00:00:00:02 on"),
+                (Place(None, 7200, 1), "before PTS 7200, 00:00:00:02 on"),
+                (Place(3600, None, 1), "after PTS 3600, 00:00:00:01 on")):
+            self.must(words, line_of(place, 0) == f"{words}: 1 TS packet lost", line_of(place, 0))
+        self.must("nowhere", line_of(Place(None, None, 1), None) == "1 TS packet lost")

@@ -1,0 +1,116 @@
+"""What imports what: a package imports of those below it alone. And what has one home has it."""
+from __future__ import annotations
+
+import ast
+import os
+from typing import Iterator
+
+from subtitles.core.times import CLOCK, ticks_between, wrapped
+from .bench import Case
+from .test_hints import DEV, PACKAGES, TOOLS, modules
+
+ORDER = ["core", "reading", "qc", "preview", "calls"]  # the packages of users, lowest first
+# The second implementation shares with the tools codes, times and the layout of files.
+SHARED = {"subtitles.core." + name
+          for name in ("built", "pes", "stl", "teletext", "times", "units", "words")}
+
+
+def name_of(path: str) -> str:
+    """The name of a module by its file; a package has that of its folder."""
+    home = TOOLS if path.startswith(TOOLS + os.sep) else DEV
+    words = os.path.relpath(path, home).removesuffix(".py").split(os.sep)
+    return ".".join(words[:-1] if words[-1] == "__init__" else words)
+
+
+def imported(text: str, name: str, is_package: bool) -> Iterator[str]:
+    """The names that a module imports, also within functions and for type hints alone; of
+    `from package import module` that of the module too."""
+    here = name.split(".") if is_package else name.split(".")[:-1]
+    for node in ast.walk(ast.parse(text)):
+        if isinstance(node, ast.Import):
+            yield from (one.name for one in node.names)
+        elif isinstance(node, ast.ImportFrom):
+            above = here[:len(here) - node.level + 1] if node.level else []
+            module = ".".join([*above, *([node.module] if node.module else [])])
+            yield module
+            yield from (f"{module}.{one.name}" for one in node.names)
+
+
+def wrong_imports(name: str, names: Iterator[str]) -> list[str]:
+    """Those that a module must not import."""
+    here = name.split(".")
+    if here[0] == "developing":
+        if here[1:2] != ["every_place"]:
+            return []
+        return [one for one in names if one.startswith("subtitles")
+                and not any((one + ".").startswith(shared + ".") for shared in SHARED)]
+    allowed = ORDER[:ORDER.index(here[1]) + 1] if here[1:] else []
+    found = []
+    for one in names:
+        words = one.split(".")
+        is_right = words[0] != "developing" and (words[0] != "subtitles"
+                                                 or words[1:2] == [] or words[1] in allowed)
+        found += [] if is_right else [one]
+    return found
+
+
+def wraps(text: str) -> list[int]:
+    """The lines of a module that wrap something at the clock of PTS themselves."""
+    return [node.lineno for node in ast.walk(ast.parse(text))
+            if isinstance(node, ast.BinOp) and isinstance(node.op, (ast.Mod, ast.FloorDiv))
+            and isinstance(node.right, ast.Name) and node.right.id == "CLOCK"]
+
+
+class Layers(Case):
+    """What modules import, and what has one home."""
+
+    def test_go_downwards(self) -> None:
+        """Each module of both packages."""
+        paths = [path for folder in PACKAGES for path in modules(folder)]
+        self.must("modules", len(paths) > 150, len(paths))
+        for path in paths:
+            name = name_of(path)
+            with open(path, encoding="utf-8") as file:
+                names = imported(file.read(), name, path.endswith("__init__.py"))
+            wrong = wrong_imports(name, names)
+            self.must(name, not wrong, wrong)
+
+    def test_tells_wrong_ones(self) -> None:
+        """What has to be found, by the module that imports it."""
+        for name, text, is_right in [
+                ("subtitles.qc.pair", "from ..preview.page import document", False),
+                ("subtitles.qc.pair", "from .. import preview", False),
+                ("subtitles.qc.pair", "def f():\n    from ..calls import main", False),
+                ("subtitles.qc.pair", "if TYPE_CHECKING:\n    import subtitles.calls.main", False),
+                ("subtitles.qc.pair", "from ..core.words import Stop\nfrom .asked import Asked",
+                 True),
+                ("subtitles.calls.single", "from ..preview.overview import overview", True),
+                ("subtitles.core.words", "from developing import TOOLS", False),
+                ("subtitles.core.words", "from ..reading import sent", False),
+                ("developing.every_place.known", "from subtitles.qc.told import told_of", False),
+                ("developing.every_place.known", "from subtitles.core.times import CLOCK", True)]:
+            wrong = wrong_imports(name, imported(text, name, False))
+            self.must(f"{name}: {text}", (not wrong) == is_right, wrong)
+
+    def test_wrap_in_one_place(self) -> None:
+        """PTS are wrapped at 2^33 by `core.times` alone, in what users call."""
+        self.must("what is found", wraps("a = 1\nb = (a - 2) % CLOCK") == [2])
+        for path in modules(PACKAGES[0]):
+            with open(path, encoding="utf-8") as file:
+                found = wraps(file.read())
+            is_home = name_of(path) == "subtitles.core.times"
+            self.must(name_of(path), bool(found) == is_home, found)
+
+    def test_are_wrapped(self) -> None:
+        """Ticks as a PTS has them, and how far apart two PTS are, where these begin again between.
+        """
+        for ticks, wanted in ((0, 0), (CLOCK - 1, CLOCK - 1), (CLOCK, 0), (-1, CLOCK - 1),
+                              (2 * CLOCK + 5, 5)):
+            self.must(f"wrapped {ticks}", wrapped(ticks) == wanted, wrapped(ticks))
+        for first, second, wanted in ((0, 0, 0), (5, 8, 3), (8, 5, -3), (CLOCK - 1, 1, 2),
+                                      (1, CLOCK - 1, -2), (0, CLOCK // 2 - 1, CLOCK // 2 - 1),
+                                      (0, CLOCK // 2, -CLOCK // 2),
+                                      (0, CLOCK // 2 + 1, 1 - CLOCK // 2),
+                                      (CLOCK + 5, 8, 3)):
+            found = ticks_between(first, second)
+            self.must(f"from {first} to {second}", found == wanted, found)

@@ -1,0 +1,51 @@
+"""The lists of tools and modules: each has its row, and each row is of one that is there."""
+from __future__ import annotations
+
+import os
+import re
+
+from subtitles.core.built import TOP, read
+from ..edits import with_tables
+from .bench import Case
+
+# The READMEs, each with its folder and with the package whose modules it lists too.
+FOLDERS = {"tools": "subtitles", "dev": "developing"}
+PACKAGES = [*(os.path.join("tools", "subtitles", name)
+              for name in ("core", "reading", "qc", "preview", "calls")),
+            *(os.path.join("dev", "developing", name) for name in ("every_place", "previews"))]
+ROW = re.compile(r"^\| (`.*?) \|", re.M)  # a row of a README: the names in its first cell
+LINE = re.compile(r"^([a-z_]+) +\S", re.M)  # a line of the list of a package, in its __init__.py
+
+
+def entries(folder: str) -> list[str]:
+    """What stands in a folder, as the lists name it: a module without its ending, a folder with a
+    slash."""
+    return sorted(name.removesuffix(".py") + "/" * os.path.isdir(os.path.join(folder, name))
+                  for name in os.listdir(folder) if not name.startswith("__"))
+
+
+class Lists(Case):
+    """The lists of the READMEs and of the packages."""
+
+    def test_are_whole(self) -> None:
+        """The README of a folder lists its scripts, and the modules that they share."""
+        for name, package in FOLDERS.items():
+            folder = os.path.join(TOP, name)
+            text = read(os.path.join(folder, "README.md")) or ""
+            rows = re.findall(r"`(.+?)`", " ".join(ROW.findall(text)))
+            wanted = [one for one in [*entries(folder), *entries(os.path.join(folder, package))]
+                      if one not in ("README.md", package + "/")]
+            self.must(name, sorted(rows) == sorted(wanted), set(rows) ^ set(wanted))
+
+    def test_are_whole_of_packages(self) -> None:
+        """The head of a package lists its modules."""
+        for name in PACKAGES:
+            folder = os.path.join(TOP, name)
+            rows = LINE.findall((read(os.path.join(folder, "__init__.py")) or "").split('"""')[1])
+            wanted = [one for one in entries(folder) if "." not in one and "-" not in one]
+            self.must(name, sorted(rows) == wanted, set(rows) ^ set(wanted))
+
+    def test_are_those_of_the_edits(self) -> None:
+        """The tables of wrong programs are those of the edits: dev/edits --table writes them."""
+        text = read(os.path.join(TOP, "docs", "WRONG-PROGRAMS.md")) or ""
+        self.must("dev/edits --table docs/WRONG-PROGRAMS.md", text == with_tables(text))

@@ -1,0 +1,151 @@
+"""What machines get of several pairs: lines of CSV, testcases of JUnit, members of objects."""
+from __future__ import annotations
+
+import argparse
+import contextlib
+import csv
+import io
+import json
+import unittest
+from typing import Any
+from xml.etree import ElementTree
+
+from subtitles.calls import collecting
+from subtitles.calls.junit import TestCase, text_of as junit_of
+from subtitles.calls.machine import gap_words
+from subtitles.calls.objects import Row
+from subtitles.calls.table import cell_words, text_of as csv_of
+from subtitles.qc.verdict import Gap
+from subtitles.reading.losses import Place
+from .bench import Case
+
+ASKED = {"stl": "one.stl", "recording": "one.ts"}
+NO_CELL = {"code": "00", "character": ""}
+
+
+def fault(number: int, **more: Any) -> dict[str, Any]:
+    """A fault of an object; what is not named does not apply."""
+    return {"subtitle": None, "cause": None, "due": None, "held": None, "number": number,
+            "part": 1, "line": f"refused {number}", **more}
+
+
+def subtitle(number: int, begin: str, end: str) -> dict[str, object]:
+    return {"number": number, "begin": begin, "end": end}
+
+
+CAUSE = {"cause": "late", "frames": 3, "subtitle": subtitle(9, "3", "4"), "text": "due",
+         "sent": "other", "words": "late by 3"}
+OBJECTS: list[dict[str, Any]] = [
+    {"asked": ASKED, "verdict": "refused", "status": 1, "line": "refused 72", "faults": [
+        fault(72, subtitle=subtitle(7, "1", "2"), cause=CAUSE,
+              due={"code": "41", "character": "A"}, held=NO_CELL), fault(38, pes=5)]},
+    {"name": "two", "verdict": "not judged", "status": 2, "reason": "no file\nat all"},
+    {"asked": {"stl": "three.stl", "recording": None}, "verdict": "accepted", "status": 0,
+     "line": "accepted", "faults": None}]
+
+
+class Tables(unittest.TestCase):
+    """Lines of CSV."""
+
+    def rows(self, objects: list[dict[str, Any]]) -> list[dict[str, str]]:
+        """The lines, each by the names of its columns."""
+        text = b"".join(csv_of(objects)).decode()
+        return list(csv.DictReader(io.StringIO(text)))
+
+    def test_pairs_and_faults(self) -> None:
+        """A line for each pair, then for each of its faults; an object without faults has one."""
+        found = [(row["stl"], row["recording"], row["verdict"], row["number"], row["pes"],
+                  row["reason"], row["line"]) for row in self.rows(OBJECTS)]
+        self.assertEqual(found, [
+            ("one.stl", "one.ts", "refused", "", "", "", "refused 72"),
+            ("one.stl", "one.ts", "refused", "72", "", "", "refused 72"),
+            ("one.stl", "one.ts", "refused", "38", "5", "", "refused 38"),
+            ("two", "", "not judged", "", "", "no file\nat all", ""),
+            ("three.stl", "", "accepted", "", "", "", "accepted")])
+
+    def test_order(self) -> None:
+        """The lines of objects are those of each by itself, in any order, after one head."""
+        for order in ((0, 1, 2), (2, 1, 0), (1, 0, 2), (0,), ()):
+            alone = [row for at in order for row in self.rows([OBJECTS[at]])]
+            with self.subTest(order=order):
+                self.assertEqual(self.rows([OBJECTS[at] for at in order]), alone)
+
+    def test_columns_of_a_fault(self) -> None:
+        """The subtitle, the cells and the cause, each in the column of its name."""
+        with_all, without = self.rows(OBJECTS[:1])[1:]
+        names = ("subtitle", "begin", "end", "due", "held", "cause", "cause_frames",
+                 "cause_subtitle", "cause_text", "cause_sent", "cause_words")
+        self.assertEqual([with_all[name] for name in names], [
+            "7", "1", "2", "41 A", "00", "late", "3", "9", "due", "other", "late by 3"])
+        self.assertEqual([without[name] for name in names], [""] * len(names))
+        self.assertEqual(cell_words(None), "")
+
+
+class Testcases(unittest.TestCase):
+    """Testcases of JUnit."""
+
+    CASES = [("accepted", 0), ("refused", 1), ("lost", 1), ("waived", 0), ("not judged", 2),
+             ("refused", 1), ("warned", 1), ("not judged", 2)]
+
+    def test_counts(self) -> None:
+        """Of the first so many pairs: failures are those with status 1, errors those with 2."""
+        for count in range(len(self.CASES) + 1):
+            cases = [TestCase(f"pair {at}", verdict, status, "line", ["more"], 0.5)
+                     for at, (verdict, status) in enumerate(self.CASES[:count])]
+            suites = ElementTree.fromstring(junit_of(cases, "2026-11-26T10:00:00Z"))
+            statuses = [status for _, status in self.CASES[:count]]
+            wanted = [str(number) for number in (count, statuses.count(1), statuses.count(2),
+                                                 f"{count / 2:.3f}")]
+            with self.subTest(count=count):
+                for element in (suites, suites[0]):
+                    self.assertEqual([element.get(name) for name in (
+                        "tests", "failures", "errors", "time")], wanted)
+                kinds = [[child.tag for child in case] for case in suites[0]]
+                self.assertEqual(kinds, [
+                    [{0: "system-out", 1: "failure", 2: "error"}[status]] * (verdict != "accepted")
+                    for verdict, status in self.CASES[:count]])
+
+
+class Statuses(Case):
+    """The status of many pairs."""
+
+    ROW = Row("one", "one.stl", "accepted", 0, "accepted", 0, {}, [], 0.0, "")
+
+    def end(self, outputs: dict[str, str], is_stopped: bool = False) -> int:
+        """The status where some outputs are asked for."""
+        self.write("one.json", b'{"format": 3, "verdict": "accepted", "status": 0, "line": "a"}')
+        words = argparse.Namespace(csv=None, junit=None, json=None)
+        vars(words).update(outputs)
+        with contextlib.redirect_stdout(io.StringIO()), contextlib.redirect_stderr(io.StringIO()):
+            return collecting.end(words, [self.ROW], [self.path("one.json")], is_stopped)
+
+    def test_outputs_that_fail(self) -> None:
+        """Each of the three, whether others are written or not."""
+        nowhere = self.path("nowhere/at/all")
+        self.must("none", self.end({}) == 0)
+        self.must("stopped", self.end({}, True) == 2)
+        for name in ("csv", "junit", "json"):
+            for others in ((), ("csv", "junit", "json")):
+                outputs = {one: self.path(f"out.{one}") for one in others if one != name}
+                self.must(f"{name} {others}", self.end({**outputs, name: nowhere}) == 2)
+        written = {one: self.path(f"good.{one}") for one in ("csv", "junit", "json")}
+        self.must("all written", self.end(written) == 0)
+
+    def test_object_after_the_others(self) -> None:
+        """It has the status that says that another output failed."""
+        self.end({"csv": self.path("nowhere/at/all"), "json": self.path("all.json")})
+        self.must("2", json.loads(self.read("all.json"))["status"] == 2)
+
+
+class Members(unittest.TestCase):
+    """Members of an object."""
+
+    def test_gap(self) -> None:
+        """What is before a place and what is behind it, as times and as PTS."""
+        place = Place(5, 9, 3, scrambled=2, missing=4, mark=7)
+        for is_judged in (True, False):
+            with self.subTest(is_judged=is_judged):
+                self.assertEqual(gap_words(Gap("00:00:01:00", None, "3 lost", place, is_judged)), {
+                    "after": "00:00:01:00", "before": None, "after_pts": 5, "before_pts": 9,
+                    "pes": 7, "ts_packets": 3, "scrambled": 2, "missing": 4,
+                    "judged": is_judged})

@@ -1,0 +1,310 @@
+"""Verdicts of one part to three: each question is asked of the first part, the second and the last.
+"""
+from __future__ import annotations
+
+import itertools
+import os
+from typing import Sequence
+
+from subtitles.core.pes import pes_packet
+from subtitles.core.pieces import Pieces
+from subtitles.core.times import CLOCK, TICKS
+from subtitles.core.told import ENDS_READING, PASSED_OVER, STL_FAULTS, WITH_CAUSE, told_of
+from subtitles.qc.cells import passed_over
+from subtitles.qc.checking import Answer
+from subtitles.qc.clock import FITTED, FITTED_LATER, GIVEN, RECORDING, Clock
+from subtitles.qc.delays import MOVED, Spread, spread_of
+from subtitles.qc.faults import Ends
+from subtitles.qc.feed import is_enough
+from subtitles.qc.names import Names
+from subtitles.qc.pair import Pair
+from subtitles.qc.progress import Progress
+from subtitles.qc.severity import ERROR, OTHERS, REFUSALS, WARNING, Severity
+from subtitles.qc.speech import Speech
+from subtitles.qc.typed import Typed
+from subtitles.qc.verdict import Part, Verdict
+from subtitles.qc.within import FIXED, OF_ENDS, OF_FRAMES, OF_PACKETS, Trying
+from subtitles.reading.cutting import Cut
+from subtitles.reading.finding import Agreement
+from subtitles.reading.losses import Place
+from .bench import Case
+from .parts import CLOSING, HEADER, PAGE, answer, asked_for, part_with, row
+
+REFUSED = ("refused 72 Content frame 00:00:05:00 row 20 column 1", "1 faults")
+OTHER = ("refused 38 UnitLength pes 7", "refused 70 Repeat frame 00:00:09:00", "2 faults")
+
+
+def verdict_of(parts: Sequence[Part], severity: Severity | None = None) -> Verdict:
+    """A verdict on some parts."""
+    return Verdict(asked_for("one.stl", "one.pes"), severity or Severity(None), "now", list(parts))
+
+
+class Verdicts(Case):
+    """Several parts."""
+
+    def three(self, *refused: int) -> list[Part]:
+        """Three parts of a hundred frames each, some of which are refused."""
+        return [part_with(100 * at, 100 * at + 99, 5, answer(REFUSED if at in refused else
+                          ("accepted 10 frames 2 transmissions",)), at + 1) for at in range(3)]
+
+    def test_line(self) -> None:
+        """The one of the first part that is refused, wherever that is; else the sums of all."""
+        for count in (0, 1, 2, 3):
+            for refused in itertools.combinations(range(3), count):
+                parts = self.three(*refused)
+                verdict = verdict_of(parts)
+                wanted = REFUSED[0] if refused else "accepted 30 frames 6 transmissions in 3 parts"
+                self.must(f"{refused}", verdict.line == wanted and verdict.faults == count,
+                          verdict.line)
+                self.must(f"{refused}: lines", [line.rpartition(": ")[2] for line in
+                                                verdict.lines()] ==
+                          [part.answer.line for part in parts], verdict.lines())
+        two = [part_with(0, 9, 5, answer(OTHER)), part_with(10, 19, 5, answer(REFUSED), 2)]
+        self.must("the first that is refused", verdict_of(two).line == OTHER[0])
+        self.must("the second", verdict_of(two[::-1]).line == REFUSED[0])
+        self.must("faults of both", verdict_of(two).faults == 3)
+
+    def test_errors(self) -> None:
+        """A fault that is an error counts in each part, and beside warnings."""
+        warned = Severity(self.write("severity", b"72 warning\n70 warning\n"))
+        for at in range(3):
+            for said, is_error in ((REFUSED, False), (OTHER, True)):
+                parts = self.three(0, 1, 2)
+                parts[at].answer = answer(said)
+                found = verdict_of(parts, warned).status
+                self.must(f"{at} {said[0]}", found == int(is_error), found)
+        self.must("none", verdict_of(self.three(), warned).status == 0)
+
+    def test_losses(self) -> None:
+        """A loss in the first part, the second and the last, and the one between them or after."""
+        for shift in (0, CLOCK - 150 * TICKS):
+            for places, judged in (
+                    ([(10, 12)], [True]), ([(110, 112)], [True]), ([(210, 212)], [True]),
+                    ([(99, 100)], [False]), ([(299, 320)], [False]), ([(-5, 0)], [False]),
+                    ([(99, 100), (150, 151)], [False, True]),
+                    ([(150, 151), (99, 100)], [True, False]),
+                    ([(10, 11), (299, 320), (-9, -5)], [True, False, False]),
+                    ([(99, 100), (299, 320)], [False, False])):
+                verdict = verdict_of([])
+                typed = Typed("tools/qc", self.bench.program)
+                pair = Pair(verdict, typed, Names("one", self.folder, None), Speech(Progress()),
+                            False)
+                verdict.parts = [part_with(100 * at, 100 * at + 99, shift, number=at + 1)
+                                 for at in range(3)]
+                pair.note_gaps([Place((shift + TICKS * before) % CLOCK,
+                                      (shift + TICKS * after) % CLOCK, 1)
+                                for before, after in places])
+                found = [gap.is_judged for gap in verdict.gaps]
+                self.must(f"{shift} {places}", found == judged and verdict.is_lost == any(judged),
+                          found)
+
+    def test_accepted_within(self) -> None:
+        """What is promised holds for all parts that are refused, and is known of each."""
+        for known, refused, wanted in (
+                ((2, None, None), (0,), 2), ((None, 3, None), (1,), 3), ((2, 3, 1), (0, 1, 2), 3),
+                ((3, 2, 1), (0, 1, 2), 3), ((1, 2, 3), (0, 1, 2), 3), ((2, None, 1), (0, 1, 2),
+                                                                      None),
+                ((None, None, None), (0, 2), None), ((None, None, None), (), None),
+                ((5, None, 1), (0, 2), 5)):
+            parts = self.three(*refused)
+            for part, within in zip(parts, known):
+                part.accepted_within = within
+            found = verdict_of(parts).accepted_within
+            self.must(f"{known} {refused}", found == wanted, found)
+
+    def test_fitted(self) -> None:
+        """The clock of the first part, or of a later one, was found in the recording."""
+        for sources, wanted in (
+                ((GIVEN,), None), ((RECORDING,), FITTED), ((GIVEN, RECORDING), FITTED_LATER),
+                ((RECORDING, GIVEN), FITTED), ((GIVEN, GIVEN, RECORDING), FITTED_LATER),
+                ((GIVEN, GIVEN, GIVEN), None)):
+            parts = [part_with(0, 9, 0) for _ in sources]
+            for part, source in zip(parts, sources):
+                part.clock = Clock(0, source)
+            found = verdict_of(parts).fitted
+            self.must(f"{sources}", found == wanted, found)
+
+    def test_delays(self) -> None:
+        of_spreads: list[tuple[list[int | None], Spread | None]] = [
+            ([], None), ([None], None), ([3], Spread(3, 3, 3, 0)), ([5, 1, 3], Spread(1, 3, 5, 0)),
+            ([None, 2, None, 4], Spread(2, 4, 4, 2))]
+        for several, wanted in of_spreads:
+            self.must(f"{several}", spread_of(several) == wanted, spread_of(several))
+        parts = self.three()
+        parts[0].delays, parts[2].delays = [1, None], [7]
+        self.must("of all parts", verdict_of(parts).delays == Spread(1, 7, 7, 1))
+
+
+class Read(Case):
+    """Whether something of a recording could be read."""
+
+    def test_is_read(self) -> None:
+        """Three PES packets, of which some were passed over: each, two, the first or the last; a
+        run of them; with faults of other kinds; and a file without any."""
+        pes = self.write("three.pes", b"".join(pes_packet(TICKS * at, [HEADER, CLOSING])
+                                               for at in range(3)))
+        none = self.write("none.pes", b"")
+        of_lists: list[tuple[str, tuple[str, ...], bool]] = [
+            (pes, ("refused 38 UnitLength pes 0", "ended 38 UnitLength pes 2", "1 faults"), False),
+            (pes, ("refused 38 UnitLength pes 0", "ended 38 UnitLength pes 1", "1 faults"), True),
+            (pes, ("refused 38 UnitLength pes 1", "ended 38 UnitLength pes 2", "1 faults"), True),
+            (pes, tuple(f"refused 38 UnitLength pes {at}" for at in range(3)) + ("3 faults",),
+             False),
+            (pes, ("refused 38 UnitLength pes 0", "refused 61 OffFrame pes 1",
+                   "refused 38 UnitLength pes 2", "3 faults"), False),
+            (pes, ("refused 38 UnitLength pes 0", "refused 61 OffFrame pes 2", "2 faults"), True),
+            (pes, ("refused 38 UnitLength pes 0", "ended 38 UnitLength pes 2",
+                   "refused 72 Content frame 00:00:00:00 row 1 column 1", "2 faults"), True),
+            (none, ("refused 60 Empty", "1 faults"), False),
+            (pes, ("accepted 10 frames 2 transmissions",), True)]
+        for path, lines, wanted in of_lists:
+            said = Answer(self.path("list"))
+            for line in lines:
+                said.take(line)
+            said.end(int(said.frames is None))
+            part = part_with(0, 9, 0, said)
+            part.pieces = Pieces(path, 0, 2, 0, os.path.getsize(path))
+            self.must(f"{lines}", part.is_read() == wanted)
+        part.pieces = None
+        self.must("no recording", not part.is_read())
+
+    def test_passed_over(self) -> None:
+        """Runs of PES packets that were passed over: one that ends is a run up to there, if it is
+        the end of the same fault; the last may have none."""
+        of_lines: list[tuple[tuple[str, ...], list[tuple[int, int]]]] = [
+            ((), []), (("refused 38 X pes 3",), [(3, 3)]),
+            (("refused 38 X pes 3", "ended 38 X pes 5"), [(3, 5)]),
+            (("refused 38 X pes 3", "refused 38 X pes 7", "ended 38 X pes 9"), [(3, 3), (7, 9)]),
+            (("refused 38 X pes 3", "ended 61 X pes 5"), [(3, 3)]),
+            (("refused 38 X pes 3", "refused 61 X pes 4", "ended 38 X pes 5"), [(3, 3), (4, 4)]),
+            (("refused 38 X pes 3", "ended 38 X pes 5", "ended 38 X pes 8"), [(3, 5)]),
+            (("refused 45 X pes 0", "refused 62 X pes 4", "refused 44 X pes 5"), [(0, 0)]),
+            (("refused 72 X frame 00:00:00:01", "refused 33 X pes 1", "refused 40 X pes 2"),
+             [(1, 1), (2, 2)])]
+        for lines, wanted in of_lines:
+            found = list(passed_over(told for told in map(told_of, lines) if told))
+            self.must(f"{lines}", found == wanted, found)
+
+
+class Severities(Case):
+    """Numbers, and whether they count."""
+
+    def test_what_ends_reading(self) -> None:
+        """Whatever a file says, it is an error; each other number is what the file says."""
+        ends, lost = {30, 31, 32, 44}, 45
+        self.must("those", ENDS_READING == ends, ENDS_READING)
+        lines = "".join(f"{number} warning\n" for number in REFUSALS)
+        for name, text, errors in (("each", lines, ends), ("others", "others warning\n",
+                                                           {*ends, lost})):
+            severity = Severity(self.write("severity", text.encode()))
+            wrong = [number for number in REFUSALS | ends
+                     if severity.is_error(number) != (number in errors)]
+            self.must(name, not wrong, wrong)
+        for number in ends:
+            self.must(f"{number} with lost packets allowed", Severity(None, True).is_error(number))
+        self.must("lost packets allowed", not Severity(None, True).is_error(lost))
+
+    def test_lines(self) -> None:
+        for text, numbers in (
+                ("", {72: ERROR}), ("72 warning", {72: WARNING, 70: ERROR}),
+                ("72 error\nothers warning", {72: ERROR, 70: WARNING}),
+                ("others warning\n72 error", {72: ERROR, 70: WARNING}),
+                ("72 warning\n72 error", {72: ERROR}), ("# 72 warning", {72: ERROR}),
+                ("072 warning # so", {72: WARNING, 70: ERROR}), ("others error", {72: ERROR})):
+            severity = Severity(self.write("severity", text.encode()))
+            found = {number: severity.of(number) for number in numbers}
+            self.must(repr(text), found == numbers, found)
+        self.must("no file", Severity(None).of(72) == ERROR and Severity(None).others == ERROR)
+        self.must("a word", OTHERS == "others")
+
+    def test_sets_of_numbers(self) -> None:
+        """Those of the subtitle file, of PES packets that can't be read, and with a cause."""
+        self.must("of the subtitle file", STL_FAULTS == {*range(10, 26), *range(50, 58)})
+        self.must("passed over", PASSED_OVER == {33, 34, 35, 36, 37, 38, 39, 40, 45, 61})
+        self.must("with a cause", WITH_CAUSE == {63, 72, 74})
+        self.must("whatever N is", FIXED == STL_FAULTS | {*range(30, 41), 44, 45, 60})
+        self.must("of packets, of frames", (OF_PACKETS, OF_FRAMES, OF_ENDS) == (
+            {63, 64, 65, 66, 67, 68, 69, 70, 71, 73}, {61, 62}, {72, 77}))
+        self.must("pages are moved", MOVED == {30, 31, 32, 44, 45, 60, 62, 63, 71, 72, 74, 77})
+        self.must("apart", not STL_FAULTS & PASSED_OVER and not PASSED_OVER & ENDS_READING)
+
+    def test_what_more_frames_may_accept(self) -> None:
+        """None of the faults is one that stays; of packets some may go where frames are others."""
+        of_numbers: list[tuple[set[int], bool]] = [
+            ({72}, True), ({72, 77}, True), ({61}, True), ({72, 61}, True), ({72, 10}, False),
+            ({57}, False), ({72, 44}, False), ({60}, False), ({63}, False), ({63, 61}, True),
+            ({71}, False), ({71, 62}, True), ({73, 72}, False), ({73, 61, 40}, False)]
+        for numbers, wanted in of_numbers:
+            found = Trying.may_be(Trying.__new__(Trying), numbers, None)
+            self.must(f"{numbers}", found == wanted)
+
+    def test_enough_edges_of_a_feed(self) -> None:
+        """Five that agree, or all there are; where others do not, half with their letters."""
+        for agree, among, letters, count, wanted in (
+                (5, 5, 0, 40, True), (4, 4, 4, 40, False), (4, 4, 4, 4, True), (1, 1, 0, 1, True),
+                (5, 6, 3, 40, True), (5, 6, 2, 40, False), (6, 9, 3, 40, True), (4, 5, 4, 5, False),
+                (9, 12, 0, 12, False)):
+            found = is_enough(Agreement(agree, among, letters, count, False))
+            self.must(f"{agree} of {among}, {letters}, {count}", found == wanted, found)
+        self.must("none", not is_enough(None))
+
+    def test_ends_of_faults(self) -> None:
+        """Of the first fault of a number, the second and the third, beside those of others."""
+        lines = ["refused 72 Content frame 00:00:01:00 row 1 column 1",
+                 "refused 38 UnitLength pes 4", "ended 72 Content frame 00:00:02:00",
+                 "refused 72 Content frame 00:00:03:00 row 1 column 1", "ended 38 UnitLength pes 9",
+                 "refused 38 UnitLength pes 11", "refused 72 Content frame 00:00:04:00 row 2 "
+                 "column 1", "ended 72 Content frame 00:00:05:00"]
+        ends = Ends(told for told in map(told_of, lines) if told)
+        found = [ends.of(index) for index in range(5)]
+        self.must("ends", found == [("00:00:02:00", None), (None, 9), (None, None), (None, None),
+                                    ("00:00:05:00", None)], found)
+
+
+class Cuts(Case):
+    """What is cut out for a part: 100 to 200 is due, and the page is repeated each ten frames."""
+
+    def cut(self, frames: Sequence[int], every: int | None, packets: tuple[int, int] | None,
+            within: int = 0, blank: Sequence[int] = ()) -> list[int]:
+        """The frames of the sendings that are taken; some leave the page blank."""
+        all_of = [pes_packet(TICKS * frame, [HEADER, *([] if frame in blank else
+                                                       [row(20, b"text")]), CLOSING])
+                  for frame in frames]
+        cut = Cut(100, 200, PAGE, 0, every, packets, within)
+        found: list[int] = []
+        for frame, data in zip(frames, all_of):
+            found += [frame] if not cut.is_over and data in cut.taken([data]) else []
+        return found
+
+    def test_ends(self) -> None:
+        """The first sending from the last TCO on is the last, if it is near enough: one late."""
+        for late in (0, 1, 24, 25, 26):
+            frames = [*range(100, 200, 10), 200 + late, 210 + late, 400, 410]
+            wanted = [*range(100, 200, 10), *([200 + late] if late <= 25 else [])]
+            self.must(f"late by {late}", self.cut(frames, 25, None) == wanted)
+        frames = list(range(100, 231, 10))
+        self.must("without a bound", self.cut(frames, None, None) == list(range(100, 201, 10)))
+
+    def test_ranges(self) -> None:
+        """The first and the last of a range of PES packets are of it."""
+        frames = list(range(100, 200, 10))
+        for first, last in ((0, 9), (0, 8), (1, 9), (3, 3), (3, 5), (0, 99)):
+            found = self.cut(frames, None, (first, last))
+            self.must(f"{first} to {last}", found == frames[first:last + 1], found)
+
+    def test_ranges_in_which_pts_go_back(self) -> None:
+        """Of each of three time bases with the same frames, its own."""
+        frames = [*range(100, 200, 10)] * 3
+        all_of = [pes_packet(TICKS * frame, [HEADER, row(20, b"%d" % number), CLOSING])
+                  for number, frame in enumerate(frames)]
+        for first, last in ((0, 9), (10, 19), (20, 29)):
+            cut = Cut(100, 200, PAGE, 0, 25, (first, last))
+            found = [data for one in all_of for data in cut.taken([one])]
+            self.must(f"{first} to {last}", found == all_of[first:last + 1], len(found))
+
+    def test_one_wrong_pts_does_not_end_it(self) -> None:
+        """Two in a row after the last frame do."""
+        for frames, wanted in (([100, 500, 110, 120], [100, 110, 120]),
+                               ([100, 500, 110, 500, 120], [100, 110, 120]),
+                               ([100, 500, 600, 110], [100]), ([50, 100, 110], [100, 110])):
+            self.must(f"{frames}", self.cut(frames, None, None) == wanted)

@@ -1,0 +1,202 @@
+"""tools/qc --channel: programmes one after another out of a feed that does not end."""
+from __future__ import annotations
+
+import json
+import os
+import signal
+import subprocess
+import time
+from typing import Sequence
+
+from subtitles.core.pes import pts_bytes
+from subtitles.core.stl import boxed, gsi_block, subtitle_blocks
+from subtitles.core.times import CLOCK, FRAMES_A_SECOND, TICKS
+from .bench import Case, packets, tool_path
+
+SECOND = TICKS * FRAMES_A_SECOND
+BEGIN = CLOCK - 30 * SECOND  # of the feed, so that PTS begin again soon
+SOON = 60.0  # seconds in which what is waited for has to come
+FITTED = "; the clock was fitted to the recording"
+ACCEPTED = f"accepted 276 frames 12 transmissions{FITTED}"
+# With the last blank sending before it.
+WITH_BLANK = f"accepted 326 frames 13 transmissions{FITTED}"
+
+
+def make_programme(case: Case, name: str, first: int, words: str, pts: int) -> bytes:
+    """A subtitle file of four subtitles, from the frame `first` on, and its transmission, which
+    begins at a PTS."""
+    blocks = b"".join(subtitle_blocks(number, first + 75 * number, first + 75 * number + 50, 20, 2,
+                                      boxed(word.encode()))
+                      for number, word in enumerate(words.split()))
+    stl = case.write(f"{name}.stl", gsi_block(name.encode(), 4, 4, first) + blocks)
+    origin = (pts - TICKS * first) % CLOCK
+    case.schedule(stl, f"{name}.pes", "--origin", str(origin), "--every", "25")
+    return case.read(f"{name}.pes")
+
+
+def blank(data: bytes, pts: int, seconds: int) -> bytes:
+    """The last sending of a transmission again, once a second from a PTS on."""
+    last = packets(data)[-1]
+    return b"".join(last[:9] + pts_bytes((pts + SECOND * one) % CLOCK) + last[14:]
+                    for one in range(seconds))
+
+
+def three(case: Case) -> list[bytes]:
+    """Three programmes, which begin after 10, 130 and 250 seconds of the feed, and what is sent
+    between them; a list with one more, which is not sent."""
+    starts = (10, 130, 250)
+    made = [make_programme(case, name, frame, words, (BEGIN + SECOND * start) % CLOCK)
+            for name, frame, words, start in zip(
+                ("one", "two", "three"), (1_000_000, 500_000, 900_000),
+                ("Alpha Beta Gamma Delta", "Night Rain Wind Snow", "Red Green Blue White"), starts)]
+    make_programme(case, "lost", 200_000, "Never was sent here", 0)
+    case.write("list", b"one.stl\nlost.stl\ntwo.stl # at night\n\nthree.stl --every 50\n")
+    end = [start + 12 for start in starts]
+    return [made[0], blank(made[0], BEGIN + SECOND * end[0], starts[1] - end[0] - 1), made[1],
+            # 70 seconds are missing
+            blank(made[1], BEGIN + SECOND * (end[1] + 70), starts[2] - end[1] - 71), made[2],
+            blank(made[2], BEGIN + SECOND * end[2], 20)]
+
+
+def verdicts(done_lines: Sequence[str]) -> list[str]:
+    """Lines without the date and the time of day."""
+    return [line.partition("  ")[2] for line in done_lines]
+
+
+def memory_of(process: subprocess.Popen[bytes], folder: str) -> tuple[int, int]:
+    """Kilobytes of memory of a process, and bytes in a folder for temporary files."""
+    with open(f"/proc/{process.pid}/status", encoding="utf-8") as file:
+        memory = next(int(line.split()[1]) for line in file if line.startswith("VmRSS"))
+    size = 0
+    for place, _, names in os.walk(folder):
+        for name in names:
+            try:
+                size += os.path.getsize(os.path.join(place, name))
+            except FileNotFoundError:
+                pass
+    return memory, size
+
+
+class Channels(Case):
+    """Feeds of several programmes."""
+
+    def test_judges_three_programmes(self) -> None:
+        """One that is missing and a gap are told; the same out of a transport stream."""
+        feed = b"".join(three(self))
+        wanted = [f"one  {ACCEPTED}",
+                  "lost  not judged: not seen: two, which is behind it in the list, is sent",
+                  f"two  {WITH_BLANK}", f"three  {WITH_BLANK}"]
+        done = self.tool("qc", "--channel", "list", "-", "--patience", "2", "-o", "out", "-p",
+                         self.bench.program, data=feed)
+        lines = verdicts(done.out.decode().splitlines())
+        gaps = [line for line in lines if line.startswith("nothing came for 00:01:1")]
+        self.must("verdicts", done.status == 2 and [line for line in lines if "came" not in line] ==
+                  wanted, done)
+        self.must("the gap", len(gaps) == 1, lines)
+        kept = set(os.listdir(self.path("out")))
+        self.must("its files", {"index.html", "one.json", "one.html", "lost.json", "two.html",
+                                "three.json"} <= kept, kept)
+        clock = json.loads(self.read("out/one.json"))["parts"][0]["clock"]
+        self.must("its clock", clock["source"] == "recording", clock)
+        self.write("feed.pes", feed)
+        stream = self.tool("pes2ts", "feed.pes", "0x101")
+        done = self.tool("qc", "--channel", "list", "-", "--patience", "2", "-p",
+                         self.bench.program,
+                         data=stream.out)
+        lines = verdicts(done.out.decode().splitlines())
+        self.must("a transport stream", [line for line in lines if "came" not in line] == wanted,
+                  done)
+
+    def test_goes_on_behind_another_clock(self) -> None:
+        """An encoder that begins anew is told; what was judged ends there, and the next is judged.
+        """
+        parts = three(self)
+        cut = b"".join(packets(parts[0])[:8])
+        self.write("list", b"one.stl\nthree.stl\n")
+        anew = CLOCK - SECOND * 40_000  # earlier than the feed began
+        later = make_programme(self, "three", 900_000, "Red Green Blue White", anew)
+        done = self.tool("qc", "--channel", "list", "-", "-p", self.bench.program,
+                         data=cut + later + blank(later, anew + SECOND * 12, 20))
+        lines = verdicts(done.out.decode().splitlines())
+        self.must("lines", len(lines) == 3 and lines[0].startswith("an encoder begins anew: PTS ")
+                  and lines[1].startswith("one  refused 7") and lines[2] == f"three  {ACCEPTED}",
+                  done)
+        self.must("status", done.status == 1, done)
+
+    def test_refuses_what_it_can_not_do(self) -> None:
+        """Lines and words that do not fit; a line is told when its turn has come."""
+        feed = three(self)[0]
+        self.write("list", b"one.stl --run 1\nnone.stl\none.stl\n")
+        done = self.tool("qc", "--channel", "list", "-", "-p", self.bench.program, data=feed)
+        lines = verdicts(done.out.decode().splitlines())
+        self.must("lines", done.status == 2 and len(lines) == 3 and "--run goes with" in lines[0]
+                  and lines[1].startswith("none  not judged: none.stl") and
+                  lines[2].startswith("one  "), done)
+        for words in (["--channel", "none", "-"], ["--channel", "list"],
+                      ["--channel", "list", "-", "--patience", "0"], ["one.stl", "--patience", "5"],
+                      ["--channel", "list", "-", "--json", "x.json"]):
+            done = self.tool("qc", *words, "-p", self.bench.program)
+            self.must(" ".join(words), done.status == 2 and len(done.told) == 1, done)
+
+    def test_reads_a_list_that_grows(self) -> None:
+        """A feed that stands still, a line that comes late, and a signal."""
+        parts = three(self)
+        self.write("list", b"one.stl\n")
+        words = [tool_path("qc"), "--channel", "list", "-", "--stall", "1", "-p",
+                 self.bench.program]
+        log = open(self.path("log"), "wb")
+        with subprocess.Popen(words, cwd=self.folder, stdin=subprocess.PIPE, stdout=log,
+                              stderr=log) as process:
+            assert process.stdin
+
+            def comes(words: bytes) -> bool:
+                end = time.monotonic() + SOON
+                while words not in self.read("log"):
+                    if time.monotonic() > end:
+                        return False
+                    time.sleep(0.1)
+                return True
+
+            process.stdin.write(parts[0] + parts[1])
+            process.stdin.flush()
+            self.must("the first one", comes(b"one  accepted"), self.read("log"))
+            self.must("a stall", comes(b"nothing has come for 1 second"), self.read("log"))
+            with open(self.path("list"), "ab") as file:
+                file.write(b"two.stl\nthree.stl\n")
+            process.stdin.write(parts[2] + parts[3])
+            process.stdin.flush()
+            self.must("it goes on", comes(b"the feed goes on"), self.read("log"))
+            self.must("the next one", comes(b"two  accepted"), self.read("log"))
+            process.send_signal(signal.SIGTERM)
+            self.must("the end", process.wait(SOON) == 2 and
+                      b"three  not judged: stopped at 00:0" in self.read("log"), self.read("log"))
+        log.close()
+        self.must("no traceback", b"Traceback" not in self.read("log"), self.read("log"))
+
+    def test_holds_no_more_after_a_day(self) -> None:
+        """Memory and temporary files after 24 hours of feed are those after two."""
+        hours, folder = 24, self.path("temporary")
+        os.mkdir(folder)
+        made = [make_programme(self, f"p{hour}", 1_000_000, f"Hour {hour} of day",
+                               (BEGIN + SECOND * (3600 * hour + 600)) % CLOCK)
+                for hour in range(hours)]
+        self.write("list", b"".join(b"p%d.stl\n" % hour for hour in range(hours)))
+        words = [tool_path("qc"), "--channel", "list", "-", "-p", self.bench.program]
+        seen: list[tuple[int, int]] = []
+        with subprocess.Popen(words, cwd=self.folder, stdin=subprocess.PIPE, stdout=subprocess.PIPE,
+                              env=dict(os.environ, TMPDIR=folder)) as process:
+            assert process.stdin and process.stdout
+            for hour, one in enumerate(made):
+                begin = BEGIN + SECOND * 3600 * hour
+                process.stdin.write(blank(one, begin, 599) + one
+                                    + blank(one, begin + SECOND * 612, 2987))
+                process.stdin.flush()
+                if hour in (1, hours - 1):
+                    time.sleep(1)
+                    seen.append(memory_of(process, folder))
+            process.stdin.close()
+            lines = verdicts(process.stdout.read().decode().splitlines())
+        self.must("all are accepted", lines == [f"p{hour}  {WITH_BLANK}" for hour in range(hours)],
+                  lines)
+        self.must("memory, and temporary files", all(
+            later <= before * 1.1 for before, later in zip(*seen)), seen)

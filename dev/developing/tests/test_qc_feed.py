@@ -1,0 +1,308 @@
+"""tools/qc on feeds that do not end: when the verdict comes, signals, a reader that leaves."""
+from __future__ import annotations
+
+import contextlib
+import json
+import os
+import queue
+import signal
+import subprocess
+import threading
+import time
+
+from subtitles.core.pes import pts_in
+from subtitles.core.stl import boxed, gsi_block, subtitle_blocks
+from subtitles.core.times import TICKS, time_of
+from subtitles.core.words import counted
+from .bench import Case, example, example_bytes, moved, packets, tool_path
+from .muxed import PRIVATE, TELETEXT_PID, Maker, teletext_descriptor
+from .test_qc import STORY, qc, stream
+
+SOON = 60.0  # seconds within which a verdict has to come, also on a machine that is busy
+BEGIN, EACH, SHOWN = 900_000, 75, 50  # frames: where subtitles come, one after another, how long
+COUNT, EVERY = 8, 25
+LAST = BEGIN + EACH * (COUNT - 1) + SHOWN  # the last TCO
+ORIGIN = 4321
+
+
+class Running:
+    """A call of qc on a feed that is left open; `lines` are what it printed."""
+
+    def __init__(self, case: Case, *words: str) -> None:
+        self.folder = case.path("temporary")
+        os.makedirs(self.folder, exist_ok=True)
+        self.process = subprocess.Popen(
+            [tool_path("qc"), *words, "-p", case.bench.program], cwd=case.folder,
+            env={**os.environ, "TMPDIR": self.folder}, stdin=subprocess.PIPE,
+            stdout=subprocess.PIPE, stderr=subprocess.PIPE)
+        self.lines: list[str] = []
+        self.told: list[str] = []
+        self.queue: queue.Queue[str | None] = queue.Queue()
+        self.threads = [threading.Thread(target=self.hear, daemon=True),
+                        threading.Thread(target=self.hear_told, daemon=True)]
+        for thread in self.threads:
+            thread.start()
+
+    def hear(self) -> None:
+        assert self.process.stdout
+        for data in self.process.stdout:
+            self.lines.append(data.decode().rstrip("\n"))
+            self.queue.put(self.lines[-1])
+        self.queue.put(None)
+
+    def hear_told(self) -> None:
+        assert self.process.stderr
+        for data in self.process.stderr:
+            self.told.append(data.decode().rstrip("\n"))
+
+    def put(self, data: bytes) -> None:
+        assert self.process.stdin
+        self.process.stdin.write(data)
+        self.process.stdin.flush()
+
+    def waits_for(self, begin: str, seconds: float = SOON) -> bool:
+        """Whether a line comes that begins so."""
+        end = time.monotonic() + seconds
+        while (left := end - time.monotonic()) > 0:
+            try:
+                line = self.queue.get(timeout=left)
+            except queue.Empty:
+                return False
+            if line is None:
+                return False
+            if line.startswith(begin):
+                return True
+        return False
+
+    def waits_for_told(self, words: str) -> bool:
+        """Whether a line with some words comes on standard error."""
+        end = time.monotonic() + SOON
+        while time.monotonic() < end:
+            if any(words in line for line in self.told):
+                return True
+            time.sleep(0.05)
+        return False
+
+    def ends(self) -> int | None:
+        """The status, `None` where it does not end by itself."""
+        try:
+            status = self.process.wait(SOON)
+        except subprocess.TimeoutExpired:
+            self.process.kill()
+            return None
+        for thread in self.threads:
+            thread.join()
+        return status
+
+    def close(self) -> None:
+        """Ends the feed; the call may have its verdict before."""
+        assert self.process.stdin
+        with contextlib.suppress(BrokenPipeError):
+            self.process.stdin.close()
+
+
+def subtitles(case: Case, late: int | None = None) -> tuple[str, list[bytes]]:
+    """A subtitle file and the PES packets of its transmission; one of the subtitles may be sent ten
+    frames late."""
+    def file_of(shift: int) -> bytes:
+        blocks = [subtitle_blocks(number, begin + shift * (number == late), begin + SHOWN, 20, 2,
+                                  boxed(b"Number %d" % number))
+                  for number, begin in enumerate(range(BEGIN, BEGIN + EACH * COUNT, EACH))]
+        return gsi_block(b"Feed", COUNT, COUNT) + b"".join(blocks)
+
+    case.schedule(case.write("sent.stl", file_of(10)), "sent.pes", "--every", str(EVERY),
+                  "--origin", str(ORIGIN))
+    return case.write("own.stl", file_of(0)), packets(case.read("sent.pes"))
+
+
+def frame_of(data: bytes) -> int:
+    return (pts_in(data) - ORIGIN) // TICKS
+
+
+def is_told_once(case: Case, name: str, running: Running) -> None:
+    """Tests that each line of the list comes once, and one command."""
+    listed = [line for line in running.lines[:-1] if line.startswith(("refused ", "trusted "))]
+    case.must(f"{name}: each line once", len(listed) == len({*listed}), running.lines)
+    commands = [line for line in running.lines if line.startswith("+ ")]
+    case.must(f"{name}: one command", len(commands) == 1, running.lines)
+
+
+class Feeds(Case):
+    """Feeds that do not end."""
+
+    def test_ends_at_the_last_tco(self) -> None:
+        """With and without an origin, PES packets and streams, where an edge does not agree: the
+        feed stays open, and nothing comes after the last TCO."""
+        for late, verdict in ((None, "accepted "), (3, "refused 72 ")):
+            stl, pes = subtitles(self, late)
+            data = b"".join(pes)
+            for name, feed in (("PES packets", data), ("a stream", stream(self, "feed", data))):
+                origins: list[list[str]] = [[], ["--origin", str(ORIGIN)]]
+                for words in origins:
+                    running = Running(self, stl, "-", "--every", str(EVERY), "--no-complete",
+                                      *words)
+                    running.put(feed)
+                    name = f"{name}, {late}, {words}"
+                    status = running.ends()
+                    self.must(name, status == (1 if late else 0) and running.lines[-1].startswith(
+                        verdict), (status, running.lines, running.told))
+                    is_told_once(self, name, running)
+                    running.close()
+
+    def test_ends_where_nothing_is_sent_at_the_last_tco(self) -> None:
+        """By the PCR, at most `--every` frames later, and not before."""
+        stl, pes = subtitles(self)
+        kept = [one for one in pes if frame_of(one) < LAST]
+        maker = Maker([(TELETEXT_PID, PRIVATE, teletext_descriptor())], TELETEXT_PID)
+        maker.put_tables()
+        for one in kept:
+            maker.put_pcr(pts_in(one) - 9000)
+            maker.put(TELETEXT_PID, one)
+        for frame in range(frame_of(kept[-1]), LAST + EVERY, 5):
+            maker.put_pcr(ORIGIN + frame * TICKS)
+        running = Running(self, stl, "-", "--every", str(EVERY), "--no-complete", "--origin",
+                          str(ORIGIN))
+        running.put(maker.data)
+        self.must("not before", not running.waits_for("refused 74 Late", 3.0), running.lines)
+        maker.data = b""
+        for frame in range(LAST + EVERY, LAST + EVERY + 10, 5):
+            maker.put_pcr(ORIGIN + frame * TICKS)
+        running.put(maker.data)
+        status = running.ends()
+        self.must("the verdict", status == 1 and running.lines[-1].startswith("refused 7"),
+                  (status, running.lines, running.told))
+        is_told_once(self, "the verdict", running)
+        running.close()
+
+    def test_ends_after_the_last_part(self) -> None:
+        """A programme with a break, of a feed that goes on behind it."""
+        stl, pes = subtitles(self)
+        half = BEGIN + EACH * (COUNT // 2)
+        parted = [one if frame_of(one) < half else moved(one, lambda _, pts: pts + 1000 * TICKS)
+                  for one in pes]
+        running = Running(self, stl, "-", "--every", str(EVERY), "--no-complete", "--breaks", "1")
+        for one in parted:
+            running.put(one)
+        time.sleep(7.0)  # the parts are looked for after five seconds
+        status = running.ends()
+        self.must("in two parts", status == 0 and running.lines[-1].endswith(" in 2 parts"),
+                  (status, running.lines, running.told))
+        running.close()
+        running = Running(self, stl, "-", "--every", str(EVERY), "--no-complete", "--breaks", "1")
+        for number, one in enumerate([*parted[:-1], *(
+                moved(parted[-1], lambda _, pts: pts + number * TICKS) for number in range(5000))]):
+            try:
+                running.put(one)
+            except BrokenPipeError:
+                break  # it has its verdict
+            time.sleep(0.15 if number >= len(parted) else 0.0)
+        status = running.ends()
+        self.must("where others come", status in (0, 1) and " in 2 parts" in running.lines[-1]
+                  or running.lines[-1].startswith("refused "), (status, running.lines))
+        running.close()
+
+    def test_is_stopped_by_signals(self) -> None:
+        """What was told so far is written, and no temporary folder is left."""
+        stl, pes = subtitles(self, 3)
+        half = [one for one in pes if frame_of(one) < BEGIN + 5 * EACH]
+        for one in (signal.SIGINT, signal.SIGTERM, signal.SIGHUP):
+            running = Running(self, stl, "-", "--every", str(EVERY), "--no-complete", "--origin",
+                              str(ORIGIN), "--json", "one.json", "-o", "out")
+            running.put(b"".join(half))
+            came = running.waits_for("refused 72 ")
+            os.kill(running.process.pid, one)
+            status = running.ends()
+            name = signal.Signals(one).name
+            self.must(f"{name}: status", came and status == 2,
+                      (status, running.lines, running.told))
+            said = [line for line in running.told if "not judged: stopped at " in line]
+            # The last of what was sent may not have been read yet.
+            times = [f"stopped at {time_of(frame_of(one))}" for one in half]
+            self.must(f"{name}: said", len(said) == 1 and
+                      said[0].removeprefix("qc: not judged: ") in times, running.told)
+            verdict = json.loads(self.read("one.json"))
+            self.must(f"{name}: its object", verdict["verdict"] == "not judged"
+                      and verdict["status"] == 2 and verdict["reason"] in times
+                      and [fault["number"] for fault in verdict["faults"]] == [72], verdict)
+            self.must(f"{name}: nothing is left", os.listdir(running.folder) == []
+                      and sorted(os.listdir(self.path("out"))) == ["own.json", "own.txt"],
+                      (os.listdir(running.folder), os.listdir(self.path("out"))))
+            running.close()
+        running = Running(self, stl, "-", "--json", "one.json")
+        running.put(half[0])
+        time.sleep(1.0)
+        os.kill(running.process.pid, signal.SIGTERM)
+        self.must("before anything is judged", running.ends() == 2 and json.loads(
+            self.read("one.json"))["reason"].startswith("stopped at "), running.told)
+        self.must("nothing is left", os.listdir(running.folder) == [], os.listdir(running.folder))
+        running.close()
+
+    def test_tells_what_was_judged_of_a_file(self) -> None:
+        """Where a signal comes while `check` judges a file: how far it had come, and what it told.
+        """
+        for count, faults, up_to in ((0, 0, "nothing yet"), (1, 0, "all up to 20:15:00:24"),
+                                     (2, 1, "all up to 20:15:01:00"),
+                                     (4, 3, "all up to 20:15:03:00")):
+            script = (f"#!/bin/sh\ncase $* in check*--pes*--all*) '{self.bench.program}' \"$@\" "
+                      f"| head -n {count}; exec sleep 60 ;; esac\nexec '{self.bench.program}' "
+                      "\"$@\"\n")
+            os.chmod(self.write("program", script.encode()), 0o755)
+            with subprocess.Popen([tool_path("qc"), STORY, example("five-faults.pes"), "--every",
+                                   "25",
+                                   "-o", "out", "-p", "./program"], cwd=self.folder,
+                                  stdout=subprocess.PIPE, stderr=subprocess.PIPE) as process:
+                assert process.stdout
+                for line in process.stdout:
+                    if line.startswith(b"+ ./program check"):
+                        break
+                came = [process.stdout.readline() for _ in range(count)]
+                time.sleep(0.5)
+                process.send_signal(signal.SIGTERM)
+                lines, told = (text.decode().splitlines() for text in process.communicate())
+            known = json.loads(self.read("out/story.json"))
+            self.must(f"{count}: status", process.returncode == 2 and known["status"] == 2, told)
+            self.must(f"{count}: how much", f"{counted(faults, 'fault')} so far" in lines, lines)
+            self.must(f"{count}: how far", told[-1:] == [f"qc: not judged: {known['reason']}"]
+                      and known["reason"].endswith(f"Z, when check had told {up_to}"), told)
+            self.must(f"{count}: the object", len(known["faults"]) == faults
+                      and known["parts"][0]["verdict"] == "not judged", known)
+            self.must(f"{count}: the list", self.read("out/story.txt") == b"".join(came), came)
+
+    def test_lets_a_reader_leave(self) -> None:
+        """`| head -2`: no traceback, and the object is whole."""
+        five = self.write("five.ts", stream(self, "five", example_bytes("five-faults.pes")))
+        command = ('cat "$1" | "$2" "$3" "$4" --origin 0 --every 25 --json one.json -p "$5" 2>told '
+                   '| head -2; echo ${PIPESTATUS[1]}')
+        for name, recording in (("a feed", "-"), ("a file", five)):
+            done = self.call(["bash", "-c", command, "bash", five, tool_path("qc"), STORY,
+                              recording,
+                              self.bench.program])
+            told = self.read("told").decode()
+            self.must(name, len(done.out.splitlines()) == 3 and "Traceback" not in told
+                      and "Exception" not in told, (done, told))
+            self.must(f"{name}: its object", json.loads(self.read("one.json"))["fault_count"] == 5)
+
+    def test_tells_a_stall(self) -> None:
+        """After some seconds, and again when it goes on."""
+        pes = packets(example_bytes("story.pes"))
+        running = Running(self, STORY, "-", "--origin", "0", "--stall", "1")
+        running.put(pes[0])
+        self.must("told", running.waits_for_told("qc: nothing has come for 1 second"), running.told)
+        running.put(b"".join(pes[1:]))
+        self.must("that it goes on", running.waits_for_told("qc: the feed goes on, after "),
+                  running.told)
+        self.must("accepted", running.ends() == 0, running.told)
+        running.close()
+        for word in ("x", "-1", "1.5"):
+            done = qc(self, STORY, example("story.pes"), "--stall", word)
+            self.must(f"--stall {word}", done.status == 2 and len(done.told) == 1, done)
+
+    def test_ends_where_later_pes_packets_come(self) -> None:
+        """Two of them after the last TCO, as a service sends them."""
+        stl, pes = subtitles(self)
+        later = b"".join(moved(pes[-1], lambda _, pts: pts + number * TICKS) for number in (1, 2))
+        running = Running(self, stl, "-", "--every", str(EVERY), "--no-complete", "--origin",
+                          str(ORIGIN))
+        running.put(b"".join(pes) + later)
+        self.must("accepted", running.ends() == 0, (running.lines, running.told))
+        running.close()

@@ -1,0 +1,91 @@
+"""tools/reading-list: what a definition or a clause rests on, in a repository of two crates."""
+from __future__ import annotations
+
+import os
+
+from subtitles.core.words import Stop
+from ..definitions import Library, counts
+from .bench import Case
+
+FILES = {
+    "crates.txt": "# name: what it stands on\nlow:\nhigh: low\n",
+    "crates/low/specs/Words.antt": """-- Words.
+use Rattle.std.specs.Prelude.{ℕ, ◌+◌, ◌-◌}
+
+-- Two of the size.
+abbrev pub pair : ℕ
+pair = size + size
+
+-- The size.
+abbrev pub size : ℕ
+-- One.
+size = 1
+""",
+    "crates/high/specs/Things.antt": """-- Things.
+use Rattle.std.specs.Prelude.{ℕ, ◌+◌, ◌≡◌}
+use Rattle.low.specs.Words.{pair}
+use Rattle.low.specs.Words as words
+
+-- Another size.
+abbrev pub size : ℕ → ℕ
+size n = n
+
+-- A size that is bound here, beside what is none.
+abbrev pub total : ℕ → ℕ
+total size = pair + size
+
+-- The other crate's.
+pub record IsSize (n : ℕ) : Type 0 where
+  pub size : n ≡ words.size
+""",
+    "crates/high/src/lib.rt": """ghost use Rattle.std.specs.Prelude.{◌≡◌};
+ghost use Rattle.high.specs.Things.{IsSize, size};
+ghost use Rattle.high.specs.Things.{total};
+
+/// Counts.
+pub fn count(n: u64) -> u64
+    requires { n < u64.MAX }
+    ensures exact { result ≡ total n }
+    ensures other { IsSize (size n) }
+{
+    n
+}
+""",
+}
+
+
+def library(case: Case) -> Library:
+    for name, text in FILES.items():
+        os.makedirs(os.path.dirname(case.path(name)), exist_ok=True)
+        case.write(name, text.encode())
+    return Library(case.folder)
+
+
+class ReadingLists(Case):
+    """Reading lists of two crates."""
+
+    def test_finds_what_is_meant(self) -> None:
+        """Names by their files, what is needed first, and nothing that is only bound."""
+        them = library(self)
+        for name, want in {
+                "total": "low.size low.pair high.total",
+                "high/Things.size": "high.size",
+                "IsSize": "low.size high.IsSize",
+                "count.exact": "low.size low.pair high.total",
+                "high/count.other": "low.size high.size high.IsSize",
+                "count": "low.size low.pair high.size high.total high.IsSize"}.items():
+            found = " ".join(f"{one.file.crate}.{one.name}" for one in them.reading(name)[0])
+            self.must(name, found == want, found)
+        self.must("counts, with no comment", counts(*them.reading("total")) == (3, 6, 2),
+                  counts(*them.reading("total")))
+
+    def test_refuses_what_is_unclear(self) -> None:
+        """A name of two files, and names of none."""
+        them = library(self)
+        for name, why in (("size", "high/Things.size"), ("none", "no definition"),
+                          ("count.none", "clause")):
+            try:
+                told = str(them.reading(name))
+            except Stop as reason:
+                told = str(reason)
+            self.must(name, why in told, told)

@@ -1,0 +1,378 @@
+"""PTS begin again at 2^33: at each place where two are compared, or a frame is made of one.
+
+Each case is tried with the same distances at PTS far from 2^33 and around it, where the first PTS
+of two may be the greater number.
+"""
+from __future__ import annotations
+
+import itertools
+import unittest
+
+from subtitles.calls.feed_clock import FeedClock
+from subtitles.core.batch import of_packets
+from subtitles.core.pes import pes_packet
+from subtitles.core.pieces import Pieces
+from subtitles.core.times import (
+    CLOCK, EARLY, FRAMES_OF_A_DAY, NO_FRAME, TICKS, frame_at, frame_in, frames_at, pts_of)
+from subtitles.preview.headers import Found as FoundHeaders, Headers
+from subtitles.preview.places import place_of_pts
+from subtitles.qc.clock import RECORDING, Clock
+from subtitles.qc.fitting import Found
+from subtitles.qc.held import Span
+from subtitles.qc.pair import is_in, time_at
+from subtitles.qc.start import Grid
+from subtitles.qc.why import Heard, unseen
+from subtitles.reading.bases import Bases, is_back
+from subtitles.reading.cutting import Cut
+from subtitles.reading.losses import Place
+from subtitles.reading.listing import Listing
+from subtitles.reading.multiplex import TENTH, Multiplex
+from subtitles.reading.pictures import is_before
+from subtitles.reading.sent import Change, Sent
+from subtitles.reading.timing import FIRST, SECOND, Sample, Timing
+from subtitles.reading.votes import Election, Shown, edges_of, without_repeats
+from .parts import CLOSING, HEADER, carrier_with, part_with, row
+
+# What is added to all PTS of a case: nothing, then so much that they begin again in its midst.
+SHIFTS = (0, CLOCK - 10 * TICKS, CLOCK - TICKS // 2, CLOCK - 1, 5 * TICKS)
+
+
+def shifted(pts: int, shift: int) -> int:
+    """A PTS of a case."""
+    return (pts + shift) % CLOCK
+
+
+class Frames(unittest.TestCase):
+    """The frame of a PTS, and the PTS of a frame."""
+
+    def test_frame_of_a_pts(self) -> None:
+        for shift, within, (ticks, frame) in itertools.product(SHIFTS, (0, 1), (
+                (0, 0), (1, 0), (TICKS - EARLY - 1, 0), (TICKS, 1), (20 * TICKS, 20))):
+            with self.subTest(shift=shift, within=within, ticks=ticks):
+                self.assertEqual(frame_in(shifted(ticks, shift), shift, within), frame)
+
+    def test_early_within_more(self) -> None:
+        """Within 1 and more a PTS may be a quarter of a frame before its frame."""
+        for shift, (ticks, frame) in itertools.product(SHIFTS, (
+                (-EARLY, 0), (-EARLY - 1, (CLOCK - 1) // TICKS), (TICKS - EARLY, 1),
+                (TICKS - EARLY - 1, 0))):
+            with self.subTest(shift=shift, ticks=ticks):
+                self.assertEqual(frame_in(shifted(ticks, shift), shift, 1), frame)
+
+    def test_frames_of_many(self) -> None:
+        """Those in a row, and those that are not, are as each by itself."""
+        for shift, within in itertools.product(SHIFTS, (0, 2)):
+            for ticks in ([0, TICKS, 2 * TICKS, 3 * TICKS], [0, TICKS, 2 * TICKS + 1, 3 * TICKS],
+                          [3 * TICKS, 2 * TICKS], [TICKS * (FRAMES_OF_A_DAY - 1),
+                                                   TICKS * FRAMES_OF_A_DAY], [-TICKS, 0]):
+                several = [shifted(one, shift) for one in ticks]
+                with self.subTest(shift=shift, within=within, ticks=ticks):
+                    found = [None if one == NO_FRAME else one
+                             for one in frames_at(several, shift, within)]
+                    self.assertEqual(found, [frame_at(one, shift, within) for one in several])
+
+    def test_pts_of_a_frame(self) -> None:
+        for frame, origin, pts in ((0, 0, 0), (1, CLOCK - TICKS, 0), (2, CLOCK - TICKS, TICKS),
+                                   (1, CLOCK - TICKS + 1, 1), (1, CLOCK - TICKS - 1, CLOCK - 1)):
+            with self.subTest(frame=frame, origin=origin):
+                self.assertEqual(pts_of(frame, origin), pts)
+
+    def test_time_of_a_pts(self) -> None:
+        for shift in SHIFTS:
+            for ticks, time in ((0, "00:00:00:00"), (25 * TICKS, "00:00:01:00"), (-TICKS, None),
+                                (TICKS * FRAMES_OF_A_DAY, None)):
+                with self.subTest(shift=shift, ticks=ticks):
+                    self.assertEqual(time_at(shifted(ticks, shift), shift), time)
+
+
+class Order(unittest.TestCase):
+    """Which of two PTS is the later one, and by how much."""
+
+    def test_back(self) -> None:
+        for shift, (other, wanted) in itertools.product(SHIFTS, (
+                (0, False), (1, False), (-1, True), (CLOCK // 2 - 1, False),
+                (-(CLOCK // 2 - 1), True))):
+            with self.subTest(shift=shift, other=other):
+                self.assertEqual(is_back(shifted(0, shift), shifted(other, shift)), wanted)
+
+    def test_bases(self) -> None:
+        """PTS go back twice: each time base begins where two are before the two before them."""
+        for shift in SHIFTS:
+            frames = [20, 21, 22, 23, 5, 6, 7, 8, 1, 2, 3, 4]
+            for sizes in ([12], [4, 4, 4], [5, 4, 3], [1] * 12, [3, 6, 3]):
+                bases, rest = Bases(), [pes_packet(shifted(TICKS * one, shift), [HEADER])
+                                        for one in frames]
+                for size in sizes:
+                    bases.take(rest[:size])
+                    del rest[:size]
+                with self.subTest(shift=shift, sizes=sizes):
+                    self.assertEqual(bases.ranges(), [(0, 3), (4, 7), (8, 11)])
+
+    def test_one_wrong_pts_is_no_base(self) -> None:
+        for shift, wrong in itertools.product(SHIFTS, (3, 40)):
+            frames = [20, 21, 22, wrong, 24, 25, 26]
+            bases = Bases()
+            bases.take([])
+            bases.take([pes_packet(shifted(TICKS * one, shift), [HEADER]) for one in frames])
+            with self.subTest(shift=shift, wrong=wrong):
+                self.assertEqual(bases.ranges(), [(0, 6)])
+
+    def test_steady(self) -> None:
+        """Many a frame apart, and behind them one that goes back twice."""
+        for shift in SHIFTS:
+            bases = Bases()
+            for first in (0, 40, 10):
+                bases.take([pes_packet(shifted(TICKS * one, shift), [HEADER])
+                            for one in range(first, first + 40)])
+            with self.subTest(shift=shift):
+                self.assertEqual((bases.ranges(), bases.timed), ([(0, 79), (80, 119)], 120))
+
+    def test_feed_clock(self) -> None:
+        """It goes on where PTS begin again, and stands still where they go back or jump on, up to
+        the latest one again where they have gone back a little."""
+        minute = 60 * SECOND
+        for shift in SHIFTS:
+            clock, now = FeedClock(), 0
+            for pts, late, goes_on, behind in (
+                    (0, 0, 0, 0), (TICKS, TICKS, TICKS, 0), (0, -TICKS, 0, TICKS),
+                    (SECOND, SECOND, SECOND - TICKS, 0),
+                    (SECOND + 60 * minute, 60 * minute, 60 * minute, 0),
+                    (SECOND + 120 * minute + 1, 60 * minute + 1, 0, 0)):
+                now += goes_on
+                with self.subTest(shift=shift, pts=pts):
+                    self.assertEqual(clock.take(shifted(pts, shift)), late)
+                    self.assertEqual(clock.now, now)
+                    self.assertEqual(clock.pts_at(now), shifted(pts + behind, shift))
+                    self.assertEqual(clock.pts_at(now - 7), shifted(pts + behind - 7, shift))
+
+
+class Losses(unittest.TestCase):
+    """Where something is missing, compared with the frames of a part: 100 to 200."""
+
+    # The frames of the PTS before and after a place (and ticks more), and whether frames of the
+    # part may lack it.
+    PLACES = (
+        (90, 99, 0, False), (90, 100, 0, False), (90, 101, 0, True), (99, 150, 0, True),
+        (120, 130, 0, True), (199, 250, 0, True), (200, 210, 0, False), (201, 210, 0, False),
+        (50, 300, 0, True), (None, 100, 0, False), (None, 101, 0, True), (199, None, 0, True),
+        (200, None, 0, False), (None, None, 0, True), (90, 100, 1, True), (200, 210, -1, True))
+
+    def test_in_a_part(self) -> None:
+        for shift, (before, after, more, wanted) in itertools.product(SHIFTS, self.PLACES):
+            pts = [None if one is None else shifted(TICKS * one + more, shift)
+                   for one in (before, after)]
+            place = Place(pts[0], pts[1], lost=1)
+            with self.subTest(shift=shift, before=before, after=after):
+                self.assertEqual(is_in(place, part_with(100, 200, shift)), wanted)
+
+    def test_marks(self) -> None:
+        """A mark is in the part with whose PES packets it is judged, whatever its PTS are: the
+        first one, one between, the last."""
+        part = part_with(100, 200, 0)
+        part.pieces = Pieces("a.pes", 7, 19)
+        for mark, wanted in ((0, False), (6, False), (7, True), (12, True), (19, True),
+                             (20, False)):
+            for place in (Place(None, None, mark=mark), Place(TICKS * 150, TICKS * 151, mark=mark),
+                          Place(TICKS * 300, None, mark=mark)):
+                self.assertEqual(is_in(place, part), wanted, mark)
+
+    def test_unseen_frames(self) -> None:
+        """Of each place: the first, the one between and the last."""
+        for shift in SHIFTS:
+            places = [Place(None, shifted(5 * TICKS, shift)),
+                      Place(shifted(7 * TICKS, shift), shifted(9 * TICKS, shift)),
+                      Place(shifted(20 * TICKS, shift), None),
+                      Place(shifted(-TICKS, shift), shifted(TICKS, shift))]
+            with self.subTest(shift=shift):
+                self.assertEqual(list(unseen(places, shift, 0)), [
+                    Span(0, 5), Span(7, 9), Span(20, FRAMES_OF_A_DAY), Span(0, 1)])
+
+    def test_reach(self) -> None:
+        """The frames of which a recording is, by its first PCR and its last one."""
+        for shift, (ticks, wanted) in itertools.product(SHIFTS, (
+                ((0, 50 * TICKS), Span(0, 50)), ((1, 50 * TICKS - 1), Span(1, 49)),
+                ((-TICKS, 60 * TICKS), Span(-1, 60)), ((-1, 9 * TICKS), Span(0, 9)))):
+            carrier = carrier_with(*(shifted(one, shift) for one in ticks))
+            found = Found(20, 40, Clock(shift, RECORDING))
+            with self.subTest(shift=shift, ticks=ticks):
+                self.assertEqual(Heard("", carrier).reach(found), wanted)
+
+    def test_last_of_a_carrier(self) -> None:
+        """The last PTS, or the last PCR where that is later."""
+        for shift, (pts, pcr, wanted) in itertools.product(SHIFTS, (
+                (0, None, 0), (None, 5, 5), (0, 5, 5), (5, 0, 5), (7, 7, 7), (None, None, None))):
+            ends = [None if one is None else shifted(TICKS * one, shift)
+                    for one in (pts, pcr, wanted)]
+            carrier = carrier_with(0, ends[1])
+            carrier.losses.before = ends[0]
+            with self.subTest(shift=shift, pts=pts, pcr=pcr):
+                self.assertEqual(carrier.last(), ends[2])
+
+
+class Timings(unittest.TestCase):
+    """PTS and PCR."""
+
+    def test_due_once_a_second(self) -> None:
+        for shift in SHIFTS:
+            timing = Timing(1, Listing())
+            self.assertTrue(timing.is_due(0))
+            timing.samples = [Sample(shifted(-9 * SECOND, shift), 0), Sample(shifted(0, shift), 0)]
+            for ticks, wanted in ((0, False), (SECOND - 1, False), (SECOND, True),
+                                  (9 * SECOND, True)):
+                with self.subTest(shift=shift, ticks=ticks):
+                    self.assertEqual(timing.is_due(shifted(ticks, shift)), wanted)
+
+    def test_usual_in_the_first_minute(self) -> None:
+        """The median of what was ahead in the minute after the first look."""
+        for shift in SHIFTS:
+            timing = Timing(1, Listing())
+            timing.samples = [Sample(shifted(ticks, shift), ahead) for ticks, ahead in (
+                (0, 10), (SECOND, 30), (FIRST, 20), (FIRST + 1, 9_000), (2 * FIRST, 9_000))]
+            with self.subTest(shift=shift):
+                self.assertEqual(timing.usual(), 20)
+
+    def test_reach_of_the_first_pcr(self) -> None:
+        """What came behind it is later by how far PTS were ahead at first."""
+        for shift in SHIFTS:
+            timing = Timing(1, Listing())
+            timing.first = shifted(-5, shift)
+            timing.samples = [Sample(0, 3), Sample(0, 12), Sample(0, -20)]
+            with self.subTest(shift=shift):
+                self.assertEqual(timing.reach(), (shifted(7, shift), None))
+                self.assertEqual(timing.late(), 20)
+
+    def test_grid(self) -> None:
+        """How many ticks after a frame most PTS are, whether they are before or after it."""
+        for shift, away, (rest, wanted) in itertools.product(
+                SHIFTS, (0, 20 * TICKS, -20 * TICKS), ((0, 0), (5, 5), (-5, TICKS - 5))):
+            grid = Grid()
+            for number in range(5):
+                grid.take(shifted(TICKS * number + rest, shift))
+            with self.subTest(shift=shift, away=away, rest=rest):
+                self.assertEqual(grid.after(shifted(away, shift), 0), wanted)
+
+    def test_grid_of_two_fields(self) -> None:
+        """Within 1 and more those near a frame count, a quarter before it to a quarter after it,
+        where there are some; within 0 most."""
+        for rest, is_near in ((0, True), (EARLY, True), (-EARLY, True), (EARLY + 1, False),
+                              (-EARLY - 1, False)):
+            grid = Grid()
+            for number, ticks in enumerate((rest, *[TICKS // 2] * 2, rest, TICKS // 2)):
+                grid.take(TICKS * number + ticks)
+            with self.subTest(rest=rest):
+                for within, wanted in ((0, TICKS // 2), (1, rest % TICKS if is_near
+                                                         else TICKS // 2)):
+                    self.assertEqual(grid.after(0, within), wanted)
+
+
+class Votes(unittest.TestCase):
+    """Origins, and the PES packets that are cut out by one."""
+
+    SUBTITLES = [Shown(100 + 30 * at, 115 + 30 * at, at, b"text %d" % at) for at in range(8)]
+
+    def changes(self, shift: int, late: int = 0) -> list[Change]:
+        """The changes of a page at all edges."""
+        return [Change(shifted(TICKS * (edge.frame + late), shift), edge.letters, number, number)
+                for number, edge in enumerate(edges_of(self.SUBTITLES))]
+
+    def test_origin(self) -> None:
+        """It is found where PTS begin again at its midnight, before the first edge, between two
+        and behind the last."""
+        for start, within in itertools.product((0, 50, 105, 130, 250, 330, 340), (0, 2)):
+            shift = CLOCK - TICKS * start + 7
+            changes = self.changes(shift % CLOCK)
+            election = Election(edges_of(self.SUBTITLES), changes, changes[0].pts,
+                                changes[-1].pts, within)
+            best = election.fits()[0]
+            with self.subTest(start=start, within=within):
+                self.assertEqual((best.origin, best.agree, best.letters),
+                                 (shift % CLOCK, 16, 16))
+
+    def test_page_erased_and_sent_again(self) -> None:
+        """Within some frames no change is seen where a page is erased and comes back."""
+        for shift in SHIFTS:
+            same = [Change(shifted(TICKS * frame, shift), letters, frame, rows)
+                    for frame, letters, rows in ((0, b"a", 1), (8, b"", 0), (10, b"a", 1),
+                                                 (18, b"", 0), (20, b"a", 1), (40, b"", 0))]
+            for most, frames in ((2, [0, 40]), (1, [0, 8, 10, 18, 20, 40])):
+                found = [one.number for one in without_repeats(same, most)]
+                with self.subTest(shift=shift, most=most):
+                    self.assertEqual(found, frames)
+
+    def test_headers_in_bases(self) -> None:
+        """Headers of the page go on where PTS begin again; where PTS go back a new range begins."""
+        for shift in SHIFTS:
+            sent = Sent((0, 0x88))
+            frames = [10, 11, 12, 13, 14, 2, 3, 4, 5, 6]
+            sent.take_all([pes_packet(shifted(TICKS * frame, shift), [
+                HEADER, row(20, b"%d" % frame), CLOSING]) for frame in frames])
+            with self.subTest(shift=shift):
+                self.assertEqual(
+                    [(one.first, one.last, len(one.changes), one.packets)
+                     for one in sent.in_bases()],
+                    [(shifted(TICKS * first, shift), shifted(TICKS * last, shift), 5, packets)
+                     for first, last, packets in ((10, 14, (0, 4)), (2, 6, (5, 9)))])
+
+    def test_cut(self) -> None:
+        """The PES packets of frames 100 to 120, wherever PTS begin again."""
+        for start in (0, 99, 100, 101, 110, 120, 121, 200):
+            origin = (CLOCK - TICKS * start) % CLOCK
+            all_of = [pes_packet(shifted(TICKS * frame, origin), [HEADER, CLOSING])
+                      for frame in range(90, 131)]
+            cut = Cut(100, 120, (0, 0x88), origin)
+            found = cut.taken(all_of)
+            with self.subTest(start=start):
+                self.assertEqual((found, cut.first, cut.last), (all_of[10:31], 100, 120))
+
+
+class Printed(unittest.TestCase):
+    """What is printed and made of PTS."""
+
+    def test_place_of_a_pts(self) -> None:
+        """In frames of the day, within 0 and more."""
+        for shift, (ticks, within, words) in itertools.product(SHIFTS, (
+                (0, 0, "00:00:00:00"), (25 * TICKS, 0, "00:00:01:00"),
+                (25 * TICKS + 5, 0, "none: 00:00:01:00 is 5 ticks before"),
+                (-1, 0, "none: after the day's end"), (25 * TICKS + 5, 1,
+                                                       "00:00:01:00, 5 ticks later"),
+                (-5, 1, "00:00:00:00, 5 ticks earlier"),
+                (TICKS * FRAMES_OF_A_DAY, 1, "none: after the day's end"))):
+            with self.subTest(shift=shift, ticks=ticks, within=within):
+                self.assertEqual(place_of_pts(shifted(ticks, shift), shift, within), words)
+
+    def test_headers_of_a_page(self) -> None:
+        """Of each page the first PTS and the last, as they come, whichever is the greater."""
+        for shift in SHIFTS:
+            headers, count = Headers(), 0
+            for some in ([0, 1, 2], [3], [4, 5]):
+                batch = of_packets([pes_packet(shifted(TICKS * at, shift), [HEADER, CLOSING])
+                                    for at in some])
+                headers.take(FoundHeaders(batch), count, batch.pts())
+                count += len(some)
+            one = headers.pages()[0, 0x88]
+            with self.subTest(shift=shift):
+                self.assertEqual((one.count, one.first, one.last),
+                                 (6, shifted(0, shift), shifted(5 * TICKS, shift)))
+
+    def test_clock_of_a_multiplex(self) -> None:
+        """A PCR each tenth of a second, up to a tenth before the PTS; over two minutes it jumps."""
+        for shift in SHIFTS:
+            multiplex, pcr = Multiplex(0x101, b"eng", (0, 0x88)), list[int]()
+            for pts in (0, 5 * TENTH, 5 * TENTH + 7, 5 * TENTH + 130 * 10 * TENTH):
+                multiplex.put(b"", shifted(pts, shift))
+            data = multiplex.taken()
+            for at in range(0, len(data), 188):
+                if data[at + 3] & 0x20:
+                    pcr.append(int.from_bytes(data[at + 6:at + 12], "big") >> 15)
+            wanted = [-TENTH, 0, TENTH, 2 * TENTH, 3 * TENTH, 4 * TENTH, 4 * TENTH + 7,
+                      5 * TENTH + 130 * 10 * TENTH - TENTH]
+            with self.subTest(shift=shift):
+                self.assertEqual(pcr, [shifted(one, shift) for one in wanted])
+
+    def test_first_picture(self) -> None:
+        """The smallest PTS of a group, whichever number is the greatest."""
+        for shift in SHIFTS:
+            for first, other, wanted in ((0, TICKS, False), (TICKS, 0, True), (0, 0, False)):
+                with self.subTest(shift=shift, first=first, other=other):
+                    self.assertEqual(is_before(shifted(other, shift), shifted(first, shift)),
+                                     wanted)

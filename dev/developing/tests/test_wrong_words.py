@@ -1,0 +1,148 @@
+"""Words and files that are wrong: one line on standard error, status 2, nothing written."""
+from __future__ import annotations
+
+import os
+
+from subtitles.core.built import TOP
+from .bench import Case, example, tool_path
+
+STL, PES = example("hello.stl"), example("hello.pes")
+TIMES = ["--from", "10:00:00:00", "--to", "10:00:02:00"]
+WRONG: dict[str, list[list[str]]] = {
+    "text": [[], ["none.stl"], [PES], [STL, STL], [TOP], [STL, "--colour"]],
+    "origin": [[], [STL], [STL, "none.pes"], ["none.stl", PES], [PES, PES],
+               [STL, PES, "--page", "8FF"], [STL, PES, "--option", "latin"],
+               [STL, PES, "--origin", "-1"], [STL, PES, "--origin", "8589934592"],
+               [STL, PES, "--origin", "9" * 5000], ["/dev/null", PES],
+               [STL, PES, "--breaks", "-1"], [STL, PES, "--breaks", "1000"],
+               [STL, PES, "--run", "0"]],
+    "cut": [[], [PES], [PES, "--from", "10:00:00:25", *TIMES[2:], "-o", "out.pes"],
+            [PES, "--from", "10:00:03:00", *TIMES[2:], "-o", "out.pes"],
+            [PES, *TIMES, "-o", "out.pes", "--every", "25"],
+            [PES, *TIMES, "-o", "out.pes", "--pes", "5-3"],
+            [PES, *TIMES, "-o", "out.pes", "--pes", "5"],
+            [PES, *TIMES, "-o", "no/folder.pes"], ["none.pes", *TIMES, "-o", "out.pes"],
+            [PES, *TIMES, "--page", "9", "-o", "out.pes"], [PES, *TIMES, "-o", TOP],
+            [PES, *TIMES, "--stl", STL, "-o", "out.pes"], [PES, "--stl", PES, "-o", "out.pes"],
+            [PES, "--stl", "none.stl", "-o", "out.pes"], [PES, *TIMES[:2], "-o", "out.pes"]],
+    "part": [[], [STL], [STL, *TIMES], [STL, *TIMES[:2], "-o", "out.stl"],
+             [PES, *TIMES, "-o", "out.stl"], ["none.stl", *TIMES, "-o", "out.stl"],
+             [STL, "--from", "10:00:03:00", *TIMES[2:], "-o", "out.stl"],
+             [STL, *TIMES, "-o", STL], [STL, *TIMES, "-o", "no/folder.stl"],
+             [STL, *TIMES, "-o", TOP]],
+    "poke": [[], ["none.stl"], [STL, "x"], [STL, "1=0"], [STL, "1=@3"], [STL, "1152=00"],
+             [STL, "0=@1150+3"], [STL, "-c", "-1"], [STL, "-c", "x"], [STL, "1=00", "--colour"],
+             [STL, "9" * 5000 + "=00"], [TOP]],
+    "qc": [[], ["none.stl"], [STL, "none.pes"], [STL, PES, PES], [STL, "--page", "8FF"],
+           [STL, "--every", "0"], [STL, "--every", "1501"], [STL, "--option", "latin"],
+           [STL, "--origin", "x"], [STL, PES, "--pid", "8191"], [STL, "--severity", "none"],
+           [STL, "-p", "none"], ["--batch"], ["--batch", "none"], [STL, "--jobs", "2"],
+           [STL, PES, "--json", "no/folder.json"], [STL, PES, "--csv", TOP],
+           [STL, PES, "--every", "9" * 5000], ["--batch", TOP, "--junit", "no/folder.xml"],
+           ["--batch", TOP, "--jobs", "9" * 5000]],
+    "ts2pes": [[], ["none.ts"], [PES, "9" * 5000], ["/dev/null"], [PES],
+               [PES, "0x101"], [PES, "8191"], [PES, "x"],
+               [PES, "1", "2"]],
+    "pes2ts": [[], [PES], ["none.pes", "0x101"], [PES, "0x100"], [PES, "7"], [PES, "0x1fff"],
+               [PES, "0x101", "english"], [PES, "0x101", "--page", "8FF"]],
+    "install": [[], ["-x"], ["--", "-x"], [""], [PES], ["-p", "none", "to"], ["to", "from"]],
+    "dist": [[PES], ["--colour"], ["--deb", PES]],
+    "release": [["none"], ["--note", "none"], ["--keep", "--compare"], ["--colour"]],
+    "reading-list": [[], ["none"], ["Good", "Robust"], ["Good", "--colour"]],
+    "slow-proofs": [[], ["none"]], "make-examples": [[], ["a", "b"]],
+    "check-manual": [["-p", "none"]], "check-preview": [["-p", "none"]],
+    "check-every-place": [["--count", "x"], ["--recordings", "x"]], "faults": [["-v", "none"]],
+}
+
+
+def names() -> list[str]:
+    """All tools, of tools/ and of dev/."""
+    listed = {name for folder in ("tools", "dev") for name in os.listdir(os.path.join(TOP, folder))}
+    return [name for name in sorted(listed)
+            if os.access(tool_path(name), os.X_OK) and os.path.isfile(tool_path(name))]
+
+
+class WrongWords(Case):
+    """Calls that are wrong."""
+
+    def test_refuses_wrong_words(self) -> None:
+        for name in names():
+            for words in [*WRONG.get(name, []), ["--colour"], ["---"]]:
+                before = sorted(os.listdir(self.folder))
+                done = self.tool(name, *words)
+                self.must(f"{name} {' '.join(words)}", done.status == 2 and not done.out
+                          and len(done.told) == 1 and done.told[0].startswith(name + ": ")
+                          and sorted(os.listdir(self.folder)) == before, done)
+
+    def test_helps(self) -> None:
+        """--help, and what it says first is what the script says first; --version."""
+        with open(os.path.join(TOP, "VERSION"), encoding="utf-8") as file:
+            version = file.read().strip()
+        for name in names():
+            done = self.tool(name, "--version")
+            self.must(f"{name} --version", (done.status, done.out.decode()) ==
+                      (0, f"{name} {version}\n"), done)
+            done = self.tool(name, "--help")
+            with open(tool_path(name), encoding="utf-8") as file:
+                first = file.read().splitlines()[1].lstrip('"# ')
+            self.must(name, done.status == 0 and done.out.decode().startswith(first), done)
+
+    def test_tells_a_full_device(self) -> None:
+        if not os.path.exists("/dev/full"):
+            self.skipTest("a full device, since there is no /dev/full")
+        for name, *words in (["text", STL], ["origin", STL, PES], ["pes2ts", PES, "0x101"],
+                             ["poke", STL], ["part", STL, *TIMES, "-o", "-"], ["cut", "--version"],
+                             ["cut", PES, *TIMES, "-o", "-"], ["ts2pes", "--help"]):
+            done = self.call(["sh", "-c", 'exec "$@" >/dev/full', "sh",
+                              tool_path(name), *words])
+            self.must(name, done.status == 2 and done.told and "No space" in done.told[-1], done)
+        done = self.tool("cut", PES, *TIMES, "-o", "/dev/full")
+        self.must("cut -o", done.status == 2 and done.told == ["cut: /dev/full: No space left on "
+                  "device"], done)
+
+    def test_refuses_devices_that_do_not_end(self) -> None:
+        """Where all of a file is read: by name, and as standard input, also through a link."""
+        os.symlink("/dev/zero", self.path("link"))
+        for device in ("/dev/zero", "/dev/full", "/dev/urandom", self.path("link")):
+            if not os.path.exists(device):
+                self.bench.over.append(f"a device that does not end, since there is no {device}")
+                continue
+            for words in (["poke", device], ["poke", device, "-c", "4"], ["text", device],
+                          ["part", device, *TIMES, "-o", "a.stl"], ["origin", device, PES],
+                          ["cut", PES, "--stl", device, "-o", "a.pes"],
+                          ["qc", STL, "--severity", device], ["qc", "--batch", device]):
+                done = self.tool(*words)
+                self.must(" ".join(words), done ==
+                          (2, b"", [f"{words[0]}: {device} is a device: give "
+                                                             "a file or a pipe"]), done)
+            for words in (["poke", "-"], ["poke", "/dev/stdin"],
+                          ["part", "-", *TIMES, "-o", "a.stl"]):
+                done = self.call(["sh", "-c", 'exec "$0" "$@" <' + device,
+                                  tool_path(words[0]), *words[1:]])
+                self.must(f"{' '.join(words)} <{device}", done.status == 2 and not done.out
+                          and done.told == [f"{words[0]}: {words[1]} is a device: give a file or a "
+                                            "pipe"], done)
+
+    def test_reads_pipes_and_the_empty_device(self) -> None:
+        done = self.tool("poke", "-", "0=41", data=b"abc")
+        self.must("a pipe", done == (0, b"Abc", []), done)
+        done = self.tool("poke", "/dev/stdin", data=b"abc")
+        self.must("a pipe by its name", done == (0, b"abc", []), done)
+        done = self.tool("poke", "/dev/null")
+        self.must("/dev/null", done == (0, b"", []), done)
+
+    def test_names_files_as_they_were_typed(self) -> None:
+        """No part of a name, no number and no name that was made on the way."""
+        for words, named in ((["origin", STL, "/dev/null"], "/dev/null"),
+                             (["cut", "-", *TIMES, "-o", "no/folder.pes"], "no/folder.pes"),
+                             (["cut", TOP, *TIMES, "-o", "a.pes"], TOP),
+                             (["part", STL, *TIMES, "-o", "/proc/a.stl"], "/proc/a.stl"),
+                             (["qc", "-"], "qc: - is"), (["qc", ""], "an empty name"),
+                             (["qc", "--", "-x.stl"], "qc: -x.stl"),
+                             (["text", ""], "an empty name"), (["text", "none.stl"], "none.stl"),
+                             (["cut", self.write("cut.pes", b"\0\0\1"), *TIMES, "-o", "a.pes"],
+                              self.path("cut.pes")),
+                             (["text", "/dev/null"], "/dev/null")):
+            done = self.tool(*words)
+            self.must(" ".join(words), done.status in (1, 2) and named in done.told[-1]
+                      and "subttx-" not in done.told[-1], done)

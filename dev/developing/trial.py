@@ -1,0 +1,247 @@
+"""How dev/faults runs the program, and what has to happen in a run in which something fails."""
+from __future__ import annotations
+
+import os
+import re
+import subprocess
+import tempfile
+from typing import IO, Any, Callable, NamedTuple, Sequence
+
+from subtitles.core.stl import GSI, TTI
+
+NO_MEMORY = re.compile(rb"fault (91 Memory|58 Memory block \d+)\n")
+ANOTHER_USER = 65534
+SECONDS = 2  # of the processor, for one run
+LONG_LOG = 1 << 20  # bytes of strace's log: a run with more of them does not end
+
+CALL = re.compile(r"^\d+ +(\w+)\((.*)\) += (-?\w+)(.*)$")
+CALLS = "trace=openat,read,write,statx,mmap,brk,rt_sigaction"
+STRACE = ["strace", "-f", "--seccomp-bpf", "-y", "-s", "0", "-e", CALLS]
+# How many faults `check --all` tells of each PES packet, but the last, of an input.
+TOLD_OF_EACH = {"long.pes": 0, "even.pes": 2, "unread.pes": 1}
+
+
+class Command(NamedTuple):
+    """A command line, the file that it writes, and what it does where nothing fails."""
+
+    name: str
+    words: list[str]
+    out: str | None
+    status: int
+    printed: bytes
+    written: bytes | None
+
+
+class Call(NamedTuple):
+    """A system call as strace shows it. `on` is its descriptor, or the name that is opened or
+    looked at; `number` counts the calls of its name from 1."""
+
+    name: str
+    on: str
+    file: str
+    result: int | None
+    is_injected: bool
+    number: int
+
+
+class Ran(NamedTuple):
+    """What a run did; printed is `None` where nothing can be seen, written where there is no file.
+    The status of a program that could not be run is the reason."""
+
+    status: int | str
+    printed: bytes | None
+    written: bytes | None
+    calls: list[Call]
+
+
+def read(path: str) -> bytes | None:
+    if not os.path.isfile(path):
+        return None
+    with open(path, "rb") as file:
+        return file.read()
+
+
+def calls_of(log: bytes) -> list[Call]:
+    """The system calls of a log of strace, in their order."""
+    found: list[Call] = []
+    numbers: dict[str, int] = {}
+    for line in log[:LONG_LOG].decode("utf-8", "replace").splitlines():
+        it = CALL.match(line)
+        if not it:
+            continue
+        name, arguments, result, rest = it.groups()
+        numbers[name] = numbers.get(name, 0) + 1
+        on, _, path = arguments.partition(",")[0].rstrip(">").partition("<")
+        if name in ("openat", "statx"):
+            on = arguments.split('"')[1]
+        found.append(Call(name, on, os.path.basename(path),
+                          int(result, 0) if result != "?" else None,
+                          "(INJECTED)" in rest, numbers[name]))
+    return found
+
+
+class Trial:
+    """The program, its inputs, its commands, and what of the machine can be tried."""
+
+    def __init__(self, program: str, folder: str) -> None:
+        self.program, self.folder = program, folder
+        self.commands: dict[str, Command] = {}
+        self.inputs: dict[str, bytes] = {}
+        self.over: list[str] = []
+        self.has_strace = self.can([*STRACE, "-o", os.devnull, "true"])
+        # Root may read every file; other users not what they took the right from.
+        self.as_user: dict[str, int] = {} if os.geteuid() else {"user": ANOTHER_USER}
+        self.has_user = self.can(["test", "-x", program], **self.as_user)
+
+    @staticmethod
+    def can(command: Sequence[str], **more: Any) -> bool:
+        try:
+            return subprocess.run(command, stdin=subprocess.DEVNULL, stdout=subprocess.DEVNULL,
+                                  stderr=subprocess.DEVNULL, check=False, **more).returncode == 0
+        except (OSError, subprocess.SubprocessError):
+            return False
+
+    def give(self, name: str, data: bytes) -> None:
+        """Makes an input, ../NAME to each run."""
+        self.inputs[name] = data
+        with open(os.path.join(self.folder, name), "wb") as file:
+            file.write(data)
+
+    def run(self, words: Sequence[str], out: str | None = None, before: Sequence[str] = (),
+            setup: str = "", prepare: Callable[[str], object] | None = None,
+            stdout: int | IO[bytes] = subprocess.PIPE, stdin: int | IO[bytes] = subprocess.DEVNULL,
+            **more: Any) -> Ran:
+        """Runs the program in a new folder; `setup` is done by the shell that starts it."""
+        with tempfile.TemporaryDirectory(dir=self.folder) as place:
+            os.chmod(place, 0o777)
+            if prepare:
+                prepare(place)
+            script = f'ulimit -c 0; ulimit -t {SECONDS}; {setup} exec "$@"'
+            command = ["sh", "-c", script, "sh", *before, self.program, *words]
+            try:
+                done = subprocess.run(command, stdout=stdout, stderr=subprocess.DEVNULL, cwd=place,
+                                      stdin=stdin, timeout=30 * SECONDS, check=False, **more)
+            except (OSError, subprocess.SubprocessError) as error:
+                return Ran(str(error), b"", None, [])
+            calls = calls_of(read(os.path.join(place, "calls")) or b"")
+            written = read(os.path.join(place, out)) if out else None
+            return Ran(done.returncode, done.stdout, written, calls)
+
+    def traced(self, command: Command, *more: str) -> Ran:
+        """Runs a command under strace, with more of strace's words."""
+        return self.run(command.words, command.out, before=[*STRACE, "-o", "calls", *more])
+
+    def own_calls(self, command: Command) -> list[Call]:
+        """The system calls of the program itself, those of the loader before it left out."""
+        calls = self.traced(command).calls
+        start = next(at for at, call in enumerate(calls) if call.name == "rt_sigaction")
+        return calls[start + 1:]
+
+
+def wrong(ran: Ran, status: int, printed: bytes, written: bytes | None) -> list[str]:
+    """What of a run is not as it has to be, as words."""
+    faults = []
+    if ran.status != status:
+        faults.append(f"status {ran.status}, and not {status}")
+    if ran.printed is not None and ran.printed != printed:
+        faults.append(f"printed {shown(ran.printed)}, and not {shown(printed)}")
+    if ran.written != written:
+        faults.append(f"wrote {size(ran.written)}, and not {size(written)}")
+    return faults
+
+
+def shown(text: bytes) -> str:
+    return f"{len(text)} bytes up to {text[-30:]!r}" if text else "nothing"
+
+
+def size(data: bytes | None) -> str:
+    return "no file" if data is None else f"these {len(data)} bytes"
+
+
+def as_before(command: Command, ran: Ran) -> list[str]:
+    """The run has to be the one in which nothing fails."""
+    return wrong(ran, command.status, command.printed, command.written)
+
+
+def whole_or_no_memory(command: Command, ran: Ran) -> list[str]:
+    """The run has to be the one in which nothing fails, or to tell want of memory."""
+    found = NO_MEMORY.search(ran.printed or b"")
+    if not found or ran.printed is None:
+        return as_before(command, ran)
+    before = ran.printed[:found.start()]
+    faults = wrong(ran, 2, before + found[0], ran.written)
+    if not command.printed.startswith(before):
+        faults.append("what was printed before is no beginning of the whole")
+    if not (command.written or b"").startswith(ran.written or b""):
+        faults.append("the file is no beginning of the whole")
+    return faults
+
+
+def fault_of_write(command: Command) -> bytes:
+    return b"fault 29 Write\n" if command.words[0] == "normal" else b"fault 42 Write\n"
+
+
+def packets_before(data: bytes, offset: int) -> int:
+    """How many PES packets end at a byte of a file, or before it."""
+    count = at = 0
+    while at + 6 <= offset:
+        at += 6 + int.from_bytes(data[at + 4:at + 6], "big")
+        count += at <= offset
+    return count
+
+
+def block_in(line: bytes) -> int:
+    """The block that a line `refused NN Name block N` names."""
+    return int(line.split()[4])
+
+
+def text_of_read(trial: Trial, command: Command, name: str, offset: int) -> bytes:
+    """What is printed where the read fails that begins at a byte of an input."""
+    lines = command.printed.splitlines(True)
+    if name.endswith(".stl"):
+        block = 0 if offset < GSI else (offset - GSI) // TTI + 1
+        before = lines[:max(block - 1, 0)] if command.words[0] == "show" else []
+        if "--all" in command.words:
+            # Reading went on after what was told of the blocks before.
+            before = [line for line in lines if b" block " in line and block_in(line) < block]
+        return b"".join(before) + b"fault 26 Read block %d\n" % block
+    index = packets_before(trial.inputs[name], offset)
+    starts = [at for at, line in enumerate(lines) if line.startswith(b"pes ")] + [len(lines) - 1]
+    before = lines[:starts[index]] if command.words[0] == "packets" else []
+    if "--all" in command.words:
+        # Of each PES packet as many faults are told; what may be trusted is at the end.
+        told = TOLD_OF_EACH[name] * index
+        before = [line for line in lines if line.startswith(b"refused ")][:told]
+    return b"".join(before) + b"fault 41 Read pes %d\n" % index
+
+
+def handed(calls: list[Call], call: Call) -> int:
+    """The bytes that calls of its kind moved before it, on its descriptor."""
+    return sum(it.result or 0 for it in calls[:calls.index(call)]
+               if (it.name, it.on, it.file) == (call.name, call.on, call.file))
+
+
+def judge(trial: Trial, command: Command, ran: Ran) -> list[str]:
+    """What is wrong with a run under strace, by the calls that were made to fail in it."""
+    failed = {(call.name, call.on): call for call in reversed(ran.calls) if call.is_injected}
+    if not failed:
+        return ["no call failed"] + as_before(command, ran)
+    first = [call for call in ran.calls if call.is_injected][0]
+    text, written = command.printed, command.written
+    if first.name in ("openat", "statx"):
+        text, written = b"fault 90 Open\n", None
+    elif first.name == "read":
+        text = text_of_read(trial, command, first.file, handed(ran.calls, first))
+        written = b"" if command.out else None
+    elif first.on != "1":
+        text = fault_of_write(command)
+        written = (command.written or b"")[:handed(ran.calls, first)]
+    at_output = failed.get(("write", "1"))
+    if at_output:
+        text = text[:handed(ran.calls, at_output)]
+    faults = wrong(ran, 2, text, written)
+    for (name, on), call in failed.items():
+        after = [it for it in ran.calls[ran.calls.index(call) + 1:] if it.name == name]
+        if name in ("read", "write") and any(on in (it.on, "1") for it in after):
+            faults.append(f"a {name} after the one that failed")
+    return faults

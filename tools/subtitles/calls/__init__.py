@@ -1,0 +1,28 @@
+"""What a call of tools/qc does, one idea each.
+
+main          the words of the command line
+modes         which option goes with what
+single        one pair: judged, said and written
+claim         the files of a pair in a folder belong to one call
+
+machine       a verdict as a JSON object
+table         pairs and faults as lines of CSV
+overview      one page over all parts of a pair
+junit         pairs as testcases
+pairs         the pairs of a folder or a list
+batch         many pairs, each judged by a call of its own
+objects       the objects of pairs that were judged, as rows
+collecting    one table, and the files for machines, of many objects
+index_page    one page of many pairs
+watching      a folder into which pairs are written
+
+channel       the programmes of a channel, one after another
+planned       its list
+channel_feed  its feed
+feed_clock    the time of that
+ring          what of it came lately
+hearing       the pages that are heard of it
+awaited       a programme that is waited for
+queue         those that are, the first of the list
+running       the one that is judged
+"""

@@ -1,0 +1,172 @@
+"""Many pairs: each judged by a call of its own, as many at a time as there are processors."""
+from __future__ import annotations
+
+import argparse
+import concurrent.futures
+import os
+import subprocess
+import tempfile
+import time
+
+from ..core.words import Stop, counted, line_of, shown, tell
+from ..qc.asked import Asked
+from ..qc.made_with import program_at
+from ..qc.progress import Progress
+from ..qc.status import ACCEPTED, NOT_JUDGED, WAIVED
+from ..qc.typed import Typed
+from . import collecting
+from .claim import claimed_for_batch
+from .objects import (
+    ENDING, Row, found, is_current, left_by_call, object_at, put, row_of, unjudged)
+from .pairs import Item, pairs_at
+from .single import ignore_signals
+
+WAIT = 0.2  # seconds between two looks at what is done
+
+
+class Calls:
+    """The calls for pairs, each of which writes the object of its pair when it is judged.
+
+    Objects stand in the folder `out`, with reports and lists, or in one that is temporary.
+    """
+
+    def __init__(self, typed: Typed, folder: str, out: str | None, is_kept: bool) -> None:
+        self.typed, self.folder, self.out, self.is_kept = typed, folder, out, is_kept
+        self.running: set[subprocess.Popen[str]] = set()
+        self.is_stopped = False
+
+    def path(self, item: Item) -> str:
+        """The file of a pair's object."""
+        return os.path.join(self.out or self.folder, shown(item.name) + ENDING)
+
+    def judge(self, item: Item) -> Row:
+        """Judges a pair by a call of this tool; its row."""
+        path = self.path(item)
+        if item.asked is None:
+            return self.leave(item, item.reason or "")
+        kept = ["-o", self.out, *["--keep"] * self.is_kept] if self.out else ["--json", path]
+        command = [*self.typed.call("qc"), f"--name={item.name}", *kept, "-p",
+                   self.typed.program_path, *words_of(item.asked)]
+        if os.path.lexists(path):
+            os.unlink(path)
+        before = found(item.asked)
+        try:
+            with subprocess.Popen(command, stdin=subprocess.DEVNULL, stdout=subprocess.DEVNULL,
+                                  stderr=subprocess.PIPE, encoding="utf-8", errors="replace",
+                                  start_new_session=True) as process:
+                self.running.add(process)
+                told = process.communicate()[1].splitlines()
+                self.running.discard(process)
+        except OSError as error:
+            return self.leave(item, line_of(error))
+        if found(item.asked) != before:
+            return self.leave(item, "a file was written to while it was judged")
+        known = left_by_call(path, item.name, process.returncode, told)
+        return self.leave(item, known["reason"]) if "asked" not in known else \
+            row_of(known, item.name)
+
+    def leave(self, item: Item, reason: str) -> Row:
+        """The row and the object of what is not judged."""
+        known = unjudged(item.name, reason)
+        if not self.is_stopped:
+            put(self.path(item), known)
+        return row_of(known, item.name)
+
+    def stop(self) -> None:
+        """Ends the calls that run; their pairs have no object."""
+        self.is_stopped = True
+        for process in list(self.running):
+            process.terminate()
+
+
+def words_of(asked: Asked) -> list[str]:
+    """A pair as the words of a call."""
+    words = ["--page", asked.page_name, "--every", str(asked.every), "--option", asked.option]
+    words += ["--origin", str(asked.origin)] if asked.origin is not None else []
+    words += ["--within", str(asked.within)]
+    words += asked.clock_words()
+    words += ["--start", asked.start] if asked.start is not None else []
+    words += ["--pid", str(asked.pid)] if asked.pid is not None else []
+    words += ["--severity", asked.severity] if asked.severity is not None else []
+    words += ["--complete" if asked.is_complete else "--no-complete"]
+    words += ["--allow-lost"] if asked.is_loss_allowed else []
+    words += ["--strict"] if asked.is_strict else []
+    return [*words, "--", asked.stl, *([asked.recording] if asked.recording else [])]
+
+
+def judge(words: argparse.Namespace, called: str) -> int:
+    """Judges all pairs; answers the status."""
+    typed = Typed(called, words.program)
+    if words.is_resumed and words.out is None:
+        raise Stop("--resume goes with -o, where the objects of an earlier call stand")
+    collecting.refuse_names(words)
+    items = pairs_at(words.batch, words)
+    with tempfile.TemporaryDirectory(prefix="subttx-qc-") as folder, \
+            claimed_for_batch(words.out):
+        calls = Calls(typed, folder, words.out, words.is_kept)
+        kept = kept_rows(calls, items) if words.is_resumed else {}
+        known = all_rows(calls, items, kept, words.jobs or os.cpu_count() or 1)
+        done = [item for item in items if item.name in known]
+        rows = [known[item.name] for item in done]
+        if words.out is not None:
+            collecting.write_index(words.out, rows)
+        status = collecting.end(words, rows, [calls.path(item) for item in done],
+                                calls.is_stopped)
+        if calls.is_stopped:
+            tell(f"stopped when {len(done)} of {counted(len(items), 'pair')} were judged"
+                 + ("; --resume judges the others" if words.out is not None else ""))
+        return status
+
+
+def kept_rows(calls: Calls, items: list[Item]) -> dict[str, Row]:
+    """The rows of pairs that an earlier call has judged as they would be judged now."""
+    program, rows = program_at(calls.typed.program_path), {}
+    for item in items:
+        path = calls.path(item)
+        known = object_at(path) if item.asked and os.path.exists(path) else None
+        if item.asked and known and known["verdict"] != NOT_JUDGED \
+                and is_current(known, item.asked, program):
+            rows[item.name] = row_of(known, item.name)
+    return rows
+
+
+def all_rows(calls: Calls, items: list[Item], kept: dict[str, Row], jobs: int) \
+        -> dict[str, Row]:
+    """The rows of all pairs, with a line of progress; where a signal ends it, of those that were
+    judged before."""
+    progress, began, rows = Progress(), time.monotonic(), dict(kept)
+    with concurrent.futures.ThreadPoolExecutor(jobs) as pool:
+        waiting = {pool.submit(calls.judge, item): item for item in items if item.name not in kept}
+        try:
+            while waiting:
+                done, _ = concurrent.futures.wait(
+                    waiting, WAIT, concurrent.futures.FIRST_COMPLETED)
+                for one in done:
+                    rows[waiting[one].name] = one.result()
+                    del waiting[one]
+                progress.show(progress_line(rows, len(items), len(kept), began))
+        except BaseException as reason:
+            if isinstance(reason, KeyboardInterrupt):
+                ignore_signals()  # what is known is written now
+            rows |= {item.name: one.result() for one, item in waiting.items() if one.done()}
+            for one in waiting:
+                one.cancel()
+            calls.stop()
+            if not isinstance(reason, KeyboardInterrupt):
+                raise
+    progress.clear()
+    return rows
+
+
+def progress_line(rows: dict[str, Row], count: int, kept: int, began: float) -> str:
+    """How many pairs have a verdict, of which kind, and how long the others will take."""
+    verdicts = [row.verdict for row in rows.values()]
+    accepted, waived, missed = map(verdicts.count, (ACCEPTED, WAIVED, NOT_JUDGED))
+    line = (f"{len(rows)} of {counted(count, 'pair')}: {accepted} accepted, "
+            f"{f'{waived} waived, ' if waived else ''}"
+            f"{len(rows) - accepted - waived - missed} refused, {missed} not judged")
+    done = len(rows) - kept
+    if not done:
+        return line
+    left = (time.monotonic() - began) / done * (count - len(rows))
+    return f"{line}; {counted(round(left), 'second')} left"

@@ -1,0 +1,141 @@
+"""Objects of many pairs in one table, one page, and one file for each kind of machine."""
+from __future__ import annotations
+
+import argparse
+import json
+import os
+import sys
+from typing import Callable, Iterator, Sequence
+
+from ..core.files import OWN_OUTPUT, refuse_name, whole_file
+from ..core.words import Stop, counted, line_of, shown, silence, tell
+from ..qc.status import ACCEPTED, of_all
+from . import index_page, junit, table
+from .machine import FORMAT
+from .objects import Row, object_at, objects_in, row_of
+from .single import now
+
+HEADS = ("pair", "verdict", "faults", "first fault")
+INDEX = "index.html"
+
+def collect(words: argparse.Namespace) -> int:
+    """Makes all there is to make of the objects in a folder; answers the status."""
+    folder = words.collect
+    refuse_names(words)
+    if not os.path.isdir(folder):
+        raise Stop(f"{folder} is no folder")
+    rows, paths = [], []
+    for path, known in objects_in(folder):
+        if known is None:
+            tell(f"{path} is no JSON result of a pair, and is skipped")
+            continue
+        name = os.path.basename(path).removesuffix(".json")
+        rows.append(row_of(known, name))
+        paths.append(path)
+    if not rows:
+        raise Stop(f"{folder} has no JSON result of a pair")
+    write_index(folder, rows)
+    return end(words, rows, paths)
+
+
+def end(words: argparse.Namespace, rows: Sequence[Row], paths: Sequence[str],
+        is_stopped: bool = False) -> int:
+    """Writes the files for machines, by the files of the objects, and prints the table; answers the
+    status, which is 2 where others were to be judged too, or a file could not be written. The
+    object comes last, and knows of that."""
+    date, failed = now(), list[str]()
+
+    def status() -> int:
+        return of_all((row.verdict for row in rows), is_stopped or bool(failed))
+
+    for path, pieces in ((words.csv, lambda: lines_of(paths)),
+                         (words.junit, lambda: testcases(rows, date)),
+                         (words.json, lambda: objects(rows, paths, status(), date))):
+        try:
+            put(path, pieces)
+        except (Stop, OSError) as reason:
+            failed.append(line_of(reason))
+            tell(failed[-1])
+    is_output_taken = any(path in OWN_OUTPUT for path in (words.json, words.csv, words.junit))
+    out = sys.stderr if is_output_taken else sys.stdout
+    try:
+        for line in table_of(rows) if rows else ():
+            print(shown(line), file=out)
+        out.flush()
+    except BrokenPipeError:  # who reads it wants no more: what is written stays
+        silence(out)
+    return status()
+
+
+def refuse_names(words: argparse.Namespace) -> None:
+    """Names under which nothing can be written are refused before anything is done."""
+    for path in (words.json, words.csv, words.junit):
+        if path is not None:
+            refuse_name(path)
+
+
+def write_index(folder: str, rows: Sequence[Row]) -> None:
+    """The page over all pairs of a folder."""
+    with whole_file(os.path.join(folder, INDEX), []) as file:
+        file.write(index_page.page_of(folder, rows, now()).encode("utf-8", "replace"))
+
+
+def table_of(rows: Sequence[Row]) -> Iterator[str]:
+    """The table, and a line of how many there are of which verdict."""
+    lines = [HEADS, *((row.name, row.verdict, str(row.faults) if row.is_judged else "",
+                       first_fault(row)) for row in rows)]
+    widths = [max(len(line[column]) for line in lines) for column in range(3)]
+    for name, verdict, faults, first in lines:
+        yield (f"{name:{widths[0]}}  {verdict:{widths[1]}}  {faults:>{widths[2]}}  "
+               f"{first}").rstrip()
+    counts = [f"{sum(row.verdict == verdict for row in rows)} {verdict}"
+              for verdict in dict.fromkeys(row.verdict for row in rows)]
+    yield f"{counted(len(rows), 'pair')}: {', '.join(counts)}"
+
+
+def first_fault(row: Row) -> str:
+    """The place of the first fault, with what to know of it, or why the pair was not judged, as far
+    as one line has it."""
+    if row.verdict == ACCEPTED or not row.line:
+        return ""
+    line = row.line.splitlines()[0].removeprefix("refused ").partition("; ")[0]
+    return f"{line}: {row.hint}" if row.hint else line
+
+
+def put(path: str | None, pieces: Callable[[], Iterator[bytes]]) -> None:
+    """Writes a file whole, or not at all."""
+    if path is not None:
+        with whole_file(path, []) as file:
+            for piece in pieces():
+                file.write(piece)
+
+
+def objects(rows: Sequence[Row], paths: Sequence[str], status: int, date: str) -> Iterator[bytes]:
+    """One object with those of all pairs."""
+    head = {"format": FORMAT, "status": status, "date": date}
+    yield json.dumps(head, indent=1).removesuffix("\n}").encode() + b',\n "pairs": ['
+    before = b"\n"
+    for row, path in zip(rows, paths):
+        yield before + text_of(path, row)
+        before = b",\n"
+    yield b"]\n}\n"
+
+
+def text_of(path: str, row: Row) -> bytes:
+    """The object as it stands; that of a pair that is not judged, where it can't be read."""
+    known = object_at(path)
+    if known is None or not row.is_judged and "asked" not in known:
+        return json.dumps(known).encode()
+    with open(path, "rb") as file:
+        return file.read()
+
+
+def lines_of(paths: Sequence[str]) -> Iterator[bytes]:
+    """The lines of all pairs under one head."""
+    yield from table.text_of(object_at(path) or {} for path in paths)
+
+
+def testcases(rows: Sequence[Row], date: str) -> Iterator[bytes]:
+    """A testcase for each pair."""
+    yield junit.text_of([junit.TestCase(row.title, row.verdict, row.status, row.line, row.lines,
+                                        row.seconds) for row in rows], date)

@@ -1,0 +1,107 @@
+"""One page over all parts of a pair: the verdict, what it speaks of, and a line for each part."""
+from __future__ import annotations
+
+import os
+from typing import Iterator, Sequence
+
+from ..core.gsi import titles_in
+from ..core.manual import shown
+from ..core.times import frame_of, time_of
+from ..core.words import counted
+from ..preview.counts import heads
+from ..preview.page import BAD, GOOD, UNSEEN, document, lost_places, made_from
+from ..preview.scope import Recorded, Scope
+from ..qc.cause_words import count_line, names_line
+from ..qc.made_with import Program
+from ..qc.names import Names
+from ..qc.status import ACCEPTED, LOST, NOT_JUDGED, WARNED
+from ..qc.sums import File
+from ..qc.typed import Typed
+from ..qc.verdict import Part, Verdict
+
+COLUMNS = ("From", "To", "Verdict", "Faults", "Causes", "Clock")
+
+
+def overview(verdict: Verdict, program: Program, names: Names, typed: Typed) -> Iterator[str]:
+    """The page."""
+    asked = verdict.asked
+    line = verdict.line or f"{NOT_JUDGED}: {verdict.why_not}"
+    title = " and ".join(os.path.basename(name) for name in (asked.stl, asked.recording) if name)
+    files: list[tuple[str, File | Recorded]] = [
+        (kind, file) for kind, file in (("STL", verdict.stl), ("Recording", verdict.recording))
+        if file]
+    size = os.path.getsize(typed.program_path)
+    files.append(("Program", File(typed.program_word, size, program.sha256)))
+    words = [("Commands", "\n".join(verdict.commands))]
+    yield document(line, title, [
+        box(verdict, line), scope(verdict), f'<h2 id="parts">{len(verdict.parts)} parts</h2>',
+        table(verdict, names), between(verdict.parts),
+        made_from(files, verdict.date.replace("T", " ").replace("Z", " UTC"), program, words)])
+
+
+def box(verdict: Verdict, line: str) -> str:
+    """The verdict, and what stands beside it."""
+    kind, shape = {ACCEPTED: ("accepted", GOOD), LOST: ("unseen", UNSEEN),
+                   WARNED: ("unseen", UNSEEN)}.get(verdict.word, ("refused", BAD))
+    causes = [part.causes for part in verdict.parts if part.causes]
+    parts = [f'<p class="count">{shown(count_line(causes))}</p>'] if causes else []
+    lost = [gap.line() for gap in verdict.gaps if gap.is_judged]
+    parts += [lost_places(lost)] if lost else []
+    notes = [*verdict.said(), *(warned.said() for warned in verdict.warnings), *verdict.hints]
+    parts += [f'<p class="note">{shown(words)}</p>' for words in notes]
+    return (f'<div class="verdict {kind}">{shape}<div><p class="line" id="verdict">{shown(line)}'
+            f'</p>{"".join(parts)}</div></div>')
+
+
+def scope(verdict: Verdict) -> str:
+    """What the verdict speaks of."""
+    begins, ends = ([time for part in verdict.parts for time in [part.times()[at]] if time]
+                    for at in (0, 1))
+    recording = verdict.recording
+    one = Scope(titles_in(verdict.asked.stl), recording and Recorded(*recording),
+                frame_of(min(begins)) or 0, frame_of(max(ends)) or 0,
+                sum(subtitles_of(part) for part in verdict.parts), None, bool(verdict.fitted),
+                True)
+    return one.box()
+
+
+def subtitles_of(part: Part) -> int:
+    """How many subtitles a part has."""
+    from ..qc.subtitle_file import SubtitleFile  # what is refused needs no more of it
+    return len(SubtitleFile(part.stl_path).begins)
+
+
+def table(verdict: Verdict, names: Names) -> str:
+    """A row for each part, which leads to its page."""
+    rows = []
+    for part in verdict.parts:
+        page = os.path.basename(names.of_part(part.number).report)
+        begin, end = part.times()
+        cells = [begin or "", end or "", f'<a href="{shown(page)}">{shown(part.answer.line)}</a>',
+                 f"{part.answer.count:,}",
+                 shown(names_line([part.causes])) if part.causes else "none", clock_of(part)]
+        named = "".join(f'<td data-name="{name}">{cell}</td>'
+                        for name, cell in zip(COLUMNS, cells))
+        rows.append(f'<tr><th scope="row"><a href="{shown(page)}">part {part.number}</a></th>'
+                    f"{named}</tr>")
+    return (f'<table class="pages parts"><thead><tr>{heads("Part", *COLUMNS)}</tr></thead>'
+            f"<tbody>{''.join(rows)}</tbody></table>")
+
+
+def clock_of(part: Part) -> str:
+    """The clock of a part in words."""
+    if part.clock is None:
+        return ""
+    words = part.clock.words()
+    delay = part.clock.delay_frames
+    if delay:
+        words += f", all {counted(abs(delay), 'frame')} {'late' if delay > 0 else 'early'}"
+    return shown(words)
+
+
+def between(parts: Sequence[Part]) -> str:
+    """The times between the parts, at which nobody looked."""
+    gaps = [f"{time_of(before.end)} and {time_of(after.begin)}"
+            for before, after in zip(parts, parts[1:])
+            if before.end is not None and after.begin is not None]
+    return f"<p>Nobody looked at what is sent between {shown('; between '.join(gaps))}.</p>"

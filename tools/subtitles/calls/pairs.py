@@ -1,0 +1,125 @@
+"""The pairs of a folder, by their names, and those of a list, by its lines."""
+from __future__ import annotations
+
+import argparse
+import collections
+import os
+import shlex
+import stat
+from typing import Iterable, NamedTuple
+
+from ..core.files import refuse_device
+from ..core.words import Stop, shown
+from ..qc.asked import Asked, asked_of_line, asked_with
+
+SUBTITLES = ".stl"
+# The endings of transport streams of all kinds of packets, and of files of PES packets.
+RECORDINGS = (".ts", ".m2t", ".m2ts", ".mts", ".trp", ".pes")
+
+
+class Item(NamedTuple):
+    """A pair to be judged; or, without one, a file or a line and why it is none."""
+
+    name: str
+    asked: Asked | None
+    reason: str | None
+
+
+def pairs_at(path: str, defaults: argparse.Namespace) -> list[Item]:
+    """The pairs of a folder or a list, each with a name of its own."""
+    items = of_folder(path, defaults) if os.path.isdir(path) else of_list(path, defaults)
+    if not items:
+        raise Stop(f"{path} has no pair")
+    counts: collections.Counter[str] = collections.Counter()
+    named = []
+    for item in (item._replace(name=shown(item.name)) for item in items):
+        counts[item.name] += 1
+        number = counts[item.name]
+        named.append(item if number == 1 else item._replace(name=f"{item.name}-{number}"))
+    return named
+
+
+def of_folder(folder: str, defaults: argparse.Namespace) -> list[Item]:
+    """Files of one name, whatever the case of its letters and of the ending."""
+    alike: dict[str, list[str]] = collections.defaultdict(list)
+    for file in sorted(os.listdir(folder)):
+        stem, ending = os.path.splitext(file)
+        if ending.lower() in (SUBTITLES, *RECORDINGS):
+            alike[stem.lower()].append(file)
+    return [item for files in alike.values() for item in of_files(folder, files, defaults)]
+
+
+def no_file(path: str) -> str | None:
+    """Why a name is none of a file that can be judged; a pipe would never end."""
+    try:
+        mode = os.stat(path).st_mode
+    except OSError as error:
+        return f"{path}: {error.strerror}"
+    if stat.S_ISREG(mode):
+        return None
+    kind = "a folder" if stat.S_ISDIR(mode) else "a pipe" if stat.S_ISFIFO(mode) else \
+        "a device" if stat.S_ISCHR(mode) or stat.S_ISBLK(mode) else "no file"
+    return f"{path} is {kind}"
+
+
+def item_of(name: str, stl: str, recording: str, defaults: argparse.Namespace) -> Item:
+    """The pair of two files, or why it can't be judged."""
+    try:
+        asked = asked_with(stl, recording, defaults)
+    except Stop as reason:
+        return Item(name, None, str(reason))
+    return with_files(Item(name, asked, None))
+
+
+def with_files(item: Item) -> Item:
+    """An item as it is, where both of its names are those of files."""
+    assert item.asked and item.asked.recording
+    reason = no_file(item.asked.stl) or no_file(item.asked.recording)
+    return Item(item.name, None, reason) if reason else item
+
+
+def of_files(folder: str, files: list[str], defaults: argparse.Namespace) -> Iterable[Item]:
+    """The pair of files that are alike; where there are more, those of the very same name."""
+    subtitles, recordings = sorted_out(files)
+    if len(subtitles) > 1 or len(recordings) > 1:
+        same: dict[str, list[str]] = collections.defaultdict(list)
+        for file in files:
+            same[os.path.splitext(file)[0]].append(file)
+        if len(same) > 1:
+            return [item for some in same.values() for item in of_files(folder, some, defaults)]
+    name = os.path.splitext(files[0])[0]
+    paths = [os.path.join(folder, file) for file in subtitles + recordings]
+    if not recordings:
+        reason = f"{', '.join(paths)}: no recording of that name"
+    elif not subtitles:
+        reason = f"{', '.join(paths)}: no subtitle file of that name"
+    elif len(paths) > 2:
+        reason = f"more than one pair is possible: {', '.join(paths)}"
+    else:
+        return [item_of(name, paths[0], paths[1], defaults)]
+    return [Item(name, None, reason)]
+
+
+def sorted_out(files: list[str]) -> tuple[list[str], list[str]]:
+    """Subtitle files and recordings."""
+    is_subtitles = [os.path.splitext(file)[1].lower() == SUBTITLES for file in files]
+    return ([file for file, is_one in zip(files, is_subtitles) if is_one],
+            [file for file, is_one in zip(files, is_subtitles) if not is_one])
+
+
+def of_list(path: str, defaults: argparse.Namespace) -> list[Item]:
+    """The lines of a list: a subtitle file, a recording, and options of their own."""
+    items = []
+    with open(path, encoding="utf-8", errors="surrogateescape") as file:
+        refuse_device(file, path)
+        for at, line in enumerate(file, 1):
+            try:
+                words = shlex.split(line, comments=True)
+                if not words:
+                    continue
+                asked = asked_of_line(words, defaults)
+                name = os.path.splitext(os.path.basename(asked.stl))[0]
+                items.append(with_files(Item(name, asked, None)))
+            except (Stop, ValueError) as reason:
+                items.append(Item(f"line {at}", None, f"{path}, line {at}: {reason}"))
+    return items

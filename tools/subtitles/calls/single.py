@@ -1,0 +1,278 @@
+"""One pair: judged, said, and written to the files that were asked for."""
+from __future__ import annotations
+
+import argparse
+import contextlib
+import io
+import itertools
+import os
+import re
+import signal
+import tempfile
+import time
+from typing import Callable, Iterator, NamedTuple
+
+from ..core.files import OWN_OUTPUT, is_replaced, refuse_name, whole_file
+from ..core.words import Stop, counted, escaped, line_of, shown, silence, tell
+from ..qc.asked import Asked, asked_of
+from ..qc.cause_words import count_line
+from ..qc.faults import faults_of
+from ..qc.hints import hints_of
+from ..qc.made_with import program_at
+from ..qc.names import Names
+from ..qc.pair import Pair
+from ..qc.progress import Progress
+from ..qc.severity import Severity
+from ..qc.speech import Speech
+from ..qc.status import NOT_JUDGED
+from ..qc.typed import Typed
+from ..qc.unclear import Unclear
+from ..qc.verdict import Verdict
+from ..qc.within import line_of as line_of_within
+from ..reading.losses import TOLD
+from . import junit, machine, table
+from .claim import claimed
+from .objects import found, put, unjudged
+from .overview import overview
+
+ESCAPED = re.compile("[\ud800-\udfff]")  # bytes of a name that is not UTF-8
+SIGNALS = (signal.SIGINT, signal.SIGTERM, signal.SIGHUP)
+SUMMED = 100  # lines of a list in a summary, and in a file for a CI
+
+
+def now() -> str:
+    """The time, in UTC."""
+    return time.strftime("%Y-%m-%dT%H:%M:%SZ", time.gmtime())
+
+
+def judge(words: argparse.Namespace, called: str) -> int:
+    """Judges the pair of a command line; answers its status."""
+    asked = asked_of(words)
+    out = words.out or None
+    is_output_taken = any(path in OWN_OUTPUT for path in (words.json, words.csv, words.junit))
+    speech = Speech(Progress(), is_output_taken)
+    typed = Typed(called, words.program)
+    verdict = Verdict(asked, Severity(asked.severity, asked.is_loss_allowed), now(),
+                      was_fitted=words.is_fitted)
+    verdict.is_kept = words.is_kept
+    name = shown(words.name or os.path.splitext(os.path.basename(asked.stl))[0])
+    with tempfile.TemporaryDirectory(prefix="subttx-qc-") as folder, claimed(out, name):
+        names = Names(name, folder, out)
+        names.give(asked.stl)
+        files = Files(words, verdict, typed, names)
+        files.prepare()
+        verdict.found = found(asked)
+        pair = Pair(verdict, typed, names, speech, files.are_any())
+        pair.stalled_after = words.stall
+        try:
+            judge_pair(pair, files)
+            end_pair(verdict, speech, files)
+        finally:
+            files.leave()
+    return verdict.status
+
+
+def judge_pair(pair: Pair, files: Files) -> None:
+    """Judges a pair and writes the files; what is not clear stands in the verdict."""
+    verdict, began = pair.verdict, time.monotonic()
+    try:
+        pair.judge()
+        verdict.hints = [*dict.fromkeys(hints_of(verdict))]  # parts may have the same
+    except Unclear as unclear:
+        verdict.reason, verdict.to_type = unclear.reason, unclear.to_type
+    except Exception as reason:  # whatever it is, nothing is judged
+        verdict.reason = line_of(reason)
+    except KeyboardInterrupt:
+        ignore_signals()  # what is known is written now
+        verdict.is_stopped = True
+        verdict.reason = f"stopped at {pair.stop(now())}"
+    verdict.commands = pair.speech.commands
+    verdict.seconds = round(time.monotonic() - began, 3)
+    files.write()
+
+
+def end_pair(verdict: Verdict, speech: Speech, files: Files) -> None:
+    """Says the verdict; where that fails it is not judged, in all files too."""
+    try:
+        end(verdict, speech)
+    except Exception as reason:
+        verdict.failed.append(line_of(reason))
+        files.write_again()
+        with contextlib.suppress(OSError):
+            tell(verdict.failed[-1])
+        silence()
+
+
+def ignore_signals() -> None:
+    """Takes no signal any more that would end this call."""
+    for one in SIGNALS:
+        signal.signal(one, signal.SIG_IGN)
+
+
+def end(verdict: Verdict, speech: Speech) -> None:
+    """Says the verdict, after what was lost and what is not clear."""
+    if verdict.line is not None:
+        speech.say(verdict.sentence)
+    causes = [part.causes for part in verdict.parts if part.causes]
+    if causes:
+        speech.say(count_line(causes))
+    for line in verdict.lines():
+        speech.say(line)
+    for gap in verdict.gaps[:TOLD]:
+        speech.tell(gap.line() + ("" if gap.is_judged else ", outside of what is judged"))
+    if len(verdict.gaps) > TOLD:
+        speech.tell(f"and at {counted(len(verdict.gaps) - TOLD, 'more place')}")
+    if verdict.is_lost and not verdict.asked.is_loss_allowed:
+        would = "; --allow-lost accepts the recording without it" if verdict.is_lost_alone else ""
+        speech.tell(f"nobody saw what was sent there{would}")
+    for line in verdict.notes:
+        speech.tell(line)
+    for warned in verdict.warnings:
+        speech.tell(warned.said())
+    if verdict.line is not None:
+        if verdict.asked.within and verdict.delays:
+            speech.say(verdict.delays.words())
+        if verdict.accepted_within is not None:
+            speech.say(line_of_within(verdict.accepted_within))
+        if verdict.fitted:
+            speech.say(verdict.fitted)
+        for line in verdict.hints:
+            speech.say(line)
+        speech.end(verdict.line)
+    if verdict.is_stopped:
+        speech.say(counted(verdict.faults, "fault") + " so far" if verdict.parts else
+                   "nothing was judged so far")
+    for line in (verdict.why_not or "").splitlines():
+        speech.tell(f"{NOT_JUDGED}: {line}" if verdict.is_stopped else line)
+    for at, line in enumerate(verdict.to_type):
+        speech.tell(f"{'type' if at == 0 else 'or'} {line}")
+
+
+class Output(NamedTuple):
+    """A file that is asked for, and how its text is made; of an object what stands for it where
+    that can't be done."""
+
+    path: str
+    pieces: Callable[[], Iterator[str]]
+    is_object: bool = False
+
+
+class Files:
+    """The files that are asked for, none of which may be an input."""
+
+    def __init__(self, words: argparse.Namespace, verdict: Verdict, typed: Typed,
+                 names: Names) -> None:
+        self.words, self.verdict, self.typed, self.names = words, verdict, typed, names
+        self.of_pair = names.kept()
+        self.written: list[Output] = []
+
+    def are_any(self) -> bool:
+        """Whether something is written that has the sums of the inputs."""
+        words = self.words
+        return bool(words.out or words.json or words.csv)
+
+    def prepare(self) -> None:
+        """Takes away what an earlier call left of this pair in the folder."""
+        written = [path for path in (self.words.json, self.words.csv, self.words.junit) if path]
+        for path in [*self.of_pair, *written]:
+            self.refuse_input(path)
+        for path in written:
+            refuse_name(path)
+        for path in self.of_pair:
+            if os.path.lexists(path):
+                os.unlink(path)
+
+    def refuse_input(self, path: str) -> None:
+        for one in (self.verdict.asked.stl, self.verdict.asked.recording):
+            is_there = one and os.path.exists(path) and os.path.exists(one)
+            if one and is_there and os.path.samefile(path, one):
+                raise Stop(f"{path} is an input too")
+
+    def write(self) -> None:
+        """Writes what is asked for. What could not be written stands in the verdict: so what was
+        written before is written once more, where that can be. The object in the folder comes
+        last, when all else is there, but for what can't be written once more."""
+        for output in sorted(self.wanted(), key=lambda one: not is_replaced(one.path)):
+            if self.try_to_put(output):
+                self.written.append(output)
+            else:
+                self.write_again()
+
+    def write_again(self) -> None:
+        """Writes once more what was written, with what failed since then."""
+        for output in self.written:
+            if is_replaced(output.path):
+                self.try_to_put(output)
+
+    def try_to_put(self, output: Output) -> bool:
+        """Writes a file; whether that was done. Else why not stands in the verdict."""
+        try:
+            self.put(output.path, output.pieces())
+        except Exception as reason:
+            self.verdict.failed.append(line_of(reason))
+            if output.is_object and not isinstance(reason, (Stop, OSError)):
+                put(output.path, unjudged(self.names.name, self.verdict.why_not or ""))
+            return False
+        return True
+
+    def wanted(self) -> list[Output]:
+        """What is asked for."""
+        words, verdict = self.words, self.verdict
+        wanted = [Output(words.csv, self.table_lines)] if words.csv else []
+        wanted += [Output(words.junit, self.testcase)] if words.junit else []
+        objects = [path for path in (words.json, self.names.machine) if path]
+        if objects:
+            program = program_at(self.typed.program_path)
+            if self.names.out and len(verdict.parts) > 1:
+                wanted.append(Output(self.names.report, lambda: overview(
+                    verdict, program, self.names, self.typed)))
+            wanted += [Output(path, lambda: machine.object_of(verdict, program, self.typed), True)
+                       for path in objects]
+        return wanted
+
+    def testcase(self) -> Iterator[str]:
+        """The file for a CI."""
+        verdict = self.verdict
+        case = junit.TestCase(name_of(verdict.asked), verdict.word, verdict.status,
+                              verdict.line or verdict.why_not or "", self.lines(), verdict.seconds)
+        yield junit.text_of([case], verdict.date).decode()
+
+    def leave(self) -> None:
+        """Takes away what was judged of a feed, where it is not to be kept; else keeps what
+        `extract` wrote, too."""
+        if self.words.is_kept:
+            self.names.keep()
+            return
+        for path in self.names.judged():
+            os.unlink(path)
+
+    def lines(self) -> list[str]:
+        """The first lines of the lists of all parts."""
+        lines = (line for part in self.verdict.parts for line in part.answer.lines()
+                 if part.answer.count)
+        return list(itertools.islice(lines, SUMMED))
+
+    def table_lines(self) -> Iterator[str]:
+        """The lines of the CSV file: the names of the columns, the pair, its faults."""
+        text = io.StringIO()
+        table.write_head(text)
+        table.write_row(text, table.of_pair(self.verdict))
+        yield text.getvalue()
+        for fault in faults_of(self.verdict, self.typed):
+            text.seek(0)
+            text.truncate()
+            table.write_row(text, table.of_fault(self.verdict, fault))
+            yield text.getvalue()
+
+    def put(self, path: str, pieces: Iterator[str]) -> None:
+        """Writes a file whole, or not at all."""
+        inputs = [one for one in (self.verdict.asked.stl, self.verdict.asked.recording) if one]
+        with whole_file(path, inputs) as file:
+            for piece in pieces:
+                # Only an object has such bytes still: the others have them escaped.
+                file.write(ESCAPED.sub(lambda found: "\\" + escaped(found[0]), piece).encode())
+
+
+def name_of(asked: Asked) -> str:
+    """A pair as a line of a table names it."""
+    return " ".join([asked.stl, *([asked.recording] if asked.recording else [])])

@@ -1,0 +1,116 @@
+"""Pairs and their faults as lines of CSV: one for each pair, then one for each of its faults."""
+from __future__ import annotations
+
+import csv
+import io
+from typing import IO, Any, Iterable, Iterator, Sequence
+
+from ..core.words import shown
+from ..qc.faults import Cell, Fault
+from ..qc.verdict import Part, Verdict
+
+OF_FAULT = ["part", "number", "name", "severity", "file", "block", "subtitle", "begin", "end",
+            "byte", "character", "pes", "pes_time", "packet", "frame", "time", "row", "column",
+            "due", "held", "until", "until_pes", "line", "means", "do"]
+OF_CAUSE = ["cause", "cause_frames", "cause_subtitle", "cause_text", "cause_sent", "cause_words"]
+OF_PAIR = ["verdict", "status", "reason"]
+PLACES = ["position", "cause_position"]
+OF_JUDGED = ["pid", "packet_size", "range"]  # what is judged of the recording, or of a part
+COLUMNS = ["stl", "recording", *OF_FAULT, *OF_PAIR, *OF_CAUSE, *PLACES, "sentence", *OF_JUDGED]
+
+Known = dict[str, object]  # the columns that there is something to say of
+
+
+def cell_words(cell: Cell | None) -> str:
+    """A cell as its code, and its character where it has one."""
+    if cell is None:
+        return ""
+    return f"{cell['code']} {cell['character']}" if cell["character"] else cell["code"]
+
+
+def of_pair(verdict: Verdict) -> Known:
+    """The columns of a pair, which its faults have too; `line` is that of the verdict."""
+    return {"stl": verdict.asked.stl, "recording": verdict.asked.recording,
+            "verdict": verdict.word, "status": verdict.status, "reason": verdict.why_not,
+            "line": verdict.line, "sentence": verdict.sentence,
+            **of_part([*map(words_of, verdict.parts)], None)}
+
+
+def words_of(part: Part) -> dict[str, Any]:
+    """What is judged of the recording with a part, as its object has it."""
+    pid, packet_size = part.stream or (None, None)
+    return {"part": part.number, "pid": pid, "packet_size": packet_size,
+            "pes": part.pieces and part.pieces.name}
+
+
+def of_part(parts: Sequence[dict[str, Any]], number: int | None) -> Known:
+    """The columns of what is judged with a part, by its number; with the only one where none is
+    given."""
+    found = [one for one in parts if one["part"] == number or number is None]
+    if len(found) != 1:
+        return {}
+    pid = found[0].get("pid")
+    return {"pid": pid if pid is None else f"0x{pid:X}", "range": found[0].get("pes"),
+            "packet_size": found[0].get("packet_size")}
+
+
+def of_object(known: dict[str, Any]) -> Known:
+    """The same of a pair by its object; what is no pair has a name alone."""
+    asked = known.get("asked") or {"stl": known.get("name")}
+    return {"stl": asked.get("stl"), "recording": asked.get("recording"),
+            **{name: known.get(name) for name in (*OF_PAIR, "line", "sentence")},
+            **of_part(known.get("parts") or [], None)}
+
+
+def of_fault(verdict: Verdict, fault: Fault) -> Known:
+    """The columns of a fault."""
+    return with_fault(of_pair(verdict), [*map(words_of, verdict.parts)], fault)
+
+
+def with_fault(pair: Known, parts: Sequence[dict[str, Any]], fault: Fault) -> Known:
+    """The columns of a fault of a pair with these parts."""
+    subtitle, cause = fault["subtitle"], fault["cause"]
+    known: Known = {
+        **pair, **of_part(parts, fault["part"]), **fault,
+        "subtitle": subtitle and subtitle["number"],
+        "position": subtitle and subtitle.get("position"), "begin": subtitle and subtitle["begin"],
+        "end": subtitle and subtitle["end"], "due": cell_words(fault["due"]),
+        "held": cell_words(fault["held"]), "cause": cause and cause["cause"],
+    }
+    if cause:
+        known |= {"cause_frames": cause["frames"], "cause_subtitle": cause["subtitle"]["number"],
+                  "cause_text": cause["text"], "cause_sent": cause["sent"],
+                  "cause_words": cause["words"],
+                  "cause_position": cause["subtitle"].get("position")}
+    return known
+
+
+def write_head(file: IO[str]) -> None:
+    """Writes the names of the columns."""
+    csv.writer(file, lineterminator="\n").writerow(COLUMNS)
+
+
+def write_row(file: IO[str], known: Known) -> None:
+    """Writes a line; a column is empty where it does not apply."""
+    row = [said(known.get(name)) for name in COLUMNS]
+    csv.writer(file, lineterminator="\n").writerow(["" if one is None else one for one in row])
+
+
+def said(value: object) -> object:
+    """A value without what a terminal would obey; a reason may have several lines."""
+    return "\n".join(map(shown, value.split("\n"))) if isinstance(value, str) else value
+
+
+def text_of(objects: Iterable[dict[str, Any]]) -> Iterator[bytes]:
+    """The lines of many pairs and of their faults, by their objects, under one head."""
+    text = io.StringIO()
+    write_head(text)
+    for known in objects:
+        pair = of_object(known)
+        write_row(text, pair)
+        for fault in known.get("faults") or []:
+            write_row(text, with_fault(pair, known.get("parts") or [], fault))
+        yield text.getvalue().encode()
+        text.seek(0)
+        text.truncate()
+    yield text.getvalue().encode()

@@ -1,0 +1,135 @@
+"""A folder into which pairs are written, each judged as soon as both of its files are whole."""
+from __future__ import annotations
+
+import argparse
+import concurrent.futures
+import os
+import signal
+import time
+from typing import NamedTuple
+
+from ..core.words import Stop, tell
+from ..qc.made_with import program_at
+from ..qc.typed import Typed
+from . import collecting
+from .batch import Calls
+from .objects import ENDING, Row, found, is_current, object_at, objects_in, row_of
+from .pairs import Item, of_folder
+
+LOOK = 1.0  # seconds between two looks: no notice comes of what another machine writes
+DONE = ".done"  # after the name of a pair: both of its files are whole
+
+
+class Stopping:
+    """Whether a signal has asked for the end; a second one ends at once."""
+
+    def __init__(self) -> None:
+        self.is_asked = False
+        for one in (signal.SIGTERM, signal.SIGINT, signal.SIGHUP):
+            signal.signal(one, self.take)
+
+    def take(self, number: int, frame: object) -> None:
+        """Takes a signal."""
+        if self.is_asked:
+            raise KeyboardInterrupt
+        self.is_asked = True
+
+
+class Seen(NamedTuple):
+    """What files are like, or why they are no pair, and since when by this machine's clock."""
+
+    is_like: object
+    since: float
+
+
+class Watch:
+    """The folder, what was seen in it, and what is judged."""
+
+    def __init__(self, words: argparse.Namespace, typed: Typed) -> None:
+        self.words, self.folder, self.out = words, words.watch, words.out
+        self.calls = Calls(typed, words.out, words.out, words.is_kept)
+        self.program = program_at(typed.program_path)
+        self.seen: dict[str, Seen] = {}
+        self.tried: dict[str, object] = {}  # what was found of pairs that were judged here
+        self.named: dict[str, str] = {}  # what is no pair, and the reason that was told
+        self.rows: dict[str, Row] = {}
+        for path, known in objects_in(self.out):
+            name = os.path.basename(path).removesuffix(ENDING)
+            if known is not None:
+                self.rows[name] = row_of(known, name)
+
+    def due(self, busy: set[str], now: float) -> list[Item]:
+        """The pairs that are whole and not yet judged as they are; tells what is no pair."""
+        items = [item for item in of_folder(self.folder, self.words) if item.name not in busy]
+        return [item for item in items if self.is_settled(item, now) and self.is_new(item)]
+
+    def is_settled(self, item: Item, now: float) -> bool:
+        """Whether the files of an item are whole: somebody says so, or they have not changed."""
+        if os.path.exists(os.path.join(self.folder, item.name + DONE)):
+            return True
+        is_like = found(item.asked) if item.asked else item.reason
+        seen = self.seen.get(item.name)
+        if seen is None or seen.is_like != is_like:
+            self.seen[item.name] = Seen(is_like, now)
+            return False
+        return bool(now - seen.since >= self.words.settled)
+
+    def is_new(self, item: Item) -> bool:
+        """Whether a pair has no object of what it is now; what is no pair is told, once."""
+        if item.asked is None:
+            if self.named.get(item.name) != item.reason:
+                self.named[item.name] = item.reason or ""
+                tell(item.reason or item.name)
+            return False
+        self.named.pop(item.name, None)
+        now_found = found(item.asked)
+        if self.tried.get(item.name) == now_found:
+            return False
+        path = self.calls.path(item)
+        known = object_at(path) if os.path.exists(path) else None
+        if known is not None and is_current(known, item.asked, self.program):
+            return False
+        self.tried[item.name] = now_found
+        return True
+
+    def end(self, item: Item, row: Row) -> None:
+        """Tells a verdict, and writes the page over all pairs."""
+        self.rows[item.name] = row
+        line = collecting.first_fault(row)
+        when = time.strftime("%Y-%m-%d %H:%M:%S")
+        print(f"{when}  {item.name}  {row.verdict}{': ' if line else ''}{line}", flush=True)
+        collecting.write_index(self.out, [self.rows[name] for name in sorted(self.rows)])
+
+
+def refuse_folders(words: argparse.Namespace) -> None:
+    """Both folders have to be there, and be two."""
+    if words.out is None:
+        raise Stop("--watch goes with -o, the folder for objects and reports")
+    if not os.path.isdir(words.watch):
+        raise Stop(f"{words.watch} is no folder")
+    os.makedirs(words.out, exist_ok=True)
+    if os.path.samefile(words.watch, words.out):
+        raise Stop(f"{words.out} is the folder that is watched: give another one with -o")
+
+
+def watch(words: argparse.Namespace, called: str) -> int:
+    """Judges what comes, until a signal asks for the end; answers the status 0."""
+    refuse_folders(words)
+    watching = Watch(words, Typed(called, words.program))
+    stopping = Stopping()
+    running: dict[concurrent.futures.Future[Row], Item] = {}
+    with concurrent.futures.ThreadPoolExecutor(words.jobs or os.cpu_count() or 1) as pool:
+        try:
+            while running or not stopping.is_asked:
+                if not stopping.is_asked:
+                    busy = {item.name for item in running.values()}
+                    for item in watching.due(busy, time.monotonic()):
+                        running[pool.submit(watching.calls.judge, item)] = item
+                done = [one for one in running if one.done()]
+                for one in done:
+                    watching.end(running.pop(one), one.result())
+                time.sleep(LOOK / 10 if stopping.is_asked else LOOK)
+        except BaseException:
+            watching.calls.stop()
+            raise
+    return 0

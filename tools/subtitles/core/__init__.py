@@ -1,0 +1,20 @@
+"""Bytes, codes, times, words and files, one idea each.
+
+words      the words of a tool, and how it ends
+files      files that are read as they come, and written whole or not at all
+built      the built program, and the script that runs it
+times      times of the day, frames, PTS
+teletext   Teletext packets and their codes; the table of control bits
+characters the characters of the national options
+national   the national options, a row for each
+pes        PES packets
+pieces     some of them by their numbers, and marks among them
+units      the data units in them
+batch      many PES packets in one step
+stl        blocks of subtitle files
+gsi        the texts of the first of them
+letters    the letters of the others
+programme  the subtitles of a file as the program shows them, and which of them is due
+told       the lines of `check --all` as values
+manual     what docs/manual/refusals.md says a refusal means, and what to do
+"""

@@ -1,0 +1,60 @@
+"""What the manual says that a refusal means, and what to do: read from its tables."""
+from __future__ import annotations
+
+import html
+import os
+import re
+from typing import NamedTuple
+
+from .built import TOP
+from .words import escaped
+
+CHAPTER = os.path.join(TOP, "docs", "manual", "refusals.md")
+
+
+class Meaning(NamedTuple):
+    """What the manual says of a number."""
+
+    name: str
+    means: str
+    do: str
+
+
+def meanings() -> dict[int, Meaning]:
+    """By number; empty where the manual does not stand beside tools/."""
+    found: dict[int, Meaning] = {}
+    last = ""
+    if not os.path.isfile(CHAPTER):
+        return found
+    with open(CHAPTER, encoding="utf-8") as file:
+        for line in file:
+            cells = [cell.strip() for cell in line.strip().strip("|").split("|")]
+            if len(cells) >= 4 and cells[0].isdecimal():
+                last = cells[-1].replace("the same", last) if cells[-1].startswith("the same") \
+                    else cells[-1]
+                found[int(cells[0])] = Meaning(cells[1], cells[-2], last)
+    return found
+
+
+def plain(text: str) -> str:
+    """A cell of the manual without marks: links as their words."""
+    return re.sub(r"\[([^]]*)\]\([^)]*\)", r"\1", text).replace("`", "")
+
+
+def shown(text: str) -> str:
+    """Any text as XML: marks escaped, and what XML can't hold by its number."""
+    return html.escape(re.sub("[^\t\n\r\x20-\ud7ff\ue000-\ufffd\U00010000-\U0010ffff]",
+                              lambda found: escaped(str(found[0])), text))
+
+
+def marked_up(text: str) -> str:
+    """A cell of the manual as HTML: code in backticks, and links as their words."""
+    text = re.sub(r"\[([^]]*)\]\([^)]*\)", r"\1", text)
+    return re.sub(r"`([^`]*)`", r"<code>\1</code>", html.escape(text))
+
+
+def number_link(line: str) -> str:
+    """A line `refused NUMBER Name place` without its word; number and name lead to what it means.
+    """
+    _, number, name, *place = line.split(" ")
+    return " ".join([f'<a href="#n{number}">{number} {name}</a>', *map(shown, place)])

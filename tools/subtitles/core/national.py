@@ -1,0 +1,131 @@
+"""The national options (EN 300 706, Latin national option sub-sets of the default region): a row
+for each. A new option is a row here and a word in `tools/completion.bash`.
+
+Text bytes are of code table 00 of EBU Tech 3264, which is ISO 6937: a letter with a diacritical
+mark is two bytes, the mark's first. What the program makes of a byte it says itself; here stands
+what is looked for in a recording, drawn on a page, and advised.
+"""
+from __future__ import annotations
+
+import functools
+from typing import NamedTuple
+
+from .letters import ACCENTS, UNKNOWN as UNKNOWN_LETTER, letters_of
+
+PLACES = bytes.fromhex("23 24 40 5B 5C 5D 5E 5F 60 7B 7C 7D 7E")  # the 13 codes of a sub-set
+
+# The bytes that give the same cell in each sub-set: colours, boxes, sizes, letters, figures, signs.
+COMMON = (*range(0x01, 0x0E), 0x1C, 0x1D, *range(0x20, 0x23), *range(0x25, 0x40),
+          *range(0x41, 0x5B), *range(0x61, 0x7B))
+
+
+class NationalOption(NamedTuple):
+    """`bits` is C12 and twice C13 and four times C14. `cells` has in the order of the 13 places the
+    byte or the pair of bytes that gives each, several of them with a comma, `-` where none does.
+    `languages` are those of a GSI block (LC) that it is taken for, `tracks` those of a PMT."""
+
+    word: str
+    name: str
+    bits: int
+    characters: str
+    cells: str
+    languages: str
+    tracks: str
+
+
+ENGLISH = NationalOption(
+    "english", "English", 0, "£$@←½→↑#—¼‖¾÷",
+    "A3 24,A4 40 - - - - 23 - - - - -", "09", "eng")
+GERMAN = NationalOption(
+    "german", "German", 4, "#$§ÄÖÜ^_°äöüß",
+    "23 24,A4 A7 C841 C84F C855 - - B0 C861 C86F C875 FB", "08", "deu ger")
+SWEDISH = NationalOption(
+    "swedish", "Swedish, Finnish, Hungarian", 2, "#¤ÉÄÖÅÜ_éäöåü",
+    "23 A8 C245 C841 C84F CA41 C855 5F C265 C861 C86F CA61 C875", "27 28 1B", "swe fin hun")
+ITALIAN = NationalOption(
+    "italian", "Italian", 6, "£$é°ç→↑#ùàòèì",
+    "A3 24,A4 C265 B0 CB63 AE AD 23 C175 C161 C16F C165 C169", "15", "ita")
+FRENCH = NationalOption(
+    "french", "French", 1, "éïàëêùî#èâôûç",
+    "C265 C869 C161 C865 C365 C175 C369 23 C165 C361 C36F C375 CB63", "0F", "fra fre")
+SPANISH = NationalOption(
+    "spanish", "Portuguese, Spanish", 5, "ç$¡áéíóú¿üñèà",
+    "CB63 24,A4 A1 C261 C265 C269 C26F C275 BF C875 C46E C165 C161", "0A 21", "spa por")
+CZECH = NationalOption(
+    "czech", "Czech, Slovak", 3, "#ůčťžýířéáěúš",
+    "23 CA75 CF63 CF74 CF7A C279 C269 CF72 C265 C261 CF65 C275 CF73", "06 25",
+    "ces cze slk slo")
+
+OPTIONS = (ENGLISH, GERMAN, SWEDISH, ITALIAN, FRENCH, SPANISH, CZECH)
+WORDS = tuple(one.word for one in OPTIONS)
+BY_WORD = {one.word: one for one in OPTIONS}
+BY_BITS = {one.bits: one for one in OPTIONS}
+RESERVED = 7  # C12, C13 and C14 all set name none in the default region
+# The languages of a PMT whose letters are in no option: receivers take another region for them.
+OTHER_REGIONS = ("ara bul ell est gre heb hrv lit pol ron rum rus scc scr slv srp ukr").split()
+UNKNOWN = "\u25a1"  # a letter of an option that is not known
+MARKS = {byte for byte, mark in ACCENTS.items() if mark != " "}  # diacritical marks
+
+def named_by(language: bytes) -> NationalOption:
+    """The option of the language that a GSI block names (field LC); English where it names one that
+    no other option is of."""
+    word = language.decode("ascii", "replace").upper()
+    return next((one for one in OPTIONS if word in one.languages.split()), ENGLISH)
+
+
+def of_track(language: str) -> NationalOption | None:
+    """The option of a language that a PMT names, where one of the seven is of it."""
+    return next((one for one in OPTIONS if language.lower() in one.tracks.split()), None)
+
+
+def as_sent(option: NationalOption) -> int:
+    """C12, C13 and C14 of an option, C12 the highest bit: so packets X/28 and M/29 have them."""
+    return sum((option.bits >> at & 1) << 2 - at for at in range(3))
+
+
+@functools.lru_cache(maxsize=None)
+def cells_of(option: NationalOption) -> dict[bytes, int]:
+    """The cell of each byte or pair of bytes that is one of the option's own 13."""
+    return {bytes.fromhex(one): place
+            for place, words in zip(PLACES, option.cells.split())
+            for one in words.split(",") if one != "-"}
+
+
+def codes_of(text: bytes, option: NationalOption) -> list[int | None]:
+    """The codes on the page of a line's bytes, a pair of bytes as one; None for what has none."""
+    own = cells_of(option)
+    codes: list[int | None] = []
+    at = 0
+    while at < len(text):
+        size = 2 if text[at:at + 2] in own and text[at] in MARKS else 1
+        part = text[at:at + size]
+        codes.append(own[part] if part in own else part[0] if part[0] in COMMON else None)
+        at += size
+    return codes
+
+
+def draws(text: bytes, option: NationalOption) -> bool:
+    """Whether the option has each character of a text; new lines and what gives no cell aside."""
+    shown = bytes(byte for byte in text if byte not in range(0x80, 0x90))
+    return None not in codes_of(shown, option)
+
+
+def letter_at(text: bytes, at: int) -> bytes:
+    """The byte at a place of a text, with the letter behind it where it is a diacritical mark."""
+    is_pair = text[at] in MARKS and text[at + 1:at + 2].isalpha()
+    return text[at:at + 1 + is_pair]
+
+
+def options_with(letter: bytes) -> list[NationalOption]:
+    """The options that have a letter, a byte or a pair of bytes."""
+    if len(letter) == 1 and letter[0] in COMMON:
+        return list(OPTIONS)
+    return [one for one in OPTIONS if letter in cells_of(one)]
+
+
+def character_of(letter: bytes) -> str | None:
+    """The character of a byte or a pair of bytes of code table 00; None where it is none."""
+    if len(letter) == 1 and letter[0] in MARKS:
+        return None
+    found = letters_of(letter)
+    return None if UNKNOWN_LETTER in found or len(found) != 1 else found

@@ -1,0 +1,89 @@
+"""Times of the day, their frames at 25 a second, the PTS of a frame, and the frame of a PTS.
+
+Within 0 frames a PES packet has the frame whose PTS it has, and no other PTS has one. Within more,
+as `check --within N` judges, it is of the frame in which it lies: from a quarter of a frame before
+the PTS of that frame on, so that PTS may be a little early, and two fields are of one frame.
+"""
+from __future__ import annotations
+
+import re
+from typing import Iterable, Sequence
+
+FRAMES_A_SECOND = 25
+FRAMES_OF_A_DAY = 2_160_000
+CLOCK = 2**33  # a PTS has 33 bits
+TICKS = 3600  # of a frame, at 90 kHz
+NO_FRAME = -1  # stands for a frame where there is none, before all others
+EARLY = TICKS // 4  # ticks that a PTS may be before its frame, within 1 and more
+
+
+def frame_of(time: str) -> int | None:
+    """The frame of the day of HH:MM:SS:FF, `None` where that is none."""
+    if not re.fullmatch(r"\d\d:\d\d:\d\d:\d\d", time, re.ASCII):
+        return None
+    return frame_of_code(map(int, time.split(":")))
+
+
+def frame_of_code(code: Iterable[int]) -> int | None:
+    """The frame of the day of hours, minutes, seconds and frames, `None` where they are none."""
+    hours, minutes, seconds, frames = code
+    if hours > 23 or minutes > 59 or seconds > 59 or frames > 24:
+        return None
+    return ((hours * 60 + minutes) * 60 + seconds) * FRAMES_A_SECOND + frames
+
+
+def time_of_code(code: bytes) -> str:
+    """HH:MM:SS:FF of four bytes of a TTI block, also where they are no time of the day."""
+    return ":".join(f"{part:02}" for part in code)
+
+
+def time_code(frame: int) -> bytes:
+    """Hours, minutes, seconds and frames of a frame, as the four bytes of a TTI block."""
+    seconds, frames = divmod(frame, FRAMES_A_SECOND)
+    return bytes([seconds // 3600, seconds // 60 % 60, seconds % 60, frames])
+
+
+def time_of(frame: int) -> str:
+    """HH:MM:SS:FF of a frame; 24:00:00:00 is the frame after the day's last."""
+    seconds, frames = divmod(frame, FRAMES_A_SECOND)
+    return f"{seconds // 3600:02}:{seconds // 60 % 60:02}:{seconds % 60:02}:{frames:02}"
+
+
+def wrapped(ticks: int) -> int:
+    """Ticks as a PTS has them, which begins again at 2^33."""
+    return ticks % CLOCK
+
+
+def ticks_between(first: int, second: int) -> int:
+    """How many ticks a second PTS is later than a first one; below 0 where it is earlier."""
+    return wrapped(second - first + CLOCK // 2) - CLOCK // 2
+
+
+def pts_of(frame: int, origin: int) -> int:
+    """The PTS of a frame of the day; `origin` is that of 00:00:00:00."""
+    return wrapped(origin + TICKS * frame)
+
+
+def frame_in(pts: int, origin: int, within: int = 0) -> int:
+    """The frame in which a PTS lies, also after the day's end; within 0, from its own PTS on."""
+    return wrapped(pts - origin + EARLY * (within > 0)) // TICKS
+
+
+def frame_at(pts: int, origin: int, within: int = 0) -> int | None:
+    """The frame of the day of a PTS, `None` where it has none."""
+    frame = frames_at([pts], origin, within)[0]
+    return None if frame == NO_FRAME else frame
+
+
+def frames_at(several: list[int], origin: int, within: int = 0) -> Sequence[int]:
+    """The frame of the day of each of several PTS, `NO_FRAME` where it has none."""
+    early = EARLY * (within > 0)
+    end, count = TICKS * FRAMES_OF_A_DAY, len(several)
+    if several and several == list(range(several[0], several[0] + TICKS * count, TICKS)):
+        ticks = wrapped(several[0] - origin + early)
+        if (within or ticks % TICKS == 0) and ticks // TICKS + count <= FRAMES_OF_A_DAY:
+            return range(ticks // TICKS, ticks // TICKS + count)  # as of most recordings
+    distances = [(pts - origin + early) % CLOCK for pts in several]
+    if within:
+        return [ticks // TICKS if ticks < end else NO_FRAME for ticks in distances]
+    return [NO_FRAME if ticks % TICKS or ticks >= end else ticks // TICKS for ticks in distances]

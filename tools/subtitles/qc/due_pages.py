@@ -1,0 +1,53 @@
+"""The subtitles of a file with the pages that are due, as the program's own schedule sends them."""
+from __future__ import annotations
+
+import os
+import subprocess
+import tempfile
+
+from ..core.programme import Programme, Subtitle, subtitles_shown
+from ..core.teletext import Page, page_name
+from ..reading.receiver import BLANK_PAGE, Rows
+from .held import Held
+from .lettering import words_on
+from .unclear import Unclear
+
+NOTHING = 82  # the number where there is no subtitle
+
+
+class DuePages(Programme):
+    """A programme with the page that is due of each subtitle; which have the same page or words."""
+
+    def __init__(self, subtitles: list[Subtitle], pages: list[Rows]) -> None:
+        super().__init__(subtitles)
+        self.pages = pages
+        self.by_page: dict[Rows, list[int]] = {}
+        self.by_words: dict[str, list[int]] = {}
+        for place, page in enumerate(pages):
+            self.by_page.setdefault(page, []).append(place)
+            self.by_words.setdefault(words_on(page), []).append(place)
+
+    def of_page(self, page: Rows, frame: int) -> int | None:
+        """The subtitle with a page that begins nearest to a frame; none has a blank one."""
+        places = self.by_page.get(page)
+        return self.nearest(places, frame) if places and page != BLANK_PAGE else None
+
+
+def due_pages_of(program: str, stl: str, page: Page, option: str) -> DuePages:
+    """Those of a file, by the program at a path."""
+    def ask(*words: str) -> list[str]:
+        done = subprocess.run([program, *words], stdin=subprocess.DEVNULL, check=False,
+                              stdout=subprocess.PIPE, encoding="utf-8", errors="replace")
+        lines = done.stdout.splitlines()
+        if done.returncode and f"refused {NOTHING} " not in "".join(lines[-1:]):
+            raise Unclear(f"{words[0]} was not answered: {''.join(lines[-1:])}")
+        return lines
+
+    with tempfile.TemporaryDirectory(prefix="subttx-qc-") as folder:
+        path = os.path.join(folder, "due.pes")
+        ask("schedule", "--page", page_name(*page), "--option", option, "--every", "1500", "--",
+            stl, path)
+        due = Held(path, page, 0)
+        due.follow()
+    subtitles = subtitles_shown(ask("show", "--", stl))
+    return DuePages(subtitles, [due.page_at(one.begin) for one in subtitles])

@@ -1,0 +1,97 @@
+"""What a person should know of the first fault of some numbers, beside its place."""
+from __future__ import annotations
+
+from typing import Iterator
+
+from ..core.national import BY_BITS, BY_WORD, RESERVED
+from ..core.pieces import Pieces
+from ..core.teletext import ERASE, INHIBIT, NEWSFLASH, SUBTITLE, SUPPRESS, has_bit
+from ..core.times import frame_at
+from ..core.told import (
+    CHARACTER, CONTROL, EMPTY_TIME, GAP, OFF_FRAME, OUT_OF_ORDER, PASSED_OVER, Told)
+from ..core.words import MOST_EVERY, counted
+from ..reading.receiver import national_option
+from ..reading.repeat import longest_gap, sendings
+from .asked import Asked
+from .cells import Places, passed_over
+from .midnight import midnight_words
+from .off_frame import off_of, pts_of_file
+from .option_advice import OptionAdvice
+from .subtitle_file import SubtitleFile
+from .verdict import Part, Verdict
+
+HINTED = {EMPTY_TIME, CHARACTER, OUT_OF_ORDER, OFF_FRAME, CONTROL, GAP}
+# The control bits that a header of subtitles has set, or clear, and what it is where they are not.
+ASKED = (
+    (ERASE, True, "C4 (erase page) is clear: a repeat that does not erase"),
+    (SUBTITLE, True, "C6 (subtitle) is clear"),
+    (SUPPRESS, True, "C7 (suppress header) is clear"),
+    (NEWSFLASH, False, "C5 (newsflash) is set"),
+    (INHIBIT, False, "C10 (inhibit display) is set"),
+)
+
+
+def control_words(header: bytes, option: str) -> list[str]:
+    """What is wrong with the control bits of a header of the page, with its national option."""
+    found = [words for bit, is_set, words in ASKED if has_bit(header, bit) != is_set]
+    bits = national_option(header)
+    if bits == RESERVED:
+        found.append("C12, C13 and C14 are set, which is reserved")
+    elif bits != BY_WORD[option].bits:
+        one = BY_BITS[bits]
+        found.append(f"the header is {one.name}: --option {one.word}")
+    return found
+
+
+def hints_of(verdict: Verdict) -> Iterator[str]:
+    """The lines for the first fault of each of these numbers, in the order of the list."""
+    for part in verdict.parts:
+        if part.answer.numbers & HINTED:
+            yield from hints_of_part(part, verdict)
+
+
+def hints_of_part(part: Part, verdict: Verdict) -> Iterator[str]:
+    """The same of a part."""
+    waiting = part.answer.numbers & HINTED
+    for told in part.answer.told():
+        if told.is_fault and told.number in waiting:
+            waiting = waiting - {told.number}
+            words = words_of(told, part, verdict)
+            if words:
+                yield f"{told.number}: {words}"
+        if not waiting:
+            break
+
+
+def words_of(told: Told, part: Part, verdict: Verdict) -> str:
+    """What is to be said of such a fault; nothing where it is not known."""
+    asked = verdict.asked
+    if told.number == CHARACTER:
+        if not told.block or told.at is None:
+            return ""
+        return OptionAdvice(SubtitleFile(part.stl_path), asked.option).of(told.block, told.at)
+    if told.number in (EMPTY_TIME, OUT_OF_ORDER):
+        return midnight_words(told, SubtitleFile(part.stl_path))
+    if part.pieces is None or part.origin is None:
+        return ""
+    if told.number == OFF_FRAME:
+        off = off_of(pts_of_file(part.pieces), part.origin)
+        return off.words(part.accepted_within) if off else ""
+    if told.number == GAP:
+        return gap_words(part.pieces, part.origin, asked, part.answer.numbers)
+    places = Places(part.pieces, asked.page, (part.origin, asked.within),
+                    passed_over(part.answer.told()), False)
+    header = places.of(told).header
+    return "; ".join(control_words(header, asked.option)) if header else ""
+
+
+def gap_words(pieces: Pieces, origin: int, asked: Asked, numbers: set[int]) -> str:
+    """The longest gap between headers of the page, where all that was sent can be read, and the
+    repeat bound that accepts it, where nothing else is refused."""
+    with pieces.open() as file:
+        frames = [frame_at(pts, origin, asked.within) for pts in sendings(file, asked.page)]
+    gap = longest_gap(frame for frame in frames if frame is not None)
+    if gap <= asked.every or numbers & PASSED_OVER:
+        return ""
+    accepts = f": --every {gap} accepts it" if numbers == {GAP} and gap <= MOST_EVERY else ""
+    return f"the longest gap is {counted(gap, 'frame')}{accepts}"

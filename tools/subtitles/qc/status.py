@@ -1,0 +1,112 @@
+"""The verdict in one word and its exit status: this is the one place that decides them."""
+from __future__ import annotations
+
+from typing import Collection, Iterable, NamedTuple, Protocol, Sequence
+
+from ..core.told import LOST_PACKETS
+
+ACCEPTED, WAIVED = "accepted", "waived"  # waived: refused by nothing but warnings
+REFUSED = "refused"
+LOST = "lost"  # all that was seen is accepted or waived, and TS packets are lost
+WARNED = "warned"  # accepted or waived, and there are warnings, which count by --strict
+NOT_JUDGED = "not judged"
+STATUSES = {ACCEPTED: 0, WAIVED: 0, REFUSED: 1, LOST: 1, WARNED: 1, NOT_JUDGED: 2}
+
+UNSAID = "check was not answered"
+UNREAD = "nothing of the recording was read, and --severity leaves no fault an error"
+
+
+class Severity(Protocol):
+    """Which numbers count."""
+
+    def is_error(self, number: int) -> bool:
+        """Whether a fault of this number is an error; else it is a warning."""
+
+
+class Said(NamedTuple):
+    """What the program said of a part, and the status that it ended with: below 0 where a signal
+    ended it, `None` where it has not ended.
+
+    `is_accepted`: its last line accepts. `faults` is how many it told, of these `numbers`,
+    and `counted` how many there are by its last line. `is_read`: it read something of a recording,
+    or there is none.
+    """
+
+    status: int | None
+    is_accepted: bool = False
+    faults: int = 0
+    counted: int | None = None
+    numbers: Collection[int] = ()
+    is_read: bool = True
+
+
+class Seen(NamedTuple):
+    """All that decides a verdict.
+
+    `losses` are the places at which TS packets are lost by the PCR alone: for each, whether the
+    verdict speaks of frames there. Such a place counts as a 45 does, which `check` tells of all
+    others: `severity` says whether that is an error, by its file and by --allow-lost. `warnings`
+    are the kinds of what is strange and breaks no rule. `reasons` say why it was not judged, and
+    `failed` which outputs could not be written.
+    """
+
+    parts: Sequence[Said]
+    severity: Severity
+    losses: Sequence[bool] = ()
+    warnings: Sequence[str] = ()
+    is_strict: bool = False
+    reasons: Sequence[str] = ()
+    failed: Sequence[str] = ()
+
+
+class Decision(NamedTuple):
+    """A verdict in one word; `reason` is why it is not judged, where nobody has said that yet."""
+
+    word: str
+    reason: str | None = None
+
+    @property
+    def status(self) -> int:
+        """The exit status."""
+        return STATUSES[self.word]
+
+
+def word_of(said: Said) -> str:
+    """The verdict on a part: only what the program says in so many words, with that status."""
+    if said.status == 0 and said.is_accepted and not said.faults and not said.numbers:
+        return ACCEPTED
+    if said.status == 1 and said.numbers and said.faults == said.counted:
+        return REFUSED
+    return NOT_JUDGED
+
+
+def decide(seen: Seen) -> Decision:
+    """The verdict on all parts. What nobody said or read, or could write, is not judged; then an
+    error counts before a loss, and a loss before a warning."""
+    words = [word_of(part) for part in seen.parts]
+    if seen.reasons or seen.failed:
+        return Decision(NOT_JUDGED)
+    if not words or NOT_JUDGED in words:
+        return Decision(NOT_JUDGED, UNSAID)
+    if any(seen.severity.is_error(number) for part in seen.parts for number in part.numbers):
+        return Decision(REFUSED)
+    if not all(part.is_read for part in seen.parts):
+        return Decision(NOT_JUDGED, UNREAD)
+    if any(seen.losses) and seen.severity.is_error(LOST_PACKETS):
+        return Decision(LOST)
+    if seen.warnings and seen.is_strict:
+        return Decision(WARNED)
+    return Decision(WAIVED if REFUSED in words else ACCEPTED)
+
+
+def is_of_call(word: str, status: int, ended: int) -> bool:
+    """Whether a call for a pair ended with the status that its object has, which is that of its
+    word."""
+    return STATUSES.get(word, 2) == status == ended
+
+
+def of_all(words: Iterable[str], is_stopped: bool = False) -> int:
+    """The status of several verdicts: 2 where one is not judged, none is there, or others were to
+    be judged too; else 1 where one is not accepted."""
+    statuses = [STATUSES.get(word, 2) for word in words]
+    return 2 if is_stopped or not statuses else max(statuses)

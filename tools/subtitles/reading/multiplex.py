@@ -1,0 +1,87 @@
+"""A transport stream of one programme with Teletext, as bytes (ISO/IEC 13818-1)."""
+from __future__ import annotations
+
+from ..core.teletext import Page
+from ..core.times import wrapped
+from .transport import BEGINS, PACKET, PAYLOAD, SYNC, crc
+
+PROGRAMME, PMT_PID, PCR_PID = 1, 0x100, 0x1FF0
+RESERVED_PIDS = {PMT_PID, PCR_PID}
+FULL = 184  # bytes of a packet without its header
+TENTH = 9000  # of a second, at 90 kHz
+LONG = 120 * 10 * TENTH  # over a longer pause the clock jumps
+SUBTITLES = 2  # the kind of page in a Teletext descriptor
+ADAPTATION_ALONE = 0x20
+COUNTERS = range(16)
+
+
+def head(pid: int, begins: int, control: int) -> bytes:
+    """The first four bytes of a packet."""
+    return bytes([SYNC, begins | pid >> 8, pid & 255, control])
+
+
+def section(table: int, number: int, body: bytes) -> bytes:
+    """A section that is current, version 0, the only one of its table, after its pointer field."""
+    start = (0xB000 | len(body) + 9).to_bytes(2, "big") + number.to_bytes(2, "big") + b"\xc1\0\0"
+    data = bytes([table]) + start + body
+    return b"\0" + data + crc(data).to_bytes(4, "big")
+
+
+def pmt_body(pid: int, language: bytes, page: Page) -> bytes:
+    """What the PMT says: the PID of the PCR, and a component with its Teletext descriptor."""
+    magazine, number = page
+    teletext = b"\x56\x05" + language + bytes([SUBTITLES << 3 | magazine, number])
+    return ((0xE000 | PCR_PID).to_bytes(2, "big") + b"\xf0\0"
+            + b"\x06" + (0xE000 | pid).to_bytes(2, "big")
+            + (0xF000 | len(teletext)).to_bytes(2, "big") + teletext)
+
+
+class Multiplex:
+    """Packets of the stream, until they are taken; `size` bytes of them."""
+
+    def __init__(self, pid: int, language: bytes, page: Page) -> None:
+        pat = section(0, 1, PROGRAMME.to_bytes(2, "big") + (0xE000 | PMT_PID).to_bytes(2, "big"))
+        pmt = section(2, PROGRAMME, pmt_body(pid, language, page))
+        # PAT and PMT, and the heads of packets of the PID, for each value of the counter.
+        self.tables = [b"".join((head(where, BEGINS, PAYLOAD | counter) + data)
+                                .ljust(PACKET, b"\xff")
+                                for where, data in ((0, pat), (PMT_PID, pmt)))
+                       for counter in COUNTERS]
+        self.first_heads = [head(pid, BEGINS, PAYLOAD | counter) for counter in COUNTERS]
+        self.heads = [head(pid, 0, PAYLOAD | counter) for counter in COUNTERS]
+        self.clock_head = head(PCR_PID, 0, ADAPTATION_ALONE | 15) + b"\xb7\x10"
+        self.clock_rest = b"\xff" * (PACKET - len(self.clock_head) - 6)
+        self.parts: list[bytes] = []
+        self.size = self.count = self.counter = 0
+        self.base: int | None = None
+
+    def put(self, data: bytes, pts: int) -> None:
+        """A PES packet, with the tables before it and the clock up to it."""
+        parts, counter = self.parts, self.counter
+        parts.append(self.tables[self.count & 15])
+        self.count += 1
+        self.clock(pts)
+        for at in range(0, len(data), FULL):
+            parts.append(self.heads[counter] if at else self.first_heads[counter])
+            parts.append(data[at:at + FULL])
+            counter = counter + 1 & 15
+        self.counter = counter
+        self.size += len(data) + 2 * PACKET
+
+    def clock(self, pts: int) -> None:
+        """PCRs each tenth of a second, up to one a tenth of a second before the PTS."""
+        end = wrapped(pts - TENTH)
+        if self.base is None or wrapped(end - self.base) > LONG:
+            self.base = wrapped(end - TENTH)
+        length = wrapped(end - self.base)
+        for at in [*range(TENTH, length, TENTH), *([length] if length else [])]:
+            bits = wrapped(self.base + at) << 15 | 0x3F << 9
+            self.parts += [self.clock_head, bits.to_bytes(6, "big"), self.clock_rest]
+            self.size += PACKET
+        self.base = end
+
+    def taken(self) -> bytes:
+        """The packets since the last call."""
+        data = b"".join(self.parts)
+        self.parts, self.size = [], 0
+        return data

@@ -1,1 +1,0 @@
-"""What tools/check-tools does: each part has its CASES, functions of a bench."""
