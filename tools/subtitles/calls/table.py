@@ -46,7 +46,7 @@ def words_of(part: Part) -> dict[str, Any]:
 def of_part(parts: Sequence[dict[str, Any]], number: int | None) -> Known:
     """The columns of what is judged with a part, by its number; with the only one where none is
     given."""
-    found = [one for one in parts if one["part"] == number or number is None]
+    found = [one for one in parts if one.get("part") == number or number is None]
     if len(found) != 1:
         return {}
     pid = found[0].get("pid")
@@ -71,7 +71,7 @@ def with_fault(pair: Known, parts: Sequence[dict[str, Any]], fault: Fault) -> Kn
     """The columns of a fault of a pair with these parts."""
     subtitle, cause = fault["subtitle"], fault["cause"]
     known: Known = {
-        **pair, **of_part(parts, fault["part"]), **fault,
+        **pair, **of_part(parts, fault.get("part")), **fault,
         "subtitle": subtitle and subtitle["number"],
         "position": subtitle and subtitle.get("position"), "begin": subtitle and subtitle["begin"],
         "end": subtitle and subtitle["end"], "due": cell_words(fault["due"]),
