@@ -1,13 +1,15 @@
 -- What is one text code of a text: text_codes-common, text_codes-pair. The cell of a text code is a
--- code: code_before-small.
+-- code: code_before-small. The table of common bytes: common_by_table.
 use Rattle.std.proofs.Common.{◌≡◌, ℕ, ◌+◌, ◌<◌, List, ◌∷◌, Option, Some, length, get_or, drop}
-use Rattle.std.proofs.Common.{refl, arith, true}
+use Rattle.std.proofs.Common.{refl, arith, true, ◌==◌}
 use Rattle.std.proofs.Common.{add-one, drop-cons}
+use Rattle.std.proofs.lemmas.Bool.{agree_below_at}
 use Rattle.std.proofs.lemmas.Bool.Decides.{nat_tests}
 use Rattle.std.specs.Prelude.{IfSome}
 use Rattle.ttx_page.specs.Page.{IsCode}
 use Rattle.stl_rows.specs.declared.national.National.{National}
 use Rattle.stl_rows.specs.declared.text_code.TextCode.TheVariants.{Cell}
+use Rattle.stl_rows.specs.declared.text_code.TheConstants.{COMMON}
 use Rattle.stl_rows.specs.TextCode.{HasSevenBits, cell_of, cell_of_pair, code_before}
 use Rattle.stl_rows.specs.TextCode.{code_of_other, first_of, is_common, text_codes}
 use Rattle.stl_rows.proofs.SubSetLemmas.{cell_in-small}
@@ -16,6 +18,12 @@ use Rattle.stl_rows.proofs.SubSetLemmas.{cell_in-small}
 cut_at : (text : List ℕ) (at : ℕ) → at < length text
     → drop at text ≡ get_or text at 0 ∷ drop (at + 1) text
 cut_at text at h = rw (add-one, drop-cons text at 0) refl
+
+-- Each entry of the table is what the definition gives: 256 cases, computed. For `is_common`.
+pub common_by_table : (byte : ℕ) → byte < 0x100
+    → (get_or COMMON byte 0 == 1) ≡ is_common byte
+unfolding is_common
+common_by_table byte l = agree_below_at (λ b. get_or COMMON b 0 == 1) is_common 0x100 byte refl l
 
 -- A common byte is one text code: for `text_code_at`.
 pub text_codes-common : (n : National) (at : ℕ) (text : List ℕ) → at < length text

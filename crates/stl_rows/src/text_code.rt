@@ -21,17 +21,35 @@ pub(crate) enum TextCode {
     Refused(RowFaultKind),
 }
 
+// Whether each byte gives the cell of its own number under each option. The check computes the
+// definition over all 256 bytes and compares.
+#[rattlefmt::skip]
+const COMMON: [u8; 256] = [
+    0, 1, 1, 1, 1, 1, 1, 1, 1, 1, 1, 1, 1, 1, 0, 0,
+    0, 0, 0, 0, 0, 0, 0, 0, 0, 0, 0, 0, 1, 1, 0, 0,
+    1, 1, 1, 0, 0, 1, 1, 1, 1, 1, 1, 1, 1, 1, 1, 1,
+    1, 1, 1, 1, 1, 1, 1, 1, 1, 1, 1, 1, 1, 1, 1, 1,
+    0, 1, 1, 1, 1, 1, 1, 1, 1, 1, 1, 1, 1, 1, 1, 1,
+    1, 1, 1, 1, 1, 1, 1, 1, 1, 1, 1, 0, 0, 0, 0, 0,
+    0, 1, 1, 1, 1, 1, 1, 1, 1, 1, 1, 1, 1, 1, 1, 1,
+    1, 1, 1, 1, 1, 1, 1, 1, 1, 1, 1, 0, 0, 0, 0, 0,
+    0, 0, 0, 0, 0, 0, 0, 0, 0, 0, 0, 0, 0, 0, 0, 0,
+    0, 0, 0, 0, 0, 0, 0, 0, 0, 0, 0, 0, 0, 0, 0, 0,
+    0, 0, 0, 0, 0, 0, 0, 0, 0, 0, 0, 0, 0, 0, 0, 0,
+    0, 0, 0, 0, 0, 0, 0, 0, 0, 0, 0, 0, 0, 0, 0, 0,
+    0, 0, 0, 0, 0, 0, 0, 0, 0, 0, 0, 0, 0, 0, 0, 0,
+    0, 0, 0, 0, 0, 0, 0, 0, 0, 0, 0, 0, 0, 0, 0, 0,
+    0, 0, 0, 0, 0, 0, 0, 0, 0, 0, 0, 0, 0, 0, 0, 0,
+    0, 0, 0, 0, 0, 0, 0, 0, 0, 0, 0, 0, 0, 0, 0, 0,
+];
+
 // Whether a byte gives the cell of its own number under each option.
 #[inline(always)]
-#[tactic(auto, unfolding(crate::specs::TextCode::is_common))]
+#[tactic(auto, using(crate::proofs::TextCodeLemmas::common_by_table))]
 fn is_common(byte: u8) -> bool
     ensures { result ≡ is_common byte }
 {
-    // Most bytes are small letters, so they come first.
-    matches!(
-        byte,
-        0x61..=0x7A | 0x20..=0x22 | 0x25..=0x3F | 0x41..=0x5A | 0x01..=0x0D | 0x1C..=0x1D
-    )
+    COMMON[byte as usize] == 1
 }
 
 // The cell of a byte by itself.

@@ -111,6 +111,11 @@ impl<S: Source> Source for FailAt<S> {
     fn failures(&self) -> u64 {
         self.with_own(self.inner.failures())
     }
+
+    /// Nothing, since it lends nothing.
+    fn pass(&mut self, _count: usize) -> bool {
+        false
+    }
 }
 
 impl<K: Sink> Sink for FailAt<K> {

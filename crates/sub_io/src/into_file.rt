@@ -87,7 +87,10 @@ impl<W: Write + LetGo> Close for IntoFile<W> {
     /// Lets go of the writer as it is, which closes a file.
     fn close(&mut self)
         ensures call { LetsGo W.is_let_go self.old self.new }
-        ensures closed { self.new ≡ record { device = None; failure_count = self.old.failure_count } }
+        ensures closed { self.new ≡ record {
+          device = None;
+          failure_count = self.old.failure_count;
+        } }
     {
         if let Some(writer) = self.inner.take() {
             writer.let_go();

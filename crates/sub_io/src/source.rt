@@ -1,9 +1,9 @@
 //! Devices that give bytes.
 
-ghost use Rattle.std.specs.Prelude.{◌≡◌, ℕ, ◌+◌, ◌<◌, ◌≤◌, List, length, take, Option, IfOk, OnErr};
-ghost use Rattle.std.specs.Prelude.{Some, false, is_ok, true};
+ghost use Rattle.std.specs.Prelude.{◌≡◌, ◌≢◌, ℕ, ◌+◌, ◌<◌, ◌≤◌, List, [], length, take, Option, Ok};
+ghost use Rattle.std.specs.Prelude.{IfOk, OnErr, Some, false, is_ok, true};
 ghost use Rattle.std.specs.Io.{ReadsAtMost};
-ghost use Rattle.std.specs.Io.KnownBytes.{Consumes, IsAtEnd};
+ghost use Rattle.std.specs.Io.KnownBytes.{Consumes, IsAtEnd, Keeps};
 ghost use Rattle.sub_io.specs.Calls.{FillsByPulls, answered, any_call};
 ghost use Rattle.sub_io.specs.Device.{CanFail, CountsFailure, Fills, PassesOver, Pulls, Told};
 ghost use Rattle.sub_io.specs.Lent.{BeginLent, GivesLent, lends_nothing};
@@ -54,18 +54,31 @@ pub trait Source {
         &[]
     }
 
+    /// Reads on until it lends bytes, where it makes them of those of the device below it; any other
+    /// device does nothing. It gives none.
+    ///
+    /// # Errors
+    ///
+    /// `Failed` where the device below it failed.
+    fn read_on(&mut self) -> Result<(), Failed>
+        requires { CanFail (failure_count self.old) }
+        ensures bytes { Keeps (remaining self.old) (remaining self.new) }
+        ensures ready { lent self.old ≢ [] → (self.new ≡ self.old) × (result ≡ Ok tt) }
+        ensures count { CountsFailure (failure_count self.old) result (failure_count self.new) }
+    {
+        Ok(())
+    }
+
     /// Passes over so many of the bytes that it lends, as one pull that gives them, and answers
     /// whether it did: where it lends fewer, nothing is done.
     fn pass(&mut self, count: usize) -> bool
         requires some { 0 < count }
         requires count { CanFail (failure_count self.old) }
+        ensures whole { count ≤ length (lent self.old) → result ≡ true }
         ensures call { result ≡ true → is_pull self.old count (Some count) self.new }
         ensures bytes { result ≡ true → PassesOver (remaining self.old) count (remaining self.new) }
         ensures none { result ≡ false → self.new ≡ self.old }
-        ensures count { failure_count self.new ≡ failure_count self.old }
-    {
-        false
-    }
+        ensures count { failure_count self.new ≡ failure_count self.old };
 }
 
 /// Pulls until `to` is full or the source is at its end, and answers how many bytes it got.

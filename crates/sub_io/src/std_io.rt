@@ -58,6 +58,11 @@ impl<R: Read> Source for FromRead<R> {
     fn failures(&self) -> u64 {
         self.failures
     }
+
+    /// Nothing, since it lends nothing.
+    fn pass(&mut self, _count: usize) -> bool {
+        false
+    }
 }
 
 /// A sink over a writer of std. One push is one `write`, and a flush is the writer's.

@@ -12,16 +12,16 @@ abbrev pub page_888 : PageIdValue
 page_888 = record { magazine = 0; page = 0x88 }
 
 -- The ten coded bytes of a header of page 888 and 32 spaces, by its last coded byte.
-abbrev pub header_888 : ℕ → List ℕ
-header_888 last =
+abbrev pub header_888_ending : ℕ → List ℕ
+header_888_ending last =
     (0x15 ∷ 0x15 ∷ 0xD0 ∷ 0xD0 ∷ 0x15 ∷ 0xD0 ∷ 0x15 ∷ 0xD0 ∷ 0x02 ∷ last ∷ []) ++ replicate 32 0x20
 
 -- The header of page 888 in an option, in parallel and in serial mode: C11 to C14 are the four data
 -- bits of byte 9.
 abbrev pub HasLastBytes : National → ℕ → ℕ → Type 0
 HasLastBytes national parallel serial =
-    (header_packet 0 (watched_header page_888 national false) ≡ header_888 parallel)
-    × (header_packet 0 (watched_header page_888 national true) ≡ header_888 serial)
+    (header_packet 0 (watched_header page_888 national false) ≡ header_888_ending parallel)
+    × (header_packet 0 (watched_header page_888 national true) ≡ header_888_ending serial)
 
 -- That of each option.
 abbrev pub ExampleOfWatchedHeaders : Type 0

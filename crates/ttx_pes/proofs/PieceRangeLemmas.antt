@@ -1,25 +1,26 @@
 -- A range of pieces, read step by step: what is given stays the same whatever was read for it. Main
--- lemmas: kept_none, kept_cut, kept_passed, kept_open, kept_piece, pulls_piece.
-use Rattle.std.proofs.Common.{◌≡◌, ℕ, zero, suc, ◌+◌, ◌-◌, ◌<◌, ◌≤◌, List, [], ◌++◌, ◌∷◌}
+-- lemmas: kept_none, kept_cut, kept_passed, kept_open, kept_piece, pulls_piece, lent_gives.
+use Rattle.std.proofs.Common.{◌≡◌, ◌≢◌, ℕ, zero, suc, ◌+◌, ◌-◌, ◌<◌, ◌≤◌, List, [], ◌++◌, ◌∷◌}
 use Rattle.std.proofs.Common.{length}
 use Rattle.std.proofs.Common.{take, drop, Option, Some, None, Result, Ok, Err, refl, sym, ap}
-use Rattle.std.proofs.Common.{◌∙◌, cond, inl, inr}
-use Rattle.std.proofs.Common.{arith, append_assoc, length-append}
+use Rattle.std.proofs.Common.{◌∙◌, cond, inl, inr, subst}
+use Rattle.std.proofs.Common.{arith, append_assoc, length-append, length-take}
 use Rattle.std.proofs.lemmas.Bool.{cases_lt, le-leb, le-ltb, lt-ltb, lt-leb}
 use Rattle.std.proofs.lemmas.Bool.Decides.{nat_tests}
 use Rattle.std.proofs.lemmas.List.{append-nil, take-append-le, take_all, drop_all, drop-append-le}
-use Rattle.std.proofs.lemmas.List.{length-take-le, take-append-drop}
+use Rattle.std.proofs.lemmas.List.{length-take-le, take-append-drop, take-take}
+use Rattle.std.proofs.lemmas.Option.{same_Some}
 use Rattle.std.proofs.Math.Seq.{take-append-add, drop-append-add}
-use Rattle.std.proofs.KnownBytes.{Keeps-trans}
+use Rattle.std.proofs.KnownBytes.{Consumes-kept, Keeps-trans}
 use Rattle.std.specs.Prelude.{IfSome, option_map}
 use Rattle.std.specs.Result.{result_ok}
 use Rattle.std.specs.Io.KnownBytes.{Consumes, IsAtEnd, Keeps, prepend_known}
-use Rattle.sub_io.specs.Device.{Pulls}
+use Rattle.sub_io.specs.Device.{PassesOver, Pulls}
 use Rattle.sub_io.specs.Reading.{AreNext, IfTold}
 use Rattle.ttx_pes.specs.PieceRange.{AheadValue, IsAhead, KeepsIndex, PieceRangeValue, first_index}
-use Rattle.ttx_pes.specs.PieceRange.{behind_pieces, count_pieces}
+use Rattle.ttx_pes.specs.PieceRange.{behind_pieces, count_pieces, given_by_phase, lent_of}
 use Rattle.ttx_pes.specs.PieceRange.{first_pieces, if_whole, piece_size, told_index, told_of}
-use Rattle.ttx_pes.specs.PieceRange.{told_piece, up_to}
+use Rattle.ttx_pes.specs.PieceRange.{told_piece, limited}
 use Rattle.ttx_pes.specs.Reading.{size_at}
 use Rattle.ttx_pes.specs.declared.fault.PesFault.{PesFault}
 use Rattle.ttx_pes.specs.declared.range_source.Phase.{Phase}
@@ -136,7 +137,7 @@ unfolding first_pieces piece_size told_piece
 first_nil zero = refl
 first_nil (suc n) = refl
 
-up_to_nil : (left : Option ℕ) → up_to left [] ≡ []
+up_to_nil : (left : Option ℕ) → limited left [] ≡ []
 up_to_nil None = refl
 up_to_nil (Some n) = first_nil n
 
@@ -175,7 +176,7 @@ pub kept_none : (x y : Option (List ℕ)) (old held : List ℕ) (n m : ℕ) (lef
 kept_none None y old held n m left c end e = tt
 kept_none (Some x) None old held n m left c end e = absurd c
 kept_none (Some x) (Some y) old held n m left c end e =
-    ap (up_to left)
+    ap (limited left)
     (sym (ap (behind_pieces n) c ∙ behind_none n (held ++ y) (none_begins held y end e)))
 
 pub index_none : (x y : Option (List ℕ)) (old held : List ℕ) (a : AheadValue)
@@ -215,7 +216,7 @@ kept_cut None y z old held more n m left size c d e lt end = tt
 kept_cut (Some x) None z old held more n m left size c d e lt end = absurd c
 kept_cut (Some x) (Some y) None old held more n m left size c d e lt end = absurd d
 kept_cut (Some x) (Some y) (Some z) old held more n m left size c d e lt end =
-    ap (up_to left)
+    ap (limited left)
     (sym (ap (behind_pieces n) c
     ∙ behind_none n (held ++ y) (cut_begins y z held more size d e lt end) ∙ d))
 
@@ -269,7 +270,7 @@ kept_passed None y z old held more n left size c d e le lt = tt
 kept_passed (Some x) None z old held more n left size c d e le lt = absurd c
 kept_passed (Some x) (Some y) None old held more n left size c d e le lt = absurd d
 kept_passed (Some x) (Some y) (Some z) old held more n left size c d e le lt =
-    ap (up_to left)
+    ap (limited left)
     (ap (behind_pieces (n - 1)) (sym (drop-append-le size more z le))
     ∙ sym (behind_begun n (more ++ z) size lt (piece_begins y z held more size d e le))
     ∙ ap (behind_pieces n) (sym (c ∙ d)))
@@ -366,6 +367,14 @@ told_lent next held None (Some size) are none e = λ bytes is. absurd cc
 told_lent next [] (Some b) (Some size) are none e = told_next next (Some b) size are (sym e)
 told_lent next (h ∷ held) (Some b) (Some size) are none e = absurd (omega (arith, none))
 
+-- The source inside read on. For `read_on`.
+pub told_on : (p : Phase) (x y : Option (List ℕ)) (held : List ℕ) (n : ℕ) (left : Option ℕ)
+    → Keeps x y
+    → Keeps (told_of p n left held x) (told_of p n left held y)
+told_on p None y held n left k = tt
+told_on p (Some x) None held n left k = absurd k
+told_on p (Some x) (Some y) held n left k = ap (λ l. given_by_phase p n left (held ++ l)) k
+
 -- ---- what is pulled
 
 -- A pull after what was given stayed as it was.
@@ -404,9 +413,9 @@ pulls_piece E None (Some y) old new part to size n m left some le fits same room
   tt,
   λ none more.
       let end = p.1 none (room more) in
-      ap (λ b. take (size - n) b ++ up_to left (drop (size - n) b)) end
-      ∙ ap (λ l. l ++ up_to left (drop (size - n) [])) (take_all (size - n) [] (omega arith))
-      ∙ ap (up_to left) (drop_all (size - n) [] (omega arith)) ∙ up_to_nil left,
+      ap (λ b. take (size - n) b ++ limited left (drop (size - n) b)) end
+      ∙ ap (λ l. l ++ limited left (drop (size - n) [])) (take_all (size - n) [] (omega arith))
+      ∙ ap (limited left) (drop_all (size - n) [] (omega arith)) ∙ up_to_nil left,
 )
 pulls_piece E (Some x) None old new part to size n m left some le fits same room p = absurd p.0
 pulls_piece E (Some x) (Some y) old new part to size n m left some le fits same room p =
@@ -419,16 +428,120 @@ pulls_piece E (Some x) (Some y) old new part to size n m left some le fits same 
     let others : drop size (old ++ x) ≡ drop (size - n) b =
     ap (drop size) p.0 ∙ ap (λ k. drop k (front ++ b)) whole
     ∙ drop-append-add front b (size - n) in (
-      ap (λ l. l ++ up_to left (drop size (old ++ x))) first
-          ∙ ap (λ l. (front ++ take (size - n) b) ++ up_to left l) others
-          ∙ append_assoc front (take (size - n) b) (up_to left (drop (size - n) b))
-          ∙ ap (λ l. l ++ (take (size - n) b ++ up_to left (drop (size - n) b))) (sym same),
+      ap (λ l. l ++ limited left (drop size (old ++ x))) first
+          ∙ ap (λ l. (front ++ take (size - n) b) ++ limited left l) others
+          ∙ append_assoc front (take (size - n) b) (limited left (drop (size - n) b))
+          ∙ ap (λ l. l ++ (take (size - n) b ++ limited left (drop (size - n) b))) (sym same),
       λ none more.
           let end = p.1 none (room more) in
-          ap (λ l. take (size - n) l ++ up_to left (drop (size - n) l)) end
-          ∙ ap (λ l. l ++ up_to left (drop (size - n) [])) (take_all (size - n) [] (omega arith))
-          ∙ ap (up_to left) (drop_all (size - n) [] (omega arith)) ∙ up_to_nil left,
+          ap (λ l. take (size - n) l ++ limited left (drop (size - n) l)) end
+          ∙ ap (λ l. l ++ limited left (drop (size - n) [])) (take_all (size - n) [] (omega arith))
+          ∙ ap (limited left) (drop_all (size - n) [] (omega arith)) ∙ up_to_nil left,
     )
+
+-- ---- what is lent
+
+-- Where the source inside lends nothing, nothing is lent. For `read_on`.
+pub lent_inside : (p : Phase) (held lent : List ℕ) → lent_of p held lent ≢ [] → lent ≢ []
+lent_inside Passing held lent some none = some refl
+lent_inside Between held lent some none = some refl
+lent_inside (Giving k) [] lent some none = some (ap (take k) none ∙ take_all k [] (omega arith))
+lent_inside (Giving k) (h ∷ held) lent some none = some refl
+lent_inside Open [] lent some none = some none
+lent_inside Open (h ∷ held) lent some none = some refl
+
+-- What is lent of a piece comes next. For `held`.
+pub lent_next : (next lent held : List ℕ) (x : Option (List ℕ)) (size n m : ℕ) (left : Option ℕ)
+    → AreNext next x
+    → length held ≡ 0
+    → n ≤ size
+    → n ≤ length next
+    → lent ≡ take n next
+    → AreNext lent (told_of (Giving size) m left held x)
+lent_next next lent held None size n m left are none le fits e = λ bytes is. absurd cc
+lent_next next lent (h ∷ held) (Some b) size n m left are none le fits e =
+    absurd (omega (arith, none))
+lent_next next lent [] (Some b) size n m left are none le fits e = λ bytes is.
+    let begins = are b refl in
+    let all = ap length begins in
+    let within = length-take (length next) b in
+    let part = length-take size b in
+    let long : length lent ≡ n = ap length e ∙ length-take-le n next fits in
+    let first : take n (take size b) ≡ lent =
+    take-take n size b le ∙ sym (take-take n (length next) b fits) ∙ ap (take n) begins ∙ sym e in
+    let told = same_Some (take size b ++ limited left (drop size b)) bytes is in
+    let some : n ≤ length (take size b) = omega (arith, le, fits, all, within, part) in
+    ap (λ k. take k bytes) long ∙ ap (take n) (sym told)
+    ∙ take-append-le n (take size b) (limited left (drop size b)) some ∙ first
+
+-- So many bytes of a piece were passed over in the source inside. For `pass`.
+pub passes_piece : (x y : Option (List ℕ)) (held : List ℕ) (size n m : ℕ) (left : Option ℕ)
+    → length held ≡ 0
+    → 0 < n
+    → n ≤ size
+    → PassesOver x n y
+    → PassesOver (told_of (Giving size) m left held x) n
+    (told_of (Giving (size - n)) m left held y)
+passes_piece x y (h ∷ held) size n m left none some le p = absurd (omega (arith, none))
+passes_piece None y [] size n m left none some le p =
+    record { bytes = p.bytes; number = p.number; consumed = tt }
+passes_piece (Some x) None [] size n m left none some le p = absurd p.consumed
+passes_piece (Some x) (Some y) [] size n m left none some le p =
+    let all : take n p.bytes ≡ p.bytes = take_all n p.bytes (omega (arith, p.number)) in
+    let pulled = pulls_piece (Unit {0}) (Some x) (Some y) [] [] p.bytes p.bytes size n m left
+    (omega (arith, some, le)) le (omega (arith, p.number)) refl (λ more. more)
+    (p.consumed ∙ ap (λ l. l ++ y) (sym all), λ zero. absurd (omega (arith, zero, some))) in
+    record {
+      bytes = p.bytes;
+      number = p.number;
+      consumed = pulled.0
+          ∙ ap (λ l. l ++ (take (size - n) y ++ limited left (drop (size - n) y))) all;
+    }
+
+-- All of it was, and what is given next stayed as it was. For `pass`.
+pub passes_last : (x y z : Option (List ℕ)) (held : List ℕ) (size n m : ℕ) (left : Option ℕ)
+    → length held ≡ 0
+    → 0 < n
+    → n ≡ size
+    → PassesOver x n y
+    → Keeps (told_of Between m left held y) z
+    → PassesOver (told_of (Giving size) m left held x) n z
+passes_last x y z held size n m left none some all p k =
+    let over = passes_piece x y held size n m left none some (omega (arith, all)) p in
+    let ended : size - n ≡ 0 = omega (arith, all) in
+    let there = subst
+    (λ l. PassesOver (told_of (Giving size) m left held x) n (told_of (Giving l) m left held y))
+    ended over in
+    record {
+      bytes = there.bytes;
+      number = there.number;
+      consumed = Consumes-kept _ (told_of Between m left held y) z there.bytes there.consumed k;
+    }
+
+-- Where bytes of a piece are lent, those that are pulled are the first of them. For `pull`.
+pub lent_gives : (whole : List ℕ) (p : Phase) (held still old new part to : List ℕ) (size n : ℕ)
+    → p ≡ Giving size
+    → n ≤ size
+    → n ≤ length part
+    → take n to ≡ take n part
+    → (whole ≢ [] → lent_of p held old ≡ whole)
+    → (held ≡ [] → (still ≡ []) × (old ≢ [] → old ≡ take n part ++ new))
+    → whole ≢ []
+    → whole ≡ take n to ++ lent_of (Giving (size - n)) still new
+lent_gives whole p (h ∷ held) still old new part to size n e le fits same keeps gives some =
+    absurd (some (sym (keeps some) ∙ ap (λ q. lent_of q (h ∷ held) old) e))
+lent_gives whole p [] still old new part to size n e le fits same keeps gives some =
+    let given = gives refl in
+    let kept : take size old ≡ whole = ap (λ q. lent_of q [] old) (sym e) ∙ keeps some in
+    let lends : old ≢ [] = λ none.
+    some (sym kept ∙ ap (take size) none ∙ take_all size [] (omega arith)) in
+    let len = length-take-le n part fits in
+    let front : size ≡ length (take n part) + (size - n) = omega (arith, len, le) in
+    sym kept ∙ ap (take size) (given.1 lends)
+    ∙ ap (λ k. take k (take n part ++ new)) front
+    ∙ take-append-add (take n part) new (size - n)
+    ∙ ap (λ l. l ++ take (size - n) new) (sym same)
+    ∙ ap (λ l. take n to ++ lent_of (Giving (size - n)) l new) (sym given.0)
 
 -- ---- the start of a file
 

@@ -14,8 +14,8 @@ use Rattle.ttx_pes.specs.declared.fault.PesFault.TheVariants as fault
 use Rattle.ttx_pes.specs.DataUnit.{UnitValue, is_teletext}
 use Rattle.ttx_pes.specs.LineOrder.{last_place, line_order_place, stands_after}
 use Rattle.ttx_pes.specs.PesPacket.{PesValue}
-use Rattle.ttx_pes.specs.Reading.{flags_fault, is_start, packet_at, pts_at, size_at, teletext_at, told_size}
-use Rattle.ttx_pes.specs.Reading.{unit_at, units_at, value_at}
+use Rattle.ttx_pes.specs.Reading.{flags_fault, is_start, packet_at, pts_at, size_at, teletext_at}
+use Rattle.ttx_pes.specs.Reading.{told_size, unit_at, units_at, value_at}
 use Rattle.ttx_pes.specs.Refusal.{told_fault, unit_faults}
 use Rattle.ttx_pes.proofs.LineOrderLemmas.{last_place-push}
 

@@ -49,9 +49,9 @@ count_pieces (suc n) b =
     by_piece (piece_size b) (λ size. suc (count_pieces n (drop size b))) 0
 
 -- As many pieces at most; all bytes where no number is given.
-abbrev pub up_to : Option ℕ → List ℕ → List ℕ
-up_to None b = b
-up_to (Some n) b = first_pieces n b
+abbrev pub limited : Option ℕ → List ℕ → List ℕ
+limited None b = b
+limited (Some n) b = first_pieces n b
 
 -- The numbers of the first and of the last piece of a range; none for one without an end.
 pub record PieceRangeValue : Type 0 where
@@ -73,7 +73,7 @@ most_of r = option_map (λ last. last + 1 - r.first) r.last
 -- The bytes of a range: its pieces, and where the file has fewer than go up to its last one, what
 -- follows the last piece of the file.
 unfoldable pub in_range : PieceRangeValue → List ℕ → List ℕ
-in_range r b = up_to (most_of r) (behind_pieces r.first b)
+in_range r b = limited (most_of r) (behind_pieces r.first b)
 
 -- The number that the first piece of a range has in the file. Where the file has fewer pieces than
 -- stand before the range, what follows them has their number.
@@ -88,17 +88,24 @@ pub record AheadValue : Type 0 where
   pub to_pass : ℕ
 
 -- What is given of bytes, by how far a source has come.
-abbrev pub given_of : Phase → ℕ → Option ℕ → List ℕ → List ℕ
-given_of Passing to_pass left b = up_to left (behind_pieces to_pass b)
-given_of Between to_pass left b = up_to left b
-given_of (Giving k) to_pass left b = take k b ++ up_to left (drop k b)
-given_of Open to_pass left b = b
+abbrev pub given_by_phase : Phase → ℕ → Option ℕ → List ℕ → List ℕ
+given_by_phase Passing to_pass left b = limited left (behind_pieces to_pass b)
+given_by_phase Between to_pass left b = limited left b
+given_by_phase (Giving k) to_pass left b = take k b ++ limited left (drop k b)
+given_by_phase Open to_pass left b = b
 
 -- What is given where bytes are held, and the source inside tells those after them.
 abbrev pub told_of :
     Phase → ℕ → Option ℕ → List ℕ → Option (List ℕ) → Option (List ℕ)
 told_of phase to_pass left held told =
-    option_map (given_of phase to_pass left) (prepend_known held told)
+    option_map (given_by_phase phase to_pass left) (prepend_known held told)
+
+-- What is lent of bytes that the source inside lends, by how far a source has come and what it
+-- holds of its own: the rest of a piece, or all once all that comes is given.
+abbrev pub lent_of : Phase → List ℕ → List ℕ → List ℕ
+lent_of (Giving k) [] lent = take k lent
+lent_of Open [] lent = lent
+lent_of _ _ lent = []
 
 -- The number of the first piece that is given, by how far a source has come.
 abbrev pub index_of : Phase → AheadValue → List ℕ → ℕ

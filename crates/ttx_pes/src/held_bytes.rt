@@ -3,6 +3,7 @@ ghost use Rattle.std.specs.Prelude.{◌≡◌, ◌<◌, ◌≤◌, [], ◌++◌,
 ghost use Rattle.std.specs.Io.{ReadsAtMost};
 ghost use Rattle.std.specs.Io.KnownBytes.{Consumes, IsAtEnd, prepend_known};
 ghost use Rattle.sub_io.specs.Device.{CanFail, CountsFailure, Pulls};
+ghost use Rattle.sub_io.specs.Lent.{GivesLent};
 ghost use Rattle.ttx_pes.specs.PesPacket.{longest_packet};
 
 use crate::packet_bytes::Room;
@@ -114,6 +115,8 @@ impl HeldBytes {
         ensures bound { ReadsAtMost result to.new }
         ensures bytes { Pulls (prepend_known self.old (S.remaining source.old))
             (prepend_known self.new (S.remaining source.new)) to.new result }
+        ensures lent { self.old ≡ [] → (self.new ≡ [])
+            × GivesLent (S.lent source.old) (S.lent source.new) to.new result }
         ensures count { CountsFailure (S.failure_count source.old) result
             (S.failure_count source.new) }
     {

@@ -1,7 +1,8 @@
 //! The PES packet that was read last, and room for the next.
 ghost use Rattle.std.specs.Prelude.{◌≡◌, ◌≢◌, ◌+◌, ◌≤◌, false, true, [], Ok, IfErr};
 ghost use Rattle.std.specs.Prelude.{Some, if◌then◌else◌};
-ghost use Rattle.sub_io.specs.Device.{CanFail, CountsIf, failed};
+ghost use Rattle.std.specs.Io.KnownBytes.{Keeps};
+ghost use Rattle.sub_io.specs.Device.{CanFail, CountsFailure, CountsIf, failed};
 ghost use Rattle.ttx_pes.specs.Comparing.{as_given, TakesDataField};
 ghost use Rattle.ttx_pes.specs.Fault.{is_of_piece, is_read};
 ghost use Rattle.ttx_pes.specs.LentPacket.{holds_packet};
@@ -21,7 +22,7 @@ use crate::packet_bytes::{MOST_PACKETS, Room, body_of, take_packet};
 use crate::pes_header::LONGEST_PACKET;
 use crate::sent_units::SentUnits;
 use std::marker::Model;
-use sub_io::Source;
+use sub_io::{Failed, Source};
 
 /// A PTS and a data field, bytes 45 to the end of a packet, with its Teletext units.
 #[derive(Drop)]
@@ -102,6 +103,21 @@ fn read_compared<S: Source>(
     }
 }
 
+// Has the source read on where it lends nothing, so that it lends the next packet. That is looked
+// for only where the packet in the room was sent again.
+#[inline(always)]
+fn read_on_again<S: Source>(given: u32, source: &mut S, held: &HeldPacket) -> Result<(), Failed>
+    requires count { CanFail (S.failure_count source.old) }
+    ensures bytes { Keeps (S.remaining source.old) (S.remaining source.new) }
+    ensures lent { S.lent source.old ≢ [] → (source.new ≡ source.old) × (result ≡ Ok tt) }
+    ensures count { CountsFailure (S.failure_count source.old) result (S.failure_count source.new) }
+{
+    if !held.repeats() || given == MOST_PACKETS || !source.held().is_empty() {
+        return Ok(());
+    }
+    source.read_on()
+}
+
 // Passes over the packet that the source lends next, and answers whether it did: where that is the
 // one in a room, sent again. Else nothing is done. It looks for one only where the packet in the
 // room was sent again too: where each packet is another, none is compared twice.
@@ -179,12 +195,36 @@ impl KeptFrame {
     }
 
     // Takes the next packet, and compares it with the one that is kept.
+    #[tactic(auto, using(crate::proofs::TakingLemmas::tells_failed_on))]
     #[inline(always)]
     pub(crate) fn read_next<S: Source>(
         &mut self,
         given: u32,
         source: &mut S,
     ) -> Result<Compared, PesFault>
+        requires { CanFail (S.failure_count source.old) }
+        ensures tells { TellsPacket (Reading given) (S.remaining source.old)
+            (S.remaining source.new) (given_frame (as_given result) self.new.frame) }
+        ensures taken { as_given result ≡ Ok true → TakesDataField (S.remaining source.old)
+            (S.remaining source.new) self.new.frame self.new.data_field }
+        ensures same { result ≡ Ok Same → self.new.data_field ≡ self.old.data_field }
+        ensures units { result ≡ Ok Same → self.new.frame.units ≡ self.old.frame.units }
+        ensures other { result ≡ Ok Other → self.new.data_field ≢ self.old.data_field }
+        ensures below { as_given result ≡ Ok true → given ≢ most_packets }
+        ensures piece { IfErr result (λ fault. is_of_piece fault ≡ true
+            → TakesPiece (S.remaining source.old) (S.remaining source.new) fault) }
+        ensures before_piece { IfErr result (λ fault. is_of_piece fault ≡ true
+            → given ≢ most_packets) }
+        ensures lent { holds_packet (S.lent source.old) ≡ true → failed is_read result ≡ false }
+        ensures count { CountsIf S.failure_count source.old (failed is_read result) source.new }
+    {
+        read_on_again(given, source, &self.held)?;
+        self.read_lent(given, source)
+    }
+
+    // The same, where the source read on before.
+    #[inline(always)]
+    fn read_lent<S: Source>(&mut self, given: u32, source: &mut S) -> Result<Compared, PesFault>
         requires { CanFail (S.failure_count source.old) }
         ensures tells { TellsPacket (Reading given) (S.remaining source.old)
             (S.remaining source.new) (given_frame (as_given result) self.new.frame) }

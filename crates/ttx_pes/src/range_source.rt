@@ -1,11 +1,12 @@
 //! A source of some of the PES packets of a file.
 ghost use Rattle.std.specs.Prelude.{◌≡◌, ◌⊎◌, ◌<◌, ◌≤◌, ◌+◌, IfSome, OnOk};
-ghost use Rattle.std.specs.Prelude.{Some, option_map};
+ghost use Rattle.std.specs.Prelude.{Ok, Some, [], option_map, ◌≢◌};
 ghost use Rattle.std.specs.Io.{ReadsAtMost};
 ghost use Rattle.std.specs.Io.KnownBytes.{Keeps, prepend_known};
 ghost use Rattle.sub_io.specs.Device.{CanFail, CountsFailure, Pulls};
+ghost use Rattle.sub_io.specs.Lent.{GivesLent};
 ghost use Rattle.sub_io.specs.Reading.{IfTold};
-ghost use Rattle.ttx_pes.specs.PieceRange.{IsDecided, KeepsIndex, first_index, in_range};
+ghost use Rattle.ttx_pes.specs.PieceRange.{IsDecided, KeepsIndex, first_index, in_range, lent_of};
 ghost use Rattle.ttx_pes.specs.PieceRange.{told_index, told_of, told_piece};
 ghost use Rattle.ttx_pes.specs.PesPacket.{longest_packet};
 
@@ -138,8 +139,8 @@ impl<S: Source> RangeSource<S> {
         Ok(())
     }
 
-    // The size of the piece that comes next, where no byte is held and the source inside lends those
-    // that tell it: then none of it is copied.
+    // The size of the piece that comes next, where no byte is held and the source inside lends
+    // those that tell it: then none of it is copied.
     #[inline(always)]
     fn lent_piece(&self) -> Option<usize>
         ensures size { IfSome result (λ size.
@@ -151,6 +152,30 @@ impl<S: Source> RangeSource<S> {
             return None;
         }
         told_piece(self.inner.held())
+    }
+
+    // Begins the next piece, where the range has room for it and its size is known by bytes that the
+    // source inside lends.
+    #[inline(always)]
+    fn begin_lent(&mut self)
+        requires phase { self.old.phase ≡ Phase.Between }
+        ensures kept { Keeps
+            (told_of self.old.phase self.old.ahead.to_pass self.old.left self.old.held
+            (S.remaining self.old.inner))
+            (told_of self.new.phase self.new.ahead.to_pass self.new.left self.new.held
+            (S.remaining self.new.inner)) }
+        ensures inner { self.new.inner ≡ self.old.inner }
+    {
+        let Some(left) = self.left else {
+            return;
+        };
+        if left == 0 {
+            return;
+        }
+        if let Some(size) = self.lent_piece() {
+            self.phase = Phase::Giving(size);
+            self.left = Some(left - 1);
+        }
     }
 
     // Decides what is given next, between pieces: one, or all that comes; nothing behind the range.
@@ -198,6 +223,8 @@ impl<S: Source> RangeSource<S> {
             (told_of self.new.phase self.new.ahead.to_pass self.new.left self.new.held
             (S.remaining self.new.inner)) }
         ensures decided { OnOk result (IsDecided self.new.phase self.new.left) }
+        ensures lent { lent_of self.old.phase self.old.held (S.lent self.old.inner) ≢ []
+            → (self.new ≡ self.old) × (result ≡ Ok tt) }
         ensures count { CountsFailure (S.failure_count self.old.inner) result
             (S.failure_count self.new.inner) }
     {
@@ -221,6 +248,8 @@ impl<S: Source> Source for RangeSource<S> {
 
     ghost failure_count = { λ s. S.failure_count s.inner };
 
+    ghost lent = { λ s. lent_of s.phase s.held (S.lent s.inner) };
+
     /// Gives bytes of the range.
     ///
     /// # Errors
@@ -234,6 +263,9 @@ impl<S: Source> Source for RangeSource<S> {
             (S.remaining self.old.inner))
             (told_of self.new.phase self.new.ahead.to_pass self.new.left self.new.held
             (S.remaining self.new.inner)) to.new result }
+        ensures lent { GivesLent
+            (lent_of self.old.phase self.old.held (S.lent self.old.inner))
+            (lent_of self.new.phase self.new.held (S.lent self.new.inner)) to.new result }
         ensures count { CountsFailure (S.failure_count self.old.inner) result
             (S.failure_count self.new.inner) }
     {
@@ -253,6 +285,66 @@ impl<S: Source> Source for RangeSource<S> {
     /// The failures of the source inside.
     fn failures(&self) -> u64 {
         self.inner.failures()
+    }
+
+    /// What is left of a piece, or of all that is given, of the bytes that the source inside lends.
+    /// Between pieces none are, until a pull has found the size of the next.
+    #[inline(always)]
+    fn held(&self) -> &[u8] {
+        if !self.held.bytes().is_empty() {
+            return &[];
+        }
+        match self.phase {
+            Phase::Giving(size) => {
+                let lent = self.inner.held();
+                let (first, _) = lent.split_at(lent.len().min(size));
+                first
+            }
+            Phase::Open => self.inner.held(),
+            Phase::Passing | Phase::Between => &[],
+        }
+    }
+
+    /// Finds the size of the next piece. Where no byte is held, the source inside reads on first,
+    /// but for one behind the range.
+    ///
+    /// # Errors
+    ///
+    /// `Failed` where the source inside fails.
+    fn read_on(&mut self) -> Result<(), Failed> {
+        let is_behind = match self.phase {
+            Phase::Between | Phase::Giving(0) => self.left == Some(0),
+            Phase::Passing | Phase::Giving(_) | Phase::Open => false,
+        };
+        if !is_behind && self.held.bytes().is_empty() {
+            self.inner.read_on()?;
+        }
+        self.settle()
+    }
+
+    /// Passes over bytes that are lent, in the source inside. Behind the last of a piece the next one
+    /// is lent at once, where its size is known by what the source inside lends.
+    #[inline(always)]
+    fn pass(&mut self, count: usize) -> bool {
+        if !self.held.bytes().is_empty() {
+            return false;
+        }
+        match self.phase {
+            Phase::Giving(size) => {
+                if size < count || !self.inner.pass(count) {
+                    return false;
+                }
+                if count < size {
+                    self.phase = Phase::Giving(size - count);
+                } else {
+                    self.phase = Phase::Between;
+                    self.begin_lent();
+                }
+                true
+            }
+            Phase::Open => self.inner.pass(count),
+            Phase::Passing | Phase::Between => false,
+        }
     }
 }
 

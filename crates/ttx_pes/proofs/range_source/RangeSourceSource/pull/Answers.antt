@@ -1,10 +1,10 @@
--- What is pulled is given: pulls_piece, pulls_none.
+-- What is pulled is given: pulls_piece, pulls_none; and is the first that was lent: lent_gives.
 use Rattle.std.proofs.Common.{◌≡◌, ◌<◌, ◌++◌, arith, drop, length-append}
-use Rattle.std.proofs.Common.{Ok, Some, inl, inr, subst}
+use Rattle.std.proofs.Common.{Ok, Some, inl, inr, refl, subst}
 use Rattle.std.proofs.lemmas.List.{length-drop, length-take-le, take-append-le}
 use Rattle.sub_io.specs.declared.source.Failed.{Failed}
 use Rattle.ttx_pes.specs.PieceRange.{IsDecided}
-use Rattle.ttx_pes.proofs.PieceRangeLemmas.{pulls_after, pulls_none, pulls_piece}
+use Rattle.ttx_pes.proofs.PieceRangeLemmas.{lent_gives, pulls_after, pulls_none, pulls_piece}
 use Rattle.ttx_pes.proofs.range_source.RangeSourceSource.pull.Goals as goal
 
 pub overflow_sub-self : goal.overflow_sub-self
@@ -42,6 +42,19 @@ returns-in_ok-n-in-Giving-clause-bytes g c =
     (take-append-le n to rest (omega (arith, bound)))
     (λ more. omega (arith, more, len, most, whole, some, all, left))
     c.in_ok-n-in-Giving.ensures.bytes))
+
+pub returns-in_ok-n-in-Giving-clause-lent : goal.returns-in_ok-n-in-Giving-clause-lent
+returns-in_ok-n-in-Giving-clause-lent g c =
+    let n = c.in_ok-n-in-Giving.n in
+    let to = c.pull.new.to in
+    let most = c.min-most.ensures in
+    let whole = length-take-le c.min-most.result c.args.to.now (omega (arith, most)) in
+    let len = c.pull.ensures.len in
+    let bound = c.in_ok-n-in-Giving.ensures.bound in
+    lent_gives _ c.settle.new.self.phase c.settle.new.self.held _ _ _ to _ c.in-Giving.size n
+    c.in-Giving.is (omega (arith, bound, len, most, whole)) (omega (arith, bound))
+    (take-append-le n to (drop c.min-most.result c.args.to.now) (omega (arith, bound)))
+    (λ some. rw ((c.in_ok-settle.ensures.lent some).0) refl) c.in_ok-n-in-Giving.ensures.lent
 
 pub returns-in-Passing-clause-bytes : goal.returns-in-Passing-clause-bytes
 returns-in-Passing-clause-bytes g c =
