@@ -1,4 +1,5 @@
 pub mod CarriedLemmas
+pub mod InSequenceLemmas
 pub mod JoinedLemmas
 pub mod NoteLemmas
 pub mod OutcomeLemmas

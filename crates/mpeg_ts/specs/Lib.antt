@@ -1,5 +1,6 @@
 pub mod Carried
 pub mod GoodPackets
+pub mod InSequence
 pub mod Joining
 pub mod PacketSize
 pub mod PacketsInStep

@@ -73,7 +73,9 @@ pub record IsStream (distance lead run taken : ℕ) (in_step : Bool) : Type 0 wh
   pub no_run : in_step ≡ true → run ≡ 0
   pub counted : run + taken ≤ 2 ^ 48
 
--- The source of a recording with what was read of it.
+-- The source of a recording with what was read of it, and the bytes of PES packets that were taken
+-- together and are given before what else is.
 pub record SourceValue (D : Type 0) : Type 0 where
   pub device : D
   pub stream : StreamValue
+  pub batch : List ℕ

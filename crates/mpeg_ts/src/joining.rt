@@ -1,24 +1,20 @@
 //! Putting the PES packets of a PID together, one transport packet after another.
 ghost use Rattle.std.specs.Prelude.{◌≡◌, ℕ, ◌+◌, ◌≤◌, ◌<◌, ◌↔◌, ◌++◌, ◌||◌, drop, take, length, []};
-ghost use Rattle.std.specs.Prelude.{◌&&◌};
-ghost use Rattle.std.specs.Prelude.{if◌then◌else◌};
-ghost use Rattle.std.specs.Prelude.{false, true};
-ghost use Rattle.mpeg_ts.specs.GoodPackets.{Wrong, Hole};
-ghost use Rattle.mpeg_ts.specs.Joining.{after_note, after_valid, begun, found_in, gone_on, grown};
-ghost use Rattle.mpeg_ts.specs.Joining.{has_ended, holding, is_complete, link_after};
+ghost use Rattle.std.specs.Prelude.{◌&&◌, if◌then◌else◌, IfSome, false, true};
+ghost use Rattle.mpeg_ts.specs.GoodPackets.{Wrong, Hole, note_of};
+ghost use Rattle.mpeg_ts.specs.Joining.{after_note, after_valid, begun, gone_on, grown};
+ghost use Rattle.mpeg_ts.specs.Joining.{has_ended, holding, is_complete, link_after, repeats};
 ghost use Rattle.mpeg_ts.specs.Joining.{nothing_joined, remembering};
-ghost use Rattle.mpeg_ts.specs.Joining.{gave_packet, given_after, repeats};
+ghost use Rattle.mpeg_ts.specs.InSequence.{GoesOn, behind_packet};
 ghost use Rattle.mpeg_ts.specs.Parts.{is_break, is_cut};
 ghost use Rattle.mpeg_ts.specs.TransportPacket.{has_payload, is_wrong, payload};
-ghost use Rattle.mpeg_ts.specs.declared.joining.Found.TheVariants.{Unfinished, Whole};
 
-use crate::mark::{MARK_SIZE, mark_bytes};
+use crate::mark::{MARK_SIZE, mark_end, mark_gap};
+use crate::part_bytes::{PartBytes, find_packet};
 use crate::transport_packet::{
-    PACKET, announces_jump, begins, counter_of, has_payload, payload_of,
+    PACKET, announces_jump, begins, counter_of, has_payload, is_wrong, payload_of,
 };
-use arrayvec::ArrayVec;
 use std::marker::Model;
-use ttx_pes::size_of;
 
 /// How far the part has come that the last good packet belongs to.
 #[derive(Drop)]
@@ -56,37 +52,11 @@ pub(crate) enum Found {
     Other,
 }
 
-// Looks for the PES packet that bytes begin with.
-#[tactic(auto, unfolding(crate::specs::Joining::found_in))]
-fn find_packet(bytes: &[u8]) -> Found
-    ensures found { found_in bytes.now ≡ result }
-    ensures within { (size : ℕ) → result ≡ Whole size → size ≤ length bytes.now }
-    ensures some { (size : ℕ) → result ≡ Whole size → 0 < size }
-    ensures open { result ≡ Unfinished → length bytes.now ≤ 1655 }
-{
-    let Some(head) = bytes.first_chunk() else {
-        return Found::Unfinished;
-    };
-    match size_of(head) {
-        Err(_) => Found::Other,
-        Ok(size) => {
-            if size <= bytes.len() {
-                Found::Whole(size)
-            } else {
-                Found::Unfinished
-            }
-        }
-    }
-}
-
-// Room for the bytes of a part whose PES packet is not there whole, and one more payload.
-const ROOM: usize = 1840;
-
 /// Puts PES packets together.
 #[derive(Drop)]
 pub(crate) struct Joining {
     // The payloads of the part, or the last one alone where no more of the part is given.
-    bytes: ArrayVec<u8, ROOM>,
+    bytes: PartBytes,
     // Of the last good packet: bytes 0 to 3, how many bytes at the end of `bytes` are its payload
     // (0 where there is none yet), and whether it announced a jump.
     header: [u8; 4],
@@ -115,35 +85,18 @@ impl Model for Joining {
     ghost view = { λ j. record {
       header = j.header;
       announced = j.announced;
-      last = drop (length j.bytes.items - j.payload_size) j.bytes.items;
+      last = drop (length j.bytes - j.payload_size) j.bytes;
       has_repeat = j.has_repeat;
       has_jump = j.has_jump;
       has_break = j.has_break;
       part = j.part;
-      bytes = j.bytes.items;
+      bytes = j.bytes;
       given = j.given;
-      pending = ready_bytes j.mark_left j.start j.end j.mark_behind j.bytes.items;
+      pending = ready_bytes j.mark_left j.start j.end j.mark_behind j.bytes;
     } };
 
     ghost invariant = { λ j. IsJoining
-        j.mark_left j.start j.end j.mark_behind j.payload_size j.part j.bytes.items };
-}
-
-// Makes a mark ready for a gap behind a PES packet.
-fn mark_gap(gap: bool, given: &mut Given, mark_left: &mut usize)
-    ensures given { given.new ≡ given_after gap given.old }
-    ensures mark { mark_left.new ≡ (if gap && gave_packet given.old then 184 else mark_left.old) }
-{
-    if !gap {
-        return;
-    }
-    match &*given {
-        Given::Packet => {
-            *given = Given::Mark;
-            *mark_left = MARK_SIZE;
-        }
-        _ => {}
-    }
+        j.mark_left j.start j.end j.mark_behind j.payload_size j.part j.bytes };
 }
 
 impl Joining {
@@ -152,7 +105,7 @@ impl Joining {
         ensures { result ≡ nothing_joined }
     {
         Joining {
-            bytes: ArrayVec::new(),
+            bytes: PartBytes::new(),
             header: [0; 4],
             payload_size: 0,
             announced: false,
@@ -175,6 +128,42 @@ impl Joining {
         ensures { (result ≡ true) ↔ (self.now.pending ≡ []) }
     {
         self.mark_left == 0 && self.start == self.end
+    }
+
+    // The counter of the last good packet, where the next PES packet may follow it with nothing
+    // missing.
+    pub(crate) fn counter_before(&self) -> Option<u8>
+        requires { self.now.pending ≡ [] }
+        ensures goes_on { IfSome result (λ counter. GoesOn self.now counter) }
+        ensures bound { IfSome result (λ counter. counter < 0x10) }
+    {
+        if self.payload_size == 0 || self.has_jump || self.has_break || !self.is_complete() {
+            return None;
+        }
+        match &self.given {
+            Given::Packet => Some(self.header[3] % 0x10),
+            _ => None,
+        }
+    }
+
+    // PES packets were given whose transport packets followed one another: the last of them has
+    // these bytes, and its last packet that header.
+    pub(crate) fn set_behind(&mut self, header: [u8; 4], packet: &[u8])
+        requires idle { self.old.pending ≡ [] }
+        requires least { 184 ≤ length packet.now }
+        requires most { length packet.now ≤ 1656 }
+        ensures { self.new ≡ behind_packet header packet.now }
+    {
+        self.clear();
+        self.bytes.add(packet);
+        self.payload_size = 184;
+        self.header = header;
+        self.announced = false;
+        self.has_repeat = false;
+        self.has_jump = false;
+        self.has_break = false;
+        self.part = PartState::Complete;
+        self.given = Given::Packet;
     }
 
     // Whether nothing comes any more but what is ready.
@@ -205,9 +194,21 @@ impl Joining {
         self.has_break = true;
     }
 
+    // A packet came.
+    pub(crate) fn take_packet(&mut self, packet: &[u8; PACKET])
+        requires { self.old.pending ≡ [] }
+        ensures { self.new ≡ after_note self.old (note_of packet.now) }
+    {
+        if is_wrong(packet) {
+            self.note_wrong();
+        } else {
+            self.take(packet);
+        }
+    }
+
     // A packet came that is not wrong.
     #[tactic(auto, unfolding(crate::specs::Joining::after_valid))]
-    pub(crate) fn take(&mut self, packet: &[u8; PACKET])
+    fn take(&mut self, packet: &[u8; PACKET])
         requires idle { self.old.pending ≡ [] }
         requires valid { is_wrong packet.now ≡ false }
         ensures { self.new ≡ after_valid self.old packet.now }
@@ -283,10 +284,11 @@ impl Joining {
     }
 
     // Makes the packet the last good one, but for its payload.
+    #[inline(always)]
     fn remember(&mut self, packet: &[u8; PACKET])
         ensures { self.new ≡ remembering self.old packet.now }
     {
-        self.header = [packet[0], packet[1], packet[2], packet[3]];
+        self.header = *packet.first_chunk().unwrap();
         self.announced = announces_jump(packet);
         self.has_repeat = false;
         self.has_jump = false;
@@ -304,6 +306,7 @@ impl Joining {
     }
 
     // Begins a part with that payload.
+    #[inline(always)]
     fn begin_part(&mut self, is_break: bool, begins: bool, payload: &[u8])
         requires idle { self.old.pending ≡ [] }
         requires some { 1 ≤ length payload.now }
@@ -321,6 +324,7 @@ impl Joining {
     }
 
     // Goes on with the part.
+    #[inline(always)]
     fn go_on(&mut self, payload: &[u8])
         requires idle { self.old.pending ≡ [] }
         requires some { 1 ≤ length payload.now }
@@ -336,6 +340,7 @@ impl Joining {
 
     // Forgets the bytes of the part, and the last payload.
     #[tactic(auto, using(crate::proofs::ReadyLemmas::idling))]
+    #[inline(always)]
     fn clear(&mut self)
         requires { self.old.pending ≡ [] }
         ensures { self.new ≡ record self.old { bytes = []; last = [] } }
@@ -348,19 +353,21 @@ impl Joining {
 
     // Keeps that payload alone.
     #[tactic(auto, using(crate::proofs::ReadyLemmas::growing))]
+    #[inline(never)]
     fn hold(&mut self, gap: bool, payload: &[u8])
         requires idle { self.old.pending ≡ [] }
         requires most { length payload.now ≤ 184 }
         ensures { self.new ≡ holding gap self.old payload.now }
     {
         self.clear();
-        self.bytes.try_extend_from_slice(payload).unwrap();
+        self.bytes.add(payload);
         self.payload_size = payload.len();
         mark_gap(gap, &mut self.given, &mut self.mark_left);
     }
 
     // Adds that payload to an open part, and makes its PES packet ready if it is there whole.
     #[tactic(auto, using(crate::proofs::ReadyLemmas::growing))]
+    #[inline(always)]
     fn grow(&mut self, gap: bool, payload: &[u8])
         requires idle { self.old.pending ≡ [] }
         requires room { length self.old.bytes ≤ 1655 }
@@ -368,7 +375,7 @@ impl Joining {
         ensures { self.new ≡ grown gap self.old payload.now }
     {
         mark_gap(gap, &mut self.given, &mut self.mark_left);
-        self.bytes.try_extend_from_slice(payload).unwrap();
+        self.bytes.add(payload);
         self.payload_size = payload.len();
         self.start = 0;
         self.end = 0;
@@ -378,12 +385,12 @@ impl Joining {
             }
             Found::Other => {
                 self.part = PartState::Ended;
-                self.end = self.bytes.len();
+                self.end = self.bytes.as_slice().len();
             }
             Found::Whole(size) => {
                 self.part = PartState::Complete;
                 self.end = size;
-                self.mark_behind = size < self.bytes.len();
+                self.mark_behind = size < self.bytes.as_slice().len();
                 self.given = if self.mark_behind {
                     Given::Mark
                 } else {
@@ -401,10 +408,23 @@ impl Joining {
         ensures none { result.now ≡ [] → self.now.pending ≡ [] }
     {
         if self.mark_left > 0 {
-            let (_, left) = mark_bytes().split_at(MARK_SIZE - self.mark_left);
-            return left;
+            return mark_end(self.mark_left);
         }
         &self.bytes.as_slice()[self.start..self.end]
+    }
+
+    // How many bytes are ready to be given.
+    #[inline(always)]
+    pub(crate) fn ready(&self) -> usize
+        ensures { result ≡ length self.now.pending }
+    {
+        let range = &self.bytes.as_slice()[self.start..self.end];
+        let front = self.mark_left + range.len();
+        if self.mark_behind {
+            front + MARK_SIZE
+        } else {
+            front
+        }
     }
 
     // Passes over so many of the bytes that are ready.

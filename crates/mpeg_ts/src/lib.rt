@@ -15,9 +15,12 @@
 //! ```
 #![tactic(auto)]
 
+mod batch;
+mod in_sequence;
 mod joining;
 mod mark;
 mod packet_size;
+mod part_bytes;
 mod pes_source;
 mod pid;
 mod stream;

@@ -2,7 +2,7 @@
 ghost use Rattle.std.specs.Prelude.{◌≡◌, ◌+◌, ◌-◌, ◌^◌, ◌<◌, ◌≤◌, ◌↔◌, List, ℕ, [], ◌++◌, drop};
 ghost use Rattle.std.specs.Prelude.{take, length};
 ghost use Rattle.std.specs.Prelude.{Ok, IfOk, IfSome, IsSome, false, slice_index, true};
-ghost use Rattle.std.specs.Io.KnownBytes.{IsAtEnd, Keeps};
+ghost use Rattle.std.specs.Io.KnownBytes.{IsAtEnd, Keeps, prepend_known};
 ghost use Rattle.sub_io.specs.Device.{CanFail, CountsFailure};
 ghost use Rattle.mpeg_ts.specs.Joining.{JoiningValue, has_ended};
 ghost use Rattle.mpeg_ts.specs.PacketSize.{bytes_of};
@@ -12,8 +12,10 @@ ghost use Rattle.mpeg_ts.specs.Stream.{given_of, start_of_stream, still_given, s
 ghost use Rattle.mpeg_ts.specs.TransportPacket.{pid, sync_byte};
 ghost use Rattle.mpeg_ts.specs.Window.{window_size};
 
+use crate::batch::Batch;
+use crate::in_sequence::{Spacing, plain_header};
 use crate::joining::Joining;
-use crate::transport_packet::{PACKET, SYNC_BYTE, is_wrong, pid_of};
+use crate::transport_packet::{PACKET, SYNC_BYTE, pid_of};
 use crate::window::Window;
 use crate::{PacketSize, Pid};
 use std::marker::Model;
@@ -71,7 +73,16 @@ fn packet_at(window: &Window, place: usize) -> &[u8; PACKET]
     requires { place + 188 ≤ length window.now.held }
     ensures { result.now ≡ take 188 (drop place window.now.held) }
 {
-    let (_, ahead) = window.held().split_at(place);
+    packet_in(window.held(), place)
+}
+
+// The packet at that place of bytes.
+#[inline(always)]
+fn packet_in(bytes: &[u8], place: usize) -> &[u8; PACKET]
+    requires { place + 188 ≤ length bytes.now }
+    ensures { result.now ≡ take 188 (drop place bytes.now) }
+{
+    let (_, ahead) = bytes.split_at(place);
     ahead.first_chunk().unwrap()
 }
 
@@ -98,28 +109,6 @@ fn place_behind_others(bytes: &[u8], from: usize, distance: usize, number: u16) 
         at += distance;
     }
     at
-}
-
-// Whether bytes hold so many, and at that place begin a packet with a sync byte.
-#[inline(always)]
-fn lends_packet(bytes: &[u8], place: usize, count: usize) -> bool
-    requires { place + 188 ≤ count }
-    ensures within { result ≡ true → count ≤ length bytes.now }
-    ensures sync { result ≡ true → slice_index bytes.now place ≡ sync_byte }
-{
-    bytes.len() >= count && bytes[place] == SYNC_BYTE
-}
-
-// The packet at that place of the bytes, which are a source's: a copy, since they are passed over
-// before it is looked at.
-#[inline(always)]
-fn copy_packet(bytes: &[u8], place: usize) -> [u8; PACKET]
-    requires { place + 188 ≤ length bytes.now }
-    ensures packet { result ≡ take 188 (drop place bytes.now) }
-    ensures sync { slice_index bytes.now place ≡ sync_byte → slice_index result 0 ≡ sync_byte }
-{
-    let (_, ahead) = bytes.split_at(place);
-    *ahead.first_chunk().unwrap()
 }
 
 // The PID of the packet that begins the bytes.
@@ -271,11 +260,7 @@ impl Stream {
         if pid_of(packet) != self.number {
             return;
         }
-        if is_wrong(packet) {
-            self.joining.note_wrong();
-        } else {
-            self.joining.take(packet);
-        }
+        self.joining.take_packet(packet);
     }
 
     // Skips a byte.
@@ -332,10 +317,10 @@ impl Stream {
         Ok(true)
     }
 
-    // Passes over packets of other PIDs that the source lends.
+    // Passes over packets of other PIDs that the source lends, and answers whether it did.
     #[inline(always)]
     #[tactic(auto, using(crate::proofs::StreamLemmas::skims))]
-    fn pass_others<S: Source>(&mut self, source: &mut S)
+    fn pass_others<S: Source>(&mut self, source: &mut S) -> bool
         requires count { CanFail (S.failure_count source.old) }
         requires idle { self.old.joining.pending ≡ [] }
         requires going { has_ended self.old.joining.part ≡ false }
@@ -343,26 +328,28 @@ impl Stream {
             (still_given self.new (S.remaining source.new)) }
         ensures same { self.new
             ≡ record self.old { window = self.new.window; lead = self.new.lead } }
-        ensures fewer { bytes_at_most self.new ≤ bytes_at_most self.old }
+        ensures fewer { result ≡ true → bytes_at_most self.new < bytes_at_most self.old }
+        ensures none { result ≡ false → (self.new ≡ self.old) × (source.new ≡ source.old) }
         ensures count { S.failure_count source.new ≡ S.failure_count source.old }
     {
         if !self.in_step || self.window.len() > 0 {
-            return;
+            return false;
         }
         let lent = source.held();
         if lent.len() < self.lead || self.window.left() < lent.len() as u64 {
-            return;
+            return false;
         }
         let count = place_behind_others(lent, self.lead, self.distance, self.number);
-        if count == 0 || !source.pass(count) {
-            return;
+        if count <= self.lead || !source.pass(count) {
+            return false;
         }
         self.window.pass(count as u64);
         self.lead = 0;
+        true
     }
 
-    // Takes the packet that stands next, if the source lends all bytes up to the one after it, and
-    // answers whether it did.
+    // Takes the packet that stands next, if it is one of the PID and the source lends all bytes up
+    // to the one after it, and answers whether it did. It is looked at where the source lends it.
     #[inline(always)]
     fn take_lent<S: Source>(&mut self, source: &mut S) -> bool
         requires count { CanFail (S.failure_count source.old) }
@@ -371,28 +358,85 @@ impl Stream {
         ensures keeps { Keeps (still_given self.old (S.remaining source.old))
             (still_given self.new (S.remaining source.new)) }
         ensures fewer { result ≡ true → bytes_at_most self.new < bytes_at_most self.old }
-        ensures same { result ≡ false → self.new ≡ self.old }
+        ensures none { result ≡ false → (self.new ≡ self.old) × (source.new ≡ source.old) }
         ensures count { S.failure_count source.new ≡ S.failure_count source.old }
     {
         if !self.in_step || self.window.len() > 0 {
             return false;
         }
         let count = self.lead + self.distance;
-        let lent = source.held();
-        if !lends_packet(lent, self.lead, count) {
-            return false;
-        }
         if self.window.left() < count as u64 {
             return false;
         }
-        let packet = copy_packet(lent, self.lead);
-        if !source.pass(count) {
+        let lent = source.held();
+        if lent.len() < count {
             return false;
         }
+        let packet = packet_in(lent, self.lead);
+        if packet[0] != SYNC_BYTE || pid_of(packet) != self.number {
+            return false;
+        }
+        self.joining.take_packet(packet);
+        source.pass(count);
         self.window.pass(count as u64);
         self.lead = 0;
-        self.join(&packet);
         true
+    }
+
+    // Passes over packets of other PIDs, or takes the next item; `false` at the end.
+    #[inline(never)]
+    #[tactic(auto, using(crate::proofs::StreamLemmas::steps))]
+    fn take_other<S: Source>(&mut self, source: &mut S) -> Result<bool, Failed>
+        requires count { CanFail (S.failure_count source.old) }
+        requires idle { self.old.joining.pending ≡ [] }
+        requires going { has_ended self.old.joining.part ≡ false }
+        ensures keeps { Keeps (still_given self.old (S.remaining source.old))
+            (still_given self.new (S.remaining source.new)) }
+        ensures end { result ≡ Ok false
+            → IsAtEnd (still_given self.new (S.remaining source.new)) }
+        ensures fewer { result ≡ Ok true → bytes_at_most self.new < bytes_at_most self.old }
+        ensures count { CountsFailure
+            (S.failure_count source.old) result (S.failure_count source.new) }
+    {
+        if self.pass_others(source) {
+            return Ok(true);
+        }
+        self.step(source)
+    }
+
+    // Takes PES packets that follow one another in what the source lends, where nothing is ready.
+    #[inline(never)]
+    #[tactic(auto, using(crate::proofs::StreamLemmas::skims))]
+    pub(crate) fn take_in_sequence<S: Source>(&mut self, source: &mut S, batch: &mut Batch)
+        requires count { CanFail (S.failure_count source.old) }
+        requires idle { self.old.joining.pending ≡ [] }
+        requires empty { batch.old ≡ [] }
+        ensures keeps { Keeps (still_given self.old (S.remaining source.old))
+            (prepend_known batch.new (still_given self.new (S.remaining source.new))) }
+        ensures idle { self.new.joining.pending ≡ [] }
+        ensures count { S.failure_count source.new ≡ S.failure_count source.old }
+    {
+        if !self.in_step || self.window.len() > 0 || self.lead > 0 || self.number > 0x1FFF {
+            return;
+        }
+        let Some(counter) = self.joining.counter_before() else {
+            return;
+        };
+        let lent = source.held();
+        if self.window.left() < lent.len() as u64 {
+            return;
+        }
+        let spacing = Spacing {
+            number: self.number,
+            distance: self.distance,
+        };
+        let Some(last) = batch.take(lent, spacing, counter) else {
+            return;
+        };
+        let header = plain_header(self.number, last.size == 184, last.counter);
+        self.joining.set_behind(header, batch.last(last.size));
+        source.pass(last.place);
+        self.window.pass(last.place as u64);
     }
 
     // Whether nothing is ready, and more may come.
@@ -419,11 +463,8 @@ impl Stream {
             (S.failure_count source.old) result (S.failure_count source.new) }
     {
         while self.wants_more() {
-            self.pass_others(source);
-            if !self.take_lent(source) {
-                if !self.step(source)? {
-                    return Ok(());
-                }
+            if !self.take_lent(source) && !self.take_other(source)? {
+                return Ok(());
             }
         }
         Ok(())
@@ -437,17 +478,27 @@ impl Stream {
         self.joining.is_idle()
     }
 
-    // The bytes that are given next, as far as they stand together.
-    #[inline(always)]
+    // The bytes that are given next, as far as they stand together. (Out of line, like what passes
+    // over them: most bytes are lent by the batch.)
+    #[inline(never)]
     pub(crate) fn lent(&self) -> &[u8]
         ensures next { take (length result.now) self.now.joining.pending ≡ result.now }
         ensures within { length result.now ≤ length self.now.joining.pending }
+        ensures none { result.now ≡ [] → self.now.joining.pending ≡ [] }
     {
         self.joining.lent()
     }
 
-    // Passes over so many of the bytes that are ready.
+    // How many bytes are ready to be given.
     #[inline(always)]
+    pub(crate) fn ready(&self) -> usize
+        ensures { result ≡ length self.now.joining.pending }
+    {
+        self.joining.ready()
+    }
+
+    // Passes over so many of the bytes that are ready.
+    #[inline(never)]
     pub(crate) fn pass(&mut self, count: usize)
         requires { count ≤ length self.old.joining.pending }
         ensures { self.new ≡ record self.old {
@@ -460,7 +511,7 @@ impl Stream {
     }
 
     // Gives bytes that are ready, as many as there is room for, and answers how many.
-    #[inline(always)]
+    #[inline(never)]
     pub(crate) fn give(&mut self, to: &mut [u8]) -> usize
         ensures bound { result ≤ length to.new }
         ensures bytes { self.old.joining.pending

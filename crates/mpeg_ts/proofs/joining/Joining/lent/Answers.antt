@@ -10,8 +10,8 @@ returns-clause-next c =
     let left = slice_range c.as_slice.result.now i.start i.end in
     let same = ap (λ (v : JoiningValue). v.pending) c.self.view_is in
     ap (take (length left)) (sym same)
-    ∙ lent_range i.mark_left i.start i.end i.mark_behind i.bytes.items left (omega arith)
-    (ap (λ (l : List ℕ). slice_range l i.start i.end) c.as_slice.ensures.value)
+    ∙ lent_range i.mark_left i.start i.end i.mark_behind i.bytes left (omega arith)
+    (ap (λ (l : List ℕ). slice_range l i.start i.end) c.as_slice.ensures)
 
 pub returns-clause-none : goal.returns-clause-none
 returns-clause-none c = λ none.
@@ -19,6 +19,6 @@ returns-clause-none c = λ none.
     let left = slice_range c.as_slice.result.now i.start i.end in
     let same = ap (λ (v : JoiningValue). v.pending) c.self.view_is in
     sym same
-    ∙ lent_none i.mark_left i.start i.end i.mark_behind i.bytes.items left (omega arith)
+    ∙ lent_none i.mark_left i.start i.end i.mark_behind i.bytes left (omega arith)
     c.self.invariant.range c.self.invariant.within c.self.invariant.behind
-    (ap (λ (l : List ℕ). slice_range l i.start i.end) c.as_slice.ensures.value) none
+    (ap (λ (l : List ℕ). slice_range l i.start i.end) c.as_slice.ensures) none

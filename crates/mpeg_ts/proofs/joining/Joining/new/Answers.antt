@@ -3,4 +3,4 @@ use Rattle.mpeg_ts.proofs.ReadyLemmas.{new_is}
 use Rattle.mpeg_ts.proofs.joining.Joining.new.Goals as goal
 
 pub returns : goal.returns
-returns c = new_is c.new.result.items c.new.ensures
+returns c = new_is c.new.result c.new.ensures

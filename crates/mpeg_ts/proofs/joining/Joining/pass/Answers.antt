@@ -23,7 +23,7 @@ few_more c =
           omega (
             arith,
             same,
-            length-ready_alone i.mark_left i.start i.end i.mark_behind i.bytes.items
+            length-ready_alone i.mark_left i.start i.end i.mark_behind i.bytes
                 inv.mark inv.range inv.within (search rules),
           )
     ]
@@ -55,12 +55,12 @@ returns-then-more-self c =
     let n = c.args.count - i.mark_left in
     let few = few_more (goal.at.returns-then-more-self c).Joined-then-more-self in
     let whole : i.mark_left + n ≡ c.args.count = omega arith in
-    let moved : ready_bytes 0 (i.start + n) i.end i.mark_behind i.bytes.items
+    let moved : ready_bytes 0 (i.start + n) i.end i.mark_behind i.bytes
     ≡ drop c.args.count
-    (ready_bytes i.mark_left i.start i.end i.mark_behind i.bytes.items) =
-    passed_bytes i.mark_left i.start i.end n i.mark_behind i.bytes.items inv.mark inv.within few
+    (ready_bytes i.mark_left i.start i.end i.mark_behind i.bytes) =
+    passed_bytes i.mark_left i.start i.end n i.mark_behind i.bytes inv.mark inv.within few
     ∙ ap (λ (k : ℕ). drop k
-    (ready_bytes i.mark_left i.start i.end i.mark_behind i.bytes.items)) whole in
+    (ready_bytes i.mark_left i.start i.end i.mark_behind i.bytes)) whole in
     ap (λ (l : List ℕ). record (the_view i) { pending = l }) moved
     ∙ ap (λ (v : JoiningValue). record v { pending = drop c.args.count v.pending }) c.self.view_is
 
@@ -72,7 +72,7 @@ overflow_sub-self-4 c =
     omega (
       arith,
       same,
-      length-ready_behind i.mark_left i.start i.end i.mark_behind i.bytes.items
+      length-ready_behind i.mark_left i.start i.end i.mark_behind i.bytes
           inv.mark inv.range inv.within (search rules),
     )
 
@@ -87,17 +87,17 @@ returns c =
     omega (
       arith,
       same,
-      length-ready_behind i.mark_left i.start i.end i.mark_behind i.bytes.items
+      length-ready_behind i.mark_left i.start i.end i.mark_behind i.bytes
           inv.mark inv.range inv.within behind,
     ) in
     let whole : i.mark_left + ((i.end - i.start) + n) ≡ c.args.count = omega arith in
-    let moved : ready_bytes (184 - n) i.end i.end false i.bytes.items
+    let moved : ready_bytes (184 - n) i.end i.end false i.bytes
     ≡ drop c.args.count
-    (ready_bytes i.mark_left i.start i.end i.mark_behind i.bytes.items) =
-    passed_behind i.mark_left i.start i.end n i.bytes.items inv.mark inv.range inv.within few
+    (ready_bytes i.mark_left i.start i.end i.mark_behind i.bytes) =
+    passed_behind i.mark_left i.start i.end n i.bytes inv.mark inv.range inv.within few
     ∙ ap (λ (k : ℕ). drop k
-    (ready_bytes i.mark_left i.start i.end true i.bytes.items)) whole
+    (ready_bytes i.mark_left i.start i.end true i.bytes)) whole
     ∙ ap (λ (b : Bool). drop c.args.count
-    (ready_bytes i.mark_left i.start i.end b i.bytes.items)) (sym behind) in
+    (ready_bytes i.mark_left i.start i.end b i.bytes)) (sym behind) in
     ap (λ (l : List ℕ). record (the_view i) { pending = l }) moved
     ∙ ap (λ (v : JoiningValue). record v { pending = drop c.args.count v.pending }) c.self.view_is

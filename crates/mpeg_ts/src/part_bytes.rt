@@ -1,0 +1,94 @@
+//! The bytes of a part.
+ghost use Rattle.std.specs.Prelude.{◌≡◌, ℕ, ◌+◌, ◌<◌, ◌≤◌, [], ◌++◌, length};
+ghost use Rattle.mpeg_ts.specs.Joining.{found_in};
+ghost use Rattle.mpeg_ts.specs.declared.joining.Found.TheVariants.{Unfinished, Whole};
+
+use crate::joining::Found;
+use std::marker::Model;
+use ttx_pes::size_of;
+
+// Room for the bytes of a part whose PES packet is not there whole, and one more payload.
+const ROOM: usize = 1840;
+
+/// The bytes of a part, which are forgotten at no cost.
+#[derive(Drop)]
+pub(crate) struct PartBytes {
+    room: [u8; ROOM],
+    len: usize,
+}
+
+impl Model for PartBytes {
+    ghost use Rattle.std.specs.Prelude.{ℕ, ◌≤◌, List, take};
+
+    ghost Value = { List ℕ };
+
+    ghost view = { λ b. take b.len b.room };
+
+    ghost invariant = { λ b. b.len ≤ 1840 };
+}
+
+impl PartBytes {
+    // None.
+    pub(crate) fn new() -> Self
+        ensures { result ≡ [] }
+    {
+        PartBytes {
+            room: [0; ROOM],
+            len: 0,
+        }
+    }
+
+    // The bytes.
+    #[inline(always)]
+    pub(crate) fn as_slice(&self) -> &[u8]
+        ensures { result.now ≡ self.now }
+    {
+        let (bytes, _) = self.room.split_at(self.len);
+        bytes
+    }
+
+    // Forgets them.
+    #[inline(always)]
+    pub(crate) fn clear(&mut self)
+        ensures { self.new ≡ [] }
+    {
+        self.len = 0;
+    }
+
+    // Adds bytes.
+    #[inline(always)]
+    pub(crate) fn add(&mut self, more: &[u8])
+        requires { length self.old + length more.now ≤ 1840 }
+        ensures bytes { self.new ≡ self.old ++ more.now }
+        ensures len { length self.new ≡ length self.old + length more.now }
+    {
+        let at = self.len;
+        let end = at + more.len();
+        self.room[at..end].copy_from_slice(more);
+        self.len = end;
+    }
+}
+
+// Looks for the PES packet that bytes begin with.
+#[tactic(auto, unfolding(crate::specs::Joining::found_in))]
+#[inline(always)]
+pub(crate) fn find_packet(bytes: &[u8]) -> Found
+    ensures found { found_in bytes.now ≡ result }
+    ensures within { (size : ℕ) → result ≡ Whole size → size ≤ length bytes.now }
+    ensures some { (size : ℕ) → result ≡ Whole size → 0 < size }
+    ensures open { result ≡ Unfinished → length bytes.now ≤ 1655 }
+{
+    let Some(head) = bytes.first_chunk() else {
+        return Found::Unfinished;
+    };
+    match size_of(head) {
+        Err(_) => Found::Other,
+        Ok(size) => {
+            if size <= bytes.len() {
+                Found::Whole(size)
+            } else {
+                Found::Unfinished
+            }
+        }
+    }
+}
