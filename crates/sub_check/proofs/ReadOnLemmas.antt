@@ -19,7 +19,8 @@ use Rattle.sub_rules.proofs.MarkEventLemmas.{first_of_two}
 use Rattle.sub_rules.proofs.PieceEventLemmas.{announced_first}
 use Rattle.sub_laws.proofs.UntoldLemmas.{each_sent, first_none}
 use Rattle.sub_check.specs.CheckedFiles.{events_of_first_pieces}
-use Rattle.sub_rules.proofs.KeptTrust.{each_is, no_trust, told_by}
+use Rattle.sub_rules.specs.PieceEvents.{events_of_pieces}
+use Rattle.sub_rules.specs.Trusted.{told_after}
 
 -- Where pieces are read to their end, none of them is passed over.
 all_sent : (pieces : List Piece) (unread : Option Unread)
@@ -64,12 +65,12 @@ pub all_are_sent : (programme : ProgrammeValue) (options : OptionsValue) (bytes 
     → n ≤ length (piece_file_of (clock_of options) bytes).pieces
     → first_told (events_of_first_pieces programme options bytes n) ≡ None
     → length (frames_of (take n (piece_file_of (clock_of options) bytes).pieces)) ≡ n
+unfolding events_of_pieces
 all_are_sent programme options bytes n l none =
     let file = piece_file_of (clock_of options) bytes in
     let g = task_of programme options file.unread in
     let done = take n file.pieces in
     let marks = marks_of_each g [] 0 done in
     each_sent g [] 0 done
-    ((first_none no_trust marks).0
-    (sym (ap first_told (each_is g done) ∙ announced_first (told_by no_trust marks)) ∙ none))
+    ((first_none [] marks).0 (sym (announced_first (told_after [] marks)) ∙ none))
     ∙ length-take-le n file.pieces l

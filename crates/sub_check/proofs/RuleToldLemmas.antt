@@ -34,7 +34,8 @@ use Rattle.sub_laws.proofs.ReadFileLemmas.{ArePiecesSound, IsOfBytes, IsSoundPie
 use Rattle.sub_laws.proofs.ReadFileLemmas.{file_pieces_sound}
 use Rattle.sub_check.specs.CheckedFiles.{all_events_of, events_of_first_pieces}
 use Rattle.sub_check.specs.FirstTold.{is_of_rule}
-use Rattle.sub_rules.proofs.KeptTrust.{all_is, each_is, no_trust, told_by}
+use Rattle.sub_rules.specs.PieceEvents.{events_of_pieces}
+use Rattle.sub_rules.specs.Trusted.{told_after}
 
 -- A refusal is of no rule.
 abbrev is_foreign : CheckFault → Bool
@@ -147,11 +148,11 @@ module _ (g : Task) (left : (f : PesFault) → g.unread ≡ Some (BadPacket f) �
 
   pieces_own : (pieces : List Piece) → AllByRecursion IsSoundPiece pieces
       → list_any foreign (told_of_pieces g pieces) ≡ false
+  unfolding told_of_pieces
   pieces_own pieces sound =
       let frames = sent_by_pieces g pieces in
       let closing = closing_of_pieces g frames (length pieces) (length frames) in
-      ap (list_any foreign) (all_is g pieces)
-      ∙ told_fine is_foreign at_any no_trust (marks_of_pieces g pieces)
+      told_fine is_foreign at_any [] (marks_of_pieces g pieces)
       (both_pass (says_bad is_foreign at_any)
       (before_passes (says_bad is_foreign at_any) g (frames_own g) pieces
       (λ pes. passed_own pes pieces sound))
@@ -191,13 +192,14 @@ module _ (programme : ProgrammeValue) (options : OptionsValue) (bytes : List ℕ
   pub front_of_rule : (n : ℕ) (f : CheckFault)
       → first_told (events_of_first_pieces programme options bytes n) ≡ Some f
       → is_of_rule f ≡ true
+  unfolding events_of_pieces
   front_of_rule n f is =
       let g = task_of programme options file.unread in
       let done = take n file.pieces in
       let marks = marks_of_each g [] 0 done in
       not_foreign f
-      (first_fine is_foreign at_any (told_by no_trust marks) f
-      (told_fine is_foreign at_any no_trust marks
+      (first_fine is_foreign at_any (told_after [] marks) f
+      (told_fine is_foreign at_any [] marks
       (each_passes (says_bad is_foreign at_any) g (frames_own g) [] 0 done
       (passed_own 0 done (first_sound n file.pieces sound.each))).none)
-      (sym (ap first_told (each_is g done) ∙ announced_first (told_by no_trust marks)) ∙ is))
+      (sym (announced_first (told_after [] marks)) ∙ is))

@@ -139,7 +139,8 @@ pass_one IsTold a b p then m es (Ok x) is trust told run = record {
       rw (one_kept p m, trust, run, is) refl;
 }
 pass_one IsTold a b p then m es (Err x) is trust told run = record {
-  told = subst (TellsPrefix IsTold a b) (ap (all_announced (as_run p.run)) is ∙ sym (one_told p m)) told;
+  told = subst (TellsPrefix IsTold a b) (ap (all_announced (as_run p.run)) is ∙ sym (one_told p m))
+      told;
   kept = tt;
 }
 

@@ -189,7 +189,8 @@ module _ (g : Task) (all : List Piece) where
       let each = each_marks g all in
       let kept = passing_after nothing_passed each in
       all_told
-      ∙ ap (λ (l : List Event). l ++ ended_run (as_run (passing_after nothing_passed (each ++ closing)).run))
+      ∙ ap (λ (l : List Event). l
+      ++ ended_run (as_run (passing_after nothing_passed (each ++ closing)).run))
       (passed-append nothing_passed each closing)
       ∙ ap (λ (p : Passing). (passed_on nothing_passed each ++ passed_on kept closing)
       ++ ended_run (as_run p.run)) (after-append nothing_passed each closing)

@@ -1,13 +1,15 @@
 -- What the checker keeps of the frames that may stay: what is told with marks is told by it,
 -- `told_is`; one list of marks after another, `told_by-append`, `trust_after-append`.
 use Rattle.std.proofs.lemmas.Bool.Decides.{nat_tests}
-use Rattle.std.proofs.Common.{◌≡◌, ℕ, Option, arith, List, [], ◌∷◌, ◌++◌, refl, sym, ap, ◌∙◌}
-use Rattle.std.proofs.Common.{append_assoc}
-use Rattle.sub_rules.specs.Trusted.{Mark, told_after}
-use Rattle.sub_rules.specs.Trusted.Mark.{AtEnd, AtPes, Begins, Closes, Ends, Says}
+use Rattle.std.proofs.Common.{◌≡◌, arith, List, [], ◌∷◌, ◌++◌, refl, sym, ap, ◌∙◌}
+use Rattle.std.proofs.Common.{append_assoc, is_some, not, true}
+use Rattle.std.specs.List.{list_any}
+use Rattle.sub_rules.specs.Trusted.{Mark, doubted_by, stays_quiet, is_said, last_begun, late_of}
+use Rattle.sub_rules.specs.Trusted.{pes_told}
+use Rattle.sub_rules.specs.Trusted.{run_of, since_of, tells_fall, told_after, told_at, whole_of}
+use Rattle.sub_rules.specs.Trusted.Mark.{Closes, Says}
 use Rattle.sub_rules.specs.declared.event.Event.{Event}
-use Rattle.sub_rules.specs.declared.event.Event.TheVariants.{Ended, PassedUntil, Told, Trusted}
-use Rattle.sub_rules.proofs.KeptTrust as of_rules
+use Rattle.sub_rules.specs.declared.event.Event.TheVariants.{Told}
 use Rattle.sub_checker.specs.Trust.{after_mark, doubted, is_order, late_since, no_trust, told_by}
 use Rattle.sub_checker.specs.Trust.{told_with, trust_after}
 use Rattle.sub_checker.specs.declared.trust.Trust.{Trust}
@@ -28,62 +30,59 @@ told_by-append t (x ∷ xs) ys =
     ap (λ (l : List Event). told_with x t ++ l) (told_by-append (after_mark x t) xs ys)
     ∙ sym (append_assoc (told_with x t) _ _)
 
+-- ---- what is kept is what is said of the marks that came before
+
+record IsKept (past : List Mark) (t : Trust) : Type 0 where
+  pes_is : t.pes ≡ pes_told past
+  last_is : t.last ≡ last_begun past
+  rises_is : t.rises ≡ not (list_any tells_fall past)
+  clean_is : t.is_clean ≡ stays_quiet past
+  since_is : t.since ≡ since_of past
+  late_is : late_since t ≡ late_of past
+  told_is : t.told ≡ list_any is_said past
+  run_is : t.run ≡ run_of past
+  whole_is : is_some t.run ≡ true → t.whole ≡ whole_of past
+
+order_fall : (e : Event) → tells_fall (Says e) ≡ is_order e
+unfolding tells_fall is_order
+order_fall e = grind (arith, nat_tests)
+
+doubted_now : (past : List Mark) (e : Event)
+    → doubted_by past e ≡ doubted (last_begun past) (late_of past) e
+unfolding doubted_by doubted
+doubted_now past (Told f) = refl
+doubted_now past e = refl
+
+-- Before the first mark.
+starts : IsKept [] no_trust
+unfolding pes_told last_begun stays_quiet since_of late_of run_of
+starts = grind (arith, nat_tests)
+
+-- After a mark it is so too.
+keeps : (m : Mark) (past : List Mark) (t : Trust) → IsKept past t
+    → IsKept (m ∷ past) (after_mark m t)
+unfolding after_mark pes_told last_begun stays_quiet since_of late_of run_of whole_of tells_fall
+keeps (Says e) past t k =
+    let now = doubted_now past e in
+    let order = order_fall e in
+    grind (arith, nat_tests)
+keeps m past t k = grind (arith, nat_tests)
+
 -- ---- what is told
 
--- What is kept, as the rules have it.
-abbrev as_ruled : Trust → of_rules.Trust
-as_ruled t = record {
-  pes = t.pes;
-  run = t.run;
-  whole = t.whole;
-  last = t.last;
-  rises = t.rises;
-  is_clean = t.is_clean;
-  since = t.since;
-  is_late = t.is_late;
-  told = t.told;
-}
+told_same : (m : Mark) (past : List Mark) (t : Trust) → IsKept past t
+    → told_at past m ≡ told_with m t
+unfolding told_at told_with
+told_same (Says e) past t k = let now = doubted_now past e in grind (arith, nat_tests)
+told_same (Closes are_left more) past t k = grind (arith, nat_tests)
+told_same m past t k = refl
 
-same_doubted : (last : ℕ) (late : Option ℕ) (e : Event)
-    → doubted last late e ≡ of_rules.doubted last late e
-unfolding doubted of_rules.doubted
-same_doubted last late (Told f) = refl
-same_doubted last late (Ended rule frame) = refl
-same_doubted last late (PassedUntil f) = refl
-same_doubted last late (Trusted from to) = refl
-
-same_order : (e : Event) → is_order e ≡ of_rules.is_order e
-unfolding is_order of_rules.is_order
-same_order e = grind (arith, nat_tests)
-
-same_after : (m : Mark) (t : Trust)
-    → as_ruled (after_mark m t) ≡ of_rules.after_mark m (as_ruled t)
-unfolding after_mark of_rules.after_mark
-same_after (AtPes pes) t = refl
-same_after (Says e) t = rw (same_order e, same_doubted t.last (late_since t) e) refl
-same_after (Begins f) t = refl
-same_after (AtEnd f since late) t = refl
-same_after (Ends f has_header none) t = refl
-same_after (Closes are_left more) t = refl
-
-same_told : (m : Mark) (t : Trust) → told_with m t ≡ of_rules.told_with m (as_ruled t)
-unfolding told_with of_rules.told_with
-same_told (AtPes pes) t = refl
-same_told (Says e) t = rw (same_doubted t.last (late_since t) e) refl
-same_told (Begins f) t = refl
-same_told (AtEnd f since late) t = refl
-same_told (Ends f has_header none) t = refl
-same_told (Closes are_left more) t = refl
-
-same_by : (t : Trust) (ms : List Mark) → told_by t ms ≡ of_rules.told_by (as_ruled t) ms
-unfolding told_by of_rules.told_by
-same_by t [] = refl
-same_by t (m ∷ ms) =
-    ap (λ (l : List Event). l ++ told_by (after_mark m t) ms) (same_told m t)
-    ∙ ap (λ (l : List Event). of_rules.told_with m (as_ruled t) ++ l)
-    (same_by (after_mark m t) ms
-    ∙ ap (λ (u : of_rules.Trust). of_rules.told_by u ms) (same_after m t))
+after_same : (ms past : List Mark) (t : Trust) → IsKept past t → told_after past ms ≡ told_by t ms
+unfolding told_after told_by
+after_same [] past t k = refl
+after_same (m ∷ ms) past t k =
+    rw (told_same m past t k, after_same ms (m ∷ past) (after_mark m t) (keeps m past t k)) refl
 
 -- What is told with marks is told by what the checker keeps.
 pub told_is : (ms : List Mark) → told_after [] ms ≡ told_by no_trust ms
-told_is ms = of_rules.told_is ms ∙ sym (same_by no_trust ms)
+told_is ms = after_same ms [] no_trust starts

@@ -27,9 +27,9 @@ trusted_before run whole None = []
 trusted_before run whole (Some f) = trusted run whole f
 
 -- A run goes on; else it begins with this frame, where that has a header of the page.
-abbrev pub begun : Option ℕ → Bool → ℕ → Option ℕ
-begun (Some from) has_header f = Some from
-begun None has_header f = if has_header then Some f else None
+abbrev pub run_begun : Option ℕ → Bool → ℕ → Option ℕ
+run_begun (Some from) has_header f = Some from
+run_begun None has_header f = if has_header then Some f else None
 
 -- What is left of the run where a frame is doubted.
 abbrev pub kept : Option ℕ → Option ℕ → Option ℕ
@@ -81,7 +81,7 @@ after_mark (AtEnd f since late) t = record t {
   whole = if is_some t.run then first_whole t.whole since f else t.whole;
 }
 after_mark (Ends f has_header none) t = record t {
-  run = if t.is_clean && none then begun t.run has_header f else None;
+  run = if t.is_clean && none then run_begun t.run has_header f else None;
   whole = whole_in t.run t.whole t.since f;
 }
 after_mark (Closes are_left more) t = record t { run = None }

@@ -17,13 +17,13 @@ use Rattle.sub_rules.specs.Events.{wrong_after}
 use Rattle.ttx_page.specs.PacketKind.{kind}
 use Rattle.stl_rows.specs.DuePage.{due}
 use Rattle.stl_rows.specs.SubSets.{sub_set}
-use Rattle.sub_examples.specs.Examples.{ExamplesOfNeededParts, closing, header_888}
+use Rattle.sub_examples.specs.Examples.{ExamplesOfNeededParts, closing, english_header}
 use Rattle.sub_examples.specs.Examples.{header_without_c4, row_1, x0}
 use Rattle.sub_examples.proofs.RobustTests.{needed}
 
 -- The header, row 1 with an exclamation mark, and the closing header.
 abbrev mark : List (List ℕ)
-mark = header_888 ∷ row_1 0xA1 ∷ closing ∷ []
+mark = english_header ∷ row_1 0xA1 ∷ closing ∷ []
 
 -- The header of page 888, with one wrong bit in its page units.
 abbrev header_with_wrong_units : List ℕ
@@ -43,7 +43,7 @@ unfolding are_code_words is_word_below first_even_byte breaks columns_differing 
     blank_row sub_set
 examples_of_needed_parts = record {
   -- Frames 900000 and 900001 are got as they were sent.
-  frames_rise = needed 62 _ _ 900000 0 900001 (header_888 ∷ row_1 0xA1 ∷ []) refl;
+  frames_rise = needed 62 _ _ 900000 0 900001 (english_header ∷ row_1 0xA1 ∷ []) refl;
   -- Another bit of the address is wrong.
   exact_addresses = needed 64 _ _ 900000 0 900000 (header_with_two_wrong_bits ∷ closing ∷ []) refl;
   -- One bit of the last packet is wrong, and it is all that is heard.
@@ -54,7 +54,7 @@ examples_of_needed_parts = record {
   odd_rows = needed 68 _ _ 900000 0 900000 mark refl;
   -- Both rows are got as they were sent.
   same_rows =
-      needed 69 _ _ 900000 0 900000 (header_888 ∷ row_1 0x20 ∷ row_1 0xA1 ∷ closing ∷ []) refl;
+      needed 69 _ _ 900000 0 900000 (english_header ∷ row_1 0x20 ∷ row_1 0xA1 ∷ closing ∷ []) refl;
   -- All is got as it was sent.
   due_content = needed 72 _ _ 900000 0 900000 mark refl;
   -- From the end of the first frame on.

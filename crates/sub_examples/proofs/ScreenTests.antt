@@ -26,7 +26,8 @@ use Rattle.ttx_page.specs.Screen.{Display, ShowsAt}
 use Rattle.ttx_page.specs.Span.{holds_header, is_unended}
 use Rattle.ttx_page.proofs.NoiseLaws.{AreNear-themselves}
 use Rattle.sub_plan.specs.Examples.{page_888}
-use Rattle.sub_examples.specs.Examples.{header_888, row_22, closing, one_frame, each, no_subtitles}
+use Rattle.sub_examples.specs.Examples.{english_header, row_22, closing, one_frame, each}
+use Rattle.sub_examples.specs.Examples.{no_subtitles}
 use Rattle.sub_rules.specs.Good.{Good}
 use Rattle.stl_rows.specs.DuePage.{due}
 use Rattle.stl_rows.specs.SubSets.{sub_set}
@@ -44,7 +45,7 @@ abbrev says_888 : Header
 says_888 = record { page = 0x88; subcode = 0; control = record { 0 = 0x0D } }
 
 -- The header of page 888 is one of the page.
-kind_888 : kind page_888 header_888 ≡ ThisPage says_888
+kind_888 : kind page_888 english_header ≡ ThisPage says_888
 unfolding kind address header coded_header decoded is_near
 kind_888 = refl
 
@@ -63,13 +64,13 @@ abbrev on_blank : State
 on_blank = record { heard = true; is_open = true; page = blank }
 
 -- The header may make each receiver such a one.
-opens : (old : State) → Step page_888 old header_888 on_blank
-opens old = subst (λ k. StepAt k header_888 old on_blank) (sym kind_888) refl
+opens : (old : State) → Step page_888 old english_header on_blank
+opens old = subst (λ k. StepAt k english_header old on_blank) (sym kind_888) refl
 
 -- The header makes no receiver any other.
 opened :
-    (old new : State) → Step page_888 old header_888 new → new ≡ on_blank
-opened old new step = subst (λ k. StepAt k header_888 old new) kind_888 step
+    (old new : State) → Step page_888 old english_header new → new ≡ on_blank
+opened old new step = subst (λ k. StepAt k english_header old new) kind_888 step
 
 -- The closing header closes it.
 closed :
@@ -97,15 +98,15 @@ abbrev open_with : Option Rows → Display
 open_with screen = record { held = on_blank; screen = screen }
 
 -- At the first header the screen stays as it is.
-first_header : ShowsAt page_888 (unheard None) header_888 (open_with None)
+first_header : ShowsAt page_888 (unheard None) english_header (open_with None)
 first_header = grind (arith, nat_tests, true≢false)
 
 -- At the next one a receiver may show the page.
-shows_again : ShowsAt page_888 (open_with None) header_888 (open_with (Some blank))
+shows_again : ShowsAt page_888 (open_with None) english_header (open_with (Some blank))
 shows_again = grind (arith, nat_tests, true≢false, kind_888)
 
 -- At the next one a receiver may show no page.
-waits_again : ShowsAt page_888 (open_with None) header_888 (open_with None)
+waits_again : ShowsAt page_888 (open_with None) english_header (open_with None)
 waits_again = grind (arith, nat_tests, true≢false)
 
 -- A page that begins again may be shown, and may not.
@@ -131,7 +132,7 @@ example_of_page_begun_again = record {
 
 -- A header and nothing after it.
 abbrev no_end : Transmission
-no_end = one_frame (header_888 ∷ [])
+no_end = one_frame (english_header ∷ [])
 
 -- Nothing is told of it.
 no_end_is_good : Good no_subtitles no_end (each 1)
@@ -145,12 +146,12 @@ unfolding events events_of_first frame_events order_events gap_events gap_length
 no_end_is_good = good_by_events _ _ _ refl (omega arith) refl refl
 
 -- It holds a header of the page, which none ends.
-holds : holds_header (kind page_888) (header_888 ∷ []) ≡ true
+holds : holds_header (kind page_888) (english_header ∷ []) ≡ true
 unfolding kind address header coded_header decoded is_near
 holds = refl
 
 -- None ends it.
-no_end_of_page : is_unended (kind page_888) (header_888 ∷ []) ≡ true
+no_end_of_page : is_unended (kind page_888) (english_header ∷ []) ≡ true
 unfolding kind address header coded_header decoded is_near
 no_end_of_page = refl
 
@@ -162,7 +163,7 @@ example_of_no_end = record {
       true≢false
       (sym no_end_of_page ∙ complete 900000 (le_refl 900000) (le_refl 900000) holds);
   not_shown = λ shown.
-      let sent : List (List ℕ) = header_888 ∷ [] in
+      let sent : List (List ℕ) = english_header ∷ [] in
       let none : 0 ≤ length (sent ++ []) = omega arith in
       let due =
       shown 900000 0 900000 (true ∷ []) sent (unheard None) (open_with None)

@@ -24,7 +24,7 @@ use Rattle.stl_rows.specs.SubSets.{sub_set}
 use Rattle.stl_rows.specs.TextCode.{cell_of, cell_of_pair, is_common}
 use Rattle.sub_laws.specs.CleanStretch.{IsUntold}
 use Rattle.sub_examples.specs.Examples.{ExampleOfCleanStretch, closing, damaged_first, each}
-use Rattle.sub_examples.specs.Examples.{header_888, later_subtitle, row_22}
+use Rattle.sub_examples.specs.Examples.{english_header, later_subtitle, row_22}
 use Rattle.sub_rules.specs.FrameRules.{task_of}
 use Rattle.sub_rules.specs.Good.{Good}
 use Rattle.sub_rules.specs.Transmission.{SentFrame}
@@ -56,7 +56,7 @@ example_of_clean_stretch = record {
   refused = refused;
   clean = clean;
   held = λ got old new near hears.
-      let sent : List (List ℕ) = header_888 ∷ row_22 ∷ closing ∷ [] in
+      let sent : List (List ℕ) = english_header ∷ row_22 ∷ closing ∷ [] in
       let enough =
       law_of_untold_stretch later_subtitle damaged_first (each 1) None 900001 900002 refl clean in
       let trusted = law_of_stretch later_subtitle damaged_first (each 1) 900001 900002 enough.0 in

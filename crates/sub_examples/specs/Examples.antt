@@ -35,8 +35,8 @@ header_with c4 c5_c6 c7_c10 c11_c14 =
     x0 (0x15 ∷ 0x15 ∷ 0xD0 ∷ 0xD0 ∷ 0x15 ∷ c4 ∷ 0x15 ∷ c5_c6 ∷ c7_c10 ∷ c11_c14 ∷ [])
 
 -- The header of page 888 in English and in parallel mode: C4, C6 and C7 are set.
-abbrev pub header_888 : List ℕ
-header_888 = header_with 0xD0 0xD0 0x02 0x15
+abbrev pub english_header : List ℕ
+english_header = header_with 0xD0 0xD0 0x02 0x15
 
 -- A header of page 888 with C4, erase page, clear.
 abbrev pub header_without_c4 : List ℕ
@@ -115,7 +115,7 @@ one_subtitle text =
 abbrev pub ExampleOfGood : Type 0
 ExampleOfGood =
     Good (one_subtitle (0x48 ∷ 0x69 ∷ []))
-    (two_frames (header_888 ∷ row_22 ∷ closing ∷ []) (header_888 ∷ closing ∷ []))
+    (two_frames (english_header ∷ row_22 ∷ closing ∷ []) (english_header ∷ closing ∷ []))
     (each 1)
 
 -- ---- for each thing that is told of which a receiver depends one that is not robust
@@ -151,15 +151,15 @@ pub record IsNeeded (number : ℕ) (transmission : Transmission) (every : ℕ) :
 
 -- Row 1 blank, and then with an exclamation mark.
 abbrev pub changed_row : Transmission
-changed_row = one_frame (header_888 ∷ row_1 0x20 ∷ row_1 0xA1 ∷ closing ∷ [])
+changed_row = one_frame (english_header ∷ row_1 0x20 ∷ row_1 0xA1 ∷ closing ∷ [])
 
 -- Frame 900001 is listed after frame 900002, which ends the page, and so its row is passed over.
 abbrev pub listed_late : Transmission
 listed_late =
-    record { frame = 900000; packets = header_888 ∷ [] }
+    record { frame = 900000; packets = english_header ∷ [] }
     ∷ record { frame = 900002; packets = closing ∷ [] }
     ∷ record { frame = 900001; packets = row_1 0xA1 ∷ [] }
-    ∷ record { frame = 900003; packets = header_888 ∷ closing ∷ [] }
+    ∷ record { frame = 900003; packets = english_header ∷ closing ∷ [] }
     ∷ []
 
 -- Each of the eight is needed: where it is told alone a stretch can't be trusted.
@@ -169,17 +169,17 @@ pub record ExamplesOfNeededParts : Type 0 where
   -- One bit more, and the address byte decodes to nothing: the header is not heard.
   pub exact_addresses : IsNeeded 64 (one_header header_with_wrong_bit) 1
   -- One wrong bit, and a packet X/0 is a header that nobody sent.
-  pub exact_headers : IsNeeded 65 (one_frame (header_888 ∷ closing ∷ no_header ∷ [])) 1
+  pub exact_headers : IsNeeded 65 (one_frame (english_header ∷ closing ∷ no_header ∷ [])) 1
   -- Without C4 a receiver keeps its old page.
   pub subtitle_headers : IsNeeded 67 (one_header header_without_c4) 1
   -- A0 may be got as A1, which has odd parity: an exclamation mark that nobody sent.
-  pub odd_rows : IsNeeded 68 (one_frame (header_888 ∷ row_1 0xA0 ∷ closing ∷ [])) 1
+  pub odd_rows : IsNeeded 68 (one_frame (english_header ∷ row_1 0xA0 ∷ closing ∷ [])) 1
   -- Of two packets of row 1 the first one counts as what is shown, and a receiver holds the second.
   pub same_rows : IsNeeded 69 changed_row 1
   -- Every receiver shows what is not due.
-  pub due_content : IsNeeded 72 (one_frame (header_888 ∷ row_1 0xA1 ∷ closing ∷ [])) 1
+  pub due_content : IsNeeded 72 (one_frame (english_header ∷ row_1 0xA1 ∷ closing ∷ [])) 1
   -- Who starts after the first frame hears no header within the bound.
-  pub headers_in_time : IsNeeded 73 (two_frames (header_888 ∷ closing ∷ []) (closing ∷ [])) 1
+  pub headers_in_time : IsNeeded 73 (two_frames (english_header ∷ closing ∷ []) (closing ∷ [])) 1
 
 -- ---- a clean stretch of a refused transmission
 
@@ -204,8 +204,8 @@ later_subtitle = record {
 abbrev pub damaged_first : Transmission
 damaged_first =
     record { frame = 900000; packets = header_without_c4 ∷ row_1 0xA0 ∷ closing ∷ [] }
-    ∷ record { frame = 900001; packets = header_888 ∷ row_22 ∷ closing ∷ [] }
-    ∷ record { frame = 900002; packets = header_888 ∷ closing ∷ [] }
+    ∷ record { frame = 900001; packets = english_header ∷ row_22 ∷ closing ∷ [] }
+    ∷ record { frame = 900002; packets = english_header ∷ closing ∷ [] }
     ∷ []
 
 -- It is refused. Nothing is told of the frames after it; so who hears frame 900001, with any bit of
@@ -216,6 +216,6 @@ pub record ExampleOfCleanStretch : Type 0 where
   pub clean : IsUntold (task_of later_subtitle (each 1) None) damaged_first 900001 900002
   pub held :
       (got : List (List ℕ)) (old new : State)
-      → AllZip AreNear (header_888 ∷ row_22 ∷ closing ∷ []) got
+      → AllZip AreNear (english_header ∷ row_22 ∷ closing ∷ []) got
       → Hears page_888 old got new
       → (cell new.page 22 19 ≡ 0x48) ⊎ (cell new.page 22 19 ≡ space)

@@ -6,7 +6,8 @@ use Rattle.ttx_page.specs.Screen.{Display, Shows}
 use Rattle.stl_rows.specs.Programme.{ProgrammeValue}
 use Rattle.sub_plan.specs.Options.{OptionsValue}
 use Rattle.sub_plan.specs.Examples.{page_888}
-use Rattle.sub_examples.specs.Examples.{header_888, row_22, closing, one_frame, each, no_subtitles}
+use Rattle.sub_examples.specs.Examples.{english_header, row_22, closing, one_frame, each}
+use Rattle.sub_examples.specs.Examples.{no_subtitles}
 use Rattle.sub_rules.specs.Good.{Good}
 use Rattle.sub_laws.specs.OnScreen.{Complete, ShownWithin}
 use Rattle.sub_rules.specs.Transmission.{Transmission, first_frame, last_frame}
@@ -20,23 +21,23 @@ unheard screen =
 abbrev pub ExampleOfEndedPage : Type 0
 ExampleOfEndedPage =
     (old new : Display)
-    → Shows page_888 old (header_888 ∷ closing ∷ []) new
+    → Shows page_888 old (english_header ∷ closing ∷ []) new
     → new.screen ≡ Some blank
 
 -- Until then the screen stays as it is: a row does not come onto it.
 abbrev pub ExampleOfPageNotEnded : Type 0
 ExampleOfPageNotEnded =
     (screen : Option Rows) (new : Display)
-    → Shows page_888 (unheard screen) (header_888 ∷ row_22 ∷ []) new
+    → Shows page_888 (unheard screen) (english_header ∷ row_22 ∷ []) new
     → new.screen ≡ screen
 
 -- At a header of the page while it is open, one receiver shows it, and another one does not.
 pub record ExampleOfPageBegunAgain : Type 0 where
   pub shown : Display
-  pub shows : Shows page_888 (unheard None) (header_888 ∷ header_888 ∷ []) shown
+  pub shows : Shows page_888 (unheard None) (english_header ∷ english_header ∷ []) shown
   pub is_shown : shown.screen ≡ Some blank
   pub other : Display
-  pub waits : Shows page_888 (unheard None) (header_888 ∷ header_888 ∷ []) other
+  pub waits : Shows page_888 (unheard None) (english_header ∷ english_header ∷ []) other
   pub is_nothing : other.screen ≡ None
 
 -- The transmission is good, so every receiver holds what is due; but its pages are not complete,
@@ -53,4 +54,4 @@ pub record IsHeldAndNotShown
 
 -- A header and nothing after it.
 abbrev pub ExampleOfNoEnd : Type 0
-ExampleOfNoEnd = IsHeldAndNotShown no_subtitles (one_frame (header_888 ∷ [])) (each 1)
+ExampleOfNoEnd = IsHeldAndNotShown no_subtitles (one_frame (english_header ∷ [])) (each 1)

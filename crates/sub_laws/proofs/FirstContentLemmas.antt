@@ -16,16 +16,15 @@ use Rattle.sub_rules.specs.PieceEvents.{sent_by_pieces, told_of_pieces}
 use Rattle.sub_rules.specs.Pieces.{Piece, frames_of, joined, read_until_passed, sent_after}
 use Rattle.sub_rules.specs.Pieces.Piece.{Passed, Sent}
 use Rattle.sub_rules.specs.Transmission.{SentFrame, Transmission}
-use Rattle.sub_rules.specs.Trusted.Mark.{AtEnd, AtPes, Begins, Closes, Ends, Says}
+use Rattle.sub_rules.specs.Trusted.Mark.{AtPes, Says}
 use Rattle.sub_rules.specs.declared.event.Event.{Event}
-use Rattle.sub_rules.specs.declared.event.Event.TheVariants.{Ended, PassedUntil, Told, Trusted}
+use Rattle.sub_rules.specs.declared.event.Event.TheVariants.{Told}
 use Rattle.sub_rules.specs.declared.fault.CheckFault.{CheckFault}
 use Rattle.sub_rules.specs.declared.fault.CheckFault.TheVariants as fault
 use Rattle.sub_rules.proofs.MarkEventLemmas.{first_of_two, marks_first, said_by}
 use Rattle.sub_rules.proofs.PieceEventLemmas.{all_first}
 use Rattle.sub_laws.proofs.SaidLemmas.{pieces_said, said, said-append}
-use Rattle.sub_rules.specs.Trusted.{Mark, at_pes}
-use Rattle.sub_rules.proofs.KeptTrust.{all_is, no_trust}
+use Rattle.sub_rules.specs.Trusted.{Mark, at_pes, pes_told}
 use Rattle.sub_rules.proofs.FrameEvents.{events}
 
 -- ---- pieces
@@ -90,14 +89,9 @@ module _ (frame row column : ℕ) where
   said_first pes [] e = e
   said_first pes (Says (Told f) ∷ ms) e =
       ap (λ (x : CheckFault). Some x) (cell_told pes f (same_Some _ _ e))
-  said_first pes (Says (Ended rule f) ∷ ms) e = said_first pes ms e
-  said_first pes (Says (Trusted from to) ∷ ms) e = said_first pes ms e
-  said_first pes (Says (PassedUntil f) ∷ ms) e = said_first pes ms e
-  said_first pes (Closes are_left more ∷ ms) e = said_first pes ms e
+  said_first pes (Says x ∷ ms) e = said_first pes ms e
   said_first pes (AtPes next ∷ ms) e = said_first next ms e
-  said_first pes (Begins f ∷ ms) e = said_first pes ms e
-  said_first pes (AtEnd f since late ∷ ms) e = said_first pes ms e
-  said_first pes (Ends f has_header none ∷ ms) e = said_first pes ms e
+  said_first pes (m ∷ ms) e = said_first pes ms e
 
   -- ---- all pieces
 
@@ -188,7 +182,7 @@ module _ (frame row column : ℕ) where
     -- that is passed over. For `check`.
     pub content_first : (pieces : List Piece) → IsFirst (all_of_pieces g pieces)
         → IsFirst (events g (joined g.within (read_until_passed pieces g.unread).frames))
-    unfolding all_of_pieces
+    unfolding all_of_pieces told_of_pieces pes_told
     content_first pieces e =
         ap first_told
         (ap (λ (fs : Transmission). events g (joined g.within fs))
@@ -201,11 +195,7 @@ module _ (frame row column : ℕ) where
         told =
             let marks = marks_of_pieces g pieces in
             said_first 0 marks
-            (sym
-            (all_first (told_of_pieces g pieces)
-            ∙ ap first_told (all_is g pieces)
-            ∙ marks_first no_trust marks)
-            ∙ e)
+            (sym (all_first (told_of_pieces g pieces) ∙ marks_first [] marks) ∙ e)
 
         of_front : (front pieces ≡ pieces) ⊎ IsFirst (said (marks_of_each g [] 0 (front pieces)))
             → IsFirst (said (marks_of_pieces g (front pieces)))

@@ -3,7 +3,7 @@
 -- such marks: `told_passes`, `announced_passes`.
 use Rattle.std.proofs.lemmas.Bool.Decides.{nat_tests}
 use Rattle.std.proofs.Common.{◌≡◌, ℕ, zero, suc, ◌+◌, ◌==◌, Bool, true, false, List, [], ◌∷◌, ◌++◌}
-use Rattle.std.proofs.Common.{length, map, Option, Some, refl, ◌∙◌, arith, if◌then◌else◌}
+use Rattle.std.proofs.Common.{length, map, Option, None, Some, refl, ◌∙◌, arith, if◌then◌else◌}
 use Rattle.std.proofs.Common.{slice_index_or, subst, take, ◌||◌}
 use Rattle.std.proofs.lemmas.Bool.{or_parts}
 use Rattle.std.proofs.lemmas.Option.{same_Some}
@@ -27,14 +27,12 @@ use Rattle.sub_rules.specs.Pieces.Piece.{Passed, Sent}
 use Rattle.sub_rules.specs.Transmission.{SentFrame, Transmission}
 use Rattle.sub_rules.specs.Trusted.Mark.{AtEnd, AtPes, Begins, Closes, Ends, Says}
 use Rattle.sub_rules.specs.declared.event.Event.{Event}
-use Rattle.sub_rules.specs.declared.event.Event.TheVariants.{Ended, PassedUntil, Told, Trusted}
+use Rattle.sub_rules.specs.declared.event.Event.TheVariants.{Told}
 use Rattle.sub_rules.specs.declared.fault.CheckFault.{CheckFault}
 use Rattle.sub_rules.specs.declared.packet_rule.PacketRule.{PacketRule}
 use Rattle.sub_rules.specs.declared.packet_rule.Watched.{Watched}
-use Rattle.sub_rules.proofs.KeptTrust.{Trust, after_mark, closing_frame, late_since, told_by}
-use Rattle.sub_rules.proofs.KeptTrust.{told_with}
-use Rattle.sub_rules.specs.Trusted.{Mark, at_pes, trusted}
-use Rattle.sub_rules.proofs.KeptTrust.{doubted, trusted_before}
+use Rattle.sub_rules.specs.Trusted.{Mark, at_pes, closing_at, doubted_by, is_said, pes_told, run_of}
+use Rattle.sub_rules.specs.Trusted.{told_after, told_at, trusted, trusted_up_to, whole_of}
 
 module _ (test : Mark → Bool) where
   -- An event passes where it is said.
@@ -222,44 +220,39 @@ module _ (bad : CheckFault → Bool)
   trusted_fine : (run whole : Option ℕ) (f : ℕ) → list_any tells_bad (trusted run whole f) ≡ false
   trusted_fine run whole f = grind (arith, nat_tests)
 
-  before_fine : (run whole d : Option ℕ) → list_any tells_bad (trusted_before run whole d) ≡ false
-  before_fine run whole d = grind (arith, nat_tests)
+  before_fine : (t : List Mark) (d : Option ℕ) → list_any tells_bad (trusted_up_to t d) ≡ false
+  before_fine t None = refl
+  before_fine t (Some f) = trusted_fine (run_of t) (whole_of t) f
 
   event_fine : (pes : ℕ) (e : Event) → tells_bad e ≡ false → tells_bad (at_pes pes e) ≡ false
   unfolding at_pes
   event_fine pes (Told f) fine = anywhere pes f fine
-  event_fine pes (Ended rule f) fine = refl
-  event_fine pes (Trusted from to) fine = refl
-  event_fine pes (PassedUntil f) fine = refl
+  event_fine pes e fine = refl
 
   -- With one mark.
-  with_fine : (m : Mark) (t : Trust) → says_bad m ≡ false
-      → list_any tells_bad (told_with m t) ≡ false
-  unfolding told_with
+  with_fine : (m : Mark) (t : List Mark) → says_bad m ≡ false
+      → list_any tells_bad (told_at t m) ≡ false
+  unfolding told_at
   with_fine (Says e) t fine =
-      let own = event_fine t.pes e fine in
-      both_none (trusted_before t.run t.whole (doubted t.last (late_since t) e)) _
-      (before_fine t.run t.whole (doubted t.last (late_since t) e)) (rw own refl)
-  with_fine (Closes are_left more) t fine = go (t.told || more)
+      let own = event_fine (pes_told t) e fine in
+      both_none (trusted_up_to t (doubted_by t e)) _ (before_fine t (doubted_by t e)) (rw own refl)
+  with_fine (Closes are_left more) t fine = go (list_any is_said t || more)
     where
       go : (b : Bool)
-          → list_any tells_bad (if b then trusted t.run t.whole (closing_frame t are_left) else [])
+          → list_any tells_bad (if b then trusted_up_to t (Some (closing_at t are_left)) else [])
           ≡ false
-      go true = trusted_fine t.run t.whole (closing_frame t are_left)
+      go true = trusted_fine (run_of t) (whole_of t) (closing_at t are_left)
       go false = refl
-  with_fine (AtPes pes) t fine = refl
-  with_fine (Begins f) t fine = refl
-  with_fine (AtEnd f since late) t fine = refl
-  with_fine (Ends f has_header none) t fine = refl
+  with_fine m t fine = refl
 
-  pub told_fine : (t : Trust) (ms : List Mark) → list_any says_bad ms ≡ false
-      → list_any tells_bad (told_by t ms) ≡ false
-  unfolding told_by
+  pub told_fine : (t : List Mark) (ms : List Mark) → list_any says_bad ms ≡ false
+      → list_any tells_bad (told_after t ms) ≡ false
+  unfolding told_after
   told_fine t [] fine = refl
   told_fine t (m ∷ ms) fine =
       let parts = or_parts (says_bad m) (list_any says_bad ms) fine in
-      both_none (told_with m t) _ (with_fine m t parts.0)
-      (told_fine (after_mark m t) ms parts.1)
+      both_none (told_at t m) _ (with_fine m t parts.0)
+      (told_fine (m ∷ t) ms parts.1)
 
   -- What is told first.
   pub first_fine : (es : List Event) (f : CheckFault) → list_any tells_bad es ≡ false
@@ -269,6 +262,4 @@ module _ (bad : CheckFault → Bool)
   first_fine (Told x ∷ es) f fine e =
       let parts = or_parts (bad x) (list_any tells_bad es) fine in
       subst (λ (y : CheckFault). bad y ≡ false) (same_Some _ _ e) parts.0
-  first_fine (Ended rule x ∷ es) f fine e = first_fine es f fine e
-  first_fine (Trusted from to ∷ es) f fine e = first_fine es f fine e
-  first_fine (PassedUntil x ∷ es) f fine e = first_fine es f fine e
+  first_fine (x ∷ es) f fine e = first_fine es f fine e

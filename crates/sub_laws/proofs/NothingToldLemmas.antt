@@ -57,7 +57,8 @@ pub law_of_nothing_told_within : LawOfNothingToldWithin
 law_of_nothing_told_within programme options unread pieces is every whole =
     let g : Task = task_of programme options unread in
     let told = pieces_untold g pieces in
-    let law = none_told_within programme options unread (sent_by_pieces g pieces) is every whole in (
+    let sent = sent_by_pieces g pieces in
+    let law = none_told_within programme options unread sent is every whole in (
       λ none.
           let parts = told.0 none in
           let good = law.0 parts.1 in

@@ -3,7 +3,7 @@
 -- `pieces_untold`; and so it is of refusals, `pieces_unrefused`. Of marks: `first_none`,
 -- `each_sent`.
 use Rattle.std.proofs.lemmas.Bool.Decides.{nat_tests}
-use Rattle.std.proofs.Common.{subst, ◌≡◌, ◌↔◌, ℕ, suc, Bool, true, false, not, List, [], ◌∷◌, ◌++◌}
+use Rattle.std.proofs.Common.{◌≡◌, ◌↔◌, ℕ, suc, Bool, true, false, not, List, [], ◌∷◌, ◌++◌}
 use Rattle.std.proofs.Common.{length}
 use Rattle.std.proofs.Common.{map, Option, None, refl, sym, ap, ◌∙◌, arith}
 use Rattle.std.proofs.lemmas.Bool.{true≢false}
@@ -19,19 +19,17 @@ use Rattle.sub_rules.specs.PieceEvents.{passed_after_all, sent_by_pieces, told_o
 use Rattle.sub_rules.specs.Pieces.{Piece, frames_of, sent_after}
 use Rattle.sub_rules.specs.Pieces.Piece.{Passed, Sent}
 use Rattle.sub_rules.specs.Transmission.{Transmission}
-use Rattle.sub_rules.specs.Trusted.Mark.{AtEnd, AtPes, Begins, Closes, Ends, Says}
+use Rattle.sub_rules.specs.Trusted.Mark.{AtPes, Closes, Says}
 use Rattle.sub_rules.specs.declared.event.Event.{Event}
-use Rattle.sub_rules.specs.declared.event.Event.TheVariants.{Ended, PassedUntil, Told, Trusted}
+use Rattle.sub_rules.specs.declared.event.Event.TheVariants.{Told}
 use Rattle.sub_rules.specs.declared.fault.CheckFault.{CheckFault}
 use Rattle.sub_laws.proofs.MarkTestLemmas.{PassedPass, Passes, before_passes}
 use Rattle.sub_rules.proofs.MarkEventLemmas.{marks_first, said_by, first_of_two}
 use Rattle.sub_rules.proofs.PieceEventLemmas.{all_first}
-use Rattle.sub_rules.proofs.TrustedLemmas.{told_by-append}
+use Rattle.sub_rules.proofs.TrustedLemmas.{past_after, told_after-append}
 use Rattle.sub_laws.proofs.SaidLemmas.{pieces_said, said, said-append, said-says}
-use Rattle.sub_rules.proofs.KeptTrust.{all_is, Trust, after_mark, late_since, no_trust, told_by}
-use Rattle.sub_rules.proofs.KeptTrust.{told_with, trust_after}
-use Rattle.sub_rules.specs.Trusted.{Mark, at_pes, tells_none}
-use Rattle.sub_rules.proofs.KeptTrust.{doubted, trusted_before}
+use Rattle.sub_rules.specs.Trusted.{Mark, at_pes, doubted_by, is_said, pes_told, run_of, tells_none}
+use Rattle.sub_rules.specs.Trusted.{told_after, told_at, trusted_up_to}
 use Rattle.sub_rules.proofs.FrameEvents.{events}
 
 -- ---- what is told first
@@ -54,21 +52,16 @@ none_said : (pes : ℕ) (ms : List Mark)
 unfolding at_pes
 none_said pes [] = (λ e. e, λ e. e)
 none_said pes (Says (Told f) ∷ ms) = (λ e. cc, λ e. cc)
-none_said pes (Says (Ended rule f) ∷ ms) = none_said pes ms
-none_said pes (Says (Trusted from to) ∷ ms) = none_said pes ms
-none_said pes (Says (PassedUntil f) ∷ ms) = none_said pes ms
-none_said pes (Closes are_left more ∷ ms) = none_said pes ms
+none_said pes (Says e ∷ ms) = none_said pes ms
 none_said pes (AtPes next ∷ ms) = none_said next ms
-none_said pes (Begins f ∷ ms) = none_said pes ms
-none_said pes (AtEnd f since late ∷ ms) = none_said pes ms
-none_said pes (Ends f has_header none ∷ ms) = none_said pes ms
+none_said pes (m ∷ ms) = none_said pes ms
 
 -- No refusal is told with marks exactly where none is among what they say.
-pub first_none : (t : Trust) (ms : List Mark)
-    → (first_told (told_by t ms) ≡ None) ↔ (first_told (said ms) ≡ None)
+pub first_none : (t ms : List Mark)
+    → (first_told (told_after t ms) ≡ None) ↔ (first_told (said ms) ≡ None)
 first_none t ms =
     let same = marks_first t ms in
-    let none = none_said t.pes ms in
+    let none = none_said (pes_told t) ms in
     (λ e. none.0 (sym same ∙ e), λ e. same ∙ none.1 e)
 
 -- ---- where nothing is told
@@ -81,24 +74,14 @@ some_append : (xs ys : List Event) (e : Event) → xs ++ e ∷ [] ++ ys ≡ [] �
 some_append [] ys e none = cc
 some_append (x ∷ xs) ys e none = cc
 
--- What is trusted where an event is told.
-abbrev trusted_with : Trust → Event → List Event
-trusted_with t e = trusted_before t.run t.whole (doubted t.last (late_since t) e)
-
 -- Then nothing is said.
-said_none : (t : Trust) (ms : List Mark) → told_by t ms ≡ [] → said ms ≡ []
-unfolding told_by told_with
+said_none : (t ms : List Mark) → told_after t ms ≡ [] → said ms ≡ []
+unfolding told_after told_at
 said_none t [] e = refl
-said_none t (Says x ∷ ms) e =
-    absurd
-    (some_append (trusted_with t x) _ _ e)
+said_none t (Says x ∷ ms) e = absurd (some_append (trusted_up_to t (doubted_by t x)) _ _ e)
 said_none t (Closes are_left more ∷ ms) e =
-    said_none (after_mark (Closes are_left more) t) ms (append_empty _ _ e).1
-said_none t (AtPes pes ∷ ms) e = said_none (after_mark (AtPes pes) t) ms e
-said_none t (Begins f ∷ ms) e = said_none (after_mark (Begins f) t) ms e
-said_none t (AtEnd f since late ∷ ms) e = said_none (after_mark (AtEnd f since late) t) ms e
-said_none t (Ends f has_header none ∷ ms) e =
-    said_none (after_mark (Ends f has_header none) t) ms e
+    said_none (Closes are_left more ∷ t) ms (append_empty _ _ e).1
+said_none t (m ∷ ms) e = said_none (m ∷ t) ms e
 
 -- The file ends.
 abbrev is_close : Mark → Bool
@@ -106,44 +89,32 @@ is_close (Closes are_left more) = true
 is_close m = false
 
 -- Where nothing is said before the file ends, nothing is told.
-quiet_so_far : (t : Trust) (ms : List Mark) → t.told ≡ false
+quiet_so_far : (t ms : List Mark) → list_any is_said t ≡ false
     → list_any is_close ms ≡ false
     → said ms ≡ []
-    → (told_by t ms ≡ []) × ((trust_after t ms).told ≡ false)
-unfolding told_by told_with after_mark trust_after
+    → (told_after t ms ≡ []) × (list_any is_said (past_after t ms) ≡ false)
+unfolding told_after told_at past_after
 quiet_so_far t [] told still none = (refl, told)
 quiet_so_far t (Says x ∷ ms) told still none = cc
 quiet_so_far t (Closes are_left more ∷ ms) told still none = cc
-quiet_so_far t (AtPes pes ∷ ms) told still none =
-    quiet_so_far (after_mark (AtPes pes) t) ms told still none
-quiet_so_far t (Begins f ∷ ms) told still none =
-    quiet_so_far (after_mark (Begins f) t) ms told still none
-quiet_so_far t (AtEnd f since late ∷ ms) told still none =
-    quiet_so_far (after_mark (AtEnd f since late) t) ms told still none
-quiet_so_far t (Ends f has_header end ∷ ms) told still none =
-    quiet_so_far (after_mark (Ends f has_header end) t) ms told still none
+quiet_so_far t (m ∷ ms) told still none = quiet_so_far (m ∷ t) ms told still none
 
 -- Where it is not kept that anything was told before the file ends, nothing was.
-pub silent : (t : Trust) (ms : List Mark) → list_any is_close ms ≡ false
-    → (trust_after t ms).told ≡ false
-    → (t.told ≡ false) × (told_by t ms ≡ [])
-unfolding told_by told_with after_mark trust_after
+pub silent : (t ms : List Mark) → list_any is_close ms ≡ false
+    → list_any is_said (past_after t ms) ≡ false
+    → (list_any is_said t ≡ false) × (told_after t ms ≡ [])
+unfolding told_after told_at past_after
 silent t [] still none = (none, refl)
 silent t (Says x ∷ ms) still none =
-    absurd (true≢false (silent (after_mark (Says x) t) ms still none).0)
+    absurd (true≢false (silent (Says x ∷ t) ms still none).0)
 silent t (Closes are_left more ∷ ms) still none = cc
-silent t (AtPes pes ∷ ms) still none = silent (after_mark (AtPes pes) t) ms still none
-silent t (Begins f ∷ ms) still none = silent (after_mark (Begins f) t) ms still none
-silent t (AtEnd f since late ∷ ms) still none =
-    silent (after_mark (AtEnd f since late) t) ms still none
-silent t (Ends f has_header end ∷ ms) still none =
-    silent (after_mark (Ends f has_header end) t) ms still none
+silent t (m ∷ ms) still none = silent (m ∷ t) ms still none
 
 -- Nor is anything told where nothing is said as it ends.
-closed_quiet : (t : Trust) (pes : ℕ) (are_left : Bool) (es : List Event) → es ≡ []
-    → t.told ≡ false
-    → told_by t (AtPes pes ∷ Closes are_left (not (tells_none es)) ∷ map Says es) ≡ []
-unfolding told_by told_with after_mark
+closed_quiet : (t : List Mark) (pes : ℕ) (are_left : Bool) (es : List Event) → es ≡ []
+    → list_any is_said t ≡ false
+    → told_after t (AtPes pes ∷ Closes are_left (not (tells_none es)) ∷ map Says es) ≡ []
+unfolding told_after told_at run_of
 closed_quiet t pes are_left [] none told = rw told refl
 closed_quiet t pes are_left (e ∷ es) none told = cc
 
@@ -189,33 +160,29 @@ module _ (g : Task) where
 
   told_none : (pieces : List Piece)
       → (told_of_pieces g pieces ≡ []) ↔ (said (marks_of_pieces g pieces) ≡ [])
-  told_none pieces =
-      subst
-      (λ (es : List Event). (es ≡ []) ↔ (said (marks_of_pieces g pieces) ≡ []))
-      (sym (all_is g pieces)) (said_none no_trust (marks_of_pieces g pieces), quiet)
+  unfolding told_of_pieces
+  told_none pieces = (said_none [] (marks_of_pieces g pieces), quiet)
     where
       quiet : said (marks_of_pieces g pieces) ≡ []
-          → told_by no_trust (marks_of_pieces g pieces) ≡ []
+          → told_after [] (marks_of_pieces g pieces) ≡ []
       quiet none =
           let frames = sent_by_pieces g pieces in
           let before = marks_of_each g [] 0 pieces ++ marks_of_waiting g frames in
           let closing = closing_of_pieces g frames (length pieces) (length frames) in
           let parts = append_empty (said before) closing (sym (said_parts pieces) ∙ none) in
           let so_far =
-          quiet_so_far no_trust before refl
+          quiet_so_far [] before refl
           (before_open pieces).none parts.0 in
-          told_by-append no_trust before
+          told_after-append [] before
           (marks_of_closing g frames (length pieces) (length frames))
           ∙ rw so_far.0
-          (closed_quiet (trust_after no_trust before) (length pieces) _ closing parts.1 so_far.1)
+          (closed_quiet (past_after [] before) (length pieces) _ closing parts.1 so_far.1)
 
 -- Up to which piece a run goes is told only where something else is.
 announced_one : (e : Event) → announced no_run e ≡ e ∷ []
 unfolding announced joins
 announced_one (Told f) = refl
-announced_one (Ended rule f) = refl
-announced_one (Trusted from to) = refl
-announced_one (PassedUntil f) = refl
+announced_one e = refl
 
 announced_empty : (es : List Event)
     → (all_announced no_run es ++ ended_run (passed_after_all no_run es) ≡ []) ↔ (es ≡ [])
@@ -279,10 +246,10 @@ module _ (g : Task) where
       → (first_told (all_of_pieces g pieces) ≡ None)
       ↔ ((length (frames_of pieces) ≡ length pieces)
       × (first_told (events g (sent_by_pieces g pieces)) ≡ None))
-  unfolding all_of_pieces
+  unfolding all_of_pieces told_of_pieces
   pieces_unrefused pieces =
-      let all = all_first (told_of_pieces g pieces) ∙ ap first_told (all_is g pieces) in
-      let said_first = first_none no_trust (marks_of_pieces g pieces) in (
+      let all = all_first (told_of_pieces g pieces) in
+      let said_first = first_none [] (marks_of_pieces g pieces) in (
         λ none.
             let quiet = said_first.0 (sym all ∙ none) in
             let sent = said_sent pieces quiet in

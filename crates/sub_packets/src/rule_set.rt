@@ -48,7 +48,8 @@ impl RuleSet {
     /// Of the rules from Control on: those of a row.
     #[inline(always)]
     pub fn of_row(has_even_byte: bool, has_changed: bool) -> RuleSet
-        ensures { result.0 ≡ 2 * (if has_even_byte then 1 else 0) + 4 * (if has_changed then 1 else 0) }
+        ensures { result.0
+            ≡ 2 * (if has_even_byte then 1 else 0) + 4 * (if has_changed then 1 else 0) }
     {
         RuleSet(2 * (has_even_byte as u8) + 4 * (has_changed as u8))
     }

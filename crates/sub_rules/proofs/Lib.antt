@@ -7,7 +7,6 @@ pub mod FrameEvents
 pub mod FrameLists
 pub mod GrowingLists
 pub mod JoinedLemmas
-pub mod KeptTrust
 pub mod MarkEventLemmas
 pub mod PacketLists
 pub mod PesReadingLemmas

@@ -3,10 +3,11 @@
 -- the frame, `said_sent`.
 use Rattle.std.proofs.lemmas.Bool.Decides.{nat_tests}
 use Rattle.std.proofs.Common.{◌≡◌, ℕ, zero, suc, ◌+◌, ◌||◌, ◌==◌, Bool, true, false, List, [], ◌∷◌}
-use Rattle.std.proofs.Common.{◌++◌, length, map, Option, None, refl, sym, ap, ◌∙◌, subst}
+use Rattle.std.proofs.Common.{◌++◌, length, map, Option, None, Some, refl, sym, ap, ◌∙◌, subst}
 use Rattle.std.proofs.Common.{arith, append_assoc, if◌then◌else◌}
 use Rattle.std.proofs.lemmas.Bool.{true≢false}
 use Rattle.std.proofs.lemmas.List.{map-append}
+use Rattle.std.specs.List.{list_any}
 use Rattle.std.specs.Option.{option_or}
 use Rattle.sub_rules.specs.Events.{events_at_end, first_header_events, first_told}
 use Rattle.sub_rules.specs.Events.{gap_length, is_late, latest, order_events}
@@ -19,15 +20,14 @@ use Rattle.sub_rules.specs.Pieces.{goes_on_with}
 use Rattle.sub_rules.specs.Transmission.{SentFrame, Transmission}
 use Rattle.sub_rules.specs.Trusted.Mark.{AtEnd, AtPes, Begins, Closes, Ends, Says}
 use Rattle.sub_rules.specs.declared.event.Event.{Event}
-use Rattle.sub_rules.specs.declared.event.Event.TheVariants.{Ended, PassedUntil, Told, Trusted}
+use Rattle.sub_rules.specs.declared.event.Event.TheVariants.{Told}
 use Rattle.ttx_page.specs.PacketKind.{kind}
 use Rattle.ttx_page.specs.Span.{holds_header}
 use Rattle.sub_rules.proofs.AnyToldLemmas.{own_frame, own_names}
 use Rattle.sub_rules.proofs.JoinedLemmas.{goes_on-none}
-use Rattle.sub_rules.proofs.KeptTrust.{Trust, after_mark, closing_frame, late_since, told_by}
-use Rattle.sub_rules.proofs.KeptTrust.{told_with}
-use Rattle.sub_rules.specs.Trusted.{Mark, at_pes, stands_none, trusted}
-use Rattle.sub_rules.proofs.KeptTrust.{doubted, trusted_before}
+use Rattle.sub_rules.specs.Trusted.{Mark, at_pes, closing_at, doubted_by, is_said, pes_told, run_of}
+use Rattle.sub_rules.specs.Trusted.{stands_none, told_after, told_at, trusted, trusted_up_to}
+use Rattle.sub_rules.specs.Trusted.{whole_of}
 use Rattle.sub_rules.proofs.FrameEvents.{frame_events, gap_events}
 
 -- ---- what is told first of two lists
@@ -37,9 +37,7 @@ pub first_of_two : (xs ys : List Event)
     → first_told (xs ++ ys) ≡ option_or (first_told xs) (first_told ys)
 first_of_two [] ys = refl
 first_of_two (Told f ∷ xs) ys = refl
-first_of_two (Ended rule frame ∷ xs) ys = first_of_two xs ys
-first_of_two (Trusted from to ∷ xs) ys = first_of_two xs ys
-first_of_two (PassedUntil f ∷ xs) ys = first_of_two xs ys
+first_of_two (e ∷ xs) ys = first_of_two xs ys
 
 -- ---- what is told first with marks
 
@@ -51,12 +49,13 @@ said_by pes (Says e ∷ ms) = at_pes pes e ∷ said_by pes ms
 said_by pes (m ∷ ms) = said_by pes ms
 
 -- Frames that are told as trusted before an event, or where the file ends, change nothing.
-trusted_first : (run whole d : Option ℕ) → first_told (trusted_before run whole d) ≡ None
-trusted_first run whole d = grind (arith, nat_tests)
-
 closed_first : (b : Bool) (run whole : Option ℕ) (f : ℕ)
     → first_told (if b then trusted run whole f else []) ≡ None
 closed_first b run whole f = grind (arith, nat_tests)
+
+trusted_first : (t : List Mark) (d : Option ℕ) → first_told (trusted_up_to t d) ≡ None
+trusted_first t None = refl
+trusted_first t (Some f) = closed_first true (run_of t) (whole_of t) f
 
 first_after : (trusts rest said : List Event) (e : Event) → first_told trusts ≡ None
     → first_told rest ≡ first_told said
@@ -73,25 +72,20 @@ first_without : (trusts rest said : List Event) → first_told trusts ≡ None
 first_without trusts rest said none same =
     let told = first_of_two trusts rest in grind (arith, nat_tests)
 
-pub marks_first : (t : Trust) (ms : List Mark)
-    → first_told (told_by t ms) ≡ first_told (said_by t.pes ms)
-unfolding told_by told_with after_mark
+pub marks_first : (t ms : List Mark)
+    → first_told (told_after t ms) ≡ first_told (said_by (pes_told t) ms)
+unfolding told_after told_at pes_told
 marks_first t [] = refl
 marks_first t (Says e ∷ ms) =
-    first_after (trusted_before t.run t.whole (doubted t.last (late_since t) e))
-    (told_by (after_mark (Says e) t) ms) (said_by t.pes ms) (at_pes t.pes e)
-    (trusted_first t.run t.whole (doubted t.last (late_since t) e))
-    (marks_first (after_mark (Says e) t) ms)
+    first_after (trusted_up_to t (doubted_by t e)) (told_after (Says e ∷ t) ms)
+    (said_by (pes_told t) ms) (at_pes (pes_told t) e) (trusted_first t (doubted_by t e))
+    (marks_first (Says e ∷ t) ms)
 marks_first t (Closes are_left more ∷ ms) =
-    first_without (told_with (Closes are_left more) t)
-    (told_by (after_mark (Closes are_left more) t) ms) (said_by t.pes ms)
-    (closed_first (t.told || more) t.run t.whole (closing_frame t are_left))
-    (marks_first (after_mark (Closes are_left more) t) ms)
-marks_first t (AtPes pes ∷ ms) = marks_first (after_mark (AtPes pes) t) ms
-marks_first t (Begins f ∷ ms) = marks_first (after_mark (Begins f) t) ms
-marks_first t (AtEnd f since late ∷ ms) = marks_first (after_mark (AtEnd f since late) t) ms
-marks_first t (Ends f has_header none ∷ ms) =
-    marks_first (after_mark (Ends f has_header none) t) ms
+    first_without (told_at t (Closes are_left more)) (told_after (Closes are_left more ∷ t) ms)
+    (said_by (pes_told t) ms)
+    (closed_first (list_any is_said t || more) (run_of t) (whole_of t) (closing_at t are_left))
+    (marks_first (Closes are_left more ∷ t) ms)
+marks_first t (m ∷ ms) = marks_first (m ∷ t) ms
 
 -- ---- marks of one PES packet
 

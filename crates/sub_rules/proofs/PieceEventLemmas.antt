@@ -18,7 +18,7 @@ use Rattle.sub_rules.specs.Pieces.{Piece, frames_of, read_until_passed, sent_aft
 use Rattle.sub_rules.specs.Pieces.Piece.{Passed, Sent}
 use Rattle.sub_rules.specs.Transmission.{Transmission}
 use Rattle.sub_rules.specs.declared.event.Event.{Event}
-use Rattle.sub_rules.specs.declared.event.Event.TheVariants.{Ended, PassedUntil, Told, Trusted}
+use Rattle.sub_rules.specs.declared.event.Event.TheVariants.{Told}
 use Rattle.sub_rules.specs.PieceEvents.{PassedRun}
 use Rattle.sub_rules.proofs.PrefixEventLemmas.{frame_events-prefix}
 use Rattle.sub_rules.proofs.AnyToldLemmas.{own_closing, own_names}
@@ -26,8 +26,7 @@ use Rattle.sub_rules.proofs.JoinedLemmas.{joined-within, sent_after-none}
 use Rattle.sub_rules.proofs.MarkEventLemmas.{marks_first, none_waits, said_by, said_says, said_sent}
 use Rattle.sub_rules.proofs.MarkEventLemmas.{first_of_two}
 use Rattle.sub_rules.proofs.PacketLists.{or-none}
-use Rattle.sub_rules.specs.Trusted.{Mark, at_pes, told_after}
-use Rattle.sub_rules.proofs.KeptTrust.{no_trust, told_is}
+use Rattle.sub_rules.specs.Trusted.{Mark, at_pes, pes_told, told_after}
 use Rattle.sub_rules.proofs.FrameEvents.{events, events_of_first, frame_events}
 use Rattle.sub_rules.specs.Pieces.{PesFileValue}
 
@@ -38,9 +37,7 @@ pub announced_first : (es : List Event) → first_told (all_announced no_run es)
 unfolding all_announced announced joins passed_after
 announced_first [] = refl
 announced_first (Told f ∷ es) = refl
-announced_first (Ended rule frame ∷ es) = announced_first es
-announced_first (Trusted from to ∷ es) = announced_first es
-announced_first (PassedUntil f ∷ es) = announced_first es
+announced_first (e ∷ es) = announced_first es
 
 ended_first : (run : PassedRun) → first_told (ended_run run) ≡ None
 ended_first run = grind (arith, nat_tests)
@@ -154,7 +151,7 @@ closing_same g frames n h1 =
 told_of_frames : (g : Task) (pieces : List Piece) → g.within ≡ 0
     → first_told (all_of_pieces g pieces)
     ≡ first_told (events (until_passed g pieces) (read_until_passed pieces g.unread).frames)
-unfolding all_of_pieces told_of_pieces events events_of_first
+unfolding all_of_pieces told_of_pieces events events_of_first pes_told
 told_of_frames g pieces at_once =
     let frames = frames_of pieces in
     let stop = read_until_passed pieces g.unread in
@@ -162,8 +159,7 @@ told_of_frames g pieces at_once =
     let told : List Event = told_after [] (marks_of_pieces g pieces) in
     let each : List Mark = marks_of_each g [] 0 pieces in
     all_first told
-    ∙ ap first_told (told_is (marks_of_pieces g pieces))
-    ∙ marks_first no_trust (marks_of_pieces g pieces)
+    ∙ marks_first [] (marks_of_pieces g pieces)
     ∙ ap (λ (fs : Transmission). first_told (said_by 0
     (each ++ marks_of_waiting g fs ++ marks_of_closing g fs (length pieces) (length fs))))
     (joined-within g.within frames at_once)

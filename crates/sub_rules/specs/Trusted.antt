@@ -39,16 +39,16 @@ pub data Mark : Type 0 where
 -- ---- where the file has come to
 
 -- The PES packet of which is told.
-unfoldable pub pes_of : List Mark → ℕ
-pes_of [] = 0
-pes_of (AtPes pes ∷ past) = pes
-pes_of (m ∷ past) = pes_of past
+unfoldable pub pes_told : List Mark → ℕ
+pes_told [] = 0
+pes_told (AtPes pes ∷ past) = pes
+pes_told (m ∷ past) = pes_told past
 
 -- The frame of the last PES packet; 0 before the first one.
-unfoldable pub last_of : List Mark → ℕ
-last_of [] = 0
-last_of (Begins f ∷ past) = f
-last_of (m ∷ past) = last_of past
+unfoldable pub last_begun : List Mark → ℕ
+last_begun [] = 0
+last_begun (Begins f ∷ past) = f
+last_begun (m ∷ past) = last_begun past
 
 -- The first of the frames up to the last end at whose ends the page is not whole.
 unfoldable pub since_of : List Mark → Option ℕ
@@ -73,7 +73,7 @@ is_said m = false
 -- nothing else. What is told at a late end is of the frame since which the page is not whole.
 unfoldable pub doubted_by : List Mark → Event → Option ℕ
 doubted_by past (Told f) =
-    doubted_frame (last_of past) (late_of past) (fault_row f).doubts (fault_row f).place
+    doubted_frame (last_begun past) (late_of past) (fault_row f).doubts (fault_row f).place
 doubted_by past event = None
 
 -- It is told that a frame is not after the one before.
@@ -83,11 +83,11 @@ tells_fall m = false
 
 -- The last frame is quiet so far: frames rose up to it, and since it began nothing is told that
 -- doubts a frame.
-unfoldable pub is_quiet : List Mark → Bool
-is_quiet [] = true
-is_quiet (Begins f ∷ past) = not (list_any tells_fall past)
-is_quiet (Says e ∷ past) = is_quiet past && is_none (doubted_by past e)
-is_quiet (m ∷ past) = is_quiet past
+unfoldable pub stays_quiet : List Mark → Bool
+stays_quiet [] = true
+stays_quiet (Begins f ∷ past) = not (list_any tells_fall past)
+stays_quiet (Says e ∷ past) = stays_quiet past && is_none (doubted_by past e)
+stays_quiet (m ∷ past) = stays_quiet past
 
 -- Nothing stands broken at an end.
 abbrev pub stands_none : Standing → Bool
@@ -102,23 +102,24 @@ unfoldable pub run_of : List Mark → Option ℕ
 run_of [] = None
 run_of (Says e ∷ past) = if is_none (doubted_by past e) then run_of past else None
 run_of (Ends f has_header none ∷ past) =
-    if is_quiet past && none
+    if stays_quiet past && none
     then option_or (run_of past) (if has_header then Some f else None)
     else None
 run_of (Closes are_left more ∷ past) = None
 run_of (m ∷ past) = run_of past
 
--- This is an end of a frame at which the page was whole.
-abbrev pub whole_at : Mark → List Mark → Option ℕ
-whole_at (AtEnd f None late) past = Some f
-whole_at (Ends f has_header none) past = if is_none (since_of past) then Some f else None
-whole_at m past = None
+-- A frame, where it is one at whose end the page was whole: where none is unfinished up to it.
+abbrev pub whole_at : ℕ → Option ℕ → Option ℕ
+whole_at f since = if is_none since then Some f else None
 
--- The first frame, from that with the header on, at whose end the page was whole.
+-- The first frame, from that on with which the run begins, at whose end the page was whole. It says
+-- nothing where no run goes on.
 unfoldable pub whole_of : List Mark → Option ℕ
 whole_of [] = None
-whole_of (m ∷ past) =
-    if is_none (run_of (m ∷ past)) then None else option_or (whole_of past) (whole_at m past)
+whole_of (AtEnd f since late ∷ past) = option_or (whole_of past) (whole_at f since)
+whole_of (Ends f has_header none ∷ past) =
+    option_or (if is_none (run_of past) then None else whole_of past) (whole_at f (since_of past))
+whole_of (m ∷ past) = whole_of past
 
 -- ---- what is trusted, and before what it is told
 
@@ -137,7 +138,7 @@ trusted_up_to past (Some f) = trusted (run_of past) (whole_of past) f
 -- whole at the last end; else the last frame, where bytes are left that may have been sent in it.
 abbrev pub closing_at : List Mark → Bool → ℕ
 closing_at past left =
-    unwrap_or (since_of past) (if left then last_of past else suc (last_of past))
+    unwrap_or (since_of past) (if left then last_begun past else suc (last_begun past))
 
 -- What is told of a frame, told of PES packet `pes`, which sends it: pieces that are passed over
 -- are counted too.
@@ -154,7 +155,7 @@ tells_none (e ∷ es) = false
 -- that it tells of. At the end of the file what is trusted of the last run is told only where
 -- anything else is.
 unfoldable pub told_at : List Mark → Mark → List Event
-told_at past (Says e) = trusted_up_to past (doubted_by past e) ++ at_pes (pes_of past) e ∷ []
+told_at past (Says e) = trusted_up_to past (doubted_by past e) ++ at_pes (pes_told past) e ∷ []
 told_at past (Closes left more) =
     if list_any is_said past || more then trusted_up_to past (Some (closing_at past left)) else []
 told_at past m = []

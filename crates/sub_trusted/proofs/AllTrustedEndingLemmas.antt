@@ -5,7 +5,7 @@ use Rattle.std.proofs.lemmas.Bool.Decides.{nat_tests}
 use Rattle.std.proofs.Common.{◌≡◌, ℕ, suc, ◌+◌, ◌-◌, ◌<◌, ◌≤◌, inl, inr, Bool, true, false}
 use Rattle.std.proofs.Common.{◌||◌, List, [], ◌∷◌, ◌++◌, length, map, Option, Some, None, is_some}
 use Rattle.std.proofs.Common.{not, refl, sym, ap, ◌∙◌, arith, le_refl, Contains}
-use Rattle.std.proofs.Common.{if◌then◌else◌, unwrap_or}
+use Rattle.std.proofs.Common.{if◌then◌else◌, unwrap_or, is_none, subst}
 use Rattle.std.proofs.lemmas.Bool.{cases_lt, true≢false}
 use Rattle.std.proofs.lemmas.Option.{none-some}
 use Rattle.std.specs.List.{list_any}
@@ -21,23 +21,28 @@ use Rattle.sub_rules.specs.Trusted.Mark.{AtPes, Closes, Ends, Says}
 use Rattle.sub_rules.specs.declared.event.Event.{Event}
 use Rattle.sub_rules.specs.declared.event.Event.TheVariants.{Trusted}
 use Rattle.sub_trusted.proofs.TrustedEndingLemmas.{ending}
-use Rattle.sub_trusted.proofs.TrustedKeptLemmas.{Closed, Opens, opens_said, run_low, stood, up_of}
-use Rattle.sub_trusted.proofs.TrustedStepLemmas.{at_end, with_end}
+use Rattle.sub_trusted.proofs.TrustedKeptLemmas.{Closed, Opens, opens_said, run_found, run_low}
+use Rattle.sub_trusted.proofs.TrustedKeptLemmas.{stood}
+use Rattle.sub_trusted.proofs.TrustedKeptLemmas.{up_of, whole_found}
+use Rattle.sub_trusted.proofs.TrustedStepLemmas.{Looks, with_end}
 use Rattle.sub_trusted.proofs.AllTrustedStretchLemmas.{Fits, own_in}
 use Rattle.sub_trusted.proofs.LateDoubtLemmas.{end_doubt, header_none}
 use Rattle.sub_trusted.proofs.AllTrustedLeadLemmas.{IsTold, Leads, Leads-append, Leads-both}
 use Rattle.sub_trusted.proofs.AllTrustedLeadLemmas.{Leads-cons}
 use Rattle.sub_trusted.proofs.AllTrustedLeadLemmas.{Leads-nil, put_told, told_left}
-use Rattle.sub_trusted.proofs.SayMarkLemmas.{IsSaid, doubt_of, kept_some, said}
+use Rattle.sub_trusted.proofs.SayMarkLemmas.{IsSaid, doubt_of, is_order, kept_some, said}
 use Rattle.sub_trusted.proofs.AllTrustedMarkLemmas.{Follows, doubt_told, end_follows, end_orders}
-use Rattle.sub_trusted.proofs.AllTrustedMarkLemmas.{end_past, follows_said, top}
+use Rattle.sub_trusted.proofs.AllTrustedMarkLemmas.{end_past, follows_said, top, whole_kept}
+use Rattle.sub_trusted.proofs.AllTrustedMarkLemmas.{whole_now}
 use Rattle.sub_trusted.proofs.AllTrustedStepLemmas.{Open, Past, Sending, clean_still, later_in}
 use Rattle.sub_trusted.proofs.AllTrustedStepLemmas.{sending_says}
 use Rattle.sub_trusted.proofs.TrustedFrameLemmas.{count_most, risen, risen_low}
-use Rattle.sub_rules.proofs.KeptTrust.{Trust, after_mark, closing_frame, late_since, told_by}
-use Rattle.sub_rules.proofs.KeptTrust.{told_with, trust_after}
-use Rattle.sub_rules.specs.Trusted.{Mark, stands_none, tells_none, trusted}
-use Rattle.sub_rules.proofs.KeptTrust.{is_order}
+use Rattle.sub_rules.proofs.TrustedLemmas.{past_after}
+use Rattle.sub_rules.specs.Trusted.{Mark, closing_at, is_said, stays_quiet, last_begun, late_of}
+use Rattle.sub_rules.specs.Trusted.{run_of}
+use Rattle.sub_rules.specs.Trusted.{since_of, stands_none, tells_fall, tells_none, told_after}
+use Rattle.sub_rules.specs.Trusted.{told_at, trusted, whole_at, whole_of}
+use Rattle.std.specs.Option.{option_or}
 
 -- ---- tests
 
@@ -47,11 +52,11 @@ put_when : (c : Bool) (run whole : Option ℕ) (x from w : ℕ) → c ≡ true �
     → w < x
     → Contains (if c then trusted run whole x else []) (Trusted from (x - 1))
 put_when c run whole x from w is run_is whole_is l =
-    rw is (put_told run whole (Some x) x from w refl run_is whole_is l)
+    rw is (put_told run whole x from w run_is whole_is l)
 
 header_orders : (g : Task) (frames : Transmission) (n : ℕ)
     → list_any is_order (first_header_events g frames n) ≡ false
-unfolding first_header_events is_order
+unfolding first_header_events is_order tells_fall
 header_orders g frames n = grind (arith, nat_tests)
 
 -- What is not trusted at the end of a file is after the stretch.
@@ -62,24 +67,37 @@ closing_past : (since : Option ℕ) (left : Bool) (last b : ℕ)
     → b < unwrap_or since (if left then last else suc last)
 closing_past since left last b h low unread = grind (arith, nat_tests)
 
+-- The page was whole in a run that is there.
+in_run : (run whole : Option ℕ) (w : ℕ) → (if is_none run then None else whole) ≡ Some w
+    → (from : ℕ) × (run ≡ Some from) × (whole ≡ Some w)
+in_run None whole w e = absurd (none-some w e)
+in_run (Some from) whole w e = (from, refl, e)
+
+-- A run that goes on at the end of a frame with a header, or begins there.
+run_there : (run : Option ℕ) (has : Bool) (f : ℕ) → has ≡ true
+    → ((from : ℕ) → run ≡ Some from → from ≤ f)
+    → (from : ℕ) × (from ≤ f) × (option_or run (if has then Some f else None) ≡ Some from)
+run_there None has f header low = (f, le_refl f, rw header refl)
+run_there (Some from) has f header low = (from, low from refl, refl)
+
 module _ (g : Task) (frames : Transmission) (a b i : ℕ)
     (fits : Fits g frames a b i) where
-  abbrev Follow : ℕ → ℕ → Trust → Type 0
+  abbrev Follow : ℕ → ℕ → List Mark → Type 0
   Follow n p t = Follows g frames a b i fits n p t
 
-  abbrev Lead : (Trust → Type 0) → Trust → List Mark → Type 0
+  abbrev Lead : (List Mark → Type 0) → List Mark → List Mark → Type 0
   Lead S t ms = Leads (top g frames a b i fits) b S t ms
 
-  abbrev OpenHere : ℕ → Trust → Type 0
+  abbrev OpenHere : ℕ → List Mark → Type 0
   OpenHere n t = Open g frames a b i fits n (packets_of_frame frames n) t
 
   -- The end of frame n was looked at.
-  record Finishing (n : ℕ) (t : Trust) : Type 0 where
+  record Finishing (n : ℕ) (t : List Mark) : Type 0 where
     follows : Follow n (frame_at frames n + 1) t
-    clean : i ≤ n → t.is_clean ≡ true
+    clean : i ≤ n → stays_quiet t ≡ true
     quiet : i ≤ n → stands_none (standing_at g frames (suc n) (frame_at frames n)) ≡ true
-    own : i ≡ n → b ≤ frame_at frames n → t.since ≡ None
-    low : (from : ℕ) → t.run ≡ Some from → from ≤ frame_at frames n
+    own : i ≡ n → b ≤ frame_at frames n → since_of t ≡ None
+    low : (from : ℕ) → run_of t ≡ Some from → from ≤ frame_at frames n
 
   -- ---- its end
 
@@ -92,14 +110,10 @@ module _ (g : Task) (frames : Transmission) (a b i : ℕ)
   here : (n : ℕ) → i ≡ n → frame_at frames i ≡ frame_at frames n
   here n same = ap (frame_at frames) same
 
-  -- With its end.
-  abbrev now_at : ℕ → Trust → Trust
-  now_at n t = after_mark (at_end g frames (suc n) (frame_at frames n)) t
-
   -- Nothing stood before it where a run is there.
-  stood_own : (n from : ℕ) (t : Trust) → n < length frames
+  stood_own : (n from : ℕ) (t : List Mark) → n < length frames
       → Opens g frames 0 n (packets_of_frame frames n) t
-      → t.run ≡ Some from
+      → run_of t ≡ Some from
       → stands_none (standing_before g frames n (frame_at frames n)) ≡ true
   stood_own n from t there opens is =
       let h = up_of g frames 0 n (frame_at frames n) from t opens.keeps opens.rises is in
@@ -110,19 +124,18 @@ module _ (g : Task) (frames : Transmission) (a b i : ℕ)
 
   -- What is kept after what is told there, where it doubts no frame; before the header's frame
   -- whatever it does.
-  finishing : (n : ℕ) (t v : Trust) → n < length frames → OpenHere n t
-      → IsSaid (now_at n t) v (events_at_end g frames n (suc n) (frame_at frames n))
-      → (i ≤ n
-      → doubt_of (now_at n t) (events_at_end g frames n (suc n) (frame_at frames n)) ≡ None)
+  finishing : (n : ℕ) (t u v : List Mark) → n < length frames → OpenHere n t
+      → Looks g frames (suc n) (frame_at frames n) t u
+      → IsSaid u v (events_at_end g frames n (suc n) (frame_at frames n))
+      → (i ≤ n → doubt_of u (events_at_end g frames n (suc n) (frame_at frames n)) ≡ None)
       → Finishing n v
-  unfolding after_mark
-  finishing n t v there (opens, sending) so none =
+  finishing n t u v there (opens, sending) looks so none =
       let f : ℕ = frame_at frames n in
       let es : List Event = events_at_end g frames n (suc n) f in
       record {
         follows =
-            follows_said g frames a b i fits n (f + 1) (now_at n t) v es
-            (end_follows g frames a b i fits n (suc n) f (f + 1) t refl sending.follows
+            follows_said g frames a b i fits n (f + 1) u v es
+            (end_follows g frames a b i fits n (suc n) f (f + 1) t u looks refl sending.follows
             (λ l. own_in frames n (later_in g frames a b i fits n
             (packets_of_frame frames n) t there (opens, sending) l).0)) so
             (λ l. end_orders (standing_before g frames n f) (end_before frames n f)
@@ -130,13 +143,13 @@ module _ (g : Task) (frames : Transmission) (a b i : ℕ)
             (λ l. none (omega arith));
         clean = λ l.
             so.clean_is
-            ∙ clean_still t.is_clean (doubt_of (now_at n t) es) (sending.clean l) (none l);
+            ∙ clean_still (stays_quiet u) (doubt_of u es) (looks.clean_is ∙ sending.clean l)
+            (none l);
         quiet = λ l. elim (cases_lt i n) [
           | inl below ↦
               let (from, low, is) = sending.follows.run below in
-              (end_doubt t.last (end_before frames n f) f (late_since (now_at n t))
-              (standing_before g frames n f) (standing_at g frames (suc n) f)).quiet (none l)
-              (stood_own n from t there opens is)
+              (end_doubt u (end_before frames n f) f (standing_before g frames n f)
+              (standing_at g frames (suc n) f)).quiet (none l) (stood_own n from t there opens is)
           | inr not_below ↦
               let at = here n (omega arith) in
               let low = fits.low in
@@ -149,22 +162,23 @@ module _ (g : Task) (frames : Transmission) (a b i : ℕ)
             let high = fits.high in
             let in_it = fits.there in
             so.since_is
+            ∙ looks.since_is
             ∙ fits.finished (suc n) f (own_in frames n (omega arith)) (omega arith);
         low = λ from is.
-            let run =
-            (kept_some t.run (doubt_of (now_at n t) es) from (sym so.run_is ∙ is)).0 in
+            let run : run_of t ≡ Some from =
+            sym looks.run_is
+            ∙ (kept_some (run_of u) (doubt_of u es) from (sym so.run_is ∙ is)).0 in
             let first = run_low g frames n from (opens.keeps.run from run) in
             let rise = (up_of g frames 0 n f from t opens.keeps opens.rises run).up in
             omega arith;
       }
 
-  end_leads_to : (n : ℕ) (t : Trust) → n < length frames → OpenHere n t
+  end_leads_to : (n : ℕ) (t : List Mark) → n < length frames → OpenHere n t
       → Lead (Finishing n) t (marks_at_end g frames n (suc n) (frame_at frames n))
-  unfolding after_mark
   end_leads_to n t there (opens, sending) =
       with_end g frames (Lead (Finishing n)) n (suc n) (frame_at frames n) t opens.keeps.at_once
       (λ mark ms silent. Leads-cons (top g frames a b i fits) b (Finishing n) t mark ms)
-      (go (doubt_of (now_at n t) es) refl)
+      (λ u looks. go u looks (doubt_of u es) refl)
     where
       es : List Event
       es = events_at_end g frames n (suc n) (frame_at frames n)
@@ -173,36 +187,32 @@ module _ (g : Task) (frames : Transmission) (a b i : ℕ)
       in_part_low l =
           later_in g frames a b i fits n (packets_of_frame frames n) t there (opens, sending) l
 
-      follows_now : i < n → Follow n (frame_at frames n + 1) (now_at n t)
-      follows_now l =
-          end_follows g frames a b i fits n (suc n) (frame_at frames n)
-          (frame_at frames n + 1) t refl sending.follows
-          (λ below. own_in frames n (in_part_low below).0)
-
-      go : (o : Option ℕ) → doubt_of (now_at n t) es ≡ o → Lead (Finishing n) (now_at n t)
-          (map Says es)
-      go None is =
+      go : (u : List Mark) → Looks g frames (suc n) (frame_at frames n) t u
+          → (o : Option ℕ) → doubt_of u es ≡ o
+          → Lead (Finishing n) u (map Says es)
+      go u looks None is =
           inr
-          (finishing n t (trust_after (now_at n t) (map Says es)) there (opens, sending)
-          (said (now_at n t) es) (λ l. is))
-      go (Some x) is = elim (cases_lt i n) [
+          (finishing n t u (past_after u (map Says es)) there (opens, sending) looks (said u es)
+          (λ l. is))
+      go u looks (Some x) is = elim (cases_lt i n) [
         | inl l ↦
             let both = in_part_low l in
-            doubt_told g frames a b i fits n (frame_at frames n + 1) (now_at n t) es x
-            (follows_now l) l is
-            (end_past g frames a b i fits n (suc n) (frame_at frames n) x t
+            doubt_told g frames a b i fits n (frame_at frames n + 1) u es x
+            (end_follows g frames a b i fits n (suc n) (frame_at frames n)
+            (frame_at frames n + 1) t u looks refl sending.follows
+            (λ below. own_in frames n (in_part_low below).0)) l is
+            (end_past g frames a b i fits n (suc n) (frame_at frames n) x t u looks
             (own_in frames n both.0) both.1 is) (Finishing n)
         | inr not_below ↦
             inr
-            (finishing n t (trust_after (now_at n t) (map Says es)) there (opens, sending)
-            (said (now_at n t) es)
+            (finishing n t u (past_after u (map Says es)) there (opens, sending) looks (said u es)
             (λ l.
             let at = here n (omega arith) in
             let low = fits.low in
             let high = fits.high in
             let in_it = fits.there in
-            (end_doubt t.last (end_before frames n (frame_at frames n)) (frame_at frames n)
-            (late_since (now_at n t)) (standing_before g frames n (frame_at frames n))
+            (end_doubt u (end_before frames n (frame_at frames n)) (frame_at frames n)
+            (standing_before g frames n (frame_at frames n))
             (standing_at g frames (suc n) (frame_at frames n))).calm
             (fits.ends (suc n) (frame_at frames n) (own_in frames n (omega arith)) (omega arith)
             (omega arith))))
@@ -210,13 +220,66 @@ module _ (g : Task) (frames : Transmission) (a b i : ℕ)
 
   -- ---- it ends
 
-  ended_now : (n : ℕ) (t : Trust) → Finishing n t
+  ended_now : (n : ℕ) (t : List Mark) → Finishing n t
       → Follow (suc n) (frame_at frames (suc n - 1) + 1)
-      (after_mark (Ends (frame_at frames n) (has n) (quiet_at n)) t)
-  unfolding after_mark
-  ended_now n t fin = grind (arith, nat_tests)
+      (Ends (frame_at frames n) (has n) (quiet_at n) ∷ t)
+  unfolding run_of whole_of last_begun since_of late_of stays_quiet tells_fall
+  ended_now n t fin =
+      let f : ℕ = frame_at frames n in
+      let back : f ≡ frame_at frames (suc n - 1) = ap (frame_at frames) (omega arith) in
+      let high = fits.high in
+      let whole : Option ℕ = if is_none (run_of t) then None else whole_of t in
+      record {
+        rises = λ l. fin.follows.rises (omega arith);
+        run = λ l.
+            let clean = fin.clean (omega arith) in
+            let quiet = fin.quiet (omega arith) in
+            elim (cases_lt i n) [
+              | inl below ↦
+                  let (from, low, is) = fin.follows.run below in
+                  (from, low, rw (clean, quiet, is) refl)
+              | inr not_below ↦
+                  let same : i ≡ n = omega arith in
+                  let at = here n same in
+                  let header : has n ≡ true =
+                  subst (λ (k : ℕ). has k ≡ true) same fits.header in
+                  let (from, low, is) = run_there (run_of t) (has n) f header fin.low in
+                  (from, omega arith, rw (clean, quiet) is)
+            ];
+        low = λ from w is held.
+            let (clean, none, was) =
+            run_found (stays_quiet t) (quiet_at n) (run_of t) (has n) f from is in
+            elim (whole_found whole (since_of t) f w held) [
+              | inl before ↦
+                  let (first, run, earlier) = in_run (run_of t) (whole_of t) w before in
+                  let under = fin.follows.low first w run earlier in
+                  omega arith
+              | inr (none_open, now) ↦ omega arith
+            ];
+        whole = λ l past. elim (cases_lt i n) [
+          | inl below ↦
+              let (w, under, is) = fin.follows.whole below (omega arith) in
+              let (from, low, run) = fin.follows.run below in
+              (w, under, whole_kept whole (since_of t) f w (rw run is))
+          | inr not_below ↦
+              let same : i ≡ n = omega arith in
+              let at = here n same in
+              let (w, under, is) =
+              whole_now whole (since_of t) f (fin.own same (omega arith))
+              (λ w before.
+              let (first, run, earlier) = in_run (run_of t) (whole_of t) w before in
+              let low = fin.follows.low first w run earlier in
+              omega arith) in
+              (w, omega arith, is)
+        ];
+        since = λ l past r is. elim (cases_lt i n) [
+          | inl below ↦ fin.follows.since below (omega arith) r is
+          | inr not_below ↦
+              absurd (none-some r (sym (fin.own (omega arith) (omega arith)) ∙ is))
+        ];
+      }
 
-  pub ending_leads : (n : ℕ) (t : Trust) → n < length frames → OpenHere n t
+  pub ending_leads : (n : ℕ) (t : List Mark) → n < length frames → OpenHere n t
       → Lead (Past g frames a b i fits (suc n)) t (marks_of_ending g frames n)
   ending_leads n t there (opens, sending) =
       let f : ℕ = frame_at frames n in
@@ -231,29 +294,31 @@ module _ (g : Task) (frames : Transmission) (a b i : ℕ)
       (λ u so. end_leads_to n u there so))
       (λ v so.
       Leads-cons (top g frames a b i fits) b (Follow (suc n) q) v last []
-      (Leads-nil (top g frames a b i fits) b (Follow (suc n) q) (after_mark last v)
+      (Leads-nil (top g frames a b i fits) b (Follow (suc n) q) (last ∷ v)
       (ended_now n v so))))
     where
       header : Lead (OpenHere n) t (map Says (first_header_events g frames n))
       header =
           let es : List Event = first_header_events g frames n in
-          let none : doubt_of t es ≡ None = header_none t.last (late_since t) g frames n in
+          let none : doubt_of t es ≡ None = header_none t g frames n in
           let packets : List (List ℕ) = packets_of_frame frames n in
           Leads-both (top g frames a b i fits) b (Opens g frames 0 n packets)
           (Sending g frames a b i fits n) t (map Says es)
-          (opens_said g frames 0 n packets packets t (trust_after t (map Says es)) es opens
+          (opens_said g frames 0 n packets packets t (past_after t (map Says es)) es opens
           (said t es) (λ quiet kept. kept))
           (sending_says g frames a b i fits n t es sending (header_orders g frames n)
           (λ same. none) (λ l x doubt. absurd (none-some x (sym none ∙ doubt))))
 
   -- ---- the end of the file
 
-  pub closing_told : (pes : ℕ) (t : Trust)
+  pub closing_told : (pes : ℕ) (t : List Mark)
       → Past g frames a b i fits (length frames) t
-      → (t.told || not (tells_none (closing_of_pieces g frames pes (length frames)))) ≡ true
+      → (list_any is_said t
+      || not (tells_none (closing_of_pieces g frames pes (length frames))))
+      ≡ true
       → IsTold (top g frames a b i fits) b
-      (told_by t (marks_of_closing g frames pes (length frames)))
-  unfolding told_by told_with after_mark
+      (told_after t (marks_of_closing g frames pes (length frames)))
+  unfolding told_after told_at run_of whole_of last_begun since_of late_of stays_quiet tells_fall
   closing_told pes t (closed, follows) told =
       let n : ℕ = length frames in
       let fit = risen_low frames in
@@ -269,23 +334,24 @@ module _ (g : Task) (frames : Transmission) (a b i : ℕ)
       let (w, under, whole) = follows.whole (omega arith) (omega arith) in
       let es : List Event = closing_of_pieces g frames pes n in
       let more : Bool = not (tells_none es) in
-      let t0 : Trust = after_mark (AtPes pes) t in
-      let t1 : Trust = after_mark (Closes (is_some g.unread) more) t0 in
-      let x : ℕ = closing_frame t (is_some g.unread) in
+      let t0 : List Mark = AtPes pes ∷ t in
+      let t1 : List Mark = Closes (is_some g.unread) more ∷ t0 in
+      let x : ℕ = closing_at t (is_some g.unread) in
       let past : b < x =
-      closing_past t.since (is_some g.unread) t.last b
+      closing_past (since_of t) (is_some g.unread) (last_begun t) b
       (λ r since. follows.since (omega arith) (omega arith) r since) (omega arith)
       (λ left.
       let (u, unread) = unread_is g.unread left in
       let l = fits.unread u unread in
       omega arith) in
-      told_left (top g frames a b i fits) b (told_with (Closes (is_some g.unread) more) t0)
-      (told_by t1 (map Says es)) (
+      told_left (top g frames a b i fits) b (told_at t0 (Closes (is_some g.unread) more))
+      (told_after t1 (map Says es)) (
         from,
         x - 1,
         low,
         omega arith,
-        put_when (t.told || more) t.run t.whole x from w told is whole (omega arith),
+        put_when (list_any is_said t || more) (run_of t) (whole_of t) x from w told is whole
+            (omega arith),
       )
     where
       unread_is : (o : Option Unread) → is_some o ≡ true → (u : Unread) × (o ≡ Some u)

@@ -18,7 +18,7 @@ use Rattle.sub_rules.specs.Pieces.Piece.{Passed, Sent}
 use Rattle.sub_rules.specs.Transmission.{Transmission}
 use Rattle.sub_rules.specs.declared.event.Event.{Event}
 use Rattle.sub_rules.specs.declared.event.Event.TheVariants.{Trusted}
-use Rattle.sub_rules.proofs.TrustedLemmas.{told_by-append}
+use Rattle.sub_rules.proofs.TrustedLemmas.{past_after, told_after-append}
 use Rattle.sub_trusted.specs.TrustedFrames.{CanStay, LawOfAllTrusted}
 use Rattle.sub_trusted.proofs.DoubtLemmas.{contains-announced}
 use Rattle.sub_trusted.proofs.AllTrustedStretchLemmas.{Fits, fits}
@@ -30,9 +30,9 @@ use Rattle.sub_trusted.proofs.AllTrustedPieceLemmas.{Outside, PastAt, pieces_lea
 use Rattle.sub_laws.proofs.PieceWalkLemmas.{EachPassed}
 use Rattle.sub_trusted.proofs.TrustedFrameLemmas.{part_length, risen}
 use Rattle.sub_laws.proofs.UntoldLemmas.{before_open, silent}
-use Rattle.sub_rules.specs.Trusted.{Mark, tells_none}
-use Rattle.sub_rules.proofs.KeptTrust.{all_is, Trust, after_mark, no_trust, told_by}
-use Rattle.sub_rules.proofs.KeptTrust.{told_with, trust_after}
+use Rattle.std.specs.List.{list_any}
+use Rattle.sub_rules.specs.Trusted.{Mark, is_said, last_begun, run_of, since_of, tells_none}
+use Rattle.sub_rules.specs.Trusted.{told_after, told_at, whole_of}
 
 -- ---- anything is told
 
@@ -42,10 +42,10 @@ unfolding all_announced passed_after_all
 nothing_of told none = grind (arith, nat_tests)
 
 -- Of the closing nothing is told where nothing was told and nothing follows.
-closing_silent : (g : Task) (frames : Transmission) (pes n : ℕ) (t : Trust)
-    → (t.told || not (tells_none (closing_of_pieces g frames pes n))) ≡ false
-    → told_by t (marks_of_closing g frames pes n) ≡ []
-unfolding told_by told_with after_mark
+closing_silent : (g : Task) (frames : Transmission) (pes n : ℕ) (t : List Mark)
+    → (list_any is_said t || not (tells_none (closing_of_pieces g frames pes n))) ≡ false
+    → told_after t (marks_of_closing g frames pes n) ≡ []
+unfolding told_after told_at run_of whole_of last_begun since_of
 closing_silent g frames pes n t e = grind (arith, nat_tests)
 
 module _ (g : Task) (pieces : List Piece) (a b i : ℕ)
@@ -95,52 +95,51 @@ module _ (g : Task) (pieces : List Piece) (a b i : ℕ)
 
   -- What comes of the pieces.
   goes : Leads (top g frames a b i fit) b (PastAt g frames a b i fit (length frames))
-      no_trust marks
+      [] marks
   goes = pieces_lead g frames a b i fit pieces refl outside
 
-  -- Something is told, or was.
-  any_told : (t : Trust) → trust_after no_trust marks ≡ t → told_by no_trust (marks ++ close) ≢ []
-      → (t.told || not (tells_none (closing_of_pieces g frames (length pieces) (length frames))))
-      ≡ true
-  any_told t after something = go (t.told || not (tells_none es)) refl
-    where
-      es : List Event
-      es = closing_of_pieces g frames (length pieces) (length frames)
+  -- Something is told as the file ends, or was.
+  abbrev tells : List Mark → Bool
+  tells t =
+      list_any is_said t
+      || not (tells_none (closing_of_pieces g frames (length pieces) (length frames)))
 
-      go : (c : Bool) → (t.told || not (tells_none es)) ≡ c → (t.told || not (tells_none es)) ≡ true
+  any_told : (t : List Mark) → past_after [] marks ≡ t → told_after [] (marks ++ close) ≢ []
+      → tells t ≡ true
+  any_told t after something = go (tells t) refl
+    where
+      go : (c : Bool) → tells t ≡ c → tells t ≡ true
       go true e = e
       go false e =
-          let none : told_by t close ≡ [] =
-          closing_silent g frames (length pieces) (length frames) t e in
-          let before : t.told ≡ false = (or_parts t.told (not (tells_none es)) e).0 in
-          let first : told_by no_trust marks ≡ [] =
-          (silent no_trust marks (before_open g pieces).none
-          (ap (λ (u : Trust). u.told) after ∙ before)).1 in
-          let rest : told_by (trust_after no_trust marks) close ≡ [] =
-          ap (λ (u : Trust). told_by u close) after ∙ none in
-          absurd (something (told_by-append no_trust marks close ∙ rw (first, rest) refl))
+          let before : list_any is_said t ≡ false = (or_parts (list_any is_said t) _ e).0 in
+          let first : told_after [] marks ≡ [] =
+          (silent [] marks (before_open g pieces).none (ap (list_any is_said) after ∙ before)).1 in
+          let rest : told_after (past_after [] marks) close ≡ [] =
+          ap (λ (u : List Mark). told_after u close) after
+          ∙ closing_silent g frames (length pieces) (length frames) t e in
+          absurd (something (told_after-append [] marks close ∙ rw (first, rest) refl))
 
-  all_marks : told_by no_trust (marks ++ close) ≢ [] → Among (told_by no_trust (marks ++ close))
+  all_marks : told_after [] (marks ++ close) ≢ [] → Among (told_after [] (marks ++ close))
   all_marks something =
-      subst Among (sym (told_by-append no_trust marks close)) (of_goes goes)
+      subst Among (sym (told_after-append [] marks close)) (of_goes goes)
     where
       of_goes : Leads (top g frames a b i fit) b
-          (PastAt g frames a b i fit (length frames)) no_trust marks
-          → Among (told_by no_trust marks ++ told_by (trust_after no_trust marks) close)
+          (PastAt g frames a b i fit (length frames)) [] marks
+          → Among (told_after [] marks ++ told_after (past_after [] marks) close)
       of_goes (inl told) =
-          told_left (top g frames a b i fit) b (told_by no_trust marks)
-          (told_by (trust_after no_trust marks) close) told
+          told_left (top g frames a b i fit) b (told_after [] marks)
+          (told_after (past_after [] marks) close) told
       of_goes (inr past) =
-          told_right (top g frames a b i fit) b (told_by no_trust marks)
-          (told_by (trust_after no_trust marks) close)
-          (closing_told g frames a b i fit (length pieces) (trust_after no_trust marks) past
-          (any_told (trust_after no_trust marks) refl something))
+          told_right (top g frames a b i fit) b (told_after [] marks)
+          (told_after (past_after [] marks) close)
+          (closing_told g frames a b i fit (length pieces) (past_after [] marks) past
+          (any_told (past_after [] marks) refl something))
 
   pub all_told : all_of_pieces g pieces ≢ [] → Among (all_of_pieces g pieces)
-  unfolding all_of_pieces
+  unfolding all_of_pieces told_of_pieces
   all_told something =
       let told : List Event = told_of_pieces g pieces in
-      let same : told ≡ told_by no_trust (marks ++ close) = all_is g pieces in
+      let same : told ≡ told_after [] (marks ++ close) = refl in
       let (from, to, low, high, c) =
       all_marks (λ none. something (nothing_of told (same ∙ none))) in (
         from,

@@ -5,7 +5,7 @@
 use Rattle.std.proofs.lemmas.Bool.Decides.{nat_tests}
 use Rattle.std.proofs.Common.{◌≡◌, ℕ, ◌+◌, ◌-◌, ◌<◌, ◌≤◌, inl, inr, Bool, true, false, ◌==◌, ◌&&◌}
 use Rattle.std.proofs.Common.{not, List, map, Option, Some, None, is_some, refl, sym, ◌∙◌, arith}
-use Rattle.std.proofs.Common.{le_refl, unwrap_or, if◌then◌else◌}
+use Rattle.std.proofs.Common.{le_refl, unwrap_or, if◌then◌else◌, ap}
 use Rattle.std.proofs.lemmas.Bool.{cases_lt}
 use Rattle.std.proofs.lemmas.Option.{none-some}
 use Rattle.std.specs.List.{list_any}
@@ -18,31 +18,29 @@ use Rattle.sub_rules.specs.Trusted.Mark.{Says}
 use Rattle.sub_rules.specs.declared.event.Event.{Event}
 use Rattle.sub_laws.specs.CleanStretch.{IsEnd}
 use Rattle.sub_trusted.specs.TrustedFrames.{rising_part}
-use Rattle.sub_trusted.proofs.TrustedKeptLemmas.{SeesNone, whole_of}
-use Rattle.sub_trusted.proofs.TrustedStepLemmas.{at_end, with_end}
+use Rattle.sub_trusted.proofs.TrustedKeptLemmas.{SeesNone, whole_found}
+use Rattle.sub_trusted.proofs.TrustedStepLemmas.{Looks, with_end}
 use Rattle.sub_trusted.proofs.AllTrustedStretchLemmas.{Fits}
 use Rattle.sub_trusted.proofs.LateDoubtLemmas.{end_doubt, seen_since}
 use Rattle.sub_trusted.proofs.AllTrustedLeadLemmas.{Leads, Leads-cons, said_told}
-use Rattle.sub_trusted.proofs.SayMarkLemmas.{IsSaid, doubt_of, said}
-use Rattle.sub_rules.proofs.KeptTrust.{Trust, after_mark, first_whole, late_since, trust_after}
-use Rattle.sub_rules.proofs.KeptTrust.{is_order}
+use Rattle.sub_trusted.proofs.SayMarkLemmas.{IsSaid, doubt_of, is_order, rose, said}
+use Rattle.sub_rules.proofs.TrustedLemmas.{past_after}
+use Rattle.sub_rules.specs.Trusted.{Mark, late_of, run_of, since_of, tells_fall, whole_at, whole_of}
+use Rattle.std.specs.Option.{option_or}
 
 -- ---- tests
 
 -- The page was whole in a run already.
-whole_kept : (run whole since : Option ℕ) (f w : ℕ) → whole ≡ Some w
-    → (if is_some run then first_whole whole since f else whole) ≡ Some w
-whole_kept run whole since f w e = grind (arith, nat_tests)
+pub whole_kept : (whole since : Option ℕ) (f w : ℕ) → whole ≡ Some w
+    → option_or whole (whole_at f since) ≡ Some w
+whole_kept whole since f w e = grind (arith, nat_tests)
 
 -- Or it is now.
-whole_now : (run whole since : Option ℕ) (f from : ℕ) → run ≡ Some from → since ≡ None
+pub whole_now : (whole since : Option ℕ) (f : ℕ) → since ≡ None
     → ((w : ℕ) → whole ≡ Some w → w ≤ f)
-    → (w : ℕ) × (w ≤ f)
-    × ((if is_some run then first_whole whole since f else whole) ≡ Some w)
-whole_now None whole since f from is none low = absurd (none-some from is)
-whole_now (Some x) (Some w) since f from is none low = (w, low w refl, refl)
-whole_now (Some x) None None f from is none low = (f, le_refl f, refl)
-whole_now (Some x) None (Some r) f from is none low = absurd (none-some r (sym none))
+    → (w : ℕ) × (w ≤ f) × (option_or whole (whole_at f since) ≡ Some w)
+whole_now (Some w) since f none low = (w, low w refl, refl)
+whole_now None since f none low = (f, le_refl f, rw none refl)
 
 -- Since a frame after b, at the end of one after it.
 late_past : (late : Bool) (since : Option ℕ) (f b : ℕ) → b < f
@@ -53,7 +51,7 @@ late_past late since f b past h = grind (arith, nat_tests)
 -- Nothing of what is told at an end is told of the order.
 pub end_orders : (old : Standing) (before : ℕ) (new : Standing) (f : ℕ)
     → list_any is_order (end_events old before new f) ≡ false
-unfolding end_events is_order
+unfolding end_events is_order tells_fall
 end_orders old before new f = grind (arith, nat_tests)
 
 module _ (g : Task) (frames : Transmission) (a b i : ℕ)
@@ -63,37 +61,37 @@ module _ (g : Task) (frames : Transmission) (a b i : ℕ)
   top = frame_at frames i
 
   -- The first n frames have ended, and the ends before frame p have been.
-  pub record Follows (n p : ℕ) (t : Trust) : Type 0 where
-    pub rises : n ≤ i → t.rises ≡ true
-    pub run : i < n → (from : ℕ) × (from ≤ top) × (t.run ≡ Some from)
-    pub low : (from w : ℕ) → t.run ≡ Some from → t.whole ≡ Some w → w < p
-    pub whole : i < n → b < p → (w : ℕ) × (w ≤ b) × (t.whole ≡ Some w)
-    pub since : i < n → b < p → (r : ℕ) → t.since ≡ Some r → b < r
+  pub record Follows (n p : ℕ) (t : List Mark) : Type 0 where
+    pub rises : n ≤ i → rose t ≡ true
+    pub run : i < n → (from : ℕ) × (from ≤ top) × (run_of t ≡ Some from)
+    pub low : (from w : ℕ) → run_of t ≡ Some from → whole_of t ≡ Some w → w < p
+    pub whole : i < n → b < p → (w : ℕ) × (w ≤ b) × (whole_of t ≡ Some w)
+    pub since : i < n → b < p → (r : ℕ) → since_of t ≡ Some r → b < r
 
-  pub follows_to : (n p q : ℕ) (t : Trust) → Follows n p t
-      → ((from : ℕ) → t.run ≡ Some from → p ≡ q)
+  pub follows_to : (n p q : ℕ) (t : List Mark) → Follows n p t
+      → ((from : ℕ) → run_of t ≡ Some from → p ≡ q)
       → Follows n q t
   follows_to n p q t follows same = grind (arith, nat_tests)
 
   -- After events that doubt no frame.
-  pub follows_said : (n p : ℕ) (t u : Trust) (es : List Event) → Follows n p t → IsSaid t u es
+  pub follows_said : (n p : ℕ) (t u : List Mark) (es : List Event) → Follows n p t → IsSaid t u es
       → (n ≤ i → list_any is_order es ≡ false)
       → (i < n → doubt_of t es ≡ None)
       → Follows n p u
   follows_said n p t u es follows so orders none = grind (arith, nat_tests)
 
   -- Where a frame after the stretch is doubted it is told.
-  pub doubt_told : (n p : ℕ) (t : Trust) (es : List Event) (x : ℕ) → Follows n p t → i < n
+  pub doubt_told : (n p : ℕ) (t : List Mark) (es : List Event) (x : ℕ) → Follows n p t → i < n
       → doubt_of t es ≡ Some x
       → (b < x) × (b < p)
-      → (S : Trust → Type 0) → Leads top b S t (map Says es)
+      → (S : List Mark → Type 0) → Leads top b S t (map Says es)
   doubt_told n p t es x follows l is past S =
       let (from, low, run) = follows.run l in
       let (w, high, whole) = follows.whole l past.1 in
       let after = past.0 in
       inl (from, x - 1, low, omega arith, said_told t es x from w is run whole (omega arith))
 
-  pub follows_says : (n p : ℕ) (t : Trust) (es : List Event) → Follows n p t
+  pub follows_says : (n p : ℕ) (t : List Mark) (es : List Event) → Follows n p t
       → (n ≤ i → list_any is_order es ≡ false)
       → (i < n → (x : ℕ) → doubt_of t es ≡ Some x → (b < x) × (b < p))
       → Leads top b (Follows n p) t (map Says es)
@@ -102,91 +100,91 @@ module _ (g : Task) (frames : Transmission) (a b i : ℕ)
       go : (o : Option ℕ) → doubt_of t es ≡ o → Leads top b (Follows n p) t (map Says es)
       go None is =
           inr
-          (follows_said n p t (trust_after t (map Says es)) es follows (said t es) orders
+          (follows_said n p t (past_after t (map Says es)) es follows (said t es) orders
           (λ l. is))
       go (Some x) is = elim (cases_lt i n) [
         | inl l ↦ doubt_told n p t es x follows l is (past l x is) (Follows n p)
         | inr not_yet ↦
             inr
-            (follows_said n p t (trust_after t (map Says es)) es follows (said t es) orders
+            (follows_said n p t (past_after t (map Says es)) es follows (said t es) orders
             (λ l. absurd (omega arith)))
       ]
 
   -- ---- an end
 
-  -- With the mark of the end of frame f, up to which m frames count.
-  pub end_follows : (n m f q : ℕ) (t : Trust) → f + 1 ≡ q → Follows n f t
+  -- Once the end of frame f was looked at, up to which m frames count.
+  pub end_follows : (n m f q : ℕ) (t u : List Mark) → Looks g frames m f t u → f + 1 ≡ q
+      → Follows n f t
       → (i < n → IsEnd (rising_part frames) m f)
-      → Follows n q (after_mark (at_end g frames m f) t)
-  unfolding after_mark
-  end_follows n m f q t next follows end = record {
-    rises = follows.rises;
-    run = follows.run;
+      → Follows n q u
+  end_follows n m f q t u looks next follows end = record {
+    rises = λ l. looks.rises_is ∙ follows.rises l;
+    run = λ l. let (from, low, is) = follows.run l in (from, low, looks.run_is ∙ is);
     low = low;
-    whole = λ l past. elim (cases_lt b f) [
-      | inl earlier ↦
-          let (w, high, is) = follows.whole l earlier in
-          (w, high, whole_kept t.run t.whole (seen_since g frames m f) f w is)
-      | inr not_before ↦
-          let here : b ≡ f = omega arith in
-          let (from, from_low, run) = follows.run l in
-          let (w, high, is) =
-          whole_now t.run t.whole (seen_since g frames m f) f from run
-          (fits.finished m f (end l) here)
-          (λ w whole. let under = follows.low from w run whole in omega arith) in
-          (w, omega arith, is)
-    ];
-    since = λ l past r is. fits.since m f r (end l) (omega arith) is;
+    whole = λ l past.
+        let (from, from_low, run) = follows.run l in
+        let now = looks.whole_is (ap is_some run) in
+        elim (cases_lt b f) [
+          | inl earlier ↦
+              let (w, high, is) = follows.whole l earlier in
+              (w, high, now ∙ whole_kept (whole_of t) (seen_since g frames m f) f w is)
+          | inr not_before ↦
+              let here : b ≡ f = omega arith in
+              let (w, high, is) =
+              whole_now (whole_of t) (seen_since g frames m f) f (fits.finished m f (end l) here)
+              (λ w whole. let under = follows.low from w run whole in omega arith) in
+              (w, omega arith, now ∙ is)
+        ];
+    since = λ l past r is. fits.since m f r (end l) (omega arith) (sym looks.since_is ∙ is);
   }
     where
-      low : (from w : ℕ) → t.run ≡ Some from
-          → (if is_some t.run then first_whole t.whole (seen_since g frames m f) f
-          else t.whole)
-          ≡ Some w
-          → w < q
-      low from w run whole =
-          elim (whole_of t.run t.whole (seen_since g frames m f) f from w run whole) [
+      low : (from w : ℕ) → run_of u ≡ Some from → whole_of u ≡ Some w → w < q
+      low from w is whole =
+          let run : run_of t ≡ Some from = sym looks.run_is ∙ is in
+          elim (whole_found (whole_of t) (seen_since g frames m f) f w
+          (sym (looks.whole_is (ap is_some run)) ∙ whole)) [
             | inl before ↦ let under = follows.low from w run before in omega arith
             | inr (none, here) ↦ omega arith
           ]
 
   -- What is told there doubts a frame after the stretch, if one.
-  pub end_past : (n m f x : ℕ) (t : Trust) → IsEnd (rising_part frames) m f → a ≤ f
-      → doubt_of (after_mark (at_end g frames m f) t) (events_at_end g frames n m f) ≡ Some x
+  pub end_past : (n m f x : ℕ) (t u : List Mark) → Looks g frames m f t u
+      → IsEnd (rising_part frames) m f
+      → a ≤ f
+      → doubt_of u (events_at_end g frames n m f) ≡ Some x
       → (b < x) × (b < f + 1)
-  unfolding after_mark
-  end_past n m f x t end low doubt =
-      let late : Option ℕ = late_since (after_mark (at_end g frames m f) t) in
+  end_past n m f x t u looks end low doubt =
       let finds =
-      end_doubt t.last (end_before frames n f) f late (standing_before g frames n f)
+      end_doubt u (end_before frames n f) f (standing_before g frames n f)
       (standing_at g frames m f) in
       elim (cases_lt b f) [
         | inl past ↦
-            let at : x ≡ unwrap_or late f = finds.at x doubt in
-            let after : b < unwrap_or late f =
-            late_past (not (g.within == 0) && is_late g frames m f) (seen_since g frames m f) f b
-            past (λ r is. fits.since m f r end (omega arith) is) in
+            let at : x ≡ unwrap_or (late_of u) f = finds.at x doubt in
+            let after : b < unwrap_or (late_of u) f =
+            rw looks.late_is
+            (late_past (not (g.within == 0) && is_late g frames m f) (seen_since g frames m f) f b
+            past (λ r is. fits.since m f r end (omega arith) is)) in
             (omega arith, omega arith)
         | inr not_past ↦
             let none = finds.calm (fits.ends m f end low (omega arith)) in
             absurd (none-some x (sym none ∙ doubt))
       ]
 
-  pub end_leads : (n m f q : ℕ) (t : Trust) → ((g.within == 0) ≡ true → SeesNone t) → f + 1 ≡ q
+  pub end_leads : (n m f q : ℕ) (t : List Mark) → ((g.within == 0) ≡ true → SeesNone t)
+      → f + 1 ≡ q
       → Follows n f t
       → (i < n → IsEnd (rising_part frames) m f)
       → (i < n → a ≤ f)
       → Leads top b (Follows n q) t (marks_at_end g frames n m f)
-  unfolding after_mark
   end_leads n m f q t none next follows end low =
-      let u : Trust = after_mark (at_end g frames m f) t in
-      let es : List Event = events_at_end g frames n m f in
       with_end g frames (Leads top b (Follows n q)) n m f t none
       (λ mark ms silent. Leads-cons top b (Follows n q) t mark ms)
-      (follows_says n q u es (end_follows n m f q t next follows end)
+      (λ u looks.
+      follows_says n q u (events_at_end g frames n m f)
+      (end_follows n m f q t u looks next follows end)
       (λ l. end_orders (standing_before g frames n f) (end_before frames n f)
       (standing_at g frames m f) f)
       (λ l x doubt.
-      let past = end_past n m f x t (end l) (low l) doubt in
+      let past = end_past n m f x t u looks (end l) (low l) doubt in
       let high = past.1 in
       (past.0, omega arith)))

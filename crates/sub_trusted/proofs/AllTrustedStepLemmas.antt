@@ -33,18 +33,18 @@ use Rattle.sub_trusted.proofs.AllTrustedLeadLemmas.{Leads, Leads-append, Leads-b
 use Rattle.sub_trusted.proofs.AllTrustedLeadLemmas.{Leads-nil}
 use Rattle.sub_laws.proofs.PrefixLemmas.{RiseTo, rises_to}
 use Rattle.sub_laws.proofs.RisingEndLemmas.{latest_at}
-use Rattle.sub_trusted.proofs.SayMarkLemmas.{doubt_of, said}
+use Rattle.sub_trusted.proofs.SayMarkLemmas.{doubt_of, is_order, rose, said}
 use Rattle.sub_trusted.proofs.AllTrustedMarkLemmas.{Follows, doubt_told, end_leads, follows_said}
 use Rattle.sub_trusted.proofs.AllTrustedMarkLemmas.{follows_says, follows_to, top}
 use Rattle.sub_trusted.proofs.TrustedFrameLemmas.{count_most, part_rises, risen}
-use Rattle.sub_rules.proofs.KeptTrust.{Trust, after_mark, late_since, trust_after}
-use Rattle.sub_rules.specs.Trusted.{Mark}
-use Rattle.sub_rules.proofs.KeptTrust.{is_order}
+use Rattle.sub_rules.proofs.TrustedLemmas.{past_after}
+use Rattle.sub_rules.specs.Trusted.{Mark, stays_quiet, last_begun, late_of, run_of, since_of}
+use Rattle.sub_rules.specs.Trusted.{tells_fall, whole_of}
 
 -- ---- events that do not tell of the order
 
 rule_order : (frame k : ℕ) (r : PacketRule) → is_order (Told (packet_fault r frame k)) ≡ false
-unfolding is_order
+unfolding is_order tells_fall
 rule_order frame k r = grind (arith, nat_tests)
 
 rules_orders : (frame k : ℕ) (rs : List PacketRule)
@@ -62,14 +62,14 @@ packets_orders w frame from before packets (suc n) =
 
 pub passed_orders : (pes : ℕ) (u : Unread)
     → list_any is_order (Told (unread_fault pes (Some u)) ∷ []) ≡ false
-unfolding is_order
+unfolding is_order tells_fall
 passed_orders pes u = grind (arith, nat_tests)
 
 -- Of frames that rise nothing is told of the order, nor is one doubted.
 order_orders : (g : Task) (frames : Transmission) (n : ℕ)
     → (0 < n → frame_at frames (n - 1) < frame_at frames n)
     → list_any is_order (order_events g frames n) ≡ false
-unfolding order_events is_order
+unfolding order_events is_order tells_fall
 order_orders g frames n up = grind (arith, nat_tests)
 
 order_silent : (g : Task) (frames : Transmission) (n : ℕ) → 0 < n
@@ -108,17 +108,17 @@ keeps_part w before xs ys zs all k l r needed =
 
 module _ (g : Task) (frames : Transmission) (a b i : ℕ)
     (fits : Fits g frames a b i) where
-  abbrev Follow : ℕ → ℕ → Trust → Type 0
+  abbrev Follow : ℕ → ℕ → List Mark → Type 0
   Follow n p t = Follows g frames a b i fits n p t
 
-  abbrev Lead : (Trust → Type 0) → Trust → List Mark → Type 0
+  abbrev Lead : (List Mark → Type 0) → List Mark → List Mark → Type 0
   Lead S t ms = Leads (top g frames a b i fits) b S t ms
 
   -- ---- the ends of frames of the day before a frame
 
   -- The run that is there is one of frames that rise up to frame n.
-  up_here : (n x p : ℕ) (t : Trust) → Keeps g frames 0 n x t
-      → (t.rises ≡ true → RiseTo frames (suc n))
+  up_here : (n x p : ℕ) (t : List Mark) → Keeps g frames 0 n x t
+      → (rose t ≡ true → RiseTo frames (suc n))
       → Follow n p t
       → i < n
       → Up g frames n
@@ -135,7 +135,7 @@ module _ (g : Task) (frames : Transmission) (a b i : ℕ)
       let low = fits.low in
       omega arith
 
-  gap_leads : (n k : ℕ) (t : Trust) → n < length frames → k < gap_length frames n
+  gap_leads : (n k : ℕ) (t : List Mark) → n < length frames → k < gap_length frames n
       → Arrives g frames 0 n k t
       → Follow n (latest frames n + suc k) t
       → Lead (λ u. Arrives g frames 0 n (suc k) u × Follow n (latest frames n + suc (suc k)) u) t
@@ -164,10 +164,10 @@ module _ (g : Task) (frames : Transmission) (a b i : ℕ)
           arrives.rises follows below
 
   -- The first k of them have been.
-  abbrev Arriving : ℕ → ℕ → Trust → Type 0
+  abbrev Arriving : ℕ → ℕ → List Mark → Type 0
   Arriving n k u = Arrives g frames 0 n k u × Follow n (latest frames n + suc k) u
 
-  gaps_lead : (n k : ℕ) (t : Trust) → n < length frames → k ≤ gap_length frames n
+  gaps_lead : (n k : ℕ) (t : List Mark) → n < length frames → k ≤ gap_length frames n
       → Arriving n 0 t
       → Lead (Arriving n k) t (marks_of_gap g frames n k)
   unfolding marks_of_gap
@@ -182,10 +182,10 @@ module _ (g : Task) (frames : Transmission) (a b i : ℕ)
   -- ---- before the packets of a frame
 
   -- The first n frames have ended.
-  abbrev pub Past : ℕ → Trust → Type 0
+  abbrev pub Past : ℕ → List Mark → Type 0
   Past n u = Closed g frames 0 n u × Follow n (frame_at frames (n - 1) + 1) u
 
-  order_leads : (n : ℕ) (t : Trust) → n < length frames → Past n t
+  order_leads : (n : ℕ) (t : List Mark) → n < length frames → Past n t
       → Lead (Arriving n 0) t (map Says (order_events g frames n))
   order_leads n t there (closed, follows) =
       Leads-both (top g frames a b i fits) b (Arrives g frames 0 n 0)
@@ -210,7 +210,7 @@ module _ (g : Task) (frames : Transmission) (a b i : ℕ)
           let run = closed.keeps.run from is in
           let most = count_most frames (length frames) n (omega arith) run.rises in
           let last = latest_at frames n run.rises (omega arith) in
-          let at : x ≡ t.last = order_at t.last (late_since t) g frames n x doubt in
+          let at : x ≡ last_begun t = order_at t g frames n x doubt in
           let here = closed.last (omega arith) in
           elim (cases_lt n (risen frames)) [
             | inl more ↦
@@ -228,17 +228,17 @@ module _ (g : Task) (frames : Transmission) (a b i : ℕ)
           ]
 
   -- Frame n is sent.
-  pub record Sending (n : ℕ) (t : Trust) : Type 0 where
+  pub record Sending (n : ℕ) (t : List Mark) : Type 0 where
     pub follows : Follow n (frame_at frames n) t
-    pub clean : i ≤ n → t.is_clean ≡ true
+    pub clean : i ≤ n → stays_quiet t ≡ true
 
   -- So are these packets in it so far.
-  abbrev pub Open : ℕ → List (List ℕ) → Trust → Type 0
+  abbrev pub Open : ℕ → List (List ℕ) → List Mark → Type 0
   Open n packets u = Opens g frames 0 n packets u × Sending n u
 
-  begins_open : (n : ℕ) (t : Trust) → n < length frames → Arriving n (gap_length frames n) t
-      → Open n [] (after_mark (Begins (frame_at frames n)) t)
-  unfolding after_mark
+  begins_open : (n : ℕ) (t : List Mark) → n < length frames → Arriving n (gap_length frames n) t
+      → Open n [] (Begins (frame_at frames n) ∷ t)
+  unfolding run_of whole_of last_begun since_of late_of stays_quiet tells_fall
   begins_open n t there (arrives, follows) =
       let now : Follow n (frame_at frames n) t =
       follows_to g frames a b i fits n (latest frames n + suc (gap_length frames n))
@@ -257,13 +257,13 @@ module _ (g : Task) (frames : Transmission) (a b i : ℕ)
           clean = λ l. elim (cases_lt i n) [
             | inl below ↦
                 let (from, low, is) = follows.run below in
-                run_rises t.rises t.run from arrives.keeps.falls is
+                run_rises (rose t) (run_of t) from arrives.keeps.falls is
             | inr not_yet ↦ follows.rises (omega arith)
           ];
         },
       )
 
-  pub arrival_leads : (n : ℕ) (t : Trust) → n < length frames → Past n t
+  pub arrival_leads : (n : ℕ) (t : List Mark) → n < length frames → Past n t
       → Lead (Open n []) t (marks_of_arrival g frames n)
   arrival_leads n t there past =
       Leads-append (top g frames a b i fits) b (Arriving n (gap_length frames n)) (Open n []) t
@@ -276,11 +276,11 @@ module _ (g : Task) (frames : Transmission) (a b i : ℕ)
       (λ v here.
       Leads-cons (top g frames a b i fits) b (Open n []) v (Begins (frame_at frames n)) []
       (Leads-nil (top g frames a b i fits) b (Open n [])
-      (after_mark (Begins (frame_at frames n)) v) (begins_open n v there here)))
+      (Begins (frame_at frames n) ∷ v) (begins_open n v there here)))
 
   -- ---- while it is sent
 
-  pub sending_says : (n : ℕ) (t : Trust) (es : List Event) → Sending n t
+  pub sending_says : (n : ℕ) (t : List Mark) (es : List Event) → Sending n t
       → list_any is_order es ≡ false
       → (i ≡ n → doubt_of t es ≡ None)
       → (i < n → (x : ℕ) → doubt_of t es ≡ Some x → (b < x) × (b < frame_at frames n))
@@ -288,10 +288,10 @@ module _ (g : Task) (frames : Transmission) (a b i : ℕ)
   sending_says n t es sending orders calm past = go (doubt_of t es) refl
     where
       follow : (i < n → doubt_of t es ≡ None)
-          → Follow n (frame_at frames n) (trust_after t (map Says es))
+          → Follow n (frame_at frames n) (past_after t (map Says es))
       follow none =
           follows_said g frames a b i fits n (frame_at frames n) t
-          (trust_after t (map Says es)) es sending.follows (said t es) (λ l. orders) none
+          (past_after t (map Says es)) es sending.follows (said t es) (λ l. orders) none
 
       go : (o : Option ℕ) → doubt_of t es ≡ o → Lead (Sending n) t (map Says es)
       go None is =
@@ -299,7 +299,8 @@ module _ (g : Task) (frames : Transmission) (a b i : ℕ)
           (record {
             follows = follow (λ l. is);
             clean = λ l.
-                (said t es).clean_is ∙ clean_still t.is_clean (doubt_of t es) (sending.clean l) is;
+                (said t es).clean_is
+                ∙ clean_still (stays_quiet t) (doubt_of t es) (sending.clean l) is;
           })
       go (Some x) is = elim (cases_lt i n) [
         | inl l ↦
@@ -315,7 +316,7 @@ module _ (g : Task) (frames : Transmission) (a b i : ℕ)
       ]
 
   -- What is so of a frame that is sent after the one with the header.
-  pub later_in : (n : ℕ) (packets : List (List ℕ)) (t : Trust) → n < length frames
+  pub later_in : (n : ℕ) (packets : List (List ℕ)) (t : List Mark) → n < length frames
       → Open n packets t
       → i < n
       → (n < risen frames) × (a ≤ frame_at frames n)
@@ -327,7 +328,7 @@ module _ (g : Task) (frames : Transmission) (a b i : ℕ)
       let up = h.up in
       (in_part n there h, omega arith)
 
-  pub more_leads : (n : ℕ) (packets more rest : List (List ℕ)) (t : Trust) → n < length frames
+  pub more_leads : (n : ℕ) (packets more rest : List (List ℕ)) (t : List Mark) → n < length frames
       → packets_of_frame frames n ≡ packets ++ more ++ rest
       → Open n packets t
       → Lead (Open n (packets ++ more)) t
@@ -339,7 +340,7 @@ module _ (g : Task) (frames : Transmission) (a b i : ℕ)
       let es : List Event =
       packets_told g.watched (frame_at frames n) (length packets) so_far more (length more) in
       let finds =
-      packets_doubt t.last (late_since t) g.watched (frame_at frames n) (length packets) so_far
+      packets_doubt t g.watched (frame_at frames n) (length packets) so_far
       more in
       Leads-both (top g frames a b i fits) b (Opens g frames 0 n (packets ++ more)) (Sending n) t
       (map Says es) (more_sent g frames 0 n packets more t there opens).after
@@ -369,7 +370,7 @@ module _ (g : Task) (frames : Transmission) (a b i : ℕ)
           (fits.packets n in_it low high))
 
   -- A piece is passed over before the next frame comes.
-  pub passed_past : (n pes : ℕ) (u : Unread) (t : Trust) → n ≤ length frames
+  pub passed_past : (n pes : ℕ) (u : Unread) (t : List Mark) → n ≤ length frames
       → (0 < n → n ≤ risen frames → (frame_at frames (n - 1) < a) ⊎ (b < frame_at frames (n - 1)))
       → Past n t
       → Lead (Past n) t (map Says (Told (unread_fault pes (Some u)) ∷ []))
@@ -385,8 +386,8 @@ module _ (g : Task) (frames : Transmission) (a b i : ℕ)
       let up = rises_to frames n (closed.keeps.run from run).rises i (n - 1) (omega arith)
       (omega arith) in
       let from_low = fits.low in
-      let is : Some t.last ≡ Some x = sym (passed_at t.last (late_since t) pes u) ∙ doubt in
-      let same : t.last ≡ x = same_Some t.last x is in
+      let is : Some (last_begun t) ≡ Some x = sym (passed_at t pes u) ∙ doubt in
+      let same : last_begun t ≡ x = same_Some (last_begun t) x is in
       let last = closed.last (omega arith) in
       elim (outside (omega arith) most) [
         | inl before ↦ absurd (omega arith)
@@ -394,7 +395,7 @@ module _ (g : Task) (frames : Transmission) (a b i : ℕ)
       ]))
 
   -- Or while one is sent.
-  pub passed_leads : (n pes : ℕ) (packets : List (List ℕ)) (u : Unread) (t : Trust)
+  pub passed_leads : (n pes : ℕ) (packets : List (List ℕ)) (u : Unread) (t : List Mark)
       → n < length frames
       → (n < risen frames → (frame_at frames n < a) ⊎ (b < frame_at frames n))
       → Open n packets t
@@ -415,9 +416,8 @@ module _ (g : Task) (frames : Transmission) (a b i : ℕ)
       ])
       (λ l x doubt.
       let (in_it, low) = later_in n packets t there (opens, sending) l in
-      let is : Some t.last ≡ Some x =
-      sym (passed_at t.last (late_since t) pes u) ∙ doubt in
-      let same : t.last ≡ x = same_Some t.last x is in
+      let is : Some (last_begun t) ≡ Some x = sym (passed_at t pes u) ∙ doubt in
+      let same : last_begun t ≡ x = same_Some (last_begun t) x is in
       let last = opens.last in
       elim (outside in_it) [
         | inl before ↦ absurd (omega arith)

@@ -27,9 +27,8 @@ use Rattle.sub_laws.specs.CleanStretch.{is_needed}
 use Rattle.sub_trusted.proofs.DoubtLemmas.{EachTrusted, OnTrusted, each-own}
 use Rattle.sub_laws.proofs.FirstFoundLemmas.{Finds, Finds-like, first_found, found_so_far}
 use Rattle.sub_laws.proofs.FirstFoundLemmas.{packet_found}
-use Rattle.sub_rules.proofs.KeptTrust.{doubted}
-use Rattle.sub_rules.specs.Trusted.{stands_none}
-use Rattle.sub_rules.proofs.KeptTrust.{is_order}
+use Rattle.sub_rules.specs.Trusted.{Mark, doubted_by, last_begun, late_of, stands_none, tells_fall}
+use Rattle.sub_trusted.proofs.SayMarkLemmas.{is_order}
 
 -- ---- packets
 
@@ -64,17 +63,17 @@ keeps_joined w before xs ys one two k l r needed = elim (cases_lt k (length xs))
       ) (two i few r needed))
 ]
 
-module _ (last : ℕ) (late : Option ℕ) (w : Watched) (frame from : ℕ)
+module _ (t : List Mark) (w : Watched) (frame from : ℕ)
     (before packets : List (List ℕ))
   where
     -- The frame of a packet is trusted no more exactly by the rules on which a receiver depends.
     rule_doubt : (k : ℕ) (r : PacketRule)
-        → doubted last late (Told (packet_fault r frame k)) ≡ cond (is_needed r) (Some frame) None
-    unfolding doubted
+        → doubted_by t (Told (packet_fault r frame k)) ≡ cond (is_needed r) (Some frame) None
+    unfolding doubted_by
     rule_doubt k r = grind (arith, nat_tests)
 
     packet_doubt : (k : ℕ)
-        → Finds (doubted last late) (λ x. x ≡ frame) (KeepsEach w before packets k)
+        → Finds (doubted_by t) (λ x. x ≡ frame) (KeepsEach w before packets k)
         (KeepsEach w before packets k)
         (rules_told w frame (from + k) (before ++ take k packets) (get_or packets k []))
     packet_doubt k =
@@ -83,12 +82,12 @@ module _ (last : ℕ) (late : Option ℕ) (w : Watched) (frame from : ℕ)
         let is = rule_doubt (from + k) r in let keep = keeps r in grind (arith, nat_tests))
         (λ none r needed.
         let is = rule_doubt (from + k) r in let silent = none r in grind (arith, nat_tests))
-        (packet_found (doubted last late) (λ x. x ≡ frame) frame (from + k)
+        (packet_found (doubted_by t) (λ x. x ≡ frame) frame (from + k)
         (λ r x e. let is = rule_doubt (from + k) r in grind (arith, nat_tests)) w _ _)
 
     -- What is told of packets doubts their frame, exactly where they break one.
     pub packets_doubt :
-        Finds (doubted last late) (λ x. x ≡ frame) (KeepsAll w before packets)
+        Finds (doubted_by t) (λ x. x ≡ frame) (KeepsAll w before packets)
         (KeepsAll w before packets)
         (packets_told w frame from before packets (length packets))
     unfolding packets_told
@@ -132,15 +131,15 @@ module _ (P : ℕ → ℕ → Type 0) where
 
 -- ---- numbers, and the first header
 
-module _ (last : ℕ) (late : Option ℕ) (g : Task) (frames : Transmission) where
-  pub order_at : (i x : ℕ) → first_found (doubted last late) (order_events g frames i) ≡ Some x
-      → x ≡ last
-  unfolding order_events doubted
+module _ (t : List Mark) (g : Task) (frames : Transmission) where
+  pub order_at : (i x : ℕ) → first_found (doubted_by t) (order_events g frames i) ≡ Some x
+      → x ≡ last_begun t
+  unfolding order_events doubted_by
   order_at i x e = grind (arith, nat_tests)
 
   pub header_none : (i : ℕ)
-      → first_found (doubted last late) (first_header_events g frames i) ≡ None
-  unfolding first_header_events doubted
+      → first_found (doubted_by t) (first_header_events g frames i) ≡ None
+  unfolding first_header_events doubted_by
   header_none i = grind (arith, nat_tests)
 
 -- Where nothing is told of the order a frame is after the one before.
@@ -148,24 +147,24 @@ pub order_rises : (g : Task) (frames : Transmission) (i : ℕ)
     → list_any is_order (order_events g frames i) ≡ false
     → 0 < i
     → frame_at frames (i - 1) < frame_at frames i
-unfolding order_events is_order
+unfolding order_events is_order tells_fall
 order_rises g frames i none some = grind (arith, nat_tests)
 
 -- A piece that is passed over doubts the frame before it.
-pub passed_at : (last : ℕ) (late : Option ℕ) (pes : ℕ) (u : Unread)
-    → first_found (doubted last late) (Told (unread_fault pes (Some u)) ∷ []) ≡ Some last
-unfolding doubted
-passed_at last late pes u = grind (arith, nat_tests)
+pub passed_at : (t : List Mark) (pes : ℕ) (u : Unread)
+    → first_found (doubted_by t) (Told (unread_fault pes (Some u)) ∷ []) ≡ Some (last_begun t)
+unfolding doubted_by
+passed_at t pes u = grind (arith, nat_tests)
 
 -- ---- an end
 
 -- What is told at an end doubts its frame, or at a late end the one since which the page is not
 -- whole; where it does not, nothing stands that did not stand before.
-pub end_doubt : (last before f : ℕ) (late : Option ℕ) (old new : Standing)
-    → Finds (doubted last late) (λ x. x ≡ unwrap_or late f) (stands_none new ≡ true)
+pub end_doubt : (t : List Mark) (before f : ℕ) (old new : Standing)
+    → Finds (doubted_by t) (λ x. x ≡ unwrap_or (late_of t) f) (stands_none new ≡ true)
     (stands_none old ≡ true → stands_none new ≡ true) (end_events old before new f)
-unfolding end_events doubted
-end_doubt last before f late old new = grind (arith, nat_tests)
+unfolding end_events doubted_by
+end_doubt t before f old new = grind (arith, nat_tests)
 
 -- That is not after it.
 pub late_low : (late : Bool) (since : Option ℕ) (f : ℕ)

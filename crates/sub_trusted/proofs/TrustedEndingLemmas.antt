@@ -3,7 +3,8 @@
 use Rattle.std.proofs.lemmas.Bool.Decides.{nat_tests}
 use Rattle.std.proofs.Common.{◌≡◌, ℕ, suc, ◌-◌, ◌<◌, ◌≤◌, ◌⊎◌, inl, inr, Bool, true, false, ◌&&◌}
 use Rattle.std.proofs.Common.{List, [], ◌∷◌, ◌++◌, length, map, Option, Some, None, is_some, refl}
-use Rattle.std.proofs.Common.{sym, ap, ◌∙◌, subst, arith, if◌then◌else◌}
+use Rattle.std.proofs.Common.{sym, ap, ◌∙◌, subst, arith, if◌then◌else◌, is_none}
+use Rattle.std.specs.Option.{option_or}
 use Rattle.std.proofs.lemmas.Bool.{true≢false}
 use Rattle.std.proofs.lemmas.Option.{none-some}
 use Rattle.ttx_page.specs.PacketKind.{kind}
@@ -15,25 +16,31 @@ use Rattle.sub_rules.specs.Transmission.{Transmission}
 use Rattle.sub_rules.specs.Trusted.Mark.{Ends, Says}
 use Rattle.sub_rules.specs.declared.event.Event.{Event}
 use Rattle.sub_trusted.proofs.TrustedKeptLemmas.{Closed, IsAbove, IsWhole, Opens, Quiet, may_before}
-use Rattle.sub_trusted.proofs.TrustedKeptLemmas.{opens_said, run_more, run_new, run_low, run_of}
-use Rattle.sub_trusted.proofs.TrustedKeptLemmas.{run_rises, up_of, whole_ended, whole_some}
+use Rattle.sub_trusted.proofs.TrustedKeptLemmas.{opens_said, run_more, run_new, run_low, run_found}
+use Rattle.sub_trusted.proofs.TrustedKeptLemmas.{run_rises, up_of, whole_some}
 use Rattle.sub_trusted.proofs.LateDoubtLemmas.{header_none, header_own, seen_low, seen_since}
 use Rattle.sub_laws.proofs.PrefixLemmas.{before, rises_to}
 use Rattle.sub_laws.proofs.RisingEndLemmas.{latest_at}
 use Rattle.sub_trusted.proofs.SayMarkLemmas.{Goes-append, Goes-cons, Goes-nil, Goes-says}
 use Rattle.sub_trusted.proofs.TrustedRunLemmas.{Run}
-use Rattle.sub_trusted.proofs.TrustedStepLemmas.{HasEnd, Passes, Tells, at_end, end_tells}
+use Rattle.sub_trusted.proofs.TrustedStepLemmas.{HasEnd, Passes, Tells, end_tells}
 use Rattle.sub_trusted.proofs.TrustedStepLemmas.{keeps_end}
-use Rattle.sub_rules.proofs.KeptTrust.{Trust, after_mark, late_since, told_with, whole_in}
-use Rattle.sub_rules.specs.Trusted.{Mark, stands_none}
-use Rattle.sub_rules.proofs.KeptTrust.{begun}
+use Rattle.sub_trusted.proofs.SayMarkLemmas.{rose}
+use Rattle.sub_rules.specs.Trusted.{Mark, stays_quiet, last_begun, late_of, run_of, since_of}
+use Rattle.sub_rules.specs.Trusted.{stands_none, tells_fall, told_at, whole_at, whole_of}
+
+-- Where the page was whole in the run that is left at the end of a frame.
+whole_ended : (run whole since : Option ℕ) (f w : ℕ)
+    → option_or (if is_none run then None else whole) (whole_at f since) ≡ Some w
+    → ((since ≡ None) × (f ≡ w)) ⊎ ((whole ≡ Some w) × (is_some run ≡ true))
+whole_ended run whole since f w e = grind (arith, nat_tests)
 
 module _ (g : Task) (frames : Transmission) (base : ℕ) where
   -- All packets of frame n were sent, and its end was looked at.
-  record Ending (n : ℕ) (t : Trust) : Type 0 where
+  record Ending (n : ℕ) (t : List Mark) : Type 0 where
     opens : Opens g frames base n (packets_of_frame frames n) t
-    since_is : t.since ≡ seen_since g frames (suc n) (frame_at frames n)
-    since : t.rises ≡ true → (r : ℕ) → t.since ≡ Some r → r ≤ frame_at frames n
+    since_is : since_of t ≡ seen_since g frames (suc n) (frame_at frames n)
+    since : rose t ≡ true → (r : ℕ) → since_of t ≡ Some r → r ≤ frame_at frames n
 
   -- It has a header, and nothing stands at its end.
   abbrev has : ℕ → Bool
@@ -43,25 +50,27 @@ module _ (g : Task) (frames : Transmission) (base : ℕ) where
   quiet n = stands_none (standing_at g frames (suc n) (frame_at frames n))
 
   -- It ends.
-  ended : (n : ℕ) (t : Trust) → n < length frames → Ending n t
-      → Closed g frames base (suc n)
-      (after_mark
-      (Ends (frame_at frames n) (holds_header (kind g.watched.page) (packets_of_frame frames n))
-      (stands_none (standing_at g frames (suc n) (frame_at frames n)))) t)
-  unfolding after_mark
+  abbrev mark : ℕ → Mark
+  mark n = Ends (frame_at frames n) (has n) (quiet n)
+
+  ended : (n : ℕ) (t : List Mark) → n < length frames → Ending n t
+      → Closed g frames base (suc n) (mark n ∷ t)
+  unfolding run_of whole_of last_begun since_of late_of stays_quiet tells_fall
   ended n t there ending = record {
     keeps = record {
       run = run_then;
       ends = λ from is m e end few low high. (run_then from is).ends m e end few low high;
       whole = whole_then;
       above = above_then;
-      falls = λ e. falls_then e t.is_clean refl;
+      falls = λ e. falls_then e (stays_quiet t) refl;
       at_once = λ e.
           let none = ending.opens.keeps.at_once e in
           record {
             since = none.since;
             late = none.late;
-            whole = λ there. whole_some t.run t.whole t.since (frame_at frames n) none.since;
+            whole = λ there.
+                whole_some (if is_none (run_of t) then None else whole_of t) (since_of t)
+                (frame_at frames n) none.since;
           };
     };
     floor = ending.opens.floor;
@@ -75,23 +84,19 @@ module _ (g : Task) (frames : Transmission) (base : ℕ) where
         omega arith;
   }
     where
-      kept : (from : ℕ)
-          → (if t.is_clean && quiet n then begun t.run (has n) (frame_at frames n) else None)
-          ≡ Some from
-          → (t.is_clean ≡ true) × (quiet n ≡ true)
-          × ((t.run ≡ Some from)
-          ⊎ ((t.run ≡ None) × ((has n) ≡ true) × (frame_at frames n ≡ from)))
-      kept from is = run_of t.is_clean (quiet n) t.run (has n) (frame_at frames n) from is
+      kept : (from : ℕ) → run_of (mark n ∷ t) ≡ Some from
+          → (stays_quiet t ≡ true) × (quiet n ≡ true)
+          × ((run_of t ≡ Some from)
+          ⊎ ((run_of t ≡ None) × (has n ≡ true) × (frame_at frames n ≡ from)))
+      kept from is =
+          run_found (stays_quiet t) (quiet n) (run_of t) (has n) (frame_at frames n) from is
 
-      quiet_is : t.is_clean ≡ true → quiet n ≡ true → Quiet g frames n
+      quiet_is : stays_quiet t ≡ true → quiet n ≡ true → Quiet g frames n
       quiet_is clean none =
           let both = ending.opens.clean clean in
           record { rises = ending.opens.rises both.0; kept = both.1; none = none }
 
-      run_then : (from : ℕ)
-          → (if t.is_clean && quiet n then begun t.run (has n) (frame_at frames n) else None)
-          ≡ Some from
-          → Run g frames (suc n) from
+      run_then : (from : ℕ) → run_of (mark n ∷ t) ≡ Some from → Run g frames (suc n) from
       run_then from is =
           let (clean, none, was) = kept from is in
           elim was [
@@ -102,18 +107,15 @@ module _ (g : Task) (frames : Transmission) (base : ℕ) where
                 subst (Run g frames (suc n)) here (run_new g frames n (quiet_is clean none) header)
           ]
 
-      whole_then : (from w : ℕ)
-          → (if t.is_clean && quiet n then begun t.run (has n) (frame_at frames n) else None)
-          ≡ Some from
-          → whole_in t.run t.whole t.since (frame_at frames n) ≡ Some w
+      whole_then : (from w : ℕ) → run_of (mark n ∷ t) ≡ Some from
+          → whole_of (mark n ∷ t) ≡ Some w
           → IsWhole g frames from w
       whole_then from w is whole =
           let (clean, none, was) = kept from is in
-          let low =
-          run_low g frames (suc n) from (run_then from is) in
+          let low = run_low g frames (suc n) from (run_then from is) in
           let back : frame_at frames (suc n - 1) ≡ frame_at frames n =
           ap (frame_at frames) (omega arith) in
-          elim (whole_ended t.run t.whole t.since (frame_at frames n) w whole) [
+          elim (whole_ended (run_of t) (whole_of t) (since_of t) (frame_at frames n) w whole) [
             | inl (since, here) ↦
                 subst (IsWhole g frames from) here (record {
                   low = omega arith;
@@ -124,17 +126,11 @@ module _ (g : Task) (frames : Transmission) (base : ℕ) where
                 })
             | inr (earlier, some_run) ↦ elim was [
               | inl before ↦ ending.opens.keeps.whole from w before earlier
-              | inr (gone, header, here) ↦ absurd (no_run t.run gone some_run)
+              | inr (gone, header, here) ↦ absurd (true≢false (sym some_run ∙ ap is_some gone))
             ]
           ]
-        where
-          no_run : (run : Option ℕ) → run ≡ None → is_some run ≡ true → ⊥
-          no_run run gone e = grind (arith, nat_tests)
 
-      above_then : (from : ℕ)
-          → (if t.is_clean && quiet n then begun t.run (has n) (frame_at frames n) else None)
-          ≡ Some from
-          → IsAbove g frames base from
+      above_then : (from : ℕ) → run_of (mark n ∷ t) ≡ Some from → IsAbove g frames base from
       above_then from is i under =
           let (clean, none, was) = kept from is in
           let rises = ending.opens.rises (ending.opens.clean clean).0 in
@@ -146,21 +142,20 @@ module _ (g : Task) (frames : Transmission) (base : ℕ) where
             | inr (gone, header, here) ↦ omega arith
           ]
 
-      falls_then : t.rises ≡ false → (clean : Bool) → t.is_clean ≡ clean
-          → (if clean && quiet n then begun t.run (has n) (frame_at frames n) else None) ≡ None
+      falls_then : rose t ≡ false → (clean : Bool) → stays_quiet t ≡ clean
+          → (if clean && quiet n then option_or (run_of t) (if has n then Some (frame_at frames n)
+          else None) else None) ≡ None
       falls_then falls false is = refl
       falls_then falls true is = absurd (true≢false (sym (ending.opens.clean is).0 ∙ falls))
 
-  pub ending : (n : ℕ) (t : Trust) → n < length frames
+  pub ending : (n : ℕ) (t : List Mark) → n < length frames
       → Opens g frames base n (packets_of_frame frames n) t
       → Tells g frames base (Closed g frames base (suc n)) t (marks_of_ending g frames n)
-  unfolding told_with after_mark
+  unfolding told_at
   ending n t there opens =
       let f : ℕ = frame_at frames n in
       let packets : List (List ℕ) = packets_of_frame frames n in
-      let last : Mark =
-      Ends f (holds_header (kind g.watched.page) packets)
-      (stands_none (standing_at g frames (suc n) f)) in
+      let last : Mark = mark n in
       Goes-append (Passes g frames base) (Ending n) (Closed g frames base (suc n)) t
       (map Says (first_header_events g frames n) ++ marks_at_end g frames n (suc n) f) (last ∷ [])
       (Goes-append (Passes g frames base) (Opens g frames base n packets) (Ending n) t
@@ -168,7 +163,7 @@ module _ (g : Task) (frames : Transmission) (base : ℕ) where
       (λ u so. at_its_end u so))
       (λ v so.
       Goes-cons (Passes g frames base) (Closed g frames base (suc n)) v last [] refl
-      (Goes-nil (Passes g frames base) (Closed g frames base (suc n)) (after_mark last v)
+      (Goes-nil (Passes g frames base) (Closed g frames base (suc n)) (last ∷ v)
       (ended n v there so)))
     where
       header : Opens g frames base n (packets_of_frame frames n) t
@@ -176,7 +171,7 @@ module _ (g : Task) (frames : Transmission) (base : ℕ) where
           (map Says (first_header_events g frames n))
       header opens =
           let es : List Event = first_header_events g frames n in
-          let none = header_none t.last (late_since t) g frames n in
+          let none = header_none t g frames n in
           Goes-says (Passes g frames base) (Opens g frames base n (packets_of_frame frames n)) t es
           (header_own (Passes g frames base) g frames n)
           (λ x from w doubt run whole l. absurd (none-some x (sym none ∙ doubt)))
@@ -184,7 +179,7 @@ module _ (g : Task) (frames : Transmission) (base : ℕ) where
           opens_said g frames base n (packets_of_frame frames n) (packets_of_frame frames n) t u es
           opens said (λ quiet kept. kept))
 
-      top : (u : Trust) → Opens g frames base n (packets_of_frame frames n) u → u.rises ≡ true
+      top : (u : List Mark) → Opens g frames base n (packets_of_frame frames n) u → rose u ≡ true
           → latest frames (suc n) ≤ frame_at frames n
       top u so rises =
           let last = latest_at frames (suc n) (so.rises rises) (omega arith) in
@@ -192,12 +187,12 @@ module _ (g : Task) (frames : Transmission) (base : ℕ) where
           ap (frame_at frames) (omega arith) in
           omega arith
 
-      at_its_end : (u : Trust) → Opens g frames base n (packets_of_frame frames n) u
+      at_its_end : (u : List Mark) → Opens g frames base n (packets_of_frame frames n) u
           → Tells g frames base (Ending n) u (marks_at_end g frames n (suc n) (frame_at frames n))
       at_its_end u so =
           let f : ℕ = frame_at frames n in
           let es : List Event = events_at_end g frames n (suc n) f in
-          let low : (from : ℕ) → u.run ≡ Some from → HasEnd g frames (suc n) f from =
+          let low : (from : ℕ) → run_of u ≡ Some from → HasEnd g frames (suc n) f from =
           (λ from is.
           let h = up_of g frames base n f from u so.keeps so.rises is in
           let first = run_low g frames n from (so.keeps.run from is) in
@@ -205,28 +200,31 @@ module _ (g : Task) (frames : Transmission) (base : ℕ) where
           let back : frame_at frames n ≡ frame_at frames (suc n - 1) =
           ap (frame_at frames) (omega arith) in
           (omega arith, (omega arith, omega arith, inl back), h.rises)) in
-          let now : Trust = after_mark (at_end g frames (suc n) f) u in
-          end_tells g frames base n (suc n) f u now (Ending n) refl
-          (λ from is. top u so (run_rises u.rises u.run from so.keeps.falls is)) so.keeps low
+          end_tells g frames base n (suc n) f u (Ending n)
+          (λ from is. top u so (run_rises (rose u) (run_of u) from so.keeps.falls is)) so.keeps low
           (λ from is. may_before g frames base n (packets_of_frame frames n) u there so from is
           (end_frame frames))
-          (λ v said.
+          (λ now v looks said.
           let so_now : Opens g frames base n (packets_of_frame frames n) now =
           record {
-            keeps = keeps_end g frames base n f (suc n) f u so.keeps low;
+            keeps = keeps_end g frames base n f (suc n) f u now looks so.keeps low;
             floor = so.floor;
-            last = so.last;
-            rises = so.rises;
-            clean = so.clean;
-            fresh = so.fresh;
+            last = looks.last_is ∙ so.last;
+            rises = λ e. so.rises (sym looks.rises_is ∙ e);
+            clean = λ e.
+                let both = so.clean (sym looks.clean_is ∙ e) in
+                (looks.rises_is ∙ both.0, both.1);
+            fresh = λ e. so.fresh (sym looks.clean_is ∙ e);
           } in
           record {
             opens =
                 opens_said g frames base n (packets_of_frame frames n) (packets_of_frame frames n)
                 now v es so_now said (λ quiet kept. kept);
-            since_is = said.since_is;
+            since_is = said.since_is ∙ looks.since_is;
             since = λ rises r is.
                 let rises_is = said.rises_is in
-                let was : u.rises ≡ true = grind (arith, nat_tests) in
-                seen_low g frames (suc n) f r (sym said.since_is ∙ is) (top u so was);
+                let looked = looks.rises_is in
+                let was : rose u ≡ true = grind (arith, nat_tests) in
+                seen_low g frames (suc n) f r (sym looks.since_is ∙ sym said.since_is ∙ is)
+                (top u so was);
           })

@@ -5,16 +5,17 @@
 -- goes on with a frame, `run_more`, or begins, `run_new`.
 use Rattle.std.proofs.lemmas.Bool.Decides.{nat_tests}
 use Rattle.std.proofs.Common.{◌≡◌, ℕ, suc, ◌+◌, ◌-◌, ◌<◌, ◌≤◌, ◌⊎◌, inl, inr, Bool, true, false}
-use Rattle.std.proofs.Common.{◌&&◌, ◌==◌, nat_lt, List, length, Option, Some, None, is_some, refl}
-use Rattle.std.proofs.Common.{sym, ◌∙◌, subst, arith, if◌then◌else◌, le_refl}
+use Rattle.std.proofs.Common.{◌&&◌, ◌==◌, ◌∷◌, nat_lt, List, length, Option, Some, None, is_some}
+use Rattle.std.proofs.Common.{refl, sym, ◌∙◌, subst, arith, if◌then◌else◌, le_refl}
 use Rattle.std.proofs.lemmas.Bool.{cases_lt}
+use Rattle.std.specs.Option.{option_or}
 use Rattle.ttx_page.specs.PacketKind.{kind}
 use Rattle.ttx_page.specs.Span.{holds_header}
 use Rattle.sub_rules.specs.Events.{gap_length, latest, standing_at, standing_before}
 use Rattle.sub_rules.specs.FrameRules.{Task, end_frame, frame_at, packets_before, packets_of_frame}
 use Rattle.sub_rules.specs.PacketTests.{breaks}
 use Rattle.sub_rules.specs.Transmission.{Transmission}
-use Rattle.sub_rules.specs.Trusted.Mark.{AtEnd, AtPes}
+use Rattle.sub_rules.specs.Trusted.Mark.{AtPes}
 use Rattle.sub_rules.specs.declared.event.Event.{Event}
 use Rattle.sub_rules.specs.declared.packet_rule.PacketRule.{PacketRule}
 use Rattle.sub_rules.proofs.EndLemmas.{gap_length-is, standing_before_is}
@@ -22,11 +23,10 @@ use Rattle.sub_laws.specs.CleanStretch.{IsEnd, is_needed}
 use Rattle.sub_trusted.proofs.LateDoubtLemmas.{KeepsAll, seen_since}
 use Rattle.sub_laws.proofs.PrefixLemmas.{RiseTo, before, packet_at, rises_to}
 use Rattle.sub_laws.proofs.RisingEndLemmas.{latest_at}
-use Rattle.sub_trusted.proofs.SayMarkLemmas.{IsSaid, doubt_of, kept_some, orders_doubted}
+use Rattle.sub_trusted.proofs.SayMarkLemmas.{IsSaid, doubt_of, kept_some, orders_doubted, rose}
 use Rattle.sub_trusted.proofs.TrustedRunLemmas.{EndsQuiet, Run, Stays, StaysTo}
-use Rattle.sub_rules.proofs.KeptTrust.{Trust, after_mark, first_whole, late_since, whole_in}
-use Rattle.sub_rules.specs.Trusted.{stands_none}
-use Rattle.sub_rules.proofs.KeptTrust.{begun}
+use Rattle.sub_rules.specs.Trusted.{Mark, stays_quiet, last_begun, late_of, run_of, since_of}
+use Rattle.sub_rules.specs.Trusted.{stands_none, tells_fall, whole_at, whole_of}
 
 -- ---- tests
 
@@ -35,42 +35,32 @@ pub run_rises : (b : Bool) (run : Option ℕ) (from : ℕ) → (b ≡ false → 
     → b ≡ true
 run_rises b run from h is = grind (arith, nat_tests)
 
--- The first frame of the run at whose end the page was whole: an earlier one, or this one.
-pub whole_of : (run whole since : Option ℕ) (f from w : ℕ) → run ≡ Some from
-    → (if is_some run then first_whole whole since f else whole) ≡ Some w
-    → (whole ≡ Some w) ⊎ ((since ≡ None) × (f ≡ w))
-whole_of run whole since f from w is e = grind (arith, nat_tests)
-
 -- The run that is left at the end of a frame: it was there, or it begins here.
-pub run_of : (clean none : Bool) (run : Option ℕ) (has : Bool) (f from : ℕ)
-    → (if clean && none then begun run has f else None) ≡ Some from
+pub run_found : (clean none : Bool) (run : Option ℕ) (has : Bool) (f from : ℕ)
+    → (if clean && none then option_or run (if has then Some f else None) else None) ≡ Some from
     → (clean ≡ true) × (none ≡ true)
     × ((run ≡ Some from) ⊎ ((run ≡ None) × (has ≡ true) × (f ≡ from)))
-run_of clean none run has f from e = grind (arith, nat_tests)
+run_found clean none run has f from e = grind (arith, nat_tests)
 
--- And where the page was whole in it.
-pub whole_ended : (run whole since : Option ℕ) (f w : ℕ) → whole_in run whole since f ≡ Some w
-    → ((since ≡ None) × (f ≡ w)) ⊎ ((whole ≡ Some w) × (is_some run ≡ true))
-whole_ended run whole since f w e = grind (arith, nat_tests)
+-- The first frame of the run at whose end the page was whole: an earlier one, or this one.
+pub whole_found : (whole since : Option ℕ) (f w : ℕ)
+    → option_or whole (whole_at f since) ≡ Some w
+    → (whole ≡ Some w) ⊎ ((since ≡ None) × (f ≡ w))
+whole_found whole since f w e = grind (arith, nat_tests)
 
 -- ---- where each end is told at once
 
 -- No end is looked at: there is no frame since which the page is not whole, and it was whole in a
 -- run that is there.
-pub record SeesNone (t : Trust) : Type 0 where
-  pub since : t.since ≡ None
-  pub late : t.is_late ≡ false
-  pub whole : is_some t.run ≡ true → is_some t.whole ≡ true
-
--- So the mark of an end changes nothing.
-pub same_at : (t : Trust) (f : ℕ) → SeesNone t → after_mark (AtEnd f None false) t ≡ t
-unfolding after_mark
-same_at t f none = grind (arith, nat_tests)
+pub record SeesNone (t : List Mark) : Type 0 where
+  pub since : since_of t ≡ None
+  pub late : late_of t ≡ None
+  pub whole : is_some (run_of t) ≡ true → is_some (whole_of t) ≡ true
 
 -- It was whole in one that goes on or begins.
-pub whole_some : (run whole since : Option ℕ) (f : ℕ) → since ≡ None
-    → is_some (whole_in run whole since f) ≡ true
-whole_some run whole since f none = grind (arith, nat_tests)
+pub whole_some : (whole since : Option ℕ) (f : ℕ) → since ≡ None
+    → is_some (option_or whole (whole_at f since)) ≡ true
+whole_some whole since f none = grind (arith, nat_tests)
 
 module _ (g : Task) (frames : Transmission) where
   -- ---- frames that may stay
@@ -134,9 +124,9 @@ module _ (g : Task) (frames : Transmission) where
   -- ---- frames that rise
 
   -- No frame is doubted where the run is kept.
-  pub calm : (t u : Trust) (es : List Event) → IsSaid t u es → (from : ℕ) → u.run ≡ Some from
+  pub calm : (t u : List Mark) (es : List Event) → IsSaid t u es → (from : ℕ) → run_of u ≡ Some from
       → doubt_of t es ≡ None
-  calm t u es said from is = (kept_some t.run (doubt_of t es) from (sym said.run_is ∙ is)).1
+  calm t u es said from is = (kept_some (run_of t) (doubt_of t es) from (sym said.run_is ∙ is)).1
 
   -- An end up to which no more than n frames count is before frame n.
   pub end_under : (n : ℕ) → RiseTo frames (suc n) → (m f : ℕ) → IsEnd frames m f → m ≤ n
@@ -253,20 +243,33 @@ module _ (g : Task) (frames : Transmission) where
 module _ (g : Task) (frames : Transmission) (base : ℕ) where
   -- The run that is kept is one of the first n frames, and comes after the first `base` of them;
   -- none of the ends from it on that come before frame x finds anything broken.
-  pub record Keeps (n x : ℕ) (t : Trust) : Type 0 where
-    pub run : (from : ℕ) → t.run ≡ Some from → Run g frames n from
-    pub ends : (from : ℕ) → t.run ≡ Some from → EndsQuiet g frames n from x
-    pub whole : (from w : ℕ) → t.run ≡ Some from → t.whole ≡ Some w → IsWhole g frames from w
-    pub above : (from : ℕ) → t.run ≡ Some from → IsAbove g frames base from
-    pub falls : t.rises ≡ false → t.run ≡ None
+  pub record Keeps (n x : ℕ) (t : List Mark) : Type 0 where
+    pub run : (from : ℕ) → run_of t ≡ Some from → Run g frames n from
+    pub ends : (from : ℕ) → run_of t ≡ Some from → EndsQuiet g frames n from x
+    pub whole : (from w : ℕ) → run_of t ≡ Some from → whole_of t ≡ Some w → IsWhole g frames from w
+    pub above : (from : ℕ) → run_of t ≡ Some from → IsAbove g frames base from
+    pub falls : rose t ≡ false → run_of t ≡ None
     pub at_once : (g.within == 0) ≡ true → SeesNone t
 
-  pub passes_before : (late n x y : ℕ) (t : Trust) → Keeps n x t → MayEnd g frames late n x y
+  -- Up to another frame, where the ends before that find nothing broken.
+  pub keeps_to : (n x y : ℕ) (t : List Mark) → Keeps n x t
+      → ((from : ℕ) → run_of t ≡ Some from → EndsQuiet g frames n from y)
+      → Keeps n y t
+  keeps_to n x y t keeps ends = record {
+    run = keeps.run;
+    ends = ends;
+    whole = keeps.whole;
+    above = keeps.above;
+    falls = keeps.falls;
+    at_once = keeps.at_once;
+  }
+
+  pub passes_before : (late n x y : ℕ) (t : List Mark) → Keeps n x t → MayEnd g frames late n x y
       → end_frame frames ≤ late
       → late ≤ end_frame frames + 1
       → (from w : ℕ)
-      → t.run ≡ Some from
-      → t.whole ≡ Some w
+      → run_of t ≡ Some from
+      → whole_of t ≡ Some w
       → w < y
       → MayPass g frames base late from (y - 1)
   passes_before late n x y t keeps may after until from w run whole l =
@@ -297,7 +300,7 @@ module _ (g : Task) (frames : Transmission) (base : ℕ) where
       }
 
   -- It is kept after events too.
-  pub keeps_said : (n x : ℕ) (t u : Trust) (es : List Event) → Keeps n x t → IsSaid t u es
+  pub keeps_said : (n x : ℕ) (t u : List Mark) (es : List Event) → Keeps n x t → IsSaid t u es
       → Keeps n x u
   keeps_said n x t u es keeps said = record {
     run = λ from is. keeps.run from (was from is);
@@ -314,45 +317,46 @@ module _ (g : Task) (frames : Transmission) (base : ℕ) where
         };
   }
     where
-      was_some : is_some u.run ≡ true → is_some t.run ≡ true
+      was_some : is_some (run_of u) ≡ true → is_some (run_of t) ≡ true
       was_some there = let run_is = said.run_is in grind (arith, nat_tests)
 
-      still_some : is_some t.whole ≡ true → is_some u.whole ≡ true
+      still_some : is_some (whole_of t) ≡ true → is_some (whole_of u) ≡ true
       still_some whole = let whole_is = said.whole_is in grind (arith, nat_tests)
 
-      was : (from : ℕ) → u.run ≡ Some from → t.run ≡ Some from
-      was from is = (kept_some t.run (doubt_of t es) from (sym said.run_is ∙ is)).0
+      was : (from : ℕ) → run_of u ≡ Some from → run_of t ≡ Some from
+      was from is = (kept_some (run_of t) (doubt_of t es) from (sym said.run_is ∙ is)).0
 
-      falls : u.rises ≡ false → u.run ≡ None
+      falls : rose u ≡ false → run_of u ≡ None
       falls e =
           let run_is = said.run_is in
           let rises_is = said.rises_is in
           let before = keeps.falls in
-          let orders = orders_doubted t.last (late_since t) es in
+          let orders = orders_doubted t es in
           grind (arith, nat_tests)
 
   -- ---- before a frame
 
   -- The first k ends of frames of the day before frame n have been.
-  pub record Arrives (n k : ℕ) (t : Trust) : Type 0 where
+  pub record Arrives (n k : ℕ) (t : List Mark) : Type 0 where
     pub keeps : Keeps n (latest frames n + suc k) t
     pub floor : base ≤ n
-    pub rises : t.rises ≡ true → RiseTo frames (suc n)
+    pub rises : rose t ≡ true → RiseTo frames (suc n)
 
-  pub up_of : (n x from : ℕ) (t : Trust) → Keeps n x t → (t.rises ≡ true → RiseTo frames (suc n))
-      → t.run ≡ Some from
+  pub up_of : (n x from : ℕ) (t : List Mark) → Keeps n x t → (rose t ≡ true → RiseTo frames (suc n))
+      → run_of t ≡ Some from
       → Up g frames n
   up_of n x from t keeps so is =
       let run = keeps.run from is in
       let some : 0 < n = let below = run.below in omega arith in
-      let rises = so (run_rises t.rises t.run from keeps.falls is) in
+      let rises = so (run_rises (rose t) (run_of t) from keeps.falls is) in
       let last = latest_at frames n run.rises some in
       let up = rises n some (omega arith) in
       let long = gap_length-is frames n some in
       record { some = some; last = last; rises = rises; up = up; long = omega arith }
 
   -- Nothing stands at the end before one of these ends, or before the frame's own.
-  pub stood : (n f from : ℕ) (t : Trust) → n < length frames → Keeps n f t → t.run ≡ Some from
+  pub stood : (n f from : ℕ) (t : List Mark) → n < length frames → Keeps n f t
+      → run_of t ≡ Some from
       → Up g frames n
       → latest frames n < f
       → f ≤ frame_at frames n
@@ -383,62 +387,63 @@ module _ (g : Task) (frames : Transmission) (base : ℕ) where
   -- ---- frames that have ended, and one that is sent
 
   -- The first n frames have ended, and no end after that of the last of them has been.
-  pub record Closed (n : ℕ) (t : Trust) : Type 0 where
+  pub record Closed (n : ℕ) (t : List Mark) : Type 0 where
     pub keeps : Keeps n (frame_at frames (n - 1) + 1) t
     pub floor : base ≤ n
-    pub last : 0 < n → t.last ≡ frame_at frames (n - 1)
-    pub rises : t.rises ≡ true → RiseTo frames n
+    pub last : 0 < n → last_begun t ≡ frame_at frames (n - 1)
+    pub rises : rose t ≡ true → RiseTo frames n
     pub since :
-        (r from : ℕ) → t.run ≡ Some from → t.since ≡ Some r → r ≤ frame_at frames (n - 1)
+        (r from : ℕ) → run_of t ≡ Some from → since_of t ≡ Some r → r ≤ frame_at frames (n - 1)
 
   -- After these frame n is sent, and these packets in it so far.
-  pub record Opens (n : ℕ) (packets : List (List ℕ)) (t : Trust) : Type 0 where
+  pub record Opens (n : ℕ) (packets : List (List ℕ)) (t : List Mark) : Type 0 where
     pub keeps : Keeps n (frame_at frames n) t
     pub floor : base ≤ suc n
-    pub last : t.last ≡ frame_at frames n
-    pub rises : t.rises ≡ true → RiseTo frames (suc n)
+    pub last : last_begun t ≡ frame_at frames n
+    pub rises : rose t ≡ true → RiseTo frames (suc n)
     pub clean :
-        t.is_clean ≡ true
-        → (t.rises ≡ true) × KeepsAll g.watched (packets_before frames n) packets
-    pub fresh : t.is_clean ≡ true → base ≤ n
+        (stays_quiet t) ≡ true
+        → (rose t ≡ true) × KeepsAll g.watched (packets_before frames n) packets
+    pub fresh : stays_quiet t ≡ true → base ≤ n
 
   -- Of which PES packet is told changes nothing.
-  pub closed_at : (n pes : ℕ) (t : Trust) → Closed n t → Closed n (after_mark (AtPes pes) t)
-  unfolding after_mark
+  pub closed_at : (n pes : ℕ) (t : List Mark) → Closed n t → Closed n (AtPes pes ∷ t)
+  unfolding run_of whole_of last_begun since_of late_of stays_quiet tells_fall
   closed_at n pes t closed = grind (arith, nat_tests)
 
   -- Nor do events before the first frame.
-  pub closed_said : (n : ℕ) (t u : Trust) (es : List Event) → Closed n t → IsSaid t u es
+  pub closed_said : (n : ℕ) (t u : List Mark) (es : List Event) → Closed n t → IsSaid t u es
       → Closed n u
   closed_said n t u es closed said = record {
     keeps = keeps_said n (frame_at frames (n - 1) + 1) t u es closed.keeps said;
     floor = closed.floor;
     last = λ below. said.last_is ∙ closed.last below;
     rises = λ e.
-        let was : t.rises ≡ true = let rises_is = said.rises_is in grind (arith, nat_tests) in
+        let was : rose t ≡ true = let rises_is = said.rises_is in grind (arith, nat_tests) in
         closed.rises was;
     since = λ r from is e.
         closed.since r from
-        (kept_some t.run (doubt_of t es) from (sym said.run_is ∙ is)).0 (sym said.since_is ∙ e);
+        (kept_some (run_of t) (doubt_of t es) from (sym said.run_is ∙ is)).0
+        (sym said.since_is ∙ e);
   }
 
-  pub opens_at : (n pes : ℕ) (packets : List (List ℕ)) (t : Trust) → Opens n packets t
-      → Opens n packets (after_mark (AtPes pes) t)
-  unfolding after_mark
+  pub opens_at : (n pes : ℕ) (packets : List (List ℕ)) (t : List Mark) → Opens n packets t
+      → Opens n packets (AtPes pes ∷ t)
+  unfolding run_of whole_of last_begun since_of late_of stays_quiet tells_fall
   opens_at n pes packets t opens = grind (arith, nat_tests)
 
   -- ---- while a frame is sent
 
   -- Frames before frame n may be trusted up to the one before it.
-  pub may_before : (n : ℕ) (packets : List (List ℕ)) (t : Trust) → n < length frames
+  pub may_before : (n : ℕ) (packets : List (List ℕ)) (t : List Mark) → n < length frames
       → Opens n packets t
-      → (from : ℕ) → t.run ≡ Some from
+      → (from : ℕ) → run_of t ≡ Some from
       → (late y : ℕ) → y ≤ frame_at frames n
       → MayEnd g frames late n (frame_at frames n) y
   may_before n packets t there opens from is late y high = grind (arith, nat_tests)
 
   -- What is kept after events that doubt none but this frame.
-  pub opens_said : (n : ℕ) (packets more : List (List ℕ)) (t u : Trust) (es : List Event)
+  pub opens_said : (n : ℕ) (packets more : List (List ℕ)) (t u : List Mark) (es : List Event)
       → Opens n packets t
       → IsSaid t u es
       → (doubt_of t es ≡ None
@@ -450,20 +455,20 @@ module _ (g : Task) (frames : Transmission) (base : ℕ) where
     floor = opens.floor;
     last = said.last_is ∙ opens.last;
     rises = λ e.
-        let was : t.rises ≡ true = let rises_is = said.rises_is in grind (arith, nat_tests) in
+        let was : rose t ≡ true = let rises_is = said.rises_is in grind (arith, nat_tests) in
         opens.rises was;
     clean = λ e.
         let clean_is = said.clean_is in
-        let was : t.is_clean ≡ true = grind (arith, nat_tests) in
+        let was : stays_quiet t ≡ true = grind (arith, nat_tests) in
         let none : doubt_of t es ≡ None = grind (arith, nat_tests) in
         let before = opens.clean was in
-        let orders = orders_doubted t.last (late_since t) es none in
+        let orders = orders_doubted t es none in
         let rises_is = said.rises_is in
-        let rose = before.0 in
-        let now : u.rises ≡ true = grind (arith, nat_tests) in
+        let up = before.0 in
+        let now : rose u ≡ true = grind (arith, nat_tests) in
         (now, still none before.1);
     fresh = λ e.
         let clean_is = said.clean_is in
-        let was : t.is_clean ≡ true = grind (arith, nat_tests) in
+        let was : stays_quiet t ≡ true = grind (arith, nat_tests) in
         opens.fresh was;
   }

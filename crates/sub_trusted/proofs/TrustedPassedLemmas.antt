@@ -21,7 +21,7 @@ use Rattle.sub_rules.specs.declared.event.Event.{Event}
 use Rattle.sub_rules.specs.declared.event.Event.TheVariants.{Told, Trusted}
 use Rattle.sub_rules.proofs.JoinedLemmas.{frames_of-append, joined_after-append}
 use Rattle.sub_rules.proofs.JoinedLemmas.{marks_of_each-append}
-use Rattle.sub_rules.proofs.TrustedLemmas.{told_by-append}
+use Rattle.sub_rules.proofs.TrustedLemmas.{past_after, told_after-append}
 use Rattle.sub_trusted.specs.TrustedFrames.{IsPassedOutside}
 use Rattle.sub_trusted.proofs.TrustedPieceLemmas.{Last, SendsOn, all_pass, each_passes, start}
 use Rattle.sub_trusted.proofs.TrustedKeptLemmas.{Keeps, SeesNone}
@@ -33,9 +33,8 @@ use Rattle.sub_trusted.proofs.LateDoubtLemmas.{passed_at}
 use Rattle.sub_laws.proofs.PrefixLemmas.{RiseTo, last-same}
 use Rattle.sub_trusted.proofs.SayMarkLemmas.{Goes, Goes-says, doubt_of, said}
 use Rattle.sub_trusted.proofs.TrustedFrameLemmas.{part_length, part_rises}
-use Rattle.sub_rules.specs.Trusted.{Mark}
-use Rattle.sub_rules.proofs.KeptTrust.{all_is, Trust, after_mark, late_since, no_trust, told_by}
-use Rattle.sub_rules.proofs.KeptTrust.{told_with, trust_after}
+use Rattle.sub_rules.specs.Trusted.{Mark, stays_quiet, last_begun, late_of, run_of, since_of}
+use Rattle.sub_rules.specs.Trusted.{tells_fall, told_after, told_at, whole_of}
 
 -- With the frames that are read after it those before it are all.
 before_all : (g : Task) (earlier later : List Piece) (u : Unread)
@@ -79,13 +78,13 @@ module _ (g : Task) (earlier : List Piece) (u : Unread) (later : List Piece)
     abbrev first : List Mark
     first = marks_of_each g [] 0 earlier
 
-    abbrev t : Trust
-    t = trust_after no_trust first
+    abbrev t : List Mark
+    t = past_after [] first
 
-    before : Goes (Passes g sent 0) (SendsOn g sent 0 sent) no_trust first
-    before = each_passes g sent 0 [] 0 no_trust earlier refl (inl (inr refl, start g sent))
+    before : Goes (Passes g sent 0) (SendsOn g sent 0 sent) [] first
+    before = each_passes g sent 0 [] 0 [] earlier refl (inl (inr refl, start g sent))
 
-    last_is : t.last ≡ end_frame sent
+    last_is : last_begun t ≡ end_frame sent
     last_is = elim before.after [
       | inl (ended, closed) ↦ closed.last some
       | inr (later, k, size, opens) ↦ opens.last ∙ ap (frame_at sent) (omega arith)
@@ -105,27 +104,27 @@ module _ (g : Task) (earlier : List Piece) (u : Unread) (later : List Piece)
     abbrev es : List Event
     es = Told (unread_fault pes (Some u)) ∷ []
 
-    abbrev now : Trust
-    now = after_mark (AtPes pes) t
+    abbrev now : List Mark
+    now = AtPes pes ∷ t
 
-    abbrev v : Trust
-    v = trust_after now (map Says es)
+    abbrev v : List Mark
+    v = past_after now (map Says es)
 
-    now_last : now.last ≡ end_frame sent
-    unfolding after_mark
+    now_last : last_begun now ≡ end_frame sent
+    unfolding last_begun
     now_last = last_is
 
-    doubt : doubt_of now es ≡ Some now.last
-    doubt = passed_at now.last (late_since now) pes u
+    doubt : doubt_of now es ≡ Some (last_begun now)
+    doubt = passed_at now pes u
 
     -- It ends each run.
-    run_none : v.run ≡ None
+    run_none : run_of v ≡ None
     run_none = let so = said now es in rw doubt at so.run_is
 
-    gone : (from : ℕ) → v.run ≡ Some from → ⊥
+    gone : (from : ℕ) → run_of v ≡ Some from → ⊥
     gone from is = none-some from (sym run_none ∙ is)
 
-    unclean : v.is_clean ≡ false
+    unclean : stays_quiet v ≡ false
     unclean =
         let so = said now es in
         let is = so.clean_is in
@@ -133,7 +132,7 @@ module _ (g : Task) (earlier : List Piece) (u : Unread) (later : List Piece)
         grind (arith, nat_tests)
 
     keeps : (k x : ℕ) → Keeps g frames n k x v
-    unfolding after_mark
+    unfolding run_of whole_of last_begun since_of late_of stays_quiet tells_fall
     keeps k x = record {
       run = λ from is. absurd (gone from is);
       ends = λ from is. absurd (gone from is);
@@ -153,7 +152,7 @@ module _ (g : Task) (earlier : List Piece) (u : Unread) (later : List Piece)
     sends : SendsOn g frames n sent v
     sends = go (g.within == 0) refl
       where
-        last_now : v.last ≡ frame_at frames (n - 1)
+        last_now : last_begun v ≡ frame_at frames (n - 1)
         last_now =
             let so = said now es in
             so.last_is ∙ now_last ∙ sym (same (n - 1) (omega arith))
@@ -191,20 +190,20 @@ module _ (g : Task) (earlier : List Piece) (u : Unread) (later : List Piece)
         )
 
     -- What it ends is before its frame.
-    ended : EachTrusted Outside (told_by now (map Says es))
+    ended : EachTrusted Outside (told_after now (map Says es))
     ended =
-        (Goes-says Outside (λ z. Trust) now es
+        (Goes-says Outside (λ z. List Mark) now es
         (All-cons (OnTrusted Outside) (Told (unread_fault pes (Some u))) []
         tt (All-nil (OnTrusted Outside)))
         (λ x from w doubted run whole under.
-        let at : now.last ≡ x = same_Some now.last x (sym doubt ∙ doubted) in
+        let at : last_begun now ≡ x = same_Some (last_begun now) x (sym doubt ∙ doubted) in
         let last = now_last in
         inr (omega arith)) (λ z so. z)).each
 
     -- ---- all
 
     pub each_outside : EachTrusted Outside (all_of_pieces g all)
-    unfolding all_of_pieces marks_of_each told_by told_with
+    unfolding all_of_pieces told_of_pieces marks_of_each told_after told_at
     each_outside =
         let rest : List Mark =
         marks_of_each g sent (suc pes) later
@@ -221,16 +220,15 @@ module _ (g : Task) (earlier : List Piece) (u : Unread) (later : List Piece)
         let told : EachTrusted Outside (told_of_pieces g all) =
         subst (EachTrusted Outside)
         (sym
-        (all_is g all
-        ∙ ap (told_by no_trust) parts
-        ∙ told_by-append no_trust first (own ++ rest)
-        ∙ ap (λ (l : List Event). told_by no_trust first ++ l)
-        (told_by-append now (map Says es) rest)))
-        (All-append (OnTrusted Outside) (told_by no_trust first) _
-        (each-weaker (Passes g sent 0) Outside (told_by no_trust first)
+        (ap (told_after []) parts
+        ∙ told_after-append [] first (own ++ rest)
+        ∙ ap (λ (l : List Event). told_after [] first ++ l)
+        (told_after-append now (map Says es) rest)))
+        (All-append (OnTrusted Outside) (told_after [] first) _
+        (each-weaker (Passes g sent 0) Outside (told_after [] first)
         (λ from to passes. inr (passes.early rises)) before.each)
-        (All-append (OnTrusted Outside) (told_by now (map Says es)) (told_by v rest) ended
-        (each-weaker (Last g frames n) Outside (told_by v rest)
+        (All-append (OnTrusted Outside) (told_after now (map Says es)) (told_after v rest) ended
+        (each-weaker (Last g frames n) Outside (told_after v rest)
         (λ from to passes.
         let above = passes.above (n - 1) (omega arith) in
         let own = same (n - 1) (omega arith) in

@@ -18,7 +18,7 @@ use Rattle.sub_rules.specs.Transmission.{Transmission}
 use Rattle.sub_rules.specs.Trusted.Mark.{AtPes, Closes, Says}
 use Rattle.sub_rules.specs.declared.event.Event.{Event}
 use Rattle.sub_rules.proofs.AnyToldLemmas.{own_closing}
-use Rattle.sub_rules.proofs.TrustedLemmas.{told_by-append}
+use Rattle.sub_rules.proofs.TrustedLemmas.{past_after, told_after-append}
 use Rattle.sub_trusted.proofs.TrustedKeptLemmas.{Closed, MayPass, MayStand, Opens}
 use Rattle.sub_trusted.proofs.TrustedKeptLemmas.{closed_at}
 use Rattle.sub_trusted.proofs.TrustedKeptLemmas.{opens_at, passes_before}
@@ -31,9 +31,11 @@ use Rattle.sub_laws.proofs.PieceWalkLemmas.{EachPassed, Sends, Steps, each_piece
 use Rattle.sub_trusted.proofs.SayMarkLemmas.{Goes, Goes-append, Goes-nil, Goes-pes, Goes-says}
 use Rattle.sub_trusted.proofs.SayMarkLemmas.{each_put, told_of}
 use Rattle.std.specs.Prelude.{⊤}
-use Rattle.sub_rules.specs.Trusted.{Mark, tells_none, trusted}
-use Rattle.sub_rules.proofs.KeptTrust.{all_is, Trust, after_mark, closing_frame, no_trust, told_by}
-use Rattle.sub_rules.proofs.KeptTrust.{told_with, trust_after}
+use Rattle.sub_rules.specs.Trusted.{Mark, closing_at, is_said, stays_quiet, last_begun, late_of}
+use Rattle.sub_rules.specs.Trusted.{run_of}
+use Rattle.sub_rules.specs.Trusted.{since_of, tells_fall, tells_none, told_after, told_at}
+use Rattle.sub_rules.specs.Trusted.{trusted, whole_of}
+use Rattle.std.specs.List.{list_any}
 
 module _ (g : Task) (frames : Transmission) (base : ℕ) where
   abbrev P : ℕ → ℕ → Type 0
@@ -41,7 +43,8 @@ module _ (g : Task) (frames : Transmission) (base : ℕ) where
 
   -- What comes of a frame, or of a piece that is passed over.
   steps :
-      Steps Trust told_of g frames (Goes P) (Closed g frames base) (Opens g frames base) (λ sent. ⊤)
+      Steps (List Mark) told_of g frames (Goes P) (Closed g frames base) (Opens g frames base)
+      (λ sent. ⊤)
   steps = record {
     at_ended = closed_at g frames base;
     at_open = opens_at g frames base;
@@ -63,18 +66,18 @@ module _ (g : Task) (frames : Transmission) (base : ℕ) where
   none_asked sent (Passed u ∷ pieces) = (tt, none_asked sent pieces)
 
   -- What is kept where these frames were sent.
-  abbrev pub SendsOn : Transmission → Trust → Type 0
+  abbrev pub SendsOn : Transmission → List Mark → Type 0
   SendsOn sent t =
-      Sends Trust told_of g frames (Goes P) (Closed g frames base) (Opens g frames base) (λ l. ⊤)
-      sent t
+      Sends (List Mark) told_of g frames (Goes P) (Closed g frames base) (Opens g frames base)
+      (λ l. ⊤) sent t
 
   -- What comes of pieces.
-  pub each_passes : (sent : Transmission) (pes : ℕ) (t : Trust) (pieces : List Piece)
+  pub each_passes : (sent : Transmission) (pes : ℕ) (t : List Mark) (pieces : List Piece)
       → joined_after g.within sent (frames_of pieces) ≡ frames
       → SendsOn sent t
       → Goes P (SendsOn frames) t (marks_of_each g sent pes pieces)
   each_passes sent pes t pieces all sends =
-      each_piece Trust told_of g frames (Goes P) (Closed g frames base) (Opens g frames base)
+      each_piece (List Mark) told_of g frames (Goes P) (Closed g frames base) (Opens g frames base)
       (λ l. ⊤) (Goes-nil P) (Goes-pes P) (Goes-append P) steps sent pes t pieces all
       (none_asked sent pieces) sends
 
@@ -96,39 +99,39 @@ module _ (g : Task) (frames : Transmission) (base : ℕ) where
       → unwrap_or since (if left then last else suc last) ≤ last + 1
   end_low since left last h = grind (arith, nat_tests)
 
-  closing : (pes : ℕ) (t : Trust) → Closed g frames base (length frames) t
-      → EachTrusted Last (told_by t (marks_of_closing g frames pes (length frames)))
-  unfolding told_by told_with after_mark
+  closing : (pes : ℕ) (t : List Mark) → Closed g frames base (length frames) t
+      → EachTrusted Last (told_after t (marks_of_closing g frames pes (length frames)))
+  unfolding told_after told_at run_of whole_of last_begun since_of late_of stays_quiet tells_fall
   closing pes t closed =
       let n : ℕ = length frames in
       let es : List Event = closing_of_pieces g frames pes n in
       let more : Bool = not (tells_none es) in
-      let t0 : Trust = after_mark (AtPes pes) t in
-      let t1 : Trust = after_mark (Closes (is_some g.unread) more) t0 in
-      All-append (OnTrusted Last) (told_with (Closes (is_some g.unread) more) t0)
-      (told_by t1 (map Says es)) (last (t.told || more))
-      (Goes-says Last (λ u. Trust) t1 es (closing_own pes n refl)
+      let t0 : List Mark = AtPes pes ∷ t in
+      let t1 : List Mark = Closes (is_some g.unread) more ∷ t0 in
+      All-append (OnTrusted Last) (told_at t0 (Closes (is_some g.unread) more))
+      (told_after t1 (map Says es)) (last (list_any is_said t || more))
+      (Goes-says Last (λ u. List Mark) t1 es (closing_own pes n refl)
       (λ x from w doubt run whole l. absurd (none-some from run)) (λ u said. u)).each
     where
-      low : (from : ℕ) → t.run ≡ Some from → closing_frame t (is_some g.unread)
+      low : (from : ℕ) → run_of t ≡ Some from → closing_at t (is_some g.unread)
           ≤ end_frame frames + 1
       low from run =
           let below = (closed.keeps.run from run).below in
           let at = closed.last (omega arith) in
           let top =
-          end_low t.since (is_some g.unread) t.last
+          end_low (since_of t) (is_some g.unread) (last_begun t)
           (λ r is. let low = closed.since r from run is in omega arith) in
           omega arith
 
       last : (b : Bool) → EachTrusted Last
-          (if b then trusted t.run t.whole (closing_frame t (is_some g.unread)) else [])
+          (if b then trusted (run_of t) (whole_of t) (closing_at t (is_some g.unread)) else [])
       last false = All-nil (OnTrusted Last)
       last true =
-          each_put Last t.run t.whole (closing_frame t (is_some g.unread))
+          each_put Last (run_of t) (whole_of t) (closing_at t (is_some g.unread))
           (λ from w run whole l.
           let high = low from run in
           passes_before g frames base (end_frame frames + 1) (length frames)
-          (end_frame frames + 1) (closing_frame t (is_some g.unread)) t closed.keeps (record {
+          (end_frame frames + 1) (closing_at t (is_some g.unread)) t closed.keeps (record {
             within = omega arith;
             low = high;
             next = λ more. absurd (omega arith);
@@ -136,11 +139,11 @@ module _ (g : Task) (frames : Transmission) (base : ℕ) where
           }) (omega arith) (omega arith) from w run whole l)
 
   -- What comes of pieces, and after the last one.
-  pub all_pass : (sent : Transmission) (pes count : ℕ) (t : Trust) (pieces : List Piece)
+  pub all_pass : (sent : Transmission) (pes count : ℕ) (t : List Mark) (pieces : List Piece)
       → joined_after g.within sent (frames_of pieces) ≡ frames
       → SendsOn sent t
       → EachTrusted Last
-      (told_by t
+      (told_after t
       (marks_of_each g sent pes pieces
       ++ marks_of_waiting g frames
       ++ marks_of_closing g frames count (length frames)))
@@ -152,37 +155,39 @@ module _ (g : Task) (frames : Transmission) (base : ℕ) where
       Goes-append P (SendsOn frames) (Closed g frames base n) t marks (marks_of_waiting g frames)
       (each_passes sent pes t pieces all sends)
       (λ u so.
-      waits Trust told_of g frames (Goes P) (Closed g frames base) (Opens g frames base) (λ l. ⊤)
-      (Goes-nil P) (Goes-pes P) (Goes-append P) steps frames [] u (sym (append-nil frames)) so) in
+      waits (List Mark) told_of g frames (Goes P) (Closed g frames base) (Opens g frames base)
+      (λ l. ⊤) (Goes-nil P) (Goes-pes P) (Goes-append P) steps frames [] u
+      (sym (append-nil frames)) so) in
       let first : List Mark = marks ++ marks_of_waiting g frames in
-      subst (EachTrusted Last) (sym (told_by-append t first close))
-      (All-append (OnTrusted Last) (told_by t first) (told_by (trust_after t first) close)
-      (each-weaker P Last (told_by t first)
+      subst (EachTrusted Last) (sym (told_after-append t first close))
+      (All-append (OnTrusted Last) (told_after t first) (told_after (past_after t first) close)
+      (each-weaker P Last (told_after t first)
       (λ from to p. record {
         stands = p.stands;
         above = p.above;
         early = λ rises. let low = p.early rises in omega arith;
       }) goes.each)
-      (closing count (trust_after t first) goes.after))
+      (closing count (past_after t first) goes.after))
 
 -- ---- all
 
 module _ (g : Task) (frames : Transmission) where
-  pub start : Closed g frames 0 0 no_trust
+  pub start : Closed g frames 0 0 []
+  unfolding run_of whole_of last_begun since_of late_of stays_quiet
   start = grind (arith, nat_tests)
 
   told_stays : (pieces : List Piece) → sent_by_pieces g pieces ≡ frames
       → EachTrusted (MayStand g frames) (told_of_pieces g pieces)
+  unfolding told_of_pieces
   told_stays pieces all =
-      subst (EachTrusted (MayStand g frames)) (sym (all_is g pieces))
-      (subst
-      (λ (fs : Transmission). EachTrusted (MayStand g frames) (told_by no_trust
+      subst
+      (λ (fs : Transmission). EachTrusted (MayStand g frames) (told_after []
       (marks_of_each g [] 0 pieces
       ++ marks_of_waiting g fs
       ++ marks_of_closing g fs (length pieces) (length fs))))
       (sym all)
       (each-weaker (Last g frames 0) (MayStand g frames) _ (λ from to p. p.stands)
-      (all_pass g frames 0 [] 0 (length pieces) no_trust pieces all (inl (inr refl, start)))))
+      (all_pass g frames 0 [] 0 (length pieces) [] pieces all (inl (inr refl, start))))
 
   -- What is told as trusted of pieces may stay.
   pub all_stay_within : (pieces : List Piece) → sent_by_pieces g pieces ≡ frames

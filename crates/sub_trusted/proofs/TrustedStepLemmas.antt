@@ -6,11 +6,12 @@ use Rattle.std.proofs.lemmas.Bool.Decides.{nat_tests}
 use Rattle.std.proofs.Common.{◌≡◌, ℕ, zero, suc, ◌+◌, ◌-◌, ◌<◌, ◌≤◌, inl, inr, true, false, not}
 use Rattle.std.proofs.Common.{◌==◌, ◌&&◌, Bool, None, if◌then◌else◌, List, [], ◌∷◌, ◌++◌}
 use Rattle.std.proofs.Common.{length, map, Option, Some, refl, sym, ◌∙◌, subst, arith, le_refl}
-use Rattle.std.proofs.Common.{unwrap_or}
+use Rattle.std.proofs.Common.{unwrap_or, is_some, ap}
 use Rattle.std.proofs.lemmas.Bool.{cases_lt}
 use Rattle.std.proofs.lemmas.List.Elements.{All-cons, All-nil}
 use Rattle.std.proofs.lemmas.Option.{same_Some}
 use Rattle.std.specs.List.{list_any}
+use Rattle.std.specs.Option.{option_or}
 use Rattle.sub_rules.specs.Events.{end_before, events_at_end, gap_length, is_late, latest}
 use Rattle.sub_rules.specs.Events.{order_events, packets_told, standing_at, standing_before}
 use Rattle.sub_rules.specs.Events.{unfinished_since, unread_fault}
@@ -23,10 +24,11 @@ use Rattle.sub_rules.specs.declared.event.Event.TheVariants.{Told}
 use Rattle.sub_laws.specs.CleanStretch.{IsEnd}
 use Rattle.sub_trusted.proofs.TrustedKeptLemmas.{Arrives, Closed, IsWhole, Keeps, MayEnd, MayPass}
 use Rattle.sub_trusted.proofs.TrustedKeptLemmas.{Opens}
-use Rattle.sub_trusted.proofs.TrustedKeptLemmas.{SeesNone, closed_said, same_at, Up, calm, end_few}
+use Rattle.sub_trusted.proofs.TrustedKeptLemmas.{SeesNone, closed_said, Up, calm, end_few}
 use Rattle.sub_trusted.proofs.TrustedKeptLemmas.{may_before, opens_said, gap_end, keeps_said}
-use Rattle.sub_trusted.proofs.TrustedKeptLemmas.{run_low}
-use Rattle.sub_trusted.proofs.TrustedKeptLemmas.{passes_before, stood, up_of, whole_of}
+use Rattle.sub_trusted.proofs.TrustedKeptLemmas.{keeps_to}
+use Rattle.sub_trusted.proofs.TrustedKeptLemmas.{passes_before, run_low, stood, up_of, whole_found}
+use Rattle.sub_trusted.proofs.TrustedKeptLemmas.{whole_some}
 use Rattle.sub_trusted.proofs.DoubtLemmas.{OnTrusted}
 use Rattle.sub_trusted.proofs.LateDoubtLemmas.{end_doubt, end_own, keeps_joined, late_low, order_at}
 use Rattle.sub_trusted.proofs.LateDoubtLemmas.{order_own, order_rises, packets_doubt, packets_own}
@@ -34,27 +36,37 @@ use Rattle.sub_trusted.proofs.LateDoubtLemmas.{passed_at, seen_low, seen_since}
 use Rattle.sub_laws.proofs.PrefixLemmas.{RiseTo, before}
 use Rattle.sub_laws.proofs.RisingEndLemmas.{latest_at}
 use Rattle.sub_trusted.proofs.SayMarkLemmas.{Goes, Goes-append, Goes-cons, Goes-nil, Goes-says}
-use Rattle.sub_trusted.proofs.SayMarkLemmas.{IsSaid}
+use Rattle.sub_trusted.proofs.SayMarkLemmas.{IsSaid, doubt_of, is_order, kept_some, rose}
 use Rattle.sub_trusted.proofs.TrustedRunLemmas.{EndsQuiet}
-use Rattle.sub_rules.proofs.KeptTrust.{Trust, after_mark, late_since, told_with}
-use Rattle.sub_rules.specs.Trusted.{Mark, stands_none}
-use Rattle.sub_rules.proofs.KeptTrust.{is_order}
+use Rattle.sub_rules.specs.Trusted.{Mark, stays_quiet, last_begun, late_of, run_of, since_of}
+use Rattle.sub_rules.specs.Trusted.{stands_none, tells_fall, told_at, whole_at, whole_of}
 
 -- ---- the mark of an end
 
 module _ (g : Task) (frames : Transmission) where
-  -- Its mark, within some frames; one that changes nothing, where each end is told at once.
-  abbrev pub at_end : ℕ → ℕ → Mark
-  at_end n f = AtEnd f (seen_since g frames n f) (not (g.within == 0) && is_late g frames n f)
+  -- The end of frame f was looked at, up to which n frames count.
+  pub record Looks (n f : ℕ) (t u : List Mark) : Type 0 where
+    pub run_is : run_of u ≡ run_of t
+    pub whole_is :
+        is_some (run_of t) ≡ true
+        → whole_of u ≡ option_or (whole_of t) (whole_at f (seen_since g frames n f))
+    pub last_is : last_begun u ≡ last_begun t
+    pub rises_is : rose u ≡ rose t
+    pub clean_is : stays_quiet u ≡ stays_quiet t
+    pub since_is : since_of u ≡ seen_since g frames n f
+    pub late_is :
+        late_of u
+        ≡ (if not (g.within == 0) && is_late g frames n f then seen_since g frames n f else None)
 
-  -- So what comes there may be taken as this mark and what is told.
-  pub with_end : (T : Trust → List Mark → Type 0) (i n f : ℕ) (t : Trust)
+  -- It has a mark within some frames; where each end is told at once one would change nothing. So
+  -- what comes there may be taken as what is told once it was looked at.
+  pub with_end : (T : List Mark → List Mark → Type 0) (i n f : ℕ) (t : List Mark)
       → ((g.within == 0) ≡ true → SeesNone t)
-      → ((m : Mark) (ms : List Mark) → told_with m t ≡ [] → T (after_mark m t) ms → T t (m ∷ ms))
-      → T (after_mark (at_end n f) t) (map Says (events_at_end g frames i n f))
+      → ((m : Mark) (ms : List Mark) → told_at t m ≡ [] → T (m ∷ t) ms → T t (m ∷ ms))
+      → ((u : List Mark) → Looks n f t u → T u (map Says (events_at_end g frames i n f)))
       → T t (marks_at_end g frames i n f)
-  unfolding told_with
-  with_end T i n f t none cons = go (g.within == 0) refl
+  unfolding told_at run_of whole_of last_begun since_of late_of stays_quiet tells_fall
+  with_end T i n f t none cons so = go (g.within == 0) refl
     where
       es : List Event
       es = events_at_end g frames i n f
@@ -62,12 +74,22 @@ module _ (g : Task) (frames : Transmission) where
       since : Option ℕ
       since = unfinished_since g frames n f
 
+      unseen : (g.within == 0) ≡ true → SeesNone t → Looks n f t t
+      unseen e sees =
+          let since = sees.since in
+          let late = sees.late in
+          let whole = sees.whole in
+          grind (arith, nat_tests)
+
+      seen : (g.within == 0) ≡ false → Looks n f t (AtEnd f since (is_late g frames n f) ∷ t)
+      seen e = grind (arith, nat_tests)
+
       go : (c : Bool) → (g.within == 0) ≡ c
-          → T (after_mark (AtEnd f (if c then None else since) (not c && is_late g frames n f)) t)
-          (map Says es)
           → T t ((if c then [] else AtEnd f since (is_late g frames n f) ∷ []) ++ map Says es)
-      go true e so = subst (λ (u : Trust). T u (map Says es)) (same_at t f (none e)) so
-      go false e so = cons (AtEnd f since (is_late g frames n f)) (map Says es) refl so
+      go true e = so t (unseen e (none e))
+      go false e =
+          cons (AtEnd f since (is_late g frames n f)) (map Says es) refl
+          (so (AtEnd f since (is_late g frames n f) ∷ t) (seen e))
 
   -- Frame f, which is not before this one, has an end, up to which m frames count, and these rise.
   abbrev pub HasEnd : ℕ → ℕ → ℕ → Type 0
@@ -81,14 +103,14 @@ module _ (g : Task) (frames : Transmission) (base : ℕ) where
   abbrev pub Passes : ℕ → ℕ → Type 0
   Passes = MayPass g frames base (end_frame frames)
 
-  abbrev pub Tells : (Trust → Type 0) → Trust → List Mark → Type 0
+  abbrev pub Tells : (List Mark → Type 0) → List Mark → List Mark → Type 0
   Tells S t ms = Goes Passes S t ms
 
-  passes : (n x y : ℕ) (t : Trust) → Keeps g frames base n x t
+  passes : (n x y : ℕ) (t : List Mark) → Keeps g frames base n x t
       → MayEnd g frames (end_frame frames) n x y
       → (from w : ℕ)
-      → t.run ≡ Some from
-      → t.whole ≡ Some w
+      → run_of t ≡ Some from
+      → whole_of t ≡ Some w
       → w < y
       → Passes from (y - 1)
   passes n x y t keeps may =
@@ -97,110 +119,111 @@ module _ (g : Task) (frames : Transmission) (base : ℕ) where
 
   -- ---- an end
 
-  -- What is kept with the mark of an end.
-  pub keeps_end : (n x m f : ℕ) (t : Trust) → Keeps g frames base n x t
-      → ((from : ℕ) → t.run ≡ Some from → HasEnd g frames m f from)
-      → Keeps g frames base n x (after_mark (at_end g frames m f) t)
-  unfolding after_mark
-  keeps_end n x m f t keeps low = record {
-    run = keeps.run;
-    ends = keeps.ends;
+  -- What is kept where an end was looked at.
+  pub keeps_end : (n x m f : ℕ) (t u : List Mark) → Looks g frames m f t u
+      → Keeps g frames base n x t
+      → ((from : ℕ) → run_of t ≡ Some from → HasEnd g frames m f from)
+      → Keeps g frames base n x u
+  keeps_end n x m f t u looks keeps low = record {
+    run = λ from is. keeps.run from (was from is);
+    ends = λ from is. keeps.ends from (was from is);
     whole = λ from w is whole.
-        elim (whole_of t.run t.whole (seen_since g frames m f) f from w is whole) [
-          | inl before ↦ keeps.whole from w is before
+        let run = was from is in
+        elim (whole_found (whole_of t) (seen_since g frames m f) f w
+        (sym (looks.whole_is (ap is_some run)) ∙ whole)) [
+          | inl before ↦ keeps.whole from w run before
           | inr (none, here) ↦
-              let (l, end, rises) = low from is in
+              let (l, end, rises) = low from run in
               subst (IsWhole g frames from) here
               (record { low = l; n = m; end = end; rises = rises; finished = none })
         ];
-    above = keeps.above;
-    falls = keeps.falls;
-    at_once = λ e. unseen e (keeps.at_once e);
+    above = λ from is. keeps.above from (was from is);
+    falls = λ e. looks.run_is ∙ keeps.falls (sym looks.rises_is ∙ e);
+    at_once = λ e.
+        let none : seen_since g frames m f ≡ None = rw e refl in
+        record {
+          since = looks.since_is ∙ none;
+          late = looks.late_is ∙ rw e refl;
+          whole = λ there.
+              ap is_some (looks.whole_is (sym (ap is_some looks.run_is) ∙ there))
+              ∙ whole_some (whole_of t) (seen_since g frames m f) f none;
+        };
   }
     where
-      unseen : (g.within == 0) ≡ true → SeesNone t → SeesNone (after_mark (at_end g frames m f) t)
-      unseen e none =
-          rw e (subst SeesNone (sym (same_at t f none)) none)
+      was : (from : ℕ) → run_of u ≡ Some from → run_of t ≡ Some from
+      was from is = sym looks.run_is ∙ is
 
   -- What is told at the end of frame f, up to which n frames counted before and now m, doubts no
   -- later one.
-  pub end_tells : (n m f : ℕ) (t u : Trust) (S : Trust → Type 0)
-      → u ≡ after_mark (at_end g frames m f) t
-      → ((from : ℕ) → t.run ≡ Some from → latest frames m ≤ f)
+  pub end_tells : (n m f : ℕ) (t : List Mark) (S : List Mark → Type 0)
+      → ((from : ℕ) → run_of t ≡ Some from → latest frames m ≤ f)
       → Keeps g frames base n f t
-      → ((from : ℕ) → t.run ≡ Some from → HasEnd g frames m f from)
+      → ((from : ℕ) → run_of t ≡ Some from → HasEnd g frames m f from)
       → ((from : ℕ)
-      → t.run ≡ Some from
+      → run_of t ≡ Some from
       → (y : ℕ)
       → y ≤ f
       → MayEnd g frames (end_frame frames) n f y)
-      → ((v : Trust) → IsSaid u v (events_at_end g frames n m f) → S v)
+      → ((u v : List Mark) → Looks g frames m f t u → IsSaid u v (events_at_end g frames n m f)
+      → S v)
       → Tells S t (marks_at_end g frames n m f)
-  unfolding after_mark told_with
-  end_tells n m f t u S is high keeps low may after =
+  end_tells n m f t S high keeps low may after =
       with_end g frames (Tells S) n m f t keeps.at_once (Goes-cons Passes S t)
-      (Goes-says Passes S (after_mark (at_end g frames m f) t) (events_at_end g frames n m f)
+      (λ u looks.
+      Goes-says Passes S u (events_at_end g frames n m f)
       (end_own Passes (standing_before g frames n f) (end_before frames n f)
       (standing_at g frames m f) f)
       (λ x from w doubt run whole l.
-      let late : Option ℕ = late_since (after_mark (at_end g frames m f) t) in
-      let at : x ≡ unwrap_or late f =
-      (end_doubt t.last (end_before frames n f) f late (standing_before g frames n f)
+      let was : run_of t ≡ Some from = sym looks.run_is ∙ run in
+      let at : x ≡ unwrap_or (late_of u) f =
+      (end_doubt u (end_before frames n f) f (standing_before g frames n f)
       (standing_at g frames m f)).at x doubt in
-      let top : unwrap_or late f ≤ f =
-      late_low (not (g.within == 0) && is_late g frames m f) (seen_since g frames m f) f
-      (λ r since. seen_low g frames m f r since (high from run)) in
-      passes n f x (after_mark (at_end g frames m f) t) (keeps_end n f m f t keeps low)
-      (may from run x (omega arith)) from w run whole l)
-      (λ v said. after v (subst (λ (z : Trust). IsSaid z v (events_at_end g frames n m f)) (sym is)
-      said)))
+      let top : unwrap_or (late_of u) f ≤ f =
+      rw looks.late_is
+      (late_low (not (g.within == 0) && is_late g frames m f) (seen_since g frames m f) f
+      (λ r since. seen_low g frames m f r since (high from was))) in
+      passes n f x u (keeps_end n f m f t u looks keeps low) (may from was x (omega arith)) from w
+      run whole l)
+      (λ v said. after u v looks said))
 
   -- ---- the ends of frames of the day before a frame
 
-  pub gap_step : (n k : ℕ) (t : Trust) → n < length frames → k < gap_length frames n
+  pub gap_step : (n k : ℕ) (t : List Mark) → n < length frames → k < gap_length frames n
       → Arrives g frames base n k t
       → Tells (Arrives g frames base n (suc k)) t
       (marks_at_end g frames n n (latest frames n + suc k))
-  unfolding after_mark
   gap_step n k t there l arrives =
       let f : ℕ = latest frames n + suc k in
       let keeps = arrives.keeps in
       let es : List Event = events_at_end g frames n n f in
-      end_tells n n f t (after_mark (at_end g frames n f) t) (Arrives g frames base n (suc k)) refl
-      (λ from is. omega arith) keeps low may
-      (λ v said. record {
+      end_tells n n f t (Arrives g frames base n (suc k)) (λ from is. omega arith) keeps low may
+      (λ u v looks said. record {
         keeps =
             let kept =
-            keeps_said g frames base n f (after_mark (at_end g frames n f) t) v es
-            (keeps_end n f n f t keeps low) said in
-            record {
-              run = kept.run;
-              ends = λ from is m e end few after high.
-                  quiet v said from is (kept.ends from is) m e end few after high;
-              whole = kept.whole;
-              above = kept.above;
-              falls = kept.falls;
-              at_once = kept.at_once;
-            };
+            keeps_said g frames base n f u v es (keeps_end n f n f t u looks keeps low) said in
+            keeps_to g frames base n f (latest frames n + suc (suc k)) v kept
+            (λ from is. quiet u v looks said from is (kept.ends from is));
         floor = arrives.floor;
         rises = λ e.
-            let was : t.rises ≡ true =
-            let rises_is = said.rises_is in grind (arith, nat_tests) in
+            let was : rose t ≡ true =
+            let rises_is = said.rises_is in
+            let looked = looks.rises_is in
+            grind (arith, nat_tests) in
             arrives.rises was;
       })
     where
-      up : (from : ℕ) → t.run ≡ Some from → Up g frames n
+      up : (from : ℕ) → run_of t ≡ Some from → Up g frames n
       up from is =
           up_of g frames base n (latest frames n + suc k) from t arrives.keeps arrives.rises is
 
-      low : (from : ℕ) → t.run ≡ Some from → HasEnd g frames n (latest frames n + suc k) from
+      low : (from : ℕ) → run_of t ≡ Some from → HasEnd g frames n (latest frames n + suc k) from
       low from is =
           let run = arrives.keeps.run from is in
           let first = run_low g frames n from run in
           let last = (up from is).last in
           (omega arith, gap_end g frames n k there l (up from is), run.rises)
 
-      may : (from : ℕ) → t.run ≡ Some from
+      may : (from : ℕ) → run_of t ≡ Some from
           → (y : ℕ) → y ≤ latest frames n + suc k
           → MayEnd g frames (end_frame frames) n (latest frames n + suc k) y
       may from is y high =
@@ -213,18 +236,19 @@ module _ (g : Task) (frames : Transmission) (base : ℕ) where
             last = λ all. absurd (omega arith);
           }
 
-      quiet : (v : Trust)
-          → IsSaid (after_mark (at_end g frames n (latest frames n + suc k)) t) v
-          (events_at_end g frames n n (latest frames n + suc k))
-          → (from : ℕ) → v.run ≡ Some from
+      quiet : (u v : List Mark)
+          → Looks g frames n (latest frames n + suc k) t u
+          → IsSaid u v (events_at_end g frames n n (latest frames n + suc k))
+          → (from : ℕ) → run_of v ≡ Some from
           → EndsQuiet g frames n from (latest frames n + suc k)
           → EndsQuiet g frames n from (latest frames n + suc (suc k))
-      quiet v said from is ends m e end few after high =
+      quiet u v looks said from is ends m e end few after high =
           let f : ℕ = latest frames n + suc k in
-          let u : Trust = after_mark (at_end g frames n f) t in
           let none = calm g frames u v (events_at_end g frames n n f) said from is in
-          let was : t.run ≡ Some from =
-          let run_is = said.run_is in grind (arith, nat_tests) in
+          let was : run_of t ≡ Some from =
+          sym looks.run_is
+          ∙ (kept_some (run_of u) (doubt_of u (events_at_end g frames n n f)) from
+          (sym said.run_is ∙ is)).0 in
           let h = up from was in
           elim (cases_lt e f) [
             | inl before ↦ ends m e end few after before
@@ -245,11 +269,11 @@ module _ (g : Task) (frames : Transmission) (base : ℕ) where
                 (omega arith) in
                 subst (λ (z : ℕ). stands_none (standing_at g frames z e) ≡ true) own
                 (subst (λ (z : ℕ). stands_none (standing_at g frames n z) ≡ true) here
-                ((end_doubt t.last (end_before frames n f) f (late_since u)
-                (standing_before g frames n f) (standing_at g frames n f)).quiet none before))
+                ((end_doubt u (end_before frames n f) f (standing_before g frames n f)
+                (standing_at g frames n f)).quiet none before))
           ]
 
-  gaps : (n k : ℕ) (t : Trust) → n < length frames → k ≤ gap_length frames n
+  gaps : (n k : ℕ) (t : List Mark) → n < length frames → k ≤ gap_length frames n
       → Arrives g frames base n 0 t
       → Tells (Arrives g frames base n k) t (marks_of_gap g frames n k)
   unfolding marks_of_gap
@@ -267,13 +291,13 @@ module _ (g : Task) (frames : Transmission) (base : ℕ) where
       → MayEnd g frames (end_frame frames) n (frame_at frames (n - 1) + 1) x
   may_ended n x within low = grind (arith, nat_tests)
 
-  pub order_step : (n : ℕ) (t : Trust) → n < length frames → Closed g frames base n t
+  pub order_step : (n : ℕ) (t : List Mark) → n < length frames → Closed g frames base n t
       → Tells (Arrives g frames base n 0) t (map Says (order_events g frames n))
   order_step n t there closed =
       Goes-says Passes (Arrives g frames base n 0) t (order_events g frames n)
       (order_own Passes g frames n)
       (λ x from w doubt run whole l.
-      let at : x ≡ t.last = order_at t.last (late_since t) g frames n x doubt in
+      let at : x ≡ last_begun t = order_at t g frames n x doubt in
       let below = (closed.keeps.run from run).below in
       let last = closed.last (omega arith) in
       passes n (frame_at frames (n - 1) + 1) x t closed.keeps
@@ -283,27 +307,22 @@ module _ (g : Task) (frames : Transmission) (base : ℕ) where
       keeps_said g frames base n (frame_at frames (n - 1) + 1) t u (order_events g frames n)
       closed.keeps said in
       record {
-        keeps = record {
-          run = kept.run;
-          ends = λ from is m e end few after high.
-              let run = kept.run from is in
-              let below = run.below in
-              let last = latest_at frames n run.rises (omega arith) in
-              kept.ends from is m e end few after (omega arith);
-          whole = kept.whole;
-          above = kept.above;
-          falls = kept.falls;
-          at_once = kept.at_once;
-        };
+        keeps =
+            keeps_to g frames base n (frame_at frames (n - 1) + 1) (latest frames n + suc 0) u kept
+            (λ from is m e end few after high.
+            let run = kept.run from is in
+            let below = run.below in
+            let last = latest_at frames n run.rises (omega arith) in
+            kept.ends from is m e end few after (omega arith));
         floor = closed.floor;
         rises = λ e. up u said e;
       })
     where
-      up : (u : Trust) → IsSaid t u (order_events g frames n) → u.rises ≡ true
+      up : (u : List Mark) → IsSaid t u (order_events g frames n) → rose u ≡ true
           → RiseTo frames (suc n)
       up u said e i a b =
           let rises_is = said.rises_is in
-          let was : t.rises ≡ true = grind (arith, nat_tests) in
+          let was : rose t ≡ true = grind (arith, nat_tests) in
           let none : list_any is_order (order_events g frames n) ≡ false =
           grind (arith, nat_tests) in
           elim (cases_lt i n) [
@@ -314,10 +333,10 @@ module _ (g : Task) (frames : Transmission) (base : ℕ) where
                 (order_rises g frames n none (omega arith))
           ]
 
-  pub begins : (n : ℕ) (t : Trust) → n < length frames
+  pub begins : (n : ℕ) (t : List Mark) → n < length frames
       → Arrives g frames base n (gap_length frames n) t
-      → Opens g frames base n [] (after_mark (Begins (frame_at frames n)) t)
-  unfolding after_mark
+      → Opens g frames base n [] (Begins (frame_at frames n) ∷ t)
+  unfolding run_of whole_of last_begun since_of late_of stays_quiet tells_fall
   begins n t there arrives =
       let keeps = arrives.keeps in
       record {
@@ -342,9 +361,9 @@ module _ (g : Task) (frames : Transmission) (base : ℕ) where
         fresh = λ e. arrives.floor;
       }
 
-  pub arrival : (n : ℕ) (t : Trust) → n < length frames → Closed g frames base n t
+  pub arrival : (n : ℕ) (t : List Mark) → n < length frames → Closed g frames base n t
       → Tells (Opens g frames base n []) t (marks_of_arrival g frames n)
-  unfolding told_with
+  unfolding told_at
   arrival n t there closed =
       Goes-append Passes (Arrives g frames base n (gap_length frames n))
       (Opens g frames base n []) t
@@ -357,11 +376,11 @@ module _ (g : Task) (frames : Transmission) (base : ℕ) where
       (λ v here.
       Goes-cons Passes (Opens g frames base n []) v (Begins (frame_at frames n)) [] refl
       (Goes-nil Passes (Opens g frames base n [])
-      (after_mark (Begins (frame_at frames n)) v) (begins n v there here)))
+      (Begins (frame_at frames n) ∷ v) (begins n v there here)))
 
   -- ---- while it is sent
 
-  pub more_sent : (n : ℕ) (packets more : List (List ℕ)) (t : Trust) → n < length frames
+  pub more_sent : (n : ℕ) (packets more : List (List ℕ)) (t : List Mark) → n < length frames
       → Opens g frames base n packets t
       → Tells (Opens g frames base n (packets ++ more)) t
       (map Says
@@ -372,7 +391,7 @@ module _ (g : Task) (frames : Transmission) (base : ℕ) where
       let es : List Event =
       packets_told g.watched (frame_at frames n) (length packets) so_far more (length more) in
       let finds =
-      packets_doubt t.last (late_since t) g.watched (frame_at frames n) (length packets) so_far
+      packets_doubt t g.watched (frame_at frames n) (length packets) so_far
       more in
       Goes-says Passes (Opens g frames base n (packets ++ more)) t es
       (packets_own Passes g.watched (frame_at frames n) (length packets) so_far more
@@ -388,7 +407,7 @@ module _ (g : Task) (frames : Transmission) (base : ℕ) where
       keeps_joined g.watched (packets_before frames n) packets more kept (finds.quiet none)))
 
   -- A piece that is passed over before the next frame comes.
-  pub passed_ended : (n pes : ℕ) (u : Unread) (t : Trust) → n ≤ length frames
+  pub passed_ended : (n pes : ℕ) (u : Unread) (t : List Mark) → n ≤ length frames
       → Closed g frames base n t
       → Tells (Closed g frames base n) t (map Says (Told (unread_fault pes (Some u)) ∷ []))
   passed_ended n pes u t within closed =
@@ -397,9 +416,8 @@ module _ (g : Task) (frames : Transmission) (base : ℕ) where
       (All-cons (OnTrusted Passes) (Told (unread_fault pes (Some u))) [] tt
       (All-nil (OnTrusted Passes)))
       (λ x from w doubt run whole l.
-      let is : Some t.last ≡ Some x =
-      sym (passed_at t.last (late_since t) pes u) ∙ doubt in
-      let same : t.last ≡ x = same_Some t.last x is in
+      let is : Some (last_begun t) ≡ Some x = sym (passed_at t pes u) ∙ doubt in
+      let same : last_begun t ≡ x = same_Some (last_begun t) x is in
       let below = (closed.keeps.run from run).below in
       let last = closed.last (omega arith) in
       passes n (frame_at frames (n - 1) + 1) x t closed.keeps
@@ -407,7 +425,7 @@ module _ (g : Task) (frames : Transmission) (base : ℕ) where
       (λ v said. closed_said g frames base n t v es closed said)
 
   -- Or while it is sent.
-  pub passed : (n pes : ℕ) (packets : List (List ℕ)) (u : Unread) (t : Trust)
+  pub passed : (n pes : ℕ) (packets : List (List ℕ)) (u : Unread) (t : List Mark)
       → n < length frames
       → Opens g frames base n packets t
       → Tells (Opens g frames base n packets) t (map Says (Told (unread_fault pes (Some u)) ∷ []))
@@ -417,9 +435,8 @@ module _ (g : Task) (frames : Transmission) (base : ℕ) where
       (All-cons (OnTrusted Passes) (Told (unread_fault pes (Some u))) [] tt
       (All-nil (OnTrusted Passes)))
       (λ x from w doubt run whole l.
-      let is : Some t.last ≡ Some x =
-      sym (passed_at t.last (late_since t) pes u) ∙ doubt in
-      let same : t.last ≡ x = same_Some t.last x is in
+      let is : Some (last_begun t) ≡ Some x = sym (passed_at t pes u) ∙ doubt in
+      let same : last_begun t ≡ x = same_Some (last_begun t) x is in
       let last = opens.last in
       passes n (frame_at frames n) x t opens.keeps
       (may_before g frames base n packets t there opens from run (end_frame frames) x

@@ -19,13 +19,13 @@ returns-in_err-announce_some-clause-told g c =
 pub returns-clause-told : goal.returns-clause-told
 returns-clause-told g c =
     told_then _ _ _ _ _ _ c.announce.result
-    (both_are (as_run c.args.run.now) c.announce_some.new.run (first_alone c.args.first) c.args.event
-    c.in_ok-announce_some.ensures.kept)
+    (both_are (as_run c.args.run.now) c.announce_some.new.run (first_alone c.args.first)
+    c.args.event c.in_ok-announce_some.ensures.kept)
     c.in_ok-announce_some.ensures.told c.announce.ensures.told
 
 pub returns-clause-kept : goal.returns-clause-kept
 returns-clause-kept g c =
     on_ok _ c.announce.result
     (c.announce.ensures.kept
-    ∙ both_kept (as_run c.args.run.now) c.announce_some.new.run (first_alone c.args.first) c.args.event
-    c.in_ok-announce_some.ensures.kept)
+    ∙ both_kept (as_run c.args.run.now) c.announce_some.new.run (first_alone c.args.first)
+    c.args.event c.in_ok-announce_some.ensures.kept)
