@@ -142,7 +142,8 @@ done-exactly :
     → Exactly national file (first_answer events a) Means)
     → (Means → (programme : ProgrammeValue) × (loaded national file ≡ Ok programme))
     → ((all_listing first events answer).status ≡ Done) ↔ Means
-done-exactly national options file bytes pes first events (Err f) Means known runs ended are exact loads =
+done-exactly national options file bytes pes first events (Err f) Means known runs ended are exact
+    loads =
     absurd (runs (ap (λ b. status_of (kind_by b)) ended.fails))
 done-exactly national options file bytes pes first events (Ok None) Means known runs ended are exact
     loads = (
@@ -154,8 +155,8 @@ done-exactly national options file bytes pes first events (Ok None) Means known 
           let some : 0 < 0 = rw none at are.1 in
           absurd (omega (arith, some)),
     )
-done-exactly national options file bytes pes first events (Ok (Some a)) Means known runs ended are exact
-    loads =
+done-exactly national options file bytes pes first events (Ok (Some a)) Means known runs ended are
+    exact loads =
     rw (read-status first events a) (go (first_told events) refl (exact a refl))
   where
     go : (o : Option CheckFault) → first_told events ≡ o

@@ -18,7 +18,7 @@ use Rattle.sub_plan.specs.Options.{OptionsValue}
 use Rattle.sub_check.specs.CheckedFiles.{AreChecked, IsCheckedWithin, TellsSubtitles}
 use Rattle.sub_rules.specs.Events.{first_told}
 use Rattle.ttx_pes.specs.declared.fault.PesFault.TheVariants as pes_fault
-use Rattle.sub_answer.proofs.EveryFaultLemmas.{no_events}
+use Rattle.sub_answer.proofs.FailedReadLemmas.{no_events}
 use Rattle.sub_rules.specs.Fault.{is_failure, is_failure_kind, is_pes_read}
 use Rattle.sub_rules.specs.Fault.{is_subtitle_fault}
 use Rattle.sub_checker.specs.declared.telling.Accepted.{Accepted}

@@ -1,11 +1,11 @@
 -- What a printer was told of two files, and what is answered by it. Main lemmas: after_error,
--- after_faults, after_pes, answers_cut, answers_end.
+-- after_faults, after_pes, both_answers.
 use Rattle.std.proofs.Common.{◌≡◌, ◌∙◌, ap, refl, sym, subst, arith, inl, inr, ℕ, ◌+◌, ◌<◌, ◌≤◌}
 use Rattle.std.proofs.Common.{zero, suc, List, [], ◌∷◌, take, length, Bool, true, false, Option}
 use Rattle.std.proofs.Common.{Some, None, Result, Ok, Err, ◌-◌}
 use Rattle.std.proofs.lemmas.Bool.{true≢false}
 use Rattle.std.proofs.lemmas.Bool.Decides.{nat_tests}
-use Rattle.std.specs.Prelude.{◌⊎◌, IfOk, IfErr, IfSome, IsOk, is_none}
+use Rattle.std.specs.Prelude.{◌⊎◌, IfOk, IfErr, IfSome, is_none}
 use Rattle.std.specs.List.{filter}
 use Rattle.sub_io.specs.Device.{RisesIf, failed}
 use Rattle.sub_io.specs.Reading.{IfTold}
@@ -31,8 +31,6 @@ use Rattle.sub_rules.specs.Events.{latest}
 use Rattle.sub_rules.specs.Fault.{is_pes_read}
 use Rattle.sub_rules.specs.FrameRules.{frame_at, packets_before}
 use Rattle.sub_rules.specs.PacketRules.{header_count}
-use Rattle.sub_rules.specs.PieceEvents.{all_announced, events_of_pieces, marks_of_each}
-use Rattle.sub_rules.specs.Trusted.{told_after}
 use Rattle.sub_rules.specs.Pieces.{FailsAtPiece, piece_file_of}
 use Rattle.sub_rules.specs.Transmission.{Transmission}
 use Rattle.sub_checker.specs.declared.telling.Accepted.{Accepted}
@@ -40,10 +38,7 @@ use Rattle.sub_rules.specs.declared.event.Event.{Event}
 use Rattle.sub_rules.specs.declared.fault.CheckFault.{CheckFault}
 use Rattle.sub_rules.specs.declared.fault.CheckFault.TheVariants as fault
 use Rattle.sub_listing.specs.DeviceCall.{SourceCall}
-use Rattle.sub_listing.specs.Faults.{check_told}
 use Rattle.sub_listing.specs.FirstPacket.{StartsAt}
-use Rattle.sub_listing.specs.LastLine.{HoldsLastLine, PutsLine}
-use Rattle.sub_listing.specs.Told.{line_of, told_from}
 use Rattle.sub_answer.specs.EveryFault.{AreListedBefore, CanEnd, FailsAtBlock, IsAnswer}
 use Rattle.sub_answer.specs.EveryFault.{TellsBoth}
 use Rattle.sub_listing.specs.EventLines.{most_counted, refusals, subtitle_event, subtitle_events}
@@ -492,70 +487,4 @@ with_first national options stl pes first Untouched old new number given t = rec
   cut = t.cut;
   checked = t.checked;
   listed = t.listed;
-}
-
--- Nothing is told of no piece.
-pub no_events : (programme : ProgrammeValue) (options : OptionsValue) (bytes : List ℕ)
-    → events_of_first_pieces programme options bytes 0 ≡ []
-unfolding events_of_pieces all_announced told_after marks_of_each
-no_events programme options bytes = refl
-
--- The source failed before its first PES packet was found. For `tell_every_fault`.
-pub tells_none : {D : Type 0} (IsTold : D → Event → D → Type 0) (programme : ProgrammeValue)
-    (options : OptionsValue) (bytes : List ℕ) (old : D)
-    → TellsEvents programme options bytes IsTold old old (Err (fault.Pes 0 pes_fault.Read))
-tells_none IsTold programme options bytes old = (
-  0,
-  omega arith,
-  refl,
-  subst (Tells IsTold old old) (sym (no_events programme options bytes))
-      (record { in_turn = refl }),
-)
-
--- ---- the source of the PES file failed
-
--- What holds of an error holds where it is one of these.
-pub error_fails : {X E : Type 0} (Q : Type 0) (is_one : E → Bool) (r : Result X E)
-    → IfErr r (λ _. Q)
-    → failed is_one r ≡ true
-    → Q
-error_fails Q is_one (Ok x) holds is = absurd (true≢false (sym is))
-error_fails Q is_one (Err e) holds is = holds
-
-ok_keeps : (answer : Result (Option Accepted) CheckFault) (old new : ℕ)
-    → IsOk answer
-    → RisesIf old (failed is_pes_read answer) new
-    → old < new
-    → ⊥
-ok_keeps (Ok a) old new ok same risen = omega (arith, same, risen)
-ok_keeps (Err f) old new ok same risen = absurd (true≢false (sym ok))
-
--- Then the printer has not failed.
-pub cut_reads : {national : National} {options : OptionsValue} {stl pes : SourceCall}
-    {first : Option ℕ} {Untouched : Type 0} {old new : PrinterValue} {given : Result (Option Accepted) CheckFault}
-    → TellsBoth national options stl pes first Untouched old new given
-    → new.failed ≡ true
-    → pes.old_count < pes.new_count
-    → ⊥
-cut_reads told failing risen =
-    ok_keeps told.answer _ _ (told.cut failing) told.sources.pes_count risen
-
--- The line of the failure was put, and nothing before it is held back.
-pub last_line : {K : Type 0} (contents : K → Option (List ℕ)) (held : K → ℕ)
-    (IsPush : K → List ℕ → Option ℕ → K → Type 0) (before new end : K) (number : ℕ)
-    (answer : Result (Option Accepted) CheckFault)
-    → failed is_pes_read answer ≡ true
-    → held before ≡ 0
-    → IfErr answer (λ f.
-    PutsLine contents IsPush before (line_of (told_from number (check_told f))) new)
-    → end ≡ new
-    → HoldsLastLine contents held IsPush end
-last_line contents held IsPush before new end number (Ok a) is none line same =
-    absurd (true≢false (sym is))
-last_line contents held IsPush before new end number (Err f) is none line same = record {
-  before = before;
-  settled = none;
-  told = told_from number (check_told f);
-  line = subst
-      (PutsLine contents IsPush before (line_of (told_from number (check_told f)))) (sym same) line;
 }

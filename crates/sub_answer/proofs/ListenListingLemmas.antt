@@ -37,8 +37,8 @@ pub listens_from : (leaves : ℕ → ℕ) (l : Listening) (first : ℕ) (frames 
     → IfOk result (λ _. IsSeenWhole asks_complete end)
     → Listens leaves l first frames unread told left (listing_of first asks_complete end result)
 listens_from
-    leaves l first frames unread told left w old end result page asks_complete asks tuned start is_old
-    hears seen =
+    leaves l first frames unread told left w old end result page asks_complete asks tuned start
+    is_old hears seen =
     record {
       old_page = page;
       is_old = is_old;

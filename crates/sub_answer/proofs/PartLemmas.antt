@@ -78,7 +78,8 @@ module _ {D : Type 0} (remaining : D → Option (List ℕ)) (failure_count : D �
       → p.stream ≡ Some s
       → p.range ≡ Some r
       → input.call.told
-      ≡ option_map (in_range r) (option_map (carried s.pid (bytes_of s.packet_size)) (remaining old))
+      ≡ option_map (in_range r)
+      (option_map (carried s.pid (bytes_of s.packet_size)) (remaining old))
       → input.number
       ≡ option_map (first_index r)
       (option_map (carried s.pid (bytes_of s.packet_size)) (remaining old))

@@ -52,9 +52,9 @@ abbrev pub verdict : ℕ → Result Accepted CheckFault → Listing
 verdict first (Ok a) = done (accepted_line a)
 verdict first (Err f) = told_listing (told_from first (check_told f))
 
--- `check` has one answer, which the bytes of both files decide, and prints it. `first` is the number
--- that the first PES packet has in its file, where that is told; `Untouched` says that no byte of
--- the PES file was read.
+-- `check` has one answer, which the bytes of both files decide, and prints it. `first` is the
+-- number that the first PES packet has in its file, where that is told; `Untouched` says that no
+-- byte of the PES file was read.
 pub record AnswersCheck
     (national : National) (options : OptionsValue) (stl pes : SourceCall) (first : Option ℕ)
     (Untouched : Type 0) (out : SinkCall) (status : Status)
@@ -80,9 +80,9 @@ pub record AnswersCheck
   pub checked : IfTold stl.told (λ file. AreChecked national options file pes.told answer)
   pub ends : TellsStatus national options stl pes out status
 
--- It is printed what a receiver shows that heard the frames of the PES file, and leaves this code in
--- a cell whose byte has even parity; or the refusal. The first PES packet has the number `first` in
--- its file.
+-- It is printed what a receiver shows that heard the frames of the PES file, and leaves this code
+-- in a cell whose byte has even parity; or the refusal. The first PES packet has the number `first`
+-- in its file.
 pub record PrintsHeard
     (leaves : ℕ → ℕ) (listening : Listening) (first : ℕ) (pes : SourceCall) (out : SinkCall)
     (status : Status)
@@ -114,8 +114,8 @@ pub record AnswersListen
   pub starts : StartsAt first pes number
   pub heard : PrintsHeard leaves listening number pes out status
 
--- An input in a call: and the number that the first PES packet which it gives has in its file, where
--- that is told.
+-- An input in a call: and the number that the first PES packet which it gives has in its file,
+-- where that is told.
 pub record InputCall : Type 0 where
   pub call : SourceCall
   pub number : Option ℕ

@@ -17,7 +17,7 @@ use Rattle.sub_listing.specs.Listing.{PrintsOrFails, told_listing}
 use Rattle.sub_listing.specs.declared.status.Status.{Status}
 use Rattle.sub_listing.specs.declared.status.Status.TheVariants.{Fault}
 use Rattle.sub_answer.specs.Answering.{Answers, InputCall}
-use Rattle.sub_answer.specs.Part.{IsPartOf, part_of, whole_file}
+use Rattle.sub_answer.specs.Part.{IsPartOf, part_asked, whole_file}
 use Rattle.sub_answer.specs.declared.part.Part.{Part}
 
 -- A sink behind a buffer, by what it has taken, what it holds back of that, and how often it has
@@ -196,14 +196,14 @@ devices_of part (Write stl output) = source_and_file whole_file stl output
 devices_of part (Extract recording output) = source_and_file part recording output
 
 -- A request was answered over devices, by what is told of these and by which closes of a file go
--- so; and then the lines were handed on. A second source is the PES file, of which the request reads
--- a part.
+-- so; and then the lines were handed on. A second source is the PES file, of which the request
+-- reads a part.
 abbrev pub EndsOver :
     {I O : Type 0}
     → ToldOfFiles I O → (O → O → Type 0) → Request → Devices I O → Lines → Lines → Status → Type 0
 EndsOver told IsClose request devices old new result =
     EndsWith request (IsSourceOf told devices.part devices.first)
-    (IsSourceOf told (part_of request) devices.second) ⊤
+    (IsSourceOf told (part_asked request) devices.second) ⊤
     (IsSinkOf told IsClose devices.file) old new result
 
 -- The files that a request names were opened, by the calls that were made, and it was answered over
@@ -214,7 +214,7 @@ pub record Ends
     : Type 0 where
   pub files : Opened I O
   pub opened : OpensBy AreMade (files_of request) (Some files)
-  pub ends : EndsOver told IsClose request (devices_of (part_of request) files) old new result
+  pub ends : EndsOver told IsClose request (devices_of (part_asked request) files) old new result
 
 -- The line of a fault was printed, and then handed on.
 pub record Says (fault : UsageFault) (old new : Lines) (result : Status) : Type 0 where

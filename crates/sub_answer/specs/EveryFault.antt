@@ -148,8 +148,8 @@ pub record TellsBoth
       IfTold stl.told (λ file. AreListed national options file pes.told events answer)
 
 -- `check --all` tells events, and has one answer; the bytes of both files decide them. `first` is
--- the number that the first PES packet has in its file, where that is told; `Untouched` says that no
--- byte of the PES file was read.
+-- the number that the first PES packet has in its file, where that is told; `Untouched` says that
+-- no byte of the PES file was read.
 pub record AnswersAll
     (national : National) (options : OptionsValue) (stl pes : SourceCall) (first : Option ℕ)
     (Untouched : Type 0) (out : SinkCall) (status : Status)

@@ -15,13 +15,13 @@ abbrev pub whole_file : Part
 whole_file = record { stream = None; range = None }
 
 -- What a request reads of its PES file, or of its recording.
-abbrev pub part_of : Request → Part
-part_of (ask.Packets pes) = record { stream = pes.stream; range = pes.range }
-part_of (ask.Check stl pes options national all) =
+abbrev pub part_asked : Request → Part
+part_asked (ask.Packets pes) = record { stream = pes.stream; range = pes.range }
+part_asked (ask.Check stl pes options national all) =
     record { stream = pes.stream; range = pes.range }
-part_of (ask.Listen pes listening) = record { stream = pes.stream; range = pes.range }
-part_of (ask.Extract recording pes stream) = record { stream = Some stream; range = None }
-part_of _ = whole_file
+part_asked (ask.Listen pes listening) = record { stream = pes.stream; range = pes.range }
+part_asked (ask.Extract recording pes stream) = record { stream = Some stream; range = None }
+part_asked _ = whole_file
 
 -- What a transport stream carries, where the file is one, of the bytes that are told of the file.
 abbrev pub through_stream : Option TransportStream → Option (List ℕ) → Option (List ℕ)

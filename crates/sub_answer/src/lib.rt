@@ -6,7 +6,8 @@
 //! words.
 //!
 //! ```text
-//! let request = Request::parse(alloc, &["subttx", "check", "film.stl", "air.ts", "--pid", "257"])?;
+//! let words = ["subttx", "check", "film.stl", "air.ts", "--pid", "257"];
+//! let request = Request::parse(alloc, &words)?;
 //! open_and_answer(alloc, &mut files, &request, &mut out)? // Status::Done
 //! ```
 #![tactic(auto)]

@@ -11,7 +11,7 @@ ghost use Rattle.sub_answer.specs.Ending.{told_of_files};
 ghost use Rattle.sub_answer.specs.Part as specs;
 
 use crate::ending::{answer_from, answer_with_file};
-use crate::part::{Part, part_of, whole_file};
+use crate::part::{Part, part_asked, whole_file};
 use crate::parts::{answer_part, answer_second_part};
 use std::alloc::Global;
 use sub_files::{CreatedFile, FileSystem, Opened, PesFile, StlFile, open, room, size_of_rooms};
@@ -89,7 +89,7 @@ fn answer_opened<I: Source + Drop, O: Close + Drop, K: Sink>(
     requires unused { AreUnused I.failure_count O.failure_count files }
     ensures { EndsOver
         (told_of_files I.remaining I.failure_count O.contents O.failure_count)
-        O.is_close request.now (devices_of (specs.part_of request.now) files)
+        O.is_close request.now (devices_of (specs.part_asked request.now) files)
         (lines_of K.contents K.failure_count out.old)
         (lines_of K.contents K.failure_count out.new) result }
 {
@@ -100,7 +100,7 @@ fn answer_opened<I: Source + Drop, O: Close + Drop, K: Sink>(
             read_one(alloc, request, whole, stl.into_file(), rooms, out)
         }
         Opened::ReadPes(pes) => {
-            let part = part_of(request);
+            let part = part_asked(request);
             read_one(alloc, request, part, pes.into_file(), rooms, out)
         }
         Opened::ReadBoth(stl, pes) => read_both(alloc, request, stl, pes, rooms, out),
@@ -162,7 +162,7 @@ fn read_both<I: Source + Drop, K: Sink>(
     requires out { failures_and_refused (K.failure_count out.old.device) out.old.refused ≡ 0 }
     requires unused { (I.failure_count stl ≡ 0) × (I.failure_count pes ≡ 0) }
     ensures { EndsWith request.now (IsReadFrom specs.whole_file I.remaining I.failure_count stl)
-        (IsReadFrom (specs.part_of request.now) I.remaining I.failure_count pes) ⊤ IsEmptyFile
+        (IsReadFrom (specs.part_asked request.now) I.remaining I.failure_count pes) ⊤ IsEmptyFile
         (lines_of K.contents K.failure_count out.old)
         (lines_of K.contents K.failure_count out.new) result }
 {
@@ -170,7 +170,7 @@ fn read_both<I: Source + Drop, K: Sink>(
     let (room, other) = rooms.split_at_mut(half);
     let mut first = BufferedSource::new(stl.into_file(), room);
     let second = BufferedSource::new(pes.into_file(), other);
-    answer_second_part(alloc, request, &mut first, part_of(request), second, out)
+    answer_second_part(alloc, request, &mut first, part_asked(request), second, out)
 }
 
 // Answers a request that reads a subtitle file and writes a file.
@@ -213,7 +213,7 @@ fn read_and_extract<I: Source + Drop, O: Close + Drop, K: Sink>(
     requires out { failures_and_refused (K.failure_count out.old.device) out.old.refused ≡ 0 }
     requires unused { (I.failure_count recording ≡ 0) × (O.failure_count output ≡ 0) }
     ensures { EndsWith request.now
-        (IsReadFrom (specs.part_of request.now) I.remaining I.failure_count recording)
+        (IsReadFrom (specs.part_asked request.now) I.remaining I.failure_count recording)
         IsEmptySource ⊤
         (IsWrittenTo O.contents O.failure_count O.is_close output)
         (lines_of K.contents K.failure_count out.old)
@@ -223,5 +223,5 @@ fn read_and_extract<I: Source + Drop, O: Close + Drop, K: Sink>(
     let (room, other) = rooms.split_at_mut(half);
     let first = BufferedSource::new(recording.into_file(), room);
     let mut file = BufferedSink::new(output.into_file(), other);
-    answer_part(alloc, request, part_of(request), first, &mut file, out)
+    answer_part(alloc, request, part_asked(request), first, &mut file, out)
 }

@@ -15,8 +15,8 @@ pub struct Part {
 }
 
 /// What a request reads of its PES file, or of its recording; all of any other file.
-pub fn part_of(request: &Request<'_>) -> Part
-    ensures { result ≡ specs.part_of request.now }
+pub fn part_asked(request: &Request<'_>) -> Part
+    ensures { result ≡ specs.part_asked request.now }
 {
     match request {
         Request::Packets { pes } => Part {

@@ -1,5 +1,5 @@
-//! Answers a request over a part of what a source gives: the source of that part is made here, of one
-//! type for each of the four ways, so that a whole file costs nothing.
+//! Answers a request over a part of what a source gives: the source of that part is made here, of
+//! one type for each of the four ways, so that a whole file costs nothing.
 ghost use Rattle.std.specs.Prelude.{◌≡◌, ⊤, Some, []};
 ghost use Rattle.sub_io.specs.Buffered.{failures_and_refused};
 ghost use Rattle.sub_io.specs.Device.{CanFail};

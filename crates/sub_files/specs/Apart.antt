@@ -4,9 +4,9 @@ use Rattle.sub_files.specs.declared.apart.Found.{Found}
 use Rattle.sub_files.specs.declared.apart.Found.TheVariants.{At, Nothing}
 
 -- A file was found.
-abbrev pub is_there : Found → Bool
-is_there (At device inode) = true
-is_there _ = false
+abbrev pub was_found : Found → Bool
+was_found (At device inode) = true
+was_found _ = false
 
 -- Nothing is there to be written over; or both are known, and differ in device or inode.
 abbrev pub is_apart : (input output : Found) → Bool

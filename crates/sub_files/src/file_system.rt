@@ -1,7 +1,7 @@
 //! The device that a program asks for files: the system, or what stands in for it in a test.
 ghost use Rattle.std.specs.Prelude.{◌≡◌, ◌≢◌, IfErr, IfOk, IfSome, Option, true};
 ghost use Rattle.std.specs.IoError.{error_kind};
-ghost use Rattle.sub_files.specs.Apart.{is_there};
+ghost use Rattle.sub_files.specs.Apart.{was_found};
 ghost use Rattle.sub_files.specs.FileCalls.{FileCall, any_file_call};
 
 use crate::apart::Found;
@@ -81,7 +81,7 @@ impl<R: Files> FileSystem for SystemFiles<'_, R> {
 // What is at a name that was looked up so. One that can't be looked up is never taken for one at
 // which nothing is.
 fn found_by(looked_up: io::Result<Metadata>) -> Found
-    ensures there { IfOk looked_up (λ _. is_there result ≡ true) }
+    ensures there { IfOk looked_up (λ _. was_found result ≡ true) }
     ensures nothing { IfErr looked_up (λ error.
         error_kind error ≡ ErrorKind.NotFound → result ≡ Found.Nothing) }
     ensures unknown { IfErr looked_up (λ error.

@@ -1,8 +1,8 @@
--- What comes next of bytes, by what was read of them. Main lemmas: next_short, next_start, next_cut,
--- next_piece, more_copied.
+-- What comes next of bytes, by what was read of them. Main lemmas: next_short, next_start,
+-- next_cut, next_piece, more_copied.
 use Rattle.std.proofs.Common.{◌≡◌, ◌∙◌, ap, sym, subst, arith, ℕ, ◌+◌, ◌<◌, ◌≤◌, ◌++◌, List}
-use Rattle.std.proofs.Common.{[], true, false, Option, Some, None, Ok, Err, length, take, drop, length-append}
-use Rattle.std.proofs.Common.{take-add, take-append-drop}
+use Rattle.std.proofs.Common.{[], true, false, Option, Some, None, Ok, Err, length, take, drop}
+use Rattle.std.proofs.Common.{length-append, take-add, take-append-drop}
 use Rattle.std.proofs.lemmas.List.{drop-drop, length-drop, length-take-le, take_all}
 use Rattle.std.proofs.Math.Seq.{drop-append_seam, take-append_seam}
 use Rattle.std.proofs.lemmas.Bool.Decides.{nat_tests}

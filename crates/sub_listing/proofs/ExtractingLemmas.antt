@@ -9,8 +9,8 @@ use Rattle.sub_io.proofs.DeviceLemmas.{AppendsPrefix-second}
 use Rattle.ttx_pes.specs.declared.fault.PesFault.{PesFault}
 use Rattle.std.proofs.lemmas.List.{append-nil, length-drop}
 use Rattle.ttx_pes.specs.PieceRange.{behind_pieces, count_pieces, first_pieces, piece_size}
-use Rattle.ttx_pes.proofs.PieceRangeLemmas.{behind_none, behind_one, count_none, count_one, first_one}
-use Rattle.ttx_pes.proofs.PieceRangeLemmas.{piece_told}
+use Rattle.ttx_pes.proofs.PieceRangeLemmas.{behind_none, behind_one, count_none, count_one}
+use Rattle.ttx_pes.proofs.PieceRangeLemmas.{first_one, piece_told}
 use Rattle.sub_listing.specs.Copying.{CopiesRest, HasCopied, HasCopiedPieces}
 use Rattle.sub_listing.specs.Extracting.{AreGiven, AreRefused, begins_with_mark, count_marks}
 use Rattle.sub_listing.specs.Extracting.{most_pieces, refusal_at}

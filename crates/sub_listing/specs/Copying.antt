@@ -34,6 +34,7 @@ abbrev pub tells_read : Next → Bool
 tells_read (Rest read f) = is_read f
 tells_read _ = false
 
+-- What is no piece was copied, and is told as a source that failed: that is never so.
 abbrev pub tells_copied_read : Copied → Bool
 tells_copied_read (copied.Rest f) = is_read f
 tells_copied_read _ = false

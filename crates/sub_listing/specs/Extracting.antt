@@ -1,5 +1,5 @@
--- What `extract` writes and tells of the bytes that a source gives: PES packets and marks, one after
--- another, and what follows them.
+-- What `extract` writes and tells of the bytes that a source gives: PES packets and marks, one
+-- after another, and what follows them.
 use Rattle.std.specs.Prelude.{◌≡◌, ℕ, zero, suc, ◌+◌, ◌<◌, ◌==◌, ◌&&◌, nat_le, nat_lt, Bool}
 use Rattle.std.specs.Prelude.{true, false, List, [], ◌++◌, codes, decimal, length, take, drop}
 use Rattle.std.specs.Prelude.{Option, Some, None, Result, Ok, Err, if◌then◌else◌}
@@ -73,8 +73,8 @@ abbrev pub is_extract_write : ExtractFault → Bool
 is_extract_write Write = true
 is_extract_write _ = false
 
--- The bytes fall into pieces, `gaps` marks among them: so many are given, and the file has taken all
--- bytes.
+-- The bytes fall into pieces, `gaps` marks among them: so many are given, and the file has taken
+-- all bytes.
 pub record AreGiven (bytes : List ℕ) (old new : Option (List ℕ)) (pes gaps : ℕ) : Type 0 where
   pub pieces : count_pieces pes bytes ≡ pes
   pub whole : behind_pieces pes bytes ≡ []

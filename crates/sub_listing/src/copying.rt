@@ -171,8 +171,8 @@ fn put_and_hand_on<F: Flush>(file: &mut F, bytes: &[u8]) -> Result<(), CopyFault
 ///
 /// # Errors
 ///
-/// `Read` where the source failed: then nothing was copied. `Write` where the file failed, and has a
-/// prefix of it.
+/// `Read` where the source failed: then nothing was copied. `Write` where the file failed, and has
+/// a prefix of it.
 pub fn copy_next<S: Source, F: Flush>(
     source: &mut S,
     file: &mut F,

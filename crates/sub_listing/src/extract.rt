@@ -50,8 +50,8 @@ pub enum ExtractFault {
 }
 
 /// Writes what a source gives, PES packets and marks one after another, as a source of those of a
-/// PID does (ISO/IEC 13818-1; `PesSource` of `mpeg_ts`), and prints how many there are, and how many
-/// of them are marks; or why what was written is no file of PES packets.
+/// PID does (ISO/IEC 13818-1; `PesSource` of `mpeg_ts`), and prints how many there are, and how
+/// many of them are marks; or why what was written is no file of PES packets.
 ///
 /// Each is handed on as soon as it has come. Bytes that are no PES packet are written too. `Fault`
 /// where a device failed.

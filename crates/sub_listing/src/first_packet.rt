@@ -6,8 +6,8 @@ ghost use Rattle.sub_io.specs.Device.{CanFail, CountsFailure};
 use sub_io::Source;
 use ttx_pes::{FailedAt, Numbered};
 
-/// How it is found which PES packet of its file a source gives first. Places are told by the numbers
-/// that PES packets have in the file.
+/// How it is found which PES packet of its file a source gives first. Places are told by the
+/// numbers that PES packets have in the file.
 pub trait FirstPacket<S: Source> {
     // Its number in the file, counted from 0, where the source tells that.
     ghost number: { S → Option ℕ };

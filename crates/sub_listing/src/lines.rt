@@ -220,7 +220,8 @@ fn push_code<const N: usize>(line: &mut ArrayVec<u8, N>, code: &FaultCode)
     push_text(line, code.name().as_bytes());
 }
 
-// Appends the place of a fault, where the first PES packet that is read has this number in its file.
+// Appends the place of a fault, where the first PES packet that is read has this number in its
+// file.
 fn push_place<const N: usize>(line: &mut ArrayVec<u8, N>, place: FaultPlace, first: u64)
     requires { array_vec_len line.old + PLACE_ROOM ≤ N }
     ensures items { line.new.items ≡ line.old.items ++ place_text first place }

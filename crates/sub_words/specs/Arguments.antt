@@ -73,8 +73,8 @@ abbrev pub packet_size_of : List Row → Result PacketSize UsageFault
 packet_size_of rows =
     ok_or (packet_size_of_text (argument (codes "packet-size") rows)) fault.PacketSize
 
--- `[--pid P] [--packet-size S]`: the transport packets that carry PES packets. Where no PID is given
--- there are none: the packet size is read then too, and has no effect.
+-- `[--pid P] [--packet-size S]`: the transport packets that carry PES packets. Where no PID is
+-- given there are none: the packet size is read then too, and has no effect.
 abbrev pub stream_of : List Row → Result (Option TransportStream) UsageFault
 stream_of rows = do
   pid ← ok_or (given_as pid_of_text (codes "pid") rows) fault.Pid
@@ -93,8 +93,8 @@ pub record PesAsked : Type 0 where
   pub range : Option PieceRangeValue
 
 -- `RECORDING [--pid P] [--packet-size S] [--pes I-J]`
-unfoldable pub pes_of : List Row → Result PesAsked UsageFault
-pes_of rows = do
+unfoldable pub pes_packets_of : List Row → Result PesAsked UsageFault
+pes_packets_of rows = do
   stream ← stream_of rows
   range ← range_given_of rows
   Ok (record { name = argument (codes "recording") rows; stream = stream; range = range })

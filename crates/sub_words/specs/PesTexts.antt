@@ -51,6 +51,7 @@ packet_size_of_text text =
 abbrev pub dash : ℕ
 dash = 0x2D
 
+-- A byte is one.
 abbrev pub is_dash : ℕ → Bool
 is_dash c = c == dash
 

@@ -10,7 +10,7 @@ use Rattle.sub_io.specs.Reading.{◌>>=◌}
 use Rattle.stl_rows.specs.declared.national.National.{National}
 use Rattle.sub_plan.specs.Options.{OptionsValue}
 use Rattle.sub_words.specs.Arguments.{PesAsked, allowing_of, argument, is_given, listed_of}
-use Rattle.sub_words.specs.Arguments.{national_of, options_of, packet_size_of, pes_of}
+use Rattle.sub_words.specs.Arguments.{national_of, options_of, packet_size_of, pes_packets_of}
 use Rattle.sub_words.specs.Arguments.{required_pid_of}
 use Rattle.sub_words.specs.Commands.{are_sound, command_in, clap_refusals}
 use Rattle.sub_words.specs.Texts.{flip_of_text, frame_of_text, is_same_byte, number_of_text}
@@ -65,7 +65,7 @@ packet_asked rows = do
 -- `packets PES [--pid P] [--packet-size S] [--pes I-J]`
 abbrev pub packets_asked : List Row → Result Asked UsageFault
 packets_asked rows = do
-  pes ← pes_of rows
+  pes ← pes_packets_of rows
   Ok (Packets pes)
 
 -- The names of an input and of a file to be written, which are not the same.
@@ -93,17 +93,18 @@ check_asked rows = do
   plain ← options_of (number_of_text (argument (codes "every") rows)) rows
   national ← national_of rows
   options ← allowing_of plain rows
-  pes ← pes_of rows
+  pes ← pes_packets_of rows
   let all = is_given (codes "all") rows in
       Ok (Check (argument (codes "stl") rows) pes options national all)
 
 -- `listen PES [--page P] [--origin T] [--within N] [--complete] [--pid P] [--packet-size S]
--- [--pes I-J] --at TIME [--skip N] [--flip F] [--lose L] [--receiver R]`: the repeat bound of the options is not looked at.
+-- [--pes I-J] --at TIME [--skip N] [--flip F] [--lose L] [--receiver R]`: the repeat bound of the
+-- options is not looked at.
 abbrev pub listen_asked : List Row → Result Asked UsageFault
 listen_asked rows = do
   plain ← options_of (Some 1) rows
   options ← allowing_of plain rows
-  pes ← pes_of rows
+  pes ← pes_packets_of rows
   at ← ok_or (frame_of_text (argument (codes "at") rows)) fault.BadTime
   skip ← ok_or (number_of_text (argument (codes "skip") rows)) fault.BadSkip
   flips ← ok_or (listed_of flip_of_text is_same_byte (codes "flip") rows) fault.BadFlip

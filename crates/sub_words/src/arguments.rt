@@ -3,7 +3,7 @@ ghost use Rattle.std.specs.Prelude.{◌≡◌, IfErr, IfOk, option_map, true};
 ghost use Rattle.std.specs.Result.{result_map_both};
 ghost use Rattle.clap.specs.Words.{first_of, found_of, rows_of};
 ghost use Rattle.sub_words.specs.Arguments.{allowing_of, argument, is_given, listed_of, options_of};
-ghost use Rattle.sub_words.specs.Arguments.{packet_size_of, pes_of, range_given_of};
+ghost use Rattle.sub_words.specs.Arguments.{packet_size_of, pes_packets_of, range_given_of};
 ghost use Rattle.sub_words.specs.Arguments.{required_pid_of, stream_of};
 ghost use Rattle.sub_words.specs.Requests.{is_own, pes_asked};
 
@@ -141,10 +141,10 @@ fn range_at<'a>(matches: &ArgMatches<'a>) -> Result<Option<PieceRange>, UsageFau
 ///
 /// `Pid`, then `PacketSize`, then `Range`.
 // Its callers match: the prover has no rule for `?` on a struct that holds a reference.
-#[tactic(auto, unfolding(crate::specs::Arguments::pes_of))]
+#[tactic(auto, unfolding(crate::specs::Arguments::pes_packets_of))]
 pub fn pes_at<'a>(matches: &ArgMatches<'a>) -> Result<PesPackets<'a>, UsageFault>
     ensures value { result_map_both pes_asked (λ fault. fault) result
-        ≡ pes_of (rows_of (found_of matches.now)) }
+        ≡ pes_packets_of (rows_of (found_of matches.now)) }
     ensures own { IfErr result (λ fault. is_own fault ≡ true) }
 {
     let stream = stream_at(matches)?;

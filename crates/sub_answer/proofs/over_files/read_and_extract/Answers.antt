@@ -6,7 +6,7 @@ returns g c =
     ends_weaker _ _ _ _ _ _ _ _ _ _ _ c.answer_part.ensures
     (λ input is. record {
       room = _;
-      is_part = rw (c.part_of.ensures, c.new-first.ensures, c.into_file.ensures) at is;
+      is_part = rw (c.part_asked.ensures, c.new-first.ensures, c.into_file.ensures) at is;
     })
     (λ input is. is)
     (λ call is. record {

@@ -10,8 +10,8 @@ returns g c =
       is_part =
           rw (c.new-first.ensures, c.into_file.ensures) at
           (whole_source (λ s. prepend_known s.held (g.I.Source.remaining s.device))
-          (λ s. g.I.Source.failure_count s.device) c.new-first.result c.answer_with_file.new.first input
-          is);
+          (λ s. g.I.Source.failure_count s.device) c.new-first.result
+          c.answer_with_file.new.first input is);
     })
     (λ input is. is)
     (λ call is. record {

@@ -26,7 +26,8 @@ pub returns-in-None-None : goal.returns-in-None-None
 returns-in-None-None g c =
     ends_weaker _ _ _ _ _ _ _ _ _ _ _ c.answer_with_file.ensures.ends
     (λ input is.
-    all_of_source g.S.Source.remaining g.S.Source.failure_count c.args.whole c.answer_with_file.new.first input c.args.part
+    all_of_source g.S.Source.remaining g.S.Source.failure_count c.args.whole
+    c.answer_with_file.new.first input c.args.part
     c.in-None-None.is-0 c.in-None-None.is-1 is)
     (λ input is. is) (λ call is. is)
 
@@ -34,7 +35,8 @@ pub returns-in-None-Some : goal.returns-in-None-Some
 returns-in-None-Some g c =
     ends_weaker _ _ _ _ _ _ _ _ _ _ _ c.answer_with_file-in-None-Some.ensures.ends
     (λ input is.
-    range_of_source g.S.Source.remaining g.S.Source.failure_count c.args.whole c.answer_with_file-in-None-Some.new.first.inner input
+    range_of_source g.S.Source.remaining g.S.Source.failure_count c.args.whole
+    c.answer_with_file-in-None-Some.new.first.inner input
     c.args.part c.in-None-Some.range c.in-None-Some.is-0 c.in-None-Some.is-1
     (told_is is ∙ c.new-first.ensures.remaining) (number_is is ∙ c.new-first.ensures.first)
     (old_is is ∙ c.new-first.ensures.count) (new_is is))
@@ -44,7 +46,8 @@ pub returns-in-Some-None : goal.returns-in-Some-None
 returns-in-Some-None g c =
     ends_weaker _ _ _ _ _ _ _ _ _ _ _ c.answer_with_file-in-Some-None.ensures.ends
     (λ input is.
-    stream_of_source g.S.Source.remaining g.S.Source.failure_count c.args.whole c.answer_with_file-in-Some-None.new.first.device input
+    stream_of_source g.S.Source.remaining g.S.Source.failure_count c.args.whole
+    c.answer_with_file-in-Some-None.new.first.device input
     c.args.part c.in-Some-None.stream c.in-Some-None.is-0 c.in-Some-None.is-1
     (told_is is ∙ c.new-first-in-Some-None.ensures.carried) (number_is is)
     (old_is is
@@ -57,7 +60,8 @@ pub returns-in-Some-Some : goal.returns-in-Some-Some
 returns-in-Some-Some g c =
     ends_weaker _ _ _ _ _ _ _ _ _ _ _ c.answer_with_file-in-Some-Some.ensures.ends
     (λ input is.
-    both_of_source g.S.Source.remaining g.S.Source.failure_count c.args.whole c.answer_with_file-in-Some-Some.new.first.inner.device
+    both_of_source g.S.Source.remaining g.S.Source.failure_count c.args.whole
+    c.answer_with_file-in-Some-Some.new.first.inner.device
     input c.args.part c.in-Some-Some.stream c.in-Some-Some.range c.in-Some-Some.is-0
     c.in-Some-Some.is-1
     (told_is is ∙ c.new-first-in-Some-Some.ensures.remaining

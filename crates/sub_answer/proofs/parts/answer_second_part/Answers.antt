@@ -24,19 +24,23 @@ new_is e = ap (λ (i : InputCall). i.call.new_count) e
 
 pub returns-in-None-None : goal.returns-in-None-None
 returns-in-None-None g c =
-    ends_weaker _ _ _ _ _ _ _ _ _ _ _ (ends_touched _ _ _ _ _ _ _ _ c.answer_pair.ensures)
+    ends_weaker _ _ _ _ _ _ _ _ _ _ _
+    (ends_touched _ _ _ _ _ _ _ _ c.answer_pair.ensures)
     (λ input is. is)
     (λ input is.
-    all_of_source g.T.Source.remaining g.T.Source.failure_count c.args.whole c.answer_pair.new.second input c.args.part
+    all_of_source g.T.Source.remaining g.T.Source.failure_count c.args.whole
+    c.answer_pair.new.second input c.args.part
     c.in-None-None.is-0 c.in-None-None.is-1 is)
     (λ call is. is)
 
 pub returns-in-None-Some : goal.returns-in-None-Some
 returns-in-None-Some g c =
-    ends_weaker _ _ _ _ _ _ _ _ _ _ _ (ends_touched _ _ _ _ _ _ _ _ c.answer_pair-in-None-Some.ensures)
+    ends_weaker _ _ _ _ _ _ _ _ _ _ _
+    (ends_touched _ _ _ _ _ _ _ _ c.answer_pair-in-None-Some.ensures)
     (λ input is. is)
     (λ input is.
-    range_of_source g.T.Source.remaining g.T.Source.failure_count c.args.whole c.answer_pair-in-None-Some.new.second.inner input
+    range_of_source g.T.Source.remaining g.T.Source.failure_count c.args.whole
+    c.answer_pair-in-None-Some.new.second.inner input
     c.args.part c.in-None-Some.range c.in-None-Some.is-0 c.in-None-Some.is-1
     (told_is is ∙ c.new-second.ensures.remaining) (number_is is ∙ c.new-second.ensures.first)
     (old_is is ∙ c.new-second.ensures.count) (new_is is))
@@ -44,10 +48,12 @@ returns-in-None-Some g c =
 
 pub returns-in-Some-None : goal.returns-in-Some-None
 returns-in-Some-None g c =
-    ends_weaker _ _ _ _ _ _ _ _ _ _ _ (ends_touched _ _ _ _ _ _ _ _ c.answer_pair-in-Some-None.ensures)
+    ends_weaker _ _ _ _ _ _ _ _ _ _ _
+    (ends_touched _ _ _ _ _ _ _ _ c.answer_pair-in-Some-None.ensures)
     (λ input is. is)
     (λ input is.
-    stream_of_source g.T.Source.remaining g.T.Source.failure_count c.args.whole c.answer_pair-in-Some-None.new.second.device input
+    stream_of_source g.T.Source.remaining g.T.Source.failure_count c.args.whole
+    c.answer_pair-in-Some-None.new.second.device input
     c.args.part c.in-Some-None.stream c.in-Some-None.is-0 c.in-Some-None.is-1
     (told_is is ∙ c.new-second-in-Some-None.ensures.carried) (number_is is)
     (old_is is
@@ -58,10 +64,12 @@ returns-in-Some-None g c =
 
 pub returns-in-Some-Some : goal.returns-in-Some-Some
 returns-in-Some-Some g c =
-    ends_weaker _ _ _ _ _ _ _ _ _ _ _ (ends_touched _ _ _ _ _ _ _ _ c.answer_pair-in-Some-Some.ensures)
+    ends_weaker _ _ _ _ _ _ _ _ _ _ _
+    (ends_touched _ _ _ _ _ _ _ _ c.answer_pair-in-Some-Some.ensures)
     (λ input is. is)
     (λ input is.
-    both_of_source g.T.Source.remaining g.T.Source.failure_count c.args.whole c.answer_pair-in-Some-Some.new.second.inner.device
+    both_of_source g.T.Source.remaining g.T.Source.failure_count c.args.whole
+    c.answer_pair-in-Some-Some.new.second.inner.device
     input c.args.part c.in-Some-Some.stream c.in-Some-Some.range c.in-Some-Some.is-0
     c.in-Some-Some.is-1
     (told_is is ∙ c.new-second-in-Some-Some.ensures.remaining

@@ -1,5 +1,5 @@
--- What was copied so far, and one time more: more_copied; and how it ended: prefix_copied, cut_copied,
--- all_copied.
+-- What was copied so far, and one time more: more_copied; and how it ended: prefix_copied,
+-- cut_copied, all_copied.
 use Rattle.std.proofs.Common.{arith, rules}
 use Rattle.sub_io.proofs.DeviceLemmas.{AppendsPrefix-whole}
 use Rattle.sub_listing.proofs.CopyingLemmas.{all_copied, cut_copied, more_copied, none_copied}

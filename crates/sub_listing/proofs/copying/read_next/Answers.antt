@@ -26,7 +26,8 @@ returns-then-read-size-clause-told g c = λ bytes told.
     let range = c.in-Ok.ensures.range in
     next_cut _ _ _ bytes _ _ c.in_ok-read.read c.in-Ok.size told
     (rw six at c.in_ok-begun.ensures.bytes) (omega arith) head c.in_ok-read.ensures.bytes
-    (omega (arith, bound, range, c.read_up_to-2.auto.room)) c.if-read-size.true (c.in_ok-read.ensures.end c.if-read-size.true)
+    (omega (arith, bound, range, c.read_up_to-2.auto.room)) c.if-read-size.true
+    (c.in_ok-read.ensures.end c.if-read-size.true)
 
 pub returns-clause-told : goal.returns-clause-told
 returns-clause-told g c = λ bytes told.

@@ -1,5 +1,5 @@
--- The pieces so far and one more: no_pieces, next_copied; and how it ended: pieces_given, none_given,
--- rest_refused, rest_cut, part_copied, too_many.
+-- The pieces so far and one more: no_pieces, next_copied; and how it ended: pieces_given,
+-- none_given, rest_refused, rest_cut, part_copied, too_many.
 use Rattle.std.proofs.Common.{arith, rules}
 use Rattle.sub_listing.proofs.ExtractingLemmas.{next_copied, no_pieces, none_given, part_copied}
 use Rattle.sub_listing.proofs.ExtractingLemmas.{part_kept, pieces_given, rest_cut, rest_refused}

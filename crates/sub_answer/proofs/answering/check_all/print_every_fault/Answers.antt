@@ -1,7 +1,7 @@
 -- What was told, and the last line: by AllAnswerLemmas.
 use Rattle.std.proofs.Common.{refl, rules}
 use Rattle.sub_answer.proofs.AllAnswerLemmas.{answers_at, answers_cut, answers_end, counts}
-use Rattle.sub_answer.proofs.EveryFaultLemmas.{cut_reads, last_line}
+use Rattle.sub_answer.proofs.FailedReadLemmas.{cut_reads, last_line}
 use Rattle.sub_listing.proofs.LastLineLemmas.{risen_fails}
 use Rattle.sub_answer.proofs.answering.check_all.print_every_fault.Goals as goal
 

@@ -1,4 +1,5 @@
--- What was told of the subtitle file, and then of the PES file: by EveryFaultLemmas.
+-- What was told of the subtitle file, and then of the PES file: by EveryFaultLemmas and
+-- FailedReadLemmas.
 use Rattle.std.proofs.Common.{◌≡◌, ◌∙◌, ap, refl, sym, subst, arith, ℕ, ◌+◌, List, [], Option, ◌<◌}
 use Rattle.std.proofs.Common.{false, inl, inr, Err}
 use Rattle.std.proofs.lemmas.Bool.{true≢false}
@@ -13,7 +14,8 @@ use Rattle.sub_listing.specs.EventLines.{subtitle_event}
 use Rattle.sub_listing.specs.Printer.{PrinterValue, PrintsEvent, printer_value}
 use Rattle.sub_listing.specs.declared.printer.Printer.{Printer}
 use Rattle.sub_answer.proofs.EveryFaultLemmas.{after_error, after_faults, after_pes, both_answers}
-use Rattle.sub_answer.proofs.EveryFaultLemmas.{error_fails, tells_none, with_first}
+use Rattle.sub_answer.proofs.EveryFaultLemmas.{with_first}
+use Rattle.sub_answer.proofs.FailedReadLemmas.{error_fails, tells_none}
 use Rattle.sub_listing.proofs.PrinterLemmas.{cannot_fail, has_stopped, same_all, still_goes}
 use Rattle.sub_answer.proofs.answering.check_all.tell_every_fault.Goals as goal
 

@@ -12,8 +12,8 @@ returns-in-Ok-clause-exact g c = record {
   exact = λ frames unread bytes told reads same. (
     listing_of c.args.first c.asks_complete.result
         (display (g.R.Receiver.state c.listen.new.receiver) c.listen.new.screen) (Ok tt),
-    listens_from _ c.args.listening.now c.args.first frames unread _ _ _ _ _ (Ok tt) c.old_page.result
-        c.asks_complete.result c.asks_complete.ensures.value
+    listens_from _ c.args.listening.now c.args.first frames unread _ _ _ _ _ (Ok tt)
+        c.old_page.result c.asks_complete.result c.asks_complete.ensures.value
         (c.tune-receiver.ensures.tuned ∙ c.page.ensures.value)
         (ap (λ s. display s None) c.tune-receiver.ensures.state)
         c.old_page.ensures (c.in-Ok.ensures.exact frames unread bytes told reads refl)
