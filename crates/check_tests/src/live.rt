@@ -78,6 +78,10 @@ impl Source for Fed<'_> {
     fn failures(&self) -> u64 {
         0
     }
+
+    fn pass(&mut self, _count: usize) -> bool {
+        false
+    }
 }
 
 // An output that holds back all that it takes until it is flushed.

@@ -17,6 +17,7 @@ const INPUT: Entry = Entry {
     name: "a",
     found: Found::At(1, 1),
     bytes: Some(&[]),
+    fails: false,
 };
 
 // Nothing at a name.
@@ -24,6 +25,7 @@ const NOTHING: Entry = Entry {
     name: "b",
     found: Found::Nothing,
     bytes: None,
+    fails: false,
 };
 
 // What is at the second name, found so.

@@ -14,6 +14,8 @@ pub struct Entry<'a> {
     pub found: Found,
     /// What is read of the file; `None` where it can't be opened.
     pub bytes: Option<&'a [u8]>,
+    /// Whether a read fails behind them, where the file would end.
+    pub fails: bool,
 }
 
 /// Files by their names, room for one that is created, and the calls that were made.
@@ -29,8 +31,8 @@ pub struct FilesInMemory<'a> {
 /// One of them that was opened, or created.
 #[derive(Drop)]
 pub enum MemoryFile<'a> {
-    /// What is left to be read.
-    Opened(&'a [u8]),
+    /// What is left to be read, and whether a read fails behind it.
+    Opened(&'a [u8], bool),
     /// The room, and how many bytes were written into it.
     Created(&'a mut [u8], usize),
 }
@@ -91,7 +93,7 @@ impl<'a> FileSystem for FilesInMemory<'a> {
             return None;
         };
         match entry.bytes {
-            Some(bytes) => Some(FromRead::new(MemoryFile::Opened(bytes))),
+            Some(bytes) => Some(FromRead::new(MemoryFile::Opened(bytes, entry.fails))),
             None => None,
         }
     }
@@ -112,9 +114,12 @@ impl Read for MemoryFile<'_> {
     ghost remaining = { λ _. None };
 
     fn read(&mut self, to: &mut [u8]) -> io::Result<usize> {
-        let MemoryFile::Opened(left) = self else {
+        let MemoryFile::Opened(left, fails) = self else {
             return Err(ErrorKind::PermissionDenied.into());
         };
+        if left.is_empty() && *fails {
+            return Err(ErrorKind::Other.into());
+        }
         let n = left.len().min(to.len());
         let (given, rest) = left.split_at(n);
         to[..n].copy_from_slice(given);

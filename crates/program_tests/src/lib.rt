@@ -10,6 +10,8 @@ mod answers;
 #[cfg(test)]
 mod asserting;
 #[cfg(test)]
+mod failing_recordings;
+#[cfg(test)]
 mod files;
 #[cfg(test)]
 mod files_in_memory;
@@ -23,6 +25,10 @@ mod normal;
 mod packet;
 #[cfg(test)]
 mod packets;
+#[cfg(test)]
+mod pes_ranges;
+#[cfg(test)]
+mod recorded;
 #[cfg(test)]
 mod recordings;
 #[cfg(test)]

@@ -1,6 +1,6 @@
 //! Recordings with PES packets of many transport packets, of which some are left out, come twice or
 //! announce a jump.
-use crate::recordings::{JUMP, JUMP_FILL, LOST, assert_answers, put_pieces};
+use crate::recorded::{JUMP, JUMP_FILL, LOST, assert_answers, put_pieces, recording};
 use answer_fixtures::answer_words;
 use fixtures::{TEN, block, file_of, head};
 use std::alloc::Global;
@@ -82,10 +82,11 @@ fn assert_checks(rt: &(impl Abort + Alloc<A = Global>), sent: Sent, want: &str) 
         &mut out,
     );
     let mut recorded = [0; 4096];
-    let mut recording = MemSink::new(&mut recorded);
-    put_packets(rt, pes.written(), sent, &mut recording);
+    let mut sending = MemSink::new(&mut recorded);
+    put_packets(rt, pes.written(), sent, &mut sending);
     let check = ["subttx", "check", "a", "b", "--pid", "257", "--every", "25"];
-    assert_answers(rt, &check, &stl, recording.written(), &mut [], want);
+    let bytes = recording(sending.written(), false);
+    assert_answers(rt, &check, &stl, bytes, &mut [], want);
 }
 
 const ACCEPTED: &str = "accepted 51 frames 3 transmissions\n";

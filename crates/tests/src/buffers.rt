@@ -36,6 +36,10 @@ impl Source for Lent {
     fn failures(&self) -> u64 {
         0
     }
+
+    fn pass(&mut self, _count: usize) -> bool {
+        false
+    }
 }
 
 // A sink that takes as many bytes as its last one says, of those that it is lent.

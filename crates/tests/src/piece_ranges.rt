@@ -86,6 +86,7 @@ fn asks_for_nothing_behind_the_last_piece(rt: HostRuntime) {
     assert!(rt; source.failures() == 0);
     assert_same(&rt, &fill(&mut source, &mut got), &Ok(368));
     assert!(rt; source.failures() == 0);
+    assert_same(&rt, &source.read_on(), &Ok(()));
 }
 
 #[test]
@@ -104,4 +105,44 @@ fn tells_where_it_failed_before_the_range(rt: HostRuntime) {
     assert_same(&rt, &fill(&mut source, &mut got), &Ok(184));
     let (got, _) = got.split_at(184);
     assert_same(&rt, &got, &wanted);
+}
+
+// Asserts which bytes of a range the source inside lends, once it read on.
+fn assert_lends<S: Source>(rt: &impl Abort, source: &mut S, wanted: &[u8]) {
+    assert!(rt; source.failures() == 0);
+    assert_same(rt, &source.read_on(), &Ok(()));
+    assert_same(rt, &source.held(), &wanted);
+}
+
+// Asserts whether a source passes over so many bytes.
+fn assert_passes<S: Source>(rt: &impl Abort, source: &mut S, count: usize, passes: bool) {
+    assert!(rt; source.failures() == 0 && count > 0);
+    assert_same(rt, &source.pass(count), &passes);
+}
+
+#[test]
+fn lends_each_piece_where_it_stands(rt: HostRuntime) {
+    let file = every_second();
+    let mut source = RangeSource::new(MemSource::new(&file), range(&rt, 1, Some(2)));
+    assert!(rt; source.held().is_empty());
+    assert_lends(&rt, &mut source, &file[184..368]);
+    assert_passes(&rt, &mut source, 185, false);
+    assert_passes(&rt, &mut source, 100, true);
+    assert_lends(&rt, &mut source, &file[284..368]);
+    assert_passes(&rt, &mut source, 84, true);
+    // The next piece is lent at once, and nothing behind the last one.
+    assert_same(&rt, &source.held(), &&file[368..]);
+    assert_lends(&rt, &mut source, &file[368..]);
+    assert_passes(&rt, &mut source, 184, true);
+    assert_lends(&rt, &mut source, &[]);
+}
+
+#[test]
+fn lends_all_of_a_range_without_an_end(rt: HostRuntime) {
+    let file = every_second();
+    let mut source = RangeSource::new(MemSource::new(&file), range(&rt, 1, None));
+    assert_lends(&rt, &mut source, &file[184..]);
+    assert_passes(&rt, &mut source, 369, false);
+    assert_passes(&rt, &mut source, 300, true);
+    assert_lends(&rt, &mut source, &file[484..]);
 }

@@ -236,10 +236,13 @@ fn lends_a_pes_packet_whole(rt: HostRuntime) {
     };
     let mut source = PesSource::new(MemSource::new(sink.written()), pid, PacketSize::Plain);
     assert!(rt; source.held().is_empty());
-    let mut byte = [0; 1];
-    assert!(rt; fill(&mut source, &mut byte).is_ok());
-    assert!(rt; source.held() == &FIRST[1..]);
-    assert!(rt; source.pass(183));
+    assert!(rt; source.read_on().is_ok());
+    assert!(rt; source.held() == &FIRST[..]);
+    assert!(rt; source.pass(184));
+    assert!(rt; !source.pass(1));
+    // The mark before the second PES packet is passed over with it.
+    assert!(rt; source.read_on().is_ok());
+    assert!(rt; source.pass(368));
     assert!(rt; !source.pass(1));
 }
 

@@ -1,0 +1,155 @@
+//! Recordings, and files of PES packets, of which a read fails in the middle: which PES packet of
+//! the file is told then, and what was printed and written before.
+use crate::asserting::assert_same_in;
+use crate::pes_ranges::FIRST_LINES;
+use crate::recorded::{
+    BEGINS_0, BEGINS_1, BEGINS_2, FILL, LATE, LOST, MARK_HEAD, NULL, assert_answers, put_pieces,
+    recording,
+};
+use fixtures::{FIRST, SECOND, file_of_hi};
+use std::alloc::Global;
+use std::process::Abort;
+use sub_io::MemSink;
+
+const FAILED_0: &str = "fault 41 Read pes 0\n";
+
+const FAILED_1: &str = "fault 41 Read pes 1\n";
+
+const FAILED_3: &str = "fault 41 Read pes 3\n";
+
+// Asserts what is printed where a read fails behind these pieces. A file is written into the room.
+fn assert_fails_in<'a>(
+    rt: &(impl Abort + Alloc<A = Global>),
+    words: &'a [&'a str],
+    pieces: &[&[u8]],
+    room: &mut [u8],
+    want: &str,
+) {
+    let mut bytes = [0; 1024];
+    let mut file = MemSink::new(&mut bytes);
+    put_pieces(&mut file, pieces);
+    let stl = file_of_hi();
+    assert_answers(rt, words, &stl, recording(file.written(), true), room, want);
+}
+
+// The same where no file is written.
+fn assert_fails<'a>(
+    rt: &(impl Abort + Alloc<A = Global>),
+    words: &'a [&'a str],
+    pieces: &[&[u8]],
+    want: &str,
+) {
+    assert_fails_in(rt, words, pieces, &mut [], want);
+}
+
+// Asserts what each command prints of a range of a recording: `check`, also with `--all`,
+// `packets` and `listen`.
+fn assert_ranges_fail<'a>(
+    rt: &(impl Abort + Alloc<A = Global>),
+    range: &'a str,
+    pieces: &[&[u8]],
+    want: &str,
+) {
+    let words = ["subttx", "check", "a", "b", "--pid", "257", "--pes", range];
+    assert_fails(rt, &words, pieces, want);
+    let words = [
+        "subttx", "check", "--all", "a", "b", "--pid", "257", "--pes", range,
+    ];
+    assert_fails(rt, &words, pieces, want);
+    let words = ["subttx", "packets", "b", "--pid", "257", "--pes", range];
+    assert_fails(rt, &words, pieces, want);
+    let words = [
+        "subttx",
+        "listen",
+        "b",
+        "--at",
+        "11:00:00:00",
+        "--pid",
+        "257",
+        "--pes",
+        range,
+    ];
+    assert_fails(rt, &words, pieces, want);
+}
+
+#[test]
+fn tells_the_pes_packet_of_a_recording_that_was_reached(rt: HostRuntime) {
+    let cut: [&[u8]; 6] = [&BEGINS_0, &FIRST, &NULL, &FILL, &BEGINS_1, &SECOND[..100]];
+    let words = ["subttx", "check", "a", "b", "--pid", "257"];
+    assert_fails(&rt, &words, &cut, FAILED_1);
+    assert_fails(&rt, &words, &[], FAILED_0);
+    let words = [
+        "subttx",
+        "listen",
+        "b",
+        "--at",
+        "10:00:02:00",
+        "--pid",
+        "257",
+    ];
+    assert_fails(&rt, &words, &cut, FAILED_1);
+    let mut room = [0; 1024];
+    let mut lines = MemSink::new(&mut room);
+    put_pieces(&mut lines, &[FIRST_LINES.as_bytes(), FAILED_1.as_bytes()]);
+    let want = std::str::from_utf8(lines.written()).unwrap_or("");
+    let words = ["subttx", "packets", "b", "--pid", "257"];
+    assert_fails(&rt, &words, &cut, want);
+}
+
+#[test]
+fn tells_it_before_the_range_and_in_it(rt: HostRuntime) {
+    let cut: [&[u8]; 6] = [&BEGINS_0, &FIRST, &NULL, &FILL, &BEGINS_1, &SECOND[..100]];
+    assert_ranges_fail(&rt, "1-", &cut, FAILED_1);
+    assert_ranges_fail(&rt, "5-9", &cut, FAILED_1);
+    // A mark is counted.
+    let lost: [&[u8]; 5] = [&BEGINS_0, &FIRST, &BEGINS_2, &SECOND, &NULL];
+    assert_ranges_fail(&rt, "3-", &lost, FAILED_3);
+    assert_ranges_fail(&rt, "4-", &lost, FAILED_3);
+    // What is told already stands before it, and nothing is read behind the range.
+    let words = ["subttx", "check", "a", "b", "--pid", "257"];
+    assert_fails(&rt, &words, &lost, LOST);
+    let words = ["subttx", "check", "a", "b", "--pid", "257", "--pes", "0-0"];
+    assert_fails(&rt, &words, &cut, LATE);
+}
+
+#[test]
+fn tells_it_of_a_range_of_a_file_of_pes_packets(rt: HostRuntime) {
+    let cut: [&[u8]; 2] = [&FIRST, &SECOND[..100]];
+    for range in ["0-1", "1-", "5-9"] {
+        let words = ["subttx", "check", "a", "b", "--pes", range];
+        assert_fails(&rt, &words, &cut, FAILED_1);
+    }
+    for range in ["1-", "5-9"] {
+        let words = ["subttx", "packets", "b", "--pes", range];
+        assert_fails(&rt, &words, &cut, FAILED_1);
+    }
+}
+
+// Asserts what is written of a recording of which a read fails behind these pieces.
+fn assert_extracts(
+    rt: &(impl Abort + Alloc<A = Global>),
+    pieces: &[&[u8]],
+    want: &str,
+    written: &[&[u8]],
+) {
+    let mut wanted_room = [0x55; 1024];
+    let mut wanted = MemSink::new(&mut wanted_room);
+    put_pieces(&mut wanted, written);
+    let mut output = [0x55; 1024];
+    let words = ["subttx", "extract", "b", "c", "--pid", "257"];
+    assert_fails_in(rt, &words, pieces, &mut output, want);
+    let len = wanted.written().len().min(1024);
+    let (begin, _) = output.split_at(len);
+    assert_same_in(rt, &begin, &wanted.written(), &want);
+    assert_same_in(rt, &output[len..].first(), &Some(&0x55), &want);
+}
+
+#[test]
+fn writes_what_came_before(rt: HostRuntime) {
+    assert_extracts(&rt, &[&NULL, &FILL], FAILED_0, &[]);
+    let cut: [&[u8]; 6] = [&BEGINS_0, &FIRST, &NULL, &FILL, &BEGINS_1, &SECOND[..100]];
+    assert_extracts(&rt, &cut, FAILED_1, &[&FIRST]);
+    let lost: [&[u8]; 5] = [&BEGINS_0, &FIRST, &BEGINS_2, &SECOND, &NULL];
+    let marked: [&[u8]; 4] = [&FIRST, &MARK_HEAD, &FILL[..178], &SECOND];
+    assert_extracts(&rt, &lost, FAILED_3, &marked);
+}

@@ -1,0 +1,127 @@
+//! What the recordings of tests are made of, and asserting what is answered of them.
+use crate::asserting::assert_same_in;
+use crate::files_in_memory::{Entry, FilesInMemory};
+use answer_fixtures::status_of;
+use fixtures::file_of_hi;
+use std::alloc::Global;
+use std::process::Abort;
+use sub_answer::{open_and_answer, say_and_hand_on};
+use sub_files::Found;
+use sub_io::{BufferedSink, MemSink, Sink, put_all};
+use sub_request::Request;
+use sub_words::ParseWords;
+
+/// Bytes 0 to 3 of packets of PID 101 (hexadecimal) that begin a PES packet: the one with counter
+/// 0.
+pub const BEGINS_0: [u8; 4] = [0x47, 0x41, 0x01, 0x10];
+
+/// With counter 1.
+pub const BEGINS_1: [u8; 4] = [0x47, 0x41, 0x01, 0x11];
+
+/// With counter 2.
+pub const BEGINS_2: [u8; 4] = [0x47, 0x41, 0x01, 0x12];
+
+/// A null packet.
+pub const NULL: [u8; 4] = [0x47, 0x1F, 0xFF, 0x10];
+
+/// Bytes that fill one.
+pub const FILL: [u8; 184] = [0xFF; 184];
+
+/// A packet of the PID without a payload that announces a jump of the counter.
+pub const JUMP: [u8; 6] = [0x47, 0x01, 0x01, 0x20, 0xB7, 0x80];
+
+/// The bytes that fill it.
+pub const JUMP_FILL: [u8; 182] = [0xFF; 182];
+
+/// The first bytes of a mark; `FILL` has more of its others than it needs.
+pub const MARK_HEAD: [u8; 6] = [0x00, 0x00, 0x01, 0xBD, 0x00, 0xB2];
+
+/// What is told where packets are missing after the first PES packet.
+pub const LOST: &str = "refused 45 Lost pes 1\n";
+
+/// Where the first PES packet of the schedule of `Hi` is not read.
+pub const EARLY: &str = "refused 63 Early frame 10:00:02:00\n";
+
+/// Where the second one is not.
+pub const LATE: &str = "refused 74 Late frame 10:00:00:00\n";
+
+/// Where there is none.
+pub const EMPTY: &str = "refused 60 Empty\n";
+
+/// Puts pieces one after another, as far as there is room.
+pub fn put_pieces(sink: &mut MemSink<'_>, pieces: &[&[u8]]) {
+    for piece in pieces {
+        if sink.failures() == 0 {
+            let _ = put_all(sink, piece);
+        }
+    }
+}
+
+/// The file `a`, which is read whole.
+pub fn subtitle_file(bytes: &[u8]) -> Entry<'_> {
+    Entry {
+        name: "a",
+        found: Found::At(1, 1),
+        bytes: Some(bytes),
+        fails: false,
+    }
+}
+
+/// The file `b`, which ends behind these bytes, or fails there.
+pub fn recording(bytes: &[u8], fails: bool) -> Entry<'_> {
+    Entry {
+        name: "b",
+        found: Found::At(1, 2),
+        bytes: Some(bytes),
+        fails,
+    }
+}
+
+// The file `c`, which can be written.
+const WRITTEN: Entry = Entry {
+    name: "c",
+    found: Found::Nothing,
+    bytes: None,
+    fails: false,
+};
+
+/// Asserts what is printed for words over a subtitle file and a recording, and the status that the
+/// last line tells. A file `c` is written into the room.
+pub fn assert_answers<'a, 'f>(
+    rt: &(impl Abort + Alloc<A = Global>),
+    words: &'a [&'a str],
+    stl: &'f [u8],
+    recording: Entry<'f>,
+    room: &'f mut [u8],
+    want: &str,
+) {
+    let entries = [subtitle_file(stl), recording, WRITTEN];
+    let mut files = FilesInMemory::new(&entries, room);
+    let mut text = [0; 1024];
+    let mut held = [0; 64];
+    let mut out = BufferedSink::new(MemSink::new(&mut text), &mut held);
+    let status = match Request::parse(rt.alloc(), words) {
+        Ok(request) => open_and_answer(rt.alloc(), &mut files, &request, &mut out).ok(),
+        Err(fault) => Some(say_and_hand_on(&fault, &mut out)),
+    };
+    assert_same_in(rt, &status, &Some(status_of(want.as_bytes())), &words);
+    let len = want.len().min(1024);
+    assert_same_in(rt, &&text[..len], &want.as_bytes(), &words);
+    assert_same_in(rt, &text.get(len), &Some(&0), &words);
+}
+
+/// Asserts what is printed for words over the subtitle file `Hi` and a file that is made of these
+/// pieces.
+pub fn assert_prints<'a>(
+    rt: &(impl Abort + Alloc<A = Global>),
+    words: &'a [&'a str],
+    pieces: &[&[u8]],
+    want: &str,
+) {
+    let mut room = [0; 8192];
+    let mut file = MemSink::new(&mut room);
+    put_pieces(&mut file, pieces);
+    let stl = file_of_hi();
+    let bytes = recording(file.written(), false);
+    assert_answers(rt, words, &stl, bytes, &mut [], want);
+}
