@@ -98,7 +98,7 @@ def judge(words: argparse.Namespace, called: str) -> int:
     """Judges all pairs; answers the status."""
     typed = Typed(called, words.program)
     if words.is_resumed and words.out is None:
-        raise Stop("--resume goes with -o, where the objects of an earlier call stand")
+        raise Stop("--resume goes with -o, where the results of an earlier call are")
     collecting.refuse_names(words)
     items = pairs_at(words.batch, words)
     with tempfile.TemporaryDirectory(prefix="subttx-qc-") as folder, \

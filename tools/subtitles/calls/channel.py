@@ -292,7 +292,7 @@ def stall_heard(channel: Channel, seconds: int) -> Callable[[float], None]:
 def judge(words: argparse.Namespace, called: str) -> int:
     """Judges the programmes of a channel until the feed has ended, or a signal ends it."""
     if words.is_resumed and words.out is None:
-        raise Stop("--resume goes with -o, where the objects of an earlier call stand")
+        raise Stop("--resume goes with -o, where the results of an earlier call are")
     for one in (signal.SIGTERM, signal.SIGINT, signal.SIGHUP):
         signal.signal(one, signal.default_int_handler)
     if words.out is not None:
@@ -310,7 +310,7 @@ def judge(words: argparse.Namespace, called: str) -> int:
                                    channel.typed.program_path)
             channel.feed.follow(channel.take)
         except (Damaged, NoTeletext) as damage:
-            channel.say(f"the feed can't be read on: {damage}")
+            channel.say(f"the feed can't be read any further: {damage}")
         except KeyboardInterrupt:
             signal.signal(signal.SIGTERM, signal.SIG_IGN)  # it may come more than once
             time_of_feed = time_of(channel.clock.now // TICKS % FRAMES_OF_A_DAY)

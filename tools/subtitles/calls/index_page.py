@@ -76,7 +76,8 @@ def line_of(folder: str, row: Row) -> str:
     title = f"{shown(row.name)}<br><small>{shown(row.title)}</small>"
     why = "" if row.verdict == ACCEPTED else \
         "<br>".join(map(shown, [*row.line.splitlines()[:3], *[row.hint] * bool(row.hint)]))
-    return (f'<tr class="{row.verdict.replace(" ", "-")}"><td class="verdict">{shown(row.verdict)}</td>'
+    return (f'<tr class="{row.verdict.replace(" ", "-")}">'
+            f'<td class="verdict">{shown(row.verdict)}</td>'
             f"<td>{title}</td><td>{faults}</td><td>{why}</td><td>{links(folder, row.name)}</td>"
             "</tr>")
 

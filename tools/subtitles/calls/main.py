@@ -132,5 +132,5 @@ def answer(text: str, called: str, line: list[str]) -> int:
         words.patience = PATIENCE if words.patience is None else words.patience
         return channel.judge(words, called)
     if words.stl is None:
-        raise Stop("give a subtitle file, and a recording; --help tells all words")
+        raise Stop("give a subtitle file, and a recording; --help lists all options")
     return single.judge(words, called)

@@ -9,12 +9,12 @@ from ..core.manual import shown
 from ..core.times import frame_of, time_of
 from ..core.words import counted
 from ..preview.counts import heads
-from ..preview.page import BAD, GOOD, UNSEEN, document, lost_places, made_from
+from ..preview.page import FRAMES, REFUSAL, document, lost_places, made_from
 from ..preview.scope import Recorded, Scope
 from ..qc.cause_words import count_line, names_line
 from ..qc.made_with import Program
 from ..qc.names import Names
-from ..qc.status import ACCEPTED, LOST, NOT_JUDGED, WARNED
+from ..qc.status import NOT_JUDGED
 from ..qc.sums import File
 from ..qc.typed import Typed
 from ..qc.verdict import Part, Verdict
@@ -41,8 +41,7 @@ def overview(verdict: Verdict, program: Program, names: Names, typed: Typed) -> 
 
 def box(verdict: Verdict, line: str) -> str:
     """The verdict, and what stands beside it."""
-    kind, shape = {ACCEPTED: ("accepted", GOOD), LOST: ("unseen", UNSEEN),
-                   WARNED: ("unseen", UNSEEN)}.get(verdict.word, ("refused", BAD))
+    kind, shape = FRAMES.get(verdict.word, REFUSAL)
     causes = [part.causes for part in verdict.parts if part.causes]
     parts = [f'<p class="count">{shown(count_line(causes))}</p>'] if causes else []
     lost = [gap.line() for gap in verdict.gaps if gap.is_judged]

@@ -104,7 +104,7 @@ class Watch:
 def refuse_folders(words: argparse.Namespace) -> None:
     """Both folders have to be there, and be two."""
     if words.out is None:
-        raise Stop("--watch goes with -o, the folder for objects and reports")
+        raise Stop("--watch goes with -o, the folder for results and reports")
     if not os.path.isdir(words.watch):
         raise Stop(f"{words.watch} is no folder")
     os.makedirs(words.out, exist_ok=True)

@@ -8,6 +8,7 @@ from ..core.manual import shown
 from ..core.words import counted
 from ..qc.delays import spread_of
 from ..qc.hints import HINTED
+from ..qc.status import ACCEPTED, LOST, REFUSED, WAIVED, WARNED
 from .counts import heads, meaning_of_verdict, numbers_table
 from .places import place_of_pts
 from .program import verdict_of
@@ -31,6 +32,10 @@ BAD = ('<svg aria-hidden="true" viewBox="0 0 62 62"><path '
 UNSEEN = ('<svg aria-hidden="true" viewBox="0 0 62 62"><path d="M31 6L58 55H4z" fill="none" '
           'stroke="currentColor" stroke-width="5"/><path d="M31 23V40M31 44V50" '
           'stroke="currentColor" stroke-width="6"/></svg>')
+# The class of a verdict's box, and its shape.
+FRAMES = {ACCEPTED: ("accepted", GOOD), WAIVED: ("waived", UNSEEN), LOST: ("unseen", UNSEEN),
+          WARNED: ("unseen", UNSEEN)}
+REFUSAL = "refused", BAD  # of all others
 MOST_PAGES, MOST_LINKS = 200, 100  # of the table of headers, and to subtitles
 NEW_LINE = "\n"
 MOST_LOST = 5  # places that are told in the box; more are unfolded
@@ -38,9 +43,9 @@ MOST_LOST = 5  # places that are told in the box; more are unfolded
 SAYS = ("The verdict and the faults are lines that <code>subttx check --all</code> printed, and "
         "nothing else on this page accepts or refuses. The pictures are drawn by a script that is "
         "not proved; they show one receiver, tuned in before the first packet.")
-LOST = "TS packets of the recording are lost: nobody saw what was sent there"
-ACCEPTED = ("Frames are counted from the first PES packet's to the last one's, transmissions by "
-            "the headers of the page.")
+LOST_WORDS = "TS packets of the recording are lost: nobody saw what was sent there"
+ACCEPTED_WORDS = ("Frames are counted from the first PES packet's to the last one's, "
+                  "transmissions by the headers of the page.")
 
 KEYS = """<h2 id="key">How to read this page</h2>
 <p><b>Strips.</b> Bars are subtitles from TCI to TCO with their numbers, and lead to their pictures.
@@ -172,14 +177,13 @@ def verdict_box(report: Report) -> str:
                          f"{report.reasons.counted()}</p>")
         parts.append(advice(report))
     else:
-        parts.append(f"<p>{ACCEPTED}</p>")
+        parts.append(f"<p>{ACCEPTED_WORDS}</p>")
         if report.asked.within:
             parts.append("<p>What receivers show, once they have heard the page: "
                          f"{promised(report.asked)}.</p>")
-    kind, shape = ("refused", BAD) if verdict.status else ("accepted", GOOD)
-    if report.asked.lost:
-        parts.append(lost_places(report.asked.lost))
-        kind, shape = (kind, shape) if verdict.status else ("unseen", UNSEEN)
+    parts += [lost_places(report.asked.lost)] if report.asked.lost else []
+    word = REFUSED if verdict.status else LOST if report.asked.lost else ACCEPTED
+    kind, shape = FRAMES.get(report.asked.word or word, REFUSAL)
     parts += [f'<p class="note">{shown(words)}</p>' for words in report.asked.notes]
     sentence = report.asked.sentence
     said = f'<p class="sentence">{shown(sentence)}</p>' if sentence else ""
@@ -203,7 +207,7 @@ def lost_places(places: list[str]) -> str:
     listed = f'<ul class="lost">{told}</ul>'
     if len(places) > MOST_LOST:
         listed = f"<details><summary>where</summary>{listed}</details>"
-    return f'<p class="count bad">{LOST}</p>{listed}'
+    return f'<p class="count bad">{LOST_WORDS}</p>{listed}'
 
 
 def navigation(report: Report) -> str:
@@ -290,7 +294,7 @@ def reading_words(held: Heard) -> str:
         words += (f" A receiver is followed without {counted(passed, 'other')} that can't be read, "
                   "or whose PTS is no frame's: what those put on air is not known.")
         if held.end.status:
-            words += " What comes after them can't be read on."
+            words += " What comes after them is not read."
     elif held.end.status:
         words += (" A receiver is followed up to there, where <code>packets</code> ends with "
                   f"<code>{shown(held.end.line)}</code>.")
@@ -306,15 +310,14 @@ def subtitles_words(report: Report, looks: Looks) -> str:
     entries = looks.entries
     count, drawn = len(report.subtitles), len(entries.drawn)
     if not count:
-        return ("<p>There is no subtitle, as <code>schedule</code> tells by 82 NoSubtitles: the "
+        return ("<p>There is no subtitle, as <code>schedule</code> says by 82 NoSubtitles: the "
                 "due page is blank at each frame.</p>")
     within = report.asked.within
     when = "the frame after which each is whole" if within else "the first frame of each"
-    words = f"{count:,} subtitle{'s' * (count != 1)}, pictures at {when}" if drawn == count else \
-        (f"{count:,} subtitles, pictures at the first frame of {drawn:,} of them" if not within
-         else f"{count:,} subtitles, {drawn:,} of them with pictures at the frame after which each "
-         "is whole")
-    words += "."
+    words = f"pictures at {when}" if drawn == count else \
+        f"{drawn:,} of them with pictures at {when}" if within else \
+        f"pictures at the first frame of {drawn:,} of them"
+    words = f"{count:,} subtitle{'s' * (count != 1)}, {words}."
     kinds = entries.counted(report.subtitles)
     odd = sorted(entries.odd & set(entries.drawn))
     links = " ".join(f'<a href="#s{index}">{index}</a>' for index in odd[:MOST_LINKS])

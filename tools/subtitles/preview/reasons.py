@@ -85,8 +85,8 @@ class Reasons:
         """All causes, as far as the list goes."""
         causes = self.causes.all()
         rows = "".join(map(self.row, causes[:MOST]))
-        more = f"<p>{len(causes) - MOST:,} more subtitles are left out here.</p>" \
-            if len(causes) > MOST else ""
+        left = counted(len(causes) - MOST, "more subtitle")
+        more = f"<p>Left out here: {left}.</p>" if len(causes) > MOST else ""
         return (f'<h2 id="causes">Why the content is refused</h2><p>Causes of {self.counted()}. '
                 "Those that are moved are looked for 250 frames on at least.</p>"
                 f'<table class="pages causes"><thead><tr>{heads("Subtitle", *COLUMNS)}</tr></thead>'

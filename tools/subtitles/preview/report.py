@@ -45,7 +45,8 @@ class Asked(NamedTuple):
     `pes`, which is `None` where there is none. `window` are the
     first and the last frame of which subtitles get pictures. `lost` tells what is missing, `notes`
     what else stands beside the verdict, `clock` which clock it is, and `sentence` says the verdict
-    in one for a person; causes are looked for `around` what is judged.
+    in one for a person, and `word` in one word, where that is not what `check` says; causes are
+    looked for `around` what is judged.
     """
 
     words: list[str]
@@ -67,6 +68,7 @@ class Asked(NamedTuple):
     clock: str | None
     within: int = 0
     sentence: str | None = None
+    word: str | None = None
     pieces: Pieces | None = None
 
     def options(self) -> str:
@@ -231,4 +233,5 @@ def due_pages(program: Program, asked: Asked, frames: list[int], hears_all: bool
             return None
         if verdict.status:
             raise NoReport(f"schedule was refused: {verdict.line}")
-        return Heard(program.packets(Pieces(path)), frames, asked.page, asked.origin, hears_all=hears_all)
+        return Heard(program.packets(Pieces(path)), frames, asked.page, asked.origin,
+                     hears_all=hears_all)

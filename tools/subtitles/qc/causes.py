@@ -47,11 +47,9 @@ class Faulty:
     def __init__(self) -> None:
         self.within: Span | None = None
         self.after: Span | None = None
-        self.first: Span | None = None
 
     def add(self, span: Span, subtitle: Subtitle) -> None:
         """Some more frames; the page that is held is the same at all."""
-        self.first = self.first or span
         if subtitle.begin <= span.first < subtitle.end:
             self.within = self.within or span
         elif span.first >= subtitle.end:

@@ -21,7 +21,7 @@ def is_pes_packets(source: Source) -> bool:
     if head[3:6] == SUBTITLE_FILE:
         raise Stop(f"{source.name} is a subtitle file: the recording stands after the subtitle "
                    "file")
-    if head.startswith(START[:3]) and not head.startswith(START):
+    if head.startswith(START[:3]) and head[3:4] not in (b"", START[3:]):
         raise Stop(f"{source.name} has PES packets of another kind than Teletext's: stream_id "
                    f"{head[3]:02X} instead of BD")
     return head.startswith(START)

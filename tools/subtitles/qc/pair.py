@@ -107,7 +107,7 @@ class Pair:
         answer.stop()
         self.verdict.parts.append(self.part_of(self.begun))
         time = answer.told_up_to()
-        return f"{now}, when check had told {f'all up to {time}' if time else 'nothing yet'}"
+        return f"{now}, when check had reported {f'all up to {time}' if time else 'nothing yet'}"
 
     def stop_live(self, live: Live, frame: int) -> str:
         """The same of a feed."""
@@ -141,7 +141,7 @@ class Pair:
             unread = [f"{shown(self.asked.recording)} was not read"] if self.asked.recording else []
             warned = map(Warned.said, self.verdict.warnings)
             self.steps.draw(self.names, [given], [stl], Clock(0, GIVEN), [], [*unread, *warned],
-                            self.verdict.sentence)
+                            self.verdict.report_words())
 
     def judge_transmission(self) -> None:
         """Judges what was recorded, part by part."""
@@ -294,7 +294,7 @@ class Pair:
         self.steps.draw(one.names, [one.stl_path, path], [one.stl, typed], found.clock,
                         lost, [*self.verdict.notes, *map(Warned.said, self.verdict.warnings),
                                *within],
-                        self.verdict.of_part(part, gaps).sentence, self.verdict.recording,
+                        self.verdict.of_part(part, gaps).report_words(), self.verdict.recording,
                         [*pieces.words(),
                          *(["--part", str(number), str(self.count)] if self.count > 1 else [])],
                         around_words(recording, found) if part.causes else ((), ()))

@@ -173,7 +173,7 @@ class Recording:
         if not feed.live:
             self.say_taken(carrier, carriers)
         if carriers.skipped:
-            self.speech.say(f"{counted(carriers.skipped, 'byte')} of no TS packet passed over")
+            self.speech.say(f"{counted(carriers.skipped, 'byte')} of no TS packet skipped")
         carrier.move(self.path)
         for other in carriers.by_pid.values():
             if other is not carrier:

@@ -171,20 +171,20 @@ class Steps:
         self.speech.end_list(answer.last)
 
     def draw(self, names: Names, given: list[str], typed: list[str], clock: Clock,
-             lost: list[str], notes: Sequence[str], sentence: str, recording: File | None = None,
+             lost: list[str], notes: Sequence[str], verdict: list[str],
+             recording: File | None = None,
              part: Sequence[str] = (),
              around: tuple[Sequence[str], Sequence[str]] = ((), ())) -> None:
-        """Draws the report of some files, of a verdict in a sentence, of what is lost and what else
-        is said, of a recording or
-        of a part of it, where there is a folder for it; causes are looked for `around` what was
-        judged, by words as they are given and as they are typed."""
+        """Draws the report of some files, of a verdict in words, of what is lost and what else is
+        said, of a recording or of a part of it, where there is a folder for it; causes are looked
+        for `around` what was judged, by words as they are given and as they are typed."""
         if names.out is None:
             return
         is_by_picture = clock.source in (START, TCP)
         words = [*self.asked.check_words(), *origin_words(clock.origin),
                  *(word for words in lost for word in ("--lost", words)),
                  *(word for words in notes for word in ("--note", words)),
-                 "--sentence", sentence, *["--fitted"] * clock.is_fitted,
+                 *verdict, *["--fitted"] * clock.is_fitted,
                  *(["--clock", clock.words()] if is_by_picture else []), *part]
         # What was read is not read once more; a person can do that, but not with a feed.
         sums = ["--recording", recording.name, str(recording.size), recording.sha256] \

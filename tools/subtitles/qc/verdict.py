@@ -184,6 +184,12 @@ class Verdict:
                                  causes=refused.causes)
         return sentence.sentence_of(said)
 
+    def report_words(self) -> list[str]:
+        """What its report is told of it; in one word where that is not what `check` says."""
+        word = self.word
+        return [*(["--verdict", word] if word in (WAIVED, LOST, WARNED) else []),
+                "--sentence", self.sentence]
+
     def of_part(self, part: Part, gaps: list[Gap]) -> Verdict:
         """The verdict on a part alone, with what is missing of it."""
         return dataclasses.replace(self, parts=[part], gaps=gaps)

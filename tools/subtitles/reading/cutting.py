@@ -121,7 +121,6 @@ class Cut:
         self.low, self.high = max(begin - (every or 0), 0), end
         self.before = Before(page, within)
         self.has_end = every is None  # the last sending
-        self.is_last = False  # the frame that is read
         self.blank: Blank | None = None
         if every is not None:
             self.high = min(end + max(every, within), FRAMES_OF_A_DAY - 1)

@@ -209,11 +209,11 @@ def is_sent(sent: Sent, asked: argparse.Namespace, told: list[str]) -> bool:
                     "refuses them as 34")
         return False
     if bases.marks:
-        told.append(f"{counted(bases.marks, 'mark')} of what is missing passed over: check refuses "
+        told.append(f"{counted(bases.marks, 'mark')} of what is missing skipped: check refuses "
                     "them as 45")
     if bases.timed + bases.marks < bases.count:
         told.append(f"{bases.count - bases.timed - bases.marks} of "
-                    f"{counted(bases.count, 'PES packet')} have no PTS, and are passed over here: "
+                    f"{counted(bases.count, 'PES packet')} have no PTS, and are skipped here: "
                     "check refuses them as 34")
     if not sent.changes:
         pages = [page_name(*page) for page, count in sent.others.most_common(NAMED) if count]

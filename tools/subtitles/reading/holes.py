@@ -8,7 +8,6 @@ that long, the PCR made a pause, and nothing happened.
 """
 from __future__ import annotations
 
-import bisect
 import collections
 import statistics
 from typing import Iterator, NamedTuple
@@ -64,8 +63,7 @@ class Holes:
         self.timing, self.own = timing, timing.stream.pid
         self.places: list[Place] = []
         self.jumps: list[Jump] = []
-        self.intervals: collections.deque[Interval] = collections.deque()
-        self.ticks: list[int] = []  # of these, rising
+        self.intervals: collections.deque[Interval] = collections.deque(maxlen=KNOWN)
         self.last: Heard | None = None  # the last piece with a PCR
         self.since: list[Piece] = []  # those after it
         self.packets = 0  # before the piece that is heard
@@ -80,7 +78,6 @@ class Holes:
         if self.pid != self.timing.clock.pid:
             self.pid, self.last, self.since = self.timing.clock.pid, None, []
             self.intervals.clear()
-            self.ticks.clear()
         marks = self.timing.clock.marks(piece)
         clocks = list(places(piece, marks & flagged(piece, PCR)))
         if clocks:
@@ -112,8 +109,8 @@ class Holes:
         one = Interval(ticks_between(pcr_at(old.piece.data, first),
                                      pcr_at(new.piece.data, second)),
                        new.number(second) - old.number(first))
-        if self.is_usual(one):
-            self.add(one)
+        if self.is_usual(one.ticks):
+            self.intervals.append(one)
             return
         usual, packets = (statistics.median(several) for several in zip(*self.intervals))
         way = stretches(old, first, self.since if old is not new else [], new, second)
@@ -125,20 +122,11 @@ class Holes:
         elif are_whole and one.packets * PAUSE * usual < packets * abs(one.ticks):
             self.jumps.append(Jump(before, one.ticks - round(usual)))
 
-    def add(self, one: Interval) -> None:
-        """Takes an interval as one of the latest."""
-        if len(self.intervals) == KNOWN:
-            del self.ticks[bisect.bisect_left(self.ticks, self.intervals.popleft().ticks)]
-        self.intervals.append(one)
-        bisect.insort(self.ticks, one.ticks)
-
-    def is_usual(self, one: Interval) -> bool:
+    def is_usual(self, ticks: int) -> bool:
         """Whether a PCR comes as others do; the first ones tell how that is."""
-        if len(self.intervals) < FEWEST:
-            return one.ticks >= 0
-        middle = len(self.ticks) // 2
-        usual = (self.ticks[middle] + self.ticks[-middle - 1]) / 2
-        return 0 <= one.ticks <= max(LEAST, TIMES * usual)
+        if 0 <= ticks <= LEAST or len(self.intervals) < FEWEST:
+            return ticks >= 0
+        return 0 <= ticks <= TIMES * statistics.median(one.ticks for one in self.intervals)
 
     def pts_before(self, heard: Heard, end: int) -> int | None:
         """The last PTS of the PID before a place."""

@@ -60,8 +60,7 @@ class Losses:
     def take(self, piece: Piece) -> None:
         """Hears a piece of the file."""
         if self.stream.goes_on(piece):
-            begins = self.stream.beginnings(piece)
-            for at in dict.fromkeys([*begins[:1], *begins[-1:]]):
+            for at in self.stream.beginnings(piece):
                 self.go_on(payload_at(piece.data, at))
             return
         for begins_here, payload, trouble in self.stream.payloads(piece):

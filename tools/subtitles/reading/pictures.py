@@ -33,7 +33,7 @@ class First(NamedTuple):
         """What is said of it."""
         return (f"the first picture has PTS {self.pts}, {NAMES[self.kind]} of "
                 f"{pid_name(self.pid)}; {counted(self.passed, 'PES packet')} of video before it "
-                "passed over")
+                "skipped")
 
 
 class NoFirst(Exception):

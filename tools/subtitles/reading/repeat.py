@@ -5,10 +5,11 @@ import bisect
 import itertools
 from typing import Iterable, Iterator, Sequence
 
+from ..core.batch import with_headers
 from ..core.files import Damaged, Source
-from ..core.pes import DATA, UNIT, has_pts, pes_runs, pts_in
+from ..core.pes import has_pts, pes_batches, pts_in
 from ..core.teletext import CODE_WORDS, Page, mirrored
-from ..core.units import ADDRESS
+from ..core.units import header_in
 
 FEWEST = 3  # repeats that are measured
 NEAR = 5  # frames before an edge in which its own sending may come, by a clock that is late
@@ -22,18 +23,14 @@ def coded_header(page: Page) -> bytes:
 
 def sendings(file: Source, page: Page) -> Iterator[int]:
     """The PTS of the PES packets that have a header of a page."""
-    header = coded_header(page)
+    def is_of_page(coded: bytes) -> bool:
+        header = header_in(coded)
+        return header is not None and header[:2] == page
+
     try:
-        for data, begins in pes_runs(file):
-            at, number = data.find(header), -1
-            while 0 <= at < begins[-1]:
-                owner = bisect.bisect_right(begins, at) - 1
-                begin = begins[owner]
-                is_unit = (at - begin - DATA) % UNIT == ADDRESS.start
-                if is_unit and owner != number and has_pts(data[begin:begin + DATA]):
-                    number = owner
-                    yield pts_in(data[begin:begin + DATA])
-                at = data.find(header, at + 1)
+        for packets in pes_batches(file):
+            yield from (pts_in(packets[number]) for number in with_headers(packets, is_of_page)
+                        if has_pts(packets[number]))
     except Damaged:
         pass  # what can't be read is told by others
 

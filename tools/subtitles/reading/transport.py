@@ -56,8 +56,10 @@ class Piece:
         if known is None:
             low, known = self.column(2), 0
             if pid & 0xFF in low:
-                known = as_number(low.translate(is_byte(pid & 0xFF, 0xFF))) \
-                    & as_number(self.column(1).translate(is_byte(pid >> 8, 0x1F)))
+                high = f"high {pid >> 8}"  # which several have
+                if high not in self.marks:
+                    self.marks[high] = as_number(self.column(1).translate(is_byte(pid >> 8, 0x1F)))
+                known = self.marks[high] & as_number(low.translate(is_byte(pid & 0xFF, 0xFF)))
             self.marks[pid] = known
         return known
 
@@ -162,16 +164,15 @@ class Reader:
 class Stream:
     """The packets of one PID.
 
-    `lost` counts those that are missing by their counters, `scrambled` those that are, `repeated`
-    those that came more than twice, and `count` all that came.
+    `scrambled` counts those that are, and `count` all that came.
     """
 
     def __init__(self, pid: int) -> None:
         self.pid = pid
-        self.count = self.lost = self.scrambled = self.repeated = 0
+        self.count = self.scrambled = 0
         self.counter: int | None = None
         self.last: tuple[bytes, int] = b"", 0  # the last one with a payload: where it stands
-        self.is_again = self.is_jump = False
+        self.is_jump = False
 
     def marks(self, piece: Piece) -> int:
         """A number with a byte for each packet of a piece, the first the highest: 1 for its own."""
@@ -188,7 +189,7 @@ class Stream:
             and not any(piece.data[at + 1] & ERROR for at in own)
         if is_steady and own:
             self.count += len(own)
-            self.counter, self.last, self.is_again = controls[-1] & 15, (piece.data, own[-1]), False
+            self.counter, self.last = controls[-1] & 15, (piece.data, own[-1])
         return is_steady
 
     def beginnings(self, piece: Piece) -> list[int]:
@@ -215,14 +216,10 @@ class Stream:
             lost, jumps = 0, self.is_jump
             if self.counter is not None and counter != (self.counter + 1) & 15:
                 if counter == self.counter and self.is_same(data, at):
-                    self.repeated += self.is_again
-                    self.is_again = True
                     continue
                 jumps = jumps or may_jump
                 lost = 0 if may_jump else counter - self.counter - 1 & 15
-                self.lost += lost
-            self.counter, self.last = counter, (data, at)
-            self.is_again = self.is_jump = False
+            self.counter, self.last, self.is_jump = counter, (data, at), False
             trouble = None
             if lost or jumps or control & SCRAMBLED:
                 trouble = Trouble(lost, jumps, control & SCRAMBLED != 0)
