@@ -7,6 +7,7 @@ import re
 from typing import Iterator
 
 from .definitions import Library, counts
+from .promises import ROW as INDEX
 
 # The documents, and with what a line begins that is looked at.
 DOCUMENTS = {"docs/HEADLINE.md": "", "docs/ASSURANCE.md": "", "docs/WRONG-PROGRAMS.md": "",
@@ -85,6 +86,7 @@ def unknown_names(top: str) -> dict[str, list[str]]:
         with open(os.path.join(top, name), encoding="utf-8") as file:
             text = file.read()
         text = BLOCK.sub(lambda block: "\n" * block[0].count("\n"), text)
+        text = INDEX.sub(lambda row: row[0].replace(row[2], ""), text)  # its clauses have a test
         if start:
             text = "\n".join(line if line.startswith(start) else "" for line in text.split("\n"))
         found[name] = [f"{name}:{text.count(chr(10), 0, quoted.start()) + 1}: {one}"

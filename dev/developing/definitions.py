@@ -204,7 +204,7 @@ class Library:
                 file = File(one, path, module)
                 for text in clauses(file.text, function, clause):
                     found.append((file, text))
-        if len({file.path for file, _ in found}) > 1:
+        if not slash and len({file.path for file, _ in found}) > 1:
             places = ", ".join(sorted({file.crate for file, _ in found}))
             raise Stop(f"{name} is a function of {places}: put the crate before it, as CRATE/NAME")
         return [it for file, text in found for it in self.used(file, text, binders(text))]
@@ -278,7 +278,7 @@ def clauses(text: str, function: str, clause: str) -> Iterator[str]:
     for found in FUNCTION.finditer(text):
         if found[2] != function:
             continue
-        end = re.compile(rf"^{found[1]}(?:\{{|.*;)$", re.M).search(text, found.end())
+        end = re.compile(rf"^{found[1]}(?:\{{\}}?|.*\}};|\S.*;)$", re.M).search(text, found.end())
         head = text[found.end():end.start() if end else len(text)]
         for start in CLAUSE.finditer(head):
             if not clause or start[1] == clause:

@@ -152,7 +152,7 @@ PASSED = {
     "passed-cut": (["The last frame before it: 20:15:00:00; the next one: 20:15:05:12.",
                     "PES packet 3 can't be read, and nothing after it. Pictures at the last frame "
                     "before that PES packet, 20:15:05:12.",
-                    "What comes after them can't be read on"], 0),
+                    "What comes after them is not read"], 0),
 }
 
 

@@ -1,7 +1,8 @@
 """The tests of dev/check-tools, a module `test_..` for a tool or an idea; `runner` runs them.
 
-bench    what they share: the program, folders, calls
-muxed    transport streams with video
-parts    values: parts with answers, carriers, sendings
-runner   finds them and runs them side by side
+at_random  calls of qc at random, and all that is said of each
+bench      what they share: the program, folders, calls
+muxed      transport streams with video
+parts      values: parts with answers, carriers, sendings
+runner     finds them and runs them side by side
 """

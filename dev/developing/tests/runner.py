@@ -86,8 +86,10 @@ def has_fixture(kind: Type[unittest.TestCase]) -> bool:
 
 
 def is_alone(several: Several) -> bool:
-    """Whether a test runs while no other one does."""
-    return any(getattr(getattr(one, one.id().rpartition(".")[2], None), "is_alone", False)
+    """Whether a test runs while no other one does: it is timed, or takes what is printed, which all
+    threads share."""
+    return any(getattr(one, "is_alone", False) or
+               getattr(getattr(one, one.id().rpartition(".")[2], None), "is_alone", False)
                for one in several)
 
 

@@ -1,24 +1,18 @@
 """tools/qc looks for causes in the recording, before what was cut out of it and after that."""
 from __future__ import annotations
 
-import csv
-import json
 from typing import Iterable
 from xml.etree import ElementTree
 
-from subtitles.core.pes import pes_packet, pts_in
-from subtitles.core.teletext import packet
-from subtitles.core.times import CLOCK, TICKS, pts_of
+from subtitles.core.pes import pts_in
+from subtitles.core.times import CLOCK, TICKS
 from .bench import Case, Done, moved, packets
-from .test_causes import CLOSING, HEADER
-from .muxed import AHEAD, Maker, components, put_teletext
 from .test_qc import STORY, in_two_parts, lines_of, qc
 
 BEGIN, THIRD, END = 1_822_500, 1_822_675, 1_822_725  # the first TCI, the third one, the last TCO
 SUBTITLES = {1: 'cause: subtitle 1 at 20:15:00:00, "Good evening. / Here is the news.": ',
              2: 'cause: subtitle 2 at 20:15:03:00, "Thank you, Anne.": ',
              3: 'cause: subtitle 3 at 20:15:07:00, "It costs £5, or $7.": '}
-BEFORE = ": its page transmission is before what was cut, so 63 is reported"
 
 
 def sendings(case: Case, *options: str) -> dict[int, bytes]:
@@ -30,19 +24,6 @@ def sendings(case: Case, *options: str) -> dict[int, bytes]:
 def shifted(all_of: Iterable[bytes], frames: int) -> bytes:
     """PES packets that are sent so many frames later."""
     return moved(b"".join(all_of), lambda _, pts: pts + frames * TICKS)
-
-
-def with_clock(data: bytes, before: int, after: int) -> bytes:
-    """A transport stream that begins and ends so many frames before and after its PES packets."""
-    maker = Maker(components())
-    maker.put_tables()
-    first, last = (pts_in(packets(data)[at]) - AHEAD for at in (0, -1))
-    for frame in range(-before, 0, 2):
-        maker.put_pcr(first + TICKS * frame)
-    put_teletext(maker, data)
-    for frame in range(2, after, 2):
-        maker.put_pcr(last + TICKS * frame)
-    return maker.data
 
 
 def causes_in(done: Done) -> list[str]:
@@ -67,61 +48,6 @@ def test_causes(case: Case, name: str, data: bytes, *causes: str, every: int = 2
 
 class Around(Case):
     """Recordings in which a subtitle is early, late, or not erased."""
-
-    def test_names_one_that_is_early(self) -> None:
-        """Before the cut, which has no blank page to begin with: with repeats and without."""
-        every, edges = sendings(self, "--every", "25"), sendings(self)
-        for frames in (1, 2, 20):
-            early = f"early by {frames} frame" + "s" * (frames > 1)
-            wanted = [SUBTITLES[1] + early + BEFORE, SUBTITLES[2] + early, SUBTITLES[3] + early]
-            for name, sent, bound in (("repeated", every, 25), ("at its edges", edges, 250)):
-                test_causes(self, f"{name}: {early}", shifted(sent.values(), -frames), *wanted,
-                            every=bound)
-        known = json.loads(self.read("out/story.json"))
-        told = {one["number"]: one["cause"] for one in known["faults"] if one["number"] in (63, 74)}
-        self.must("the object", told[63]["cause"] == "early" and told[63]["frames"] == 20
-                  and told[74] is None, told)
-        rows = list(csv.DictReader(self.read("one.csv").decode().splitlines()))
-        self.must("the table", {row["cause"] for row in rows if row["number"] == "63"} == {"early"},
-                  rows)
-
-    def test_names_one_that_is_late(self) -> None:
-        """Where nothing of the page is sent before: a recording that begins earlier tells it."""
-        data = shifted(sendings(self).values(), 2)
-        late = [SUBTITLES[number] + "late by 2 frames" for number in (1, 2, 3)]
-        test_causes(self, "a recording that begins there", data, *late[1:], every=250)
-        test_causes(self, "one that begins a frame before", with_clock(data, 3, 0), *late[1:],
-                    every=250)
-        test_causes(self, "one that begins earlier", with_clock(data, 50, 0), *late, every=250)
-        row = packet(0, 22, (), b"\x0b\x0bBefore that".ljust(40))
-        before = [pes_packet(pts_of(frame, 0), [HEADER, row, CLOSING])
-                  for frame in range(BEGIN - 90, BEGIN + 8, 20)]
-        sent = sendings(self, "--every", "25")
-        rest = [data for frame, data in sent.items() if frame > BEGIN]
-        test_causes(self, "another text before it", b"".join(
-            [*before, shifted([sent[BEGIN]], 8), *rest]), SUBTITLES[1] + "late by 8 frames")
-
-    def test_names_the_last(self) -> None:
-        """Of which more is sent after the cut: its erasing, or itself."""
-        sent = sendings(self, "--every", "25")
-        until = [one for frame, one in sent.items() if frame < END]
-        erased = shifted([sent[END]], 60)
-        gone = SUBTITLES[3] + "not erased at 20:15:09:00"
-        test_causes(self, "erased late", b"".join([*until, erased]),
-                    f"{gone}: gone 60 frames later")
-        test_causes(self, "a recording that ends there", b"".join(until))
-        test_causes(self, "one that goes on", with_clock(b"".join(until), 0, 100), gone)
-        first = [one for frame, one in sent.items() if frame < THIRD]
-        blank = [shifted(first[-1:], frames) for frames in range(25, 150, 25)]
-        third = shifted([one for frame, one in sent.items() if frame >= THIRD], 160)
-        done = qc(self, STORY, self.write("late.pes", b"".join([*first, *blank, third])),
-                  "--origin",
-                  "0", "--every", "25")
-        self.must("after its TCO", causes_in(done) == [SUBTITLES[3] + "late by 160 frames"], done)
-        done = qc(self, STORY, self.write("never.pes", b"".join([*first, *blank])), "--origin", "0",
-                  "--every", "25")
-        self.must("not at all", causes_in(done) == [
-            SUBTITLES[3] + "never sent: the recording was read up to 20:15:11:12"], done)
 
     def test_forgets_what_was_of_another_clock(self) -> None:
         """Where PTS go back before the first TCI, what came before has no place in time."""

@@ -12,7 +12,7 @@ from subtitles.calls.awaited import Timed
 from subtitles.calls.feed_clock import ANEW, BACK, SECOND, FeedClock
 from subtitles.core.files import whole_file
 from subtitles.core.times import CLOCK, TICKS, ticks_between
-from .bench import Case, Done, tool_path
+from .bench import Case, Done, alone, tool_path
 from .test_channel_tables import EACH, FIRST, LASTS, programme
 from .test_qc_channel import (
     ACCEPTED, BEGIN, FITTED, SOON, WITH_BLANK, blank, make_programme, three, verdicts)
@@ -92,23 +92,6 @@ class Clocks(Case):
         self.must("lines", lines[0] == "one  refused 60 Empty" and lines[1].startswith(
             "two  accepted") and lines[2] == "later  " + UNSEEN.format("three") and
             lines[3].startswith("three  accepted"), lines)
-
-    def test_passes_over_what_is_not_sent(self) -> None:
-        """One, two and three of a list, at once; four in a row are waited for."""
-        for count in (1, 2, 3, 4):
-            sent = tuple(name for at, name in enumerate(NAMES) if not 0 < at <= count)
-            data = day(self, 0, sent)
-            self.write("list", b"".join(b"%s.stl\n" % name.encode() for name in NAMES))
-            lines = self.lines(self.judged(data))
-            missing = NAMES[1:count + 1]
-            if count < 4:
-                wanted = [f"{name}  {UNSEEN.format(NAMES[count + 1])}" for name in missing]
-                self.must(f"{count}", lines[1:count + 1] == wanted and all(
-                    f"{name}  accepted" in line for name, line in
-                    zip(NAMES[count + 1:], lines[count + 1:])) and len(lines) == 6, lines)
-            else:
-                self.must("four", lines[1:] == [f"{name}  not judged: the feed ended before it"
-                                                for name in NAMES[1:]], lines)
 
     def test_tells_it_at_once(self) -> None:
         """While the feed still goes on, and long before one was waited for long enough."""
@@ -194,6 +177,7 @@ class Clocks(Case):
 class Signals(Case):
     """A signal while a file is written."""
 
+    @alone
     def test_as_the_file_takes_its_name(self) -> None:
         """Just before that the file stays as it was, just behind it the new one stands; either way
         it is the signal that is told."""

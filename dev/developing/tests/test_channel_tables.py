@@ -5,23 +5,25 @@ import argparse
 import os
 from typing import Sequence
 
-from subtitles.calls.awaited import NEAR, Awaited, Changes
+from subtitles.calls.awaited import NEAR, Awaited, Changes, Timed
 from subtitles.calls.channel import GAP, Channel
 from subtitles.calls.channel_feed import BEFORE, Passing, TransportFeed
-from subtitles.calls.feed_clock import ANEW, BACK, MINUTE, SECOND
-from subtitles.calls.hearing import HeardPage, Way
+from subtitles.calls.claim import claimed, claimed_for_batch
+from subtitles.calls.feed_clock import ANEW, BACK, MINUTE, SECOND, FeedClock
+from subtitles.calls.hearing import HeardPage, Hearing, Way, way_of
 from subtitles.calls.planned import Planned
 from subtitles.calls.ring import PARTS, Ring
 from subtitles.core.pes import MARK, pes_packet, pts_in
 from subtitles.core.stl import boxed, gsi_block, subtitle_blocks
-from subtitles.core.times import CLOCK, TICKS
+from subtitles.core.teletext import packet
+from subtitles.core.times import CLOCK, EARLY, TICKS
 from subtitles.core.words import Stop, Words
 from subtitles.qc.asked import add_pair_options
 from subtitles.qc.source import Source
 from subtitles.qc.typed import Typed
 from subtitles.reading.losses import Place
 from .bench import Case
-from .parts import CLOSING, HEADER, PAGE, row
+from .parts import CLOSING, HEADER, PAGE, asked_for, row
 
 FIRST = 1_000_000  # the frame of a programme's first subtitle
 LASTS, EACH = 50, 75  # frames of a subtitle, and from one to the next
@@ -73,6 +75,13 @@ class Tables(Case):
                 found = awaited.midnight(changes)
                 wanted = begin - TICKS * FIRST if count >= 5 else None
                 self.must(f"{begin}, {count} changes", found == wanted, found)
+        few = programme(self, "two.stl", FIRST, texts[:2])
+        for count in range(5):
+            changes = self.changes(texts[:2], 5)
+            del changes.times[count:], changes.letters[count:]
+            found = Awaited(few, "english", 0, SECOND * 3600).midnight(changes)
+            self.must(f"{count} of four", found == (5 - TICKS * FIRST if count == 4 else None),
+                      found)
 
     def test_waits_for_its_own_edges(self) -> None:
         """Not before it waits, nor after; of another programme, or in another order, none."""
@@ -119,7 +128,8 @@ class Tables(Case):
                 (0, b"a", 0, 0), (0, b"b", 0, None), (0, b"b", 10 * TICKS, 1),
                 (20 * TICKS, b"a", 0, 2), (10 * TICKS, b"a", 10 * TICKS, 0),
                 (21 * TICKS, b"a", TICKS, 2), (21 * TICKS, b"a", NEAR - 1, None),
-                (21 * TICKS, b"a", NEAR, 2)):
+                (21 * TICKS, b"a", NEAR, 2), (19 * TICKS - NEAR, b"a", TICKS, 2),
+                (19 * TICKS - NEAR - 1, b"a", TICKS, None)):
             found = changes.near(time, letters, room)
             self.must(f"{letters!r} near {time}, {room}", found == wanted, found)
         changes.drop(10 * TICKS)
@@ -128,11 +138,88 @@ class Tables(Case):
 
     def test_erased_in_the_same_frame(self) -> None:
         """Within 1 and more a text comes when the page was erased for it; a second time too."""
-        for within, wanted in ((0, [0, 10, 5000, 5010]), (1, [0, 0, 5000, 5000])):
-            changes = Changes()
-            for time, letters in ((0, b""), (10, b"a"), (5000, b""), (5010, b"b")):
-                changes.add(time, letters, bool(within))
-            self.must(f"within {within}", changes.times == wanted, changes.times)
+        near = TICKS - EARLY - 1
+        for some, times in (
+                ([(0, b""), (10, b"a"), (5000, b""), (5010, b"b")], [0, 0, 5000, 5000]),
+                ([(0, b"a"), (10, b"b"), (20, b"")], [0, 10, 20]),
+                ([(0, b""), (near, b"a")], [0, 0]), ([(0, b""), (near + 1, b"a")], [0, near + 1]),
+                ([(0, b""), (5, b""), (9, b"a")], [0, 0, 0])):
+            for within, wanted in ((False, [time for time, _ in some]), (True, times)):
+                changes = Changes()
+                for time, letters in some:
+                    changes.add(time, letters, within)
+                self.must(f"{some} {within}", changes.times == wanted and changes.count ==
+                          len(some), changes.times)
+
+    def test_edges_that_are_off(self) -> None:
+        """Within 0 midnight is by the one in the middle, within more by the one that is least late;
+        a subtitle that never comes is none, and a file has to have one."""
+        texts = ["Alpha", "Beta", "Gamma"]
+        stl, begin = programme(self, "one.stl", FIRST, texts), 100 * SECOND
+        for within, off, wanted in ((0, (9, -5, 1, 0, 3, 99), 1), (0, (-4, -3, -2, -1, 0), -2),
+                                    (2, (9, -5, 1, 0, 3, 99), -5), (2, (9, 8, 7, 6, 5), 5)):
+            changes = self.changes(texts, begin)
+            changes.times = [time + by for time, by in zip(changes.times, off)]
+            found = Awaited(stl, "english", 0, 10 ** 12, within).midnight(changes)
+            self.must(f"{within} {off}", found == begin - TICKS * FIRST + wanted, found)
+        blocks = [subtitle_blocks(at, *times, 20, 2, b"x") for at, times in enumerate(
+            ((50, 40), (60, 60), (70, 90), (10, 20)))]
+        some = Awaited(self.write("two.stl", gsi_block(b"", 4, 4) + b"".join(blocks)), "english",
+                       0, 9)
+        self.must("times", (some.first, some.last, len(some.edges)) == (10, 90, 4), some.edges)
+        with self.assertRaises(Stop):
+            Awaited(self.write("none.stl", gsi_block(b"", 1, 1) + blocks[0]), "english", 0, 9)
+        length = EACH * 2 + LASTS
+        end = FIRST + length
+        for since, before, is_there in ((-1, 0, True), (0, 0, False), (-1, None, False),
+                                        (9, length, True), (9, length + 1, False)):
+            clock = FeedClock()
+            if before is not None:
+                clock.take(TICKS * (end - before))
+            midnight = Timed(stl, "english", 0, since).midnight(clock)
+            self.must(f"since {since}, {before}", midnight == (
+                TICKS * ((before or 0) - end) if is_there else None), midnight)
+
+    def test_pages_that_are_heard(self) -> None:
+        """What is new is heard of what was kept too, at the times of the feed; what was heard goes
+        on, and what nobody asks for is heard no more."""
+        hearing, clock, kept = Hearing(), FeedClock(), list[bytes]()
+        page = packet(0, 0, [7, 8, 0, 8, 0, 8, 1, 0], b" " * 32)
+        own, other = Way(PAGE, False), Way((0, 0x87), True)
+        hearing.turn_to([own], kept, clock)
+        for second in range(6):
+            packets = [HEADER, row(20, b"%d" % second), CLOSING, page, row(20, b"x%d" % second)]
+            data = pes_packet((CLOCK + SECOND * (second - 2)) % CLOCK,
+                              [*packets * (second != 4), CLOSING])
+            clock.take(pts_in(data))
+            hearing.take(data, clock.now)
+            kept.append(data)
+            if second == 2:
+                hearing.turn_to([own, other], kept[1:], clock)
+                self.must("pages", hearing.pages() == [(0, 0x87), PAGE])
+        for way, first in ((own, 0), (other, 1)):
+            self.must(f"{way}", hearing.changes(way).times == [
+                SECOND * at for at in (0, 1, 2, 3, 5) if at >= first], hearing.changes(way).times)
+        for within, is_within in (("0", False), ("1", True)):
+            self.must(f"within {within}", way_of(asked_for("a.stl", "a.ts", "--within", within)) ==
+                      Way(PAGE, is_within))
+        hearing.drop(2 * SECOND)
+        self.must("dropped", [len(hearing.changes(way).times) for way in (own, other)] == [3, 3])
+        hearing.turn_to([other], kept, clock)
+        self.must("one", hearing.pages() == [(0, 0x87)] and
+                  len(hearing.changes(other).times) == 3)
+
+    def test_calls_one_after_another(self) -> None:
+        """A folder and the files of a pair belong to one call at a time; each may come after."""
+        folder = self.path("claimed/here")
+        for turn in range(2):
+            with claimed(folder, "one"), claimed(folder, "two"), claimed_for_batch(folder):
+                for again in (claimed(folder, "one"), claimed_for_batch(folder)):
+                    with self.assertRaises(Stop), again:
+                        self.must("never", False)
+            self.must(f"turn {turn}", os.listdir(folder) == [])
+        with claimed(None, "one"), claimed_for_batch(None):
+            self.must("no folder", True)
 
     def test_ring(self) -> None:
         """All that came from a floor on is kept, and little more; what was dropped is gone."""
@@ -236,11 +323,21 @@ class Tables(Case):
         feed.hand([])
         self.must("three", [int(line.split()[-1]) // TICKS for line in said] == [2, 4, 5], said)
         self.must("with their marks", feed.taken == gapped, feed.taken)
+        feed.hand([(PID, [MARK])])
+        self.must("not yet", len(said) == 3, said)
+        feed.hand([(PID, sendings(20))])
+        self.must("then", len(said) == 4 and said[3].endswith(
+            f"before PTS {pts_in(sendings(20)[0])}"), said)
 
     def test_hole_of_the_clock(self) -> None:
         """One that only the PCR tells gets one mark in its place, the second too."""
+        for first in (0, CLOCK - 4 * TICKS):
+            self.hole_of_the_clock(first)
+
+    def hole_of_the_clock(self, first: int) -> None:
+        """The same, where the PTS of the first PES packet is known."""
         said: list[str] = []
-        feed, pes = self.feed(PID, said), sendings(0)
+        feed, pes = self.feed(PID, said), sendings(first)
         holes = [Place(pts_in(pes[at]), pts_in(pes[at + 1]), missing=SECOND) for at in (2, 5)]
         feed.carriers.by_pid[PID].holes.places += holes
         feed.hand([(PID, pes)])
@@ -248,17 +345,23 @@ class Tables(Case):
         self.must("marks", feed.taken == wanted, feed.taken)
         self.must("told", len(said) == 2 and all("1.00 s are missing" in line for line in said),
                   said)
-        feed.hand([(PID, sendings(20))])
-        self.must("once", feed.taken == [*wanted, *sendings(20)] and len(said) == 2, said)
+        more = sendings(first + 20)
+        feed.hand([(PID, more)])
+        self.must("once", feed.taken == [*wanted, *more] and len(said) == 2, said)
+        again = self.feed(PID, said)
+        again.carriers.by_pid[PID].holes.places += [Place(pts_in(pes[2]), None, missing=SECOND)]
+        again.hand([(PID, [*pes[:3], MARK, *pes[3:]])])
+        self.must("where one stands", again.taken == [*pes[:3], MARK, *pes[3:]], again.taken)
 
     def test_edges_within_some_frames(self) -> None:
         """Within N one edge may be N frames later than another, and no more."""
         texts = ["Alpha", "Beta", "Gamma"]
         stl, begin = programme(self, "one.stl", FIRST, texts), 100 * SECOND
         for within, late, is_found in ((0, 0, True), (2, 0, True), (2, 2, True), (2, 3, True),
-                                       (2, 4, False), (0, 2, False), (5, 6, True), (5, 7, False)):
+                                       (2, 3.4, False), (2, 4, False), (0, 2, False),
+                                       (5, 6, True), (5, 7, False)):
             changes = self.changes(texts, begin)
-            changes.times[2] += TICKS * late - TICKS * within // 2
+            changes.times[2] += int(TICKS * late) - TICKS * within // 2
             changes.times[3] -= TICKS * within // 2
             awaited = Awaited(stl, "english", 0, begin + 3600 * SECOND, within)
             found = awaited.midnight(changes)

@@ -7,48 +7,41 @@ import io
 import itertools
 import os
 from dataclasses import replace
-from typing import Any, NamedTuple, Sequence
+from typing import Any, Sequence
 
 from subtitles.calls.batch import words_of
 from subtitles.calls.machine import asked_words, total
 from subtitles.calls.objects import causes_in, hint_in
 from subtitles.calls.pairs import of_folder
 from subtitles.calls.watching import Seen, Watch
-from subtitles.core.batch import FRAMED, OF_TELETEXT, are_units, is_listed, of_packets
 from subtitles.core.pes import pes_packet
 from subtitles.core.programme import Subtitle
 from subtitles.core.stl import gsi_block, subtitle_blocks, tti_block
 from subtitles.core.teletext import packet
 from subtitles.core.times import TICKS
 from subtitles.core.words import Words
-from subtitles.qc.asked import Asked, add_pair_options, asked_of_line
+from subtitles.qc.asked import add_pair_options, asked_of_line
 from subtitles.qc.clock import START, Clock
 from subtitles.qc.delays import frames_of, frames_until
 from subtitles.qc.due_pages import DuePages, due_pages_of
 from subtitles.qc.fitting import Found, refuse, with_delay
 from subtitles.qc.held import Held, Near, Span
-from subtitles.qc.live import Live
 from subtitles.qc.names import Names
 from subtitles.qc.naming import Causes
 from subtitles.qc.pair import Pair
 from subtitles.qc.progress import Progress
 from subtitles.qc.severity import Severity
 from subtitles.qc.speech import Speech
-from subtitles.qc.start import FRAMES_NEAR, Began, Grid, began, refuse_outside
 from subtitles.qc.steps import Done, Steps, Stretch
 from subtitles.qc.subtitle_file import NamedSubtitle, SubtitleFile
 from subtitles.qc.typed import Typed
 from subtitles.qc.unclear import Unclear
 from subtitles.qc.verdict import Verdict
 from subtitles.qc.warned import of_page
-from subtitles.qc.whole import of_growth
-from subtitles.reading.cutting import Cut
 from subtitles.reading.finding import Origin
-from subtitles.reading.pictures import First
 from subtitles.reading.programmes import Announced
 from subtitles.reading.receiver import BLANK_PAGE, Rows
 from .bench import Case
-from .muxed import MPEG_2
 from .parts import CLOSING, HEADER, PAGE, asked_for, row
 
 NAMES = (b"first", b"second", b"third")
@@ -111,6 +104,8 @@ class Objects(Case):
 
 class Folders(Case):
     """Files of a folder as pairs."""
+
+    is_alone = True  # it takes what is printed
 
     def test_pairs(self) -> None:
         """By name, whatever the case; where more than one is possible, of the very same name."""
@@ -229,26 +224,6 @@ class Files(Case):
         for at, wanted_text in ((0, ("61", "a")), (1, ("62", "b")), (2, (None, None))):
             self.must(f"letter {at}", file.letter(4, at) == wanted_text, file.letter(4, at))
 
-    def test_units(self) -> None:
-        """Lines rise, each unit has its framing code: of the first two, and of the last two."""
-        good = [OF_TELETEXT | FRAMED | line for line in (7, 8, 22)]
-        of_units: list[tuple[str, list[int], bool]] = [
-            ("good", good, True), ("none", [], True),
-            ("no line", [OF_TELETEXT | FRAMED] * 2, True),
-            ("the same line first", [good[0], good[0], good[2]], False),
-            ("the same line last", [good[0], good[2], good[2]], False),
-            ("falling last", [good[0], good[2], good[1]], False),
-            ("no framing last", [*good[:2], OF_TELETEXT | 22], False),
-            ("no Teletext", [good[2], 7, good[2] + 1], True)]
-        for name, marks, wanted in of_units:
-            self.must(name, are_units(bytes(marks)) == wanted)
-        pes = pes_packet(0, [HEADER, row(20, b"a"), CLOSING])
-        wrong = bytearray(pes)
-        wrong[46 + 2 * 46 + 2] = wrong[46 + 46 + 2]
-        for several, is_right in (([pes], True), ([pes] * 3, True), ([bytes(wrong)], False),
-                                  ([pes, bytes(wrong)], False), ([pes, pes, bytes(wrong)], False)):
-            self.must(f"{len(several)} {is_right}", is_listed(of_packets(several)) == is_right)
-
     def test_announced(self) -> None:
         """One of the pages has to be of subtitles, and one in the language of the file."""
         stl = self.write("one.stl", gsi_block(b"", 0, 0, language=b"09"))
@@ -260,48 +235,6 @@ class Files(Case):
             own = [Announced(PAGE, language, kind) for kind, language in zip(kinds, languages)]
             found = [warned.kind for warned in of_page(own, asked)]
             self.must(f"{kinds} {languages}", found == wanted, found)
-
-
-def picture(pts: int) -> First:
-    """The first picture of a recording."""
-    return First(0x200, MPEG_2, pts, 0)
-
-
-class Starts(Case):
-    """The clock by the first picture."""
-
-    def asked(self) -> Asked:
-        return asked_for("one.stl", "one.ts", "--start", "10:00:00:00")
-
-    def test_grid_of_the_teletext(self) -> None:
-        """The origin is moved by less than half a frame, forward or back."""
-        frame = 900_000
-        for rest, ticks in ((0, 0), (5, 5), (TICKS // 2 - 1, TICKS // 2 - 1), (TICKS - 5, -5),
-                            (TICKS // 2 + 1, 1 - TICKS // 2)):
-            grid = Grid()
-            for number in range(4):
-                grid.take(TICKS * (frame + number) + rest)
-            found = began(self.asked(), picture(TICKS * frame), grid)
-            self.must(f"{rest}", (found.clock.origin, found.frame) == (ticks % 2 ** 33, frame),
-                      found)
-        grid = Grid()
-        grid.take(TICKS // 2)
-        with self.assertRaises(Unclear):
-            began(self.asked(), picture(0), grid)
-
-    def test_subtitles_outside(self) -> None:
-        """Before the first picture, and after the last PTS by more than a second."""
-        one = Began(Clock(0, START), [], 100)
-        for begin, end, last, is_right in (
-                (100, 200, 300, True), (99, 200, 300, False), (100, 300 + FRAMES_NEAR, 300, True),
-                (100, 301 + FRAMES_NEAR, 300, False), (100, 10 ** 6, None, True)):
-            try:
-                refuse_outside(self.asked(), one, begin, end,
-                               None if last is None else TICKS * last)
-                found = True
-            except Unclear:
-                found = False
-            self.must(f"{begin} {end} {last}", found == is_right)
 
 
 class Fitted(Case):
@@ -399,6 +332,10 @@ class Pages(Case):
             for name, sendings, wanted in of_causes:
                 found = self.caused(programme, sorted(sendings.items()))
                 self.must(f"{place} {name}", found == ({place: wanted} if wanted else {}), found)
+            twice = {**gone, begin - 40: pages[place], begin - 35: BLANK_PAGE,
+                     begin + 2: pages[place]}
+            found = self.caused(programme, sorted(twice.items()))
+            self.must(f"{place} late, and sent before", found[place] == ("late", 2, ""), found)
 
     def test_closed(self) -> None:
         """The first frame from one on at whose end the page is not open."""
@@ -470,38 +407,6 @@ class Pages(Case):
             held.first = first
             found = frames_of(programme, held, False)
             self.must(f"from {first}", found == wanted, found)
-
-
-class Recorded(NamedTuple):
-    """A recording as its size is asked for."""
-
-    name: str
-    size: int | None
-
-
-class Feeds(Case):
-    """Recordings that grow, and feeds that are over."""
-
-    def test_sizes(self) -> None:
-        """Longer or shorter than when it was opened."""
-        path = self.write("one.ts", b"12345")
-        for size, words in ((5, None), (4, "grew"), (6, "became shorter"), (None, None),
-                            (0, "grew")):
-            recorded: Any = Recorded(path, size)
-            found = list(of_growth(recorded))
-            self.must(f"{size}", [words in one.line for one in found if words] ==
-                      [True] * (words is not None) and len(found) == (words is not None), found)
-
-    def test_past(self) -> None:
-        """By the PCR, less how late PTS are, after the last frame of the day that is judged."""
-        live = Live.__new__(Live)
-        for origin in (0, 2 ** 33 - 50 * TICKS):
-            live.cut = Cut(10, 100, PAGE, origin)
-            for frame, late, wanted in ((99, 0, False), (100, 0, False), (101, 0, True),
-                                        (102, 1, True), (102, 2, False), (-5, 0, False)):
-                pcr = (origin + TICKS * frame) % 2 ** 33
-                self.must(f"{origin} {frame} {late}", live.is_past(pcr, TICKS * late) == wanted)
-        self.must("no PCR", not live.is_past(None, 0))
 
 
 class Asking(Steps):

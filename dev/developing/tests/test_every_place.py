@@ -18,7 +18,7 @@ from developing.every_place.trying import status_of
 from developing.every_place.wrong_options import WRONG as WRONG_OPTIONS
 from developing.every_place.wrong_recordings import WRONG as WRONG_RECORDINGS
 
-SEEDS = 300
+SEEDS = 150
 AT_ONCE = 2  # processes
 
 

@@ -1,7 +1,6 @@
 """What a person is told of a fault beside its place, so that the next step is the right one."""
 from __future__ import annotations
 
-import random
 
 from subtitles.core.pes import pts_in
 from subtitles.core.stl import boxed, gsi_block, subtitle_blocks
@@ -9,11 +8,9 @@ from subtitles.core.times import CLOCK, FRAMES_OF_A_DAY, TICKS
 from subtitles.core.told import told_of
 from subtitles.qc.lettering import attribute_words
 from subtitles.qc.midnight import AT_MIDNIGHT, midnight_words
-from subtitles.qc.off_frame import Off, off_of
 from subtitles.qc.subtitle_file import SubtitleFile
 from subtitles.reading.origin_words import drift_of
 from subtitles.reading.receiver import BLANK_PAGE
-from subtitles.reading.repeat import longest_gap
 from .bench import Case, moved, packets
 from .test_qc import lines_of, qc
 from .test_qc_batch import loaded
@@ -71,30 +68,6 @@ class Words(Case):
             self.must(f"56: {first} {second}",
                       bool(midnight_words(told, SubtitleFile(fallen))) == is_night)
 
-    def test_off_frame(self) -> None:
-        """Jitter by its most, drift by its rate, also where the clock begins again."""
-        chance = random.Random(5)
-        for start in (0, 1000, CLOCK - 50 * TICKS):
-            whole = [start + EVERY * TICKS * number for number in range(400)]
-            cases: list[tuple[str, list[int], Off | None]] = [
-                ("whole", whole, None),
-                ("one", [whole[0] + 279, *whole[1:]], Off(279, None)),
-                ("early", [*whole[:-1], whole[-1] - 900], Off(900, None)),
-                ("few", [pts + number for number, pts in enumerate(whole[:9])], Off(8, None)),
-                ("jitter", [*(pts + chance.randrange(-270, 271) for pts in whole[1:]),
-                            whole[0] - 270], Off(270, None))]
-            for ppm in (-50, 5, 50, 200):
-                drifted = [pts + round((pts - start) * ppm / 1e6) for pts in whole]
-                found = off_of([pts % CLOCK for pts in drifted], start)
-                self.must(f"{start}: {ppm} ppm", found and found.drift == ppm, found)
-            for name, several, wanted in cases:
-                found = off_of([pts % CLOCK for pts in several], start)
-                self.must(f"{start}: {name}", found == wanted, found)
-        self.must("words", Off(279, None).words(1) ==
-                  "PTS are up to 3.1 ms off the frame; --within 1 accepts that")
-        self.must("words of a drift", Off(900, -50).words(None) ==
-                  "PTS drift by -50 ppm against whole frames")
-
     def test_drift_of_origins(self) -> None:
         """Origins that go on by a frame each, as a drift lets them; breaks are none."""
         cases: list[tuple[str, list[tuple[int, int]], int | None]] = [
@@ -108,12 +81,6 @@ class Words(Case):
         for name, parts, ppm in cases:
             found = drift_of(parts)
             self.must(name, found == ppm, found)
-
-    def test_longest_gap(self) -> None:
-        cases: list[tuple[list[int], int]] = [
-            ([], 0), ([5], 0), ([5, 30], 25), ([5, 6, 40, 45], 34), ([1, 40, 41, 41], 39)]
-        for frames, gap in cases:
-            self.must(f"{frames}", longest_gap(frames) == gap)
 
 
 class Hints(Case):

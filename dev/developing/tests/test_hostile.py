@@ -94,7 +94,8 @@ class Hostile(Case):
         stl, pes = in_two_parts(self)
         two = self.write("in/two.pes", pes)
         os.rename(stl, self.path("in/two.stl"))
-        for what, name in NAMES.items():
+        for what in ("an escape", "a dash", "not UTF-8", "a quote"):
+            name = NAMES[what]
             out = self.path(name)
             words = [f"-o{name}"] if name[0] == "-" else ["-o", name]
             done = qc(self, STORY, example("five-faults.pes"), "--every", "25", "--keep", *words)
@@ -158,7 +159,7 @@ class Hostile(Case):
                   '>full/zeros 2>/dev/null; shift 2; "$@"')
         words = [tool_path("qc"), STORY, RECORDING, "-o", "full", "-p", self.bench.program]
         os.mkdir(self.path("full"))
-        for taken in ("64k", "60k", "56k", "48k"):
+        for taken in ("64k", "56k"):
             command = ["unshare", "-rm", "sh", "-c", script, "sh", FULL, taken, *words]
             done = self.call(command) if shutil.which("unshare") else Done(77, b"", [])
             if done.status in (1, 77) and not any("qc: " in line for line in done.told):
@@ -169,7 +170,7 @@ class Hostile(Case):
     def test_takes_any_first_time_stamp(self) -> None:
         """Of packets of 192 bytes, the first four: they may be those of a PES packet."""
         data = example_bytes("recording.ts")
-        for stamp in (b"\0\0\1\xbd", b"\0\0\1\xe0", b"\0\0\1\0", b"\0\0\0\0", b"G\0\0\0"):
+        for stamp in (b"\0\0\1\xbd", b"\0\0\1\xe0", b"G\0\0\0"):
             long = stamp + b"TIME".join(data[at:at + 188] for at in range(0, len(data), 188))
             done = qc(self, STORY, self.write("long.ts", long))
             self.must(stamp.hex(), done.status == 0 and lines_of(done)[-1] == ACCEPTED, done)

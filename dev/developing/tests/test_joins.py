@@ -127,7 +127,8 @@ class Counts(Case):
         pts = self.pts
         rows: list[tuple[tuple[int, ...], list[Place]]] = [
                 ((3,), [Place(pts[1], pts[2], 1)]), ((2,), [Place(pts[0], pts[2], 1)]),
-                ((2, 3), [Place(pts[0], pts[2], 2)]), ((3, 4), [Place(pts[1], pts[3], 2)]),
+                ((2, 3), [Place(pts[0], pts[2], 2)]), ((2, 4), [Place(pts[0], pts[3], 2)]),
+                ((3, 4), [Place(pts[1], pts[3], 2)]),
                 ((1, 15), [Place(pts[0], pts[1], 1)]),
                 ((3, 9, 13), [Place(pts[at], pts[at + 1], 1) for at in (1, 4, 6)]),
                 ((2, 14), [Place(pts[0], pts[2], 1), Place(pts[6], None, 1)]), ((0,), [])]

@@ -1,7 +1,7 @@
 """The lines of the program as values: those of `check --all`, and those of `show`."""
 from __future__ import annotations
 
-from subtitles.core.programme import Programme, Subtitle, subtitles_shown
+from subtitles.core.programme import Subtitle, subtitles_shown
 from subtitles.core.told import (
     Accepted, Told, Trusted, accepted_of, count_of, number_of, told_of, trusted_of)
 from subtitles.core.words import Stop
@@ -71,20 +71,3 @@ class Lines(Case):
             except Stop as reason:
                 found = str(reason)
             self.must(f"not read: {lines}", str(found).startswith("show was not answered: "), found)
-
-    def test_are_due(self) -> None:
-        """Which subtitle is due at a frame, and what is around it."""
-        programme = Programme([ONE, TWO, Subtitle(3, 9, 200, 300, 20, 2, b"")])
-        for frame, due, subtitle in (
-                (0, (0, False), None), (24, (0, False), None), (25, (1, True), ONE),
-                (49, (1, True), ONE), (50, (2, True), TWO), (99, (2, True), TWO),
-                (100, (2, False), None), (300, (3, False), None)):
-            self.must(f"at {frame}", (programme.due(frame), programme.subtitle(frame)) ==
-                      (due, subtitle), programme.due(frame))
-        self.must("before", [programme.before(place) for place in range(3)] == [0, 50, 100])
-        self.must("after", [programme.after(place) for place in range(3)] == [50, 200, 2_160_000])
-        self.must("edges", programme.edges(25, 200) == [50, 50, 100, 200], programme.edges(25, 200))
-        self.must("nearest", [programme.nearest([0, 2], frame) for frame in (0, 112, 113, 900)] ==
-                  [0, 0, 2, 2])
-        empty = Programme([])
-        self.must("none", (empty.due(5), empty.subtitle(5)) == ((0, False), None))

@@ -5,7 +5,9 @@ import os
 import re
 
 from subtitles.core.built import TOP, read
+from ..definitions import Library
 from ..edits import with_tables
+from ..promises import with_definitions
 from .bench import Case
 
 # The READMEs, each with its folder and with the package whose modules it lists too.
@@ -28,13 +30,17 @@ class Lists(Case):
     """The lists of the READMEs and of the packages."""
 
     def test_are_whole(self) -> None:
-        """The README of a folder lists its scripts, and the modules that they share."""
+        """The README of a folder lists its scripts, and the modules that they share. One of tools/
+        that calls the script of dev/ with its name may be listed there alone."""
+        elsewhere = set(entries(os.path.join(TOP, "dev")))
         for name, package in FOLDERS.items():
             folder = os.path.join(TOP, name)
             text = read(os.path.join(folder, "README.md")) or ""
             rows = re.findall(r"`(.+?)`", " ".join(ROW.findall(text)))
             wanted = [one for one in [*entries(folder), *entries(os.path.join(folder, package))]
                       if one not in ("README.md", package + "/")]
+            if name == "tools":
+                wanted = [one for one in wanted if one in rows or one not in elsewhere]
             self.must(name, sorted(rows) == sorted(wanted), set(rows) ^ set(wanted))
 
     def test_are_whole_of_packages(self) -> None:
@@ -49,3 +55,11 @@ class Lists(Case):
         """The tables of wrong programs are those of the edits: dev/edits --table writes them."""
         text = read(os.path.join(TOP, "docs", "WRONG-PROGRAMS.md")) or ""
         self.must("dev/edits --table docs/WRONG-PROGRAMS.md", text == with_tables(text))
+
+    def test_are_those_of_the_clauses(self) -> None:
+        """The index of clauses is that of the sources: tools/reading-list --table writes it."""
+        text = read(os.path.join(TOP, "docs", "ASSURANCE.md")) or ""
+        made = with_definitions(text, Library(TOP))
+        self.must("tools/reading-list --table docs/ASSURANCE.md", text == made)
+        self.must("rows", made.count("`sub_check/check_files.accepted`, ") == 1
+                  and "| `AreAccepted`, `IsChecked` |" in made)

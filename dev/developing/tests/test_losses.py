@@ -14,7 +14,7 @@ from ..every_place.recordings import carried
 from .bench import Case, Done, example, example_bytes, packets, tool_path
 from .test_streams import PAYLOAD, PID, extracted, of_the_pid, stream_of
 
-SEEDS = range(40)
+SEEDS = range(10)
 SOON = 20  # seconds after which a PES packet has to have come
 
 

@@ -150,7 +150,7 @@ class Origins(Case):
             " has a PTS: check refuses them as 34") and len(found[2]) == 1, found)
         found = origin_of(self, example("story.stl"), b"".join([*own[:2], without[2], *own[3:]]))
         self.must("one has none", found[:2] == (0, 0)
-                  and "origin: 1 of 5 PES packets have no PTS, and are passed over here: check "
+                  and "origin: 1 of 5 PES packets have no PTS, and are skipped here: check "
                   "refuses "
                   "them as 34" in found[2], found)
 

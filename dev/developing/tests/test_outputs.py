@@ -12,12 +12,17 @@ from xml.etree import ElementTree
 
 from subtitles.calls import collecting
 from subtitles.calls.junit import TestCase, text_of as junit_of
-from subtitles.calls.machine import gap_words
+from subtitles.calls.machine import file_words, gap_words, part_words
 from subtitles.calls.objects import Row
-from subtitles.calls.table import cell_words, text_of as csv_of
+from subtitles.calls.table import cell_words, of_part, said, text_of as csv_of
+from subtitles.core.pieces import Pieces
+from subtitles.core.words import shown
+from subtitles.qc.clock import GIVEN
+from subtitles.qc.sums import File
 from subtitles.qc.verdict import Gap
 from subtitles.reading.losses import Place
 from .bench import Case
+from .parts import part_with
 
 ASKED = {"stl": "one.stl", "recording": "one.ts"}
 NO_CELL = {"code": "00", "character": ""}
@@ -109,6 +114,8 @@ class Testcases(unittest.TestCase):
 class Statuses(Case):
     """The status of many pairs."""
 
+    is_alone = True  # it takes what is printed
+
     ROW = Row("one", "one.stl", "accepted", 0, "accepted", 0, {}, [], 0.0, "")
 
     def end(self, outputs: dict[str, str], is_stopped: bool = False) -> int:
@@ -149,3 +156,37 @@ class Members(unittest.TestCase):
                     "after": "00:00:01:00", "before": None, "after_pts": 5, "before_pts": 9,
                     "pes": 7, "ts_packets": 3, "scrambled": 2, "missing": 4,
                     "judged": is_judged})
+
+    def test_part(self) -> None:
+        """What is judged of a recording, and by which clock; what was judged of a feed has a name
+        where it is kept."""
+        part = part_with(25, 49, 7, number=2)
+        bare = part_words(part, False)
+        self.assertEqual([bare[name] for name in (
+            "part", "origin", "from", "to", "verdict", "frames", "transmissions", "faults", "pid",
+            "packet_size", "pes", "judged")], [
+            2, 7, "00:00:01:00", "00:00:01:24", "accepted", 10, 2, 0, None, None, None, None])
+        self.assertEqual(bare["clock"], {"origin": 7, "source": GIVEN, "delay_frames": None})
+        part.stream, part.pieces = (0x101, 204), Pieces("a.ts", 3, 9)
+        part.judged, part.clock = File("a.cut.pes", 5, "sum"), None
+        for is_kept, name in ((True, "a.cut.pes"), (False, None)):
+            words = part_words(part, is_kept)
+            self.assertEqual([words[name] for name in ("pid", "packet_size", "pes", "judged",
+                                                       "clock")],
+                             [0x101, 204, "3-9", {"name": name, "size": 5, "sha256": "sum"}, None])
+        self.assertIsNone(file_words(None))
+
+    def test_columns_of_parts(self) -> None:
+        """What is judged, of the only part, or of that with a fault; of several a pair has none."""
+        parts: list[dict[str, Any]] = [{"part": number, "pid": pid, "pes": f"{number}-9", "packet_size": 188}
+                 for number, pid in ((1, 0x101), (2, None))]
+        first, second = ({"pid": pid, "range": f"{number}-9", "packet_size": 188}
+                         for number, pid in ((1, "0x101"), (2, None)))
+        nothing: dict[str, object] = {}
+        for end, number, wanted in ((1, None, first), (2, None, nothing), (2, 1, first),
+                                    (2, 2, second), (2, 3, nothing), (0, None, nothing)):
+            self.assertEqual(of_part(parts[:end], number), wanted)
+        for code, letter, words in (("41", "A", "41 A"), ("00", "", "00")):
+            self.assertEqual(cell_words({"code": code, "character": letter}), words)
+        self.assertEqual(said("a\nb\x07"), "a\n" + shown("b\x07"))
+        self.assertEqual((said(5), said(None)), (5, None))

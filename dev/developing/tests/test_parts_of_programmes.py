@@ -5,7 +5,7 @@ import random
 import unittest
 from typing import Sequence
 
-from subtitles.core.stl import gsi_block, subtitle_blocks
+from subtitles.core.stl import gsi_block, subtitle_blocks, tti_block
 from subtitles.core.times import CLOCK, FRAMES_A_SECOND, TICKS, time_of
 from subtitles.reading.finding import Finding, OfPart, Origin
 from subtitles.reading.origin_words import break_lines, run_lines, shift_lines
@@ -16,7 +16,7 @@ from subtitles.reading.sent import Change, SentInBase
 from subtitles.reading.tracks import Stretch, Track, find_row, points_of
 from subtitles.reading.votes import (
     Apart, Change as VotedChange, Edge, Election, Shown, differences, edges_of, least_pause,
-    phase_of, summed)
+    summed)
 
 COUNT = 36  # subtitles, twelve in each part
 FIRST = 90_000  # the frame of the first
@@ -79,6 +79,7 @@ class ThreeParts(unittest.TestCase):
                 found = self.parts([base_of(changes)], within)
                 with self.subTest(shift=shift, within=within):
                     self.assertEqual(parted(found), self.wanted(origins, (0, 0, 0)))
+                    self.assertEqual([len(one.election.changes) for one in found], [24] * 3)
 
     def test_in_time_bases_of_their_own(self) -> None:
         """An encoder begins anew twice, with PTS before those of the part before."""
@@ -212,6 +213,27 @@ class TakenOut(unittest.TestCase):
                                             len(kept), bool(kept))
                 self.assertEqual(taken.file()[238:251], counts)
                 self.assertEqual(taken.file()[1024:], b"".join(blocks[at] for at in kept))
+
+
+    def test_groups_and_others(self) -> None:
+        """The groups of what is taken are counted; comments go by their own times, what has none
+        with what is before; what can't be read on ends it."""
+        note = tti_block(9, 30, 40, 20, 2, b"note", comment=1)
+        bare = tti_block(9, 0, 0, 20, 2, b"user", 0xFE)
+        bare = bare[:5] + b"\xff" * 8 + bare[13:]
+        blocks = [tti_block(1, 10, 20, 20, 2, b"a", group=1), bare, note,
+                  tti_block(2, 30, 40, 20, 2, b"b", group=2), bare,
+                  tti_block(3, 50, 60, 20, 2, b"c", group=2), bare[:90]]
+        for begin, end, taken, count, groups in (
+                (0, 99, (0, 1, 2, 3, 4, 5), 3, 2), (0, 25, (0, 1), 1, 1), (30, 40, (2, 3, 4), 1, 1),
+                (30, 99, (2, 3, 4, 5), 2, 1), (70, 99, (), 0, 0)):
+            found = Taken(gsi_block(b"", 7, 3) + b"".join(blocks), begin, end)
+            with self.subTest(begin=begin, end=end):
+                self.assertEqual(found.file()[1024:], b"".join(blocks[at] for at in taken))
+                self.assertEqual((found.count, found.read, len(found.groups)), (count, 3, groups))
+                self.assertEqual(str(found.damage), "block 7 is cut")
+                self.assertEqual(found.file()[238:251], b"%05d%05d%03d" % (
+                    len(taken), count, groups))
 
 
 class Findings(unittest.TestCase):
@@ -354,14 +376,6 @@ class Votes(unittest.TestCase):
                                (3, [1, 1, 3, 3, 2, 6]), (9, [1, 1, 3, 3, 3, 7])):
             with self.subTest(within=within):
                 self.assertEqual(list(summed([1, 0, 2, 0, 0, 4], within)), wanted)
-
-    def test_phase(self) -> None:
-        """The median of what is near a frame; second fields do not count."""
-        nothing: list[int] = []
-        for rests, wanted in ((nothing, 0), ([0], 0), ([5], 5), ([-5], -5), ([1800, 1801], 0),
-                              ([10, 20, 30, 1800, 1900], 20), ([-899, 899, 900], 899)):
-            with self.subTest(rests=rests):
-                self.assertEqual(phase_of([7 * TICKS + rest for rest in rests]), wanted)
 
     def test_pause(self) -> None:
         """The fewest frames between two subtitles with the same letters: the second pair's too."""

@@ -4,7 +4,9 @@ from __future__ import annotations
 
 import itertools
 import os
-from typing import Sequence
+from types import SimpleNamespace
+from typing import Any, Sequence
+from unittest import mock
 
 from subtitles.core.pes import pes_packet
 from subtitles.core.pieces import Pieces
@@ -16,18 +18,20 @@ from subtitles.qc.clock import FITTED, FITTED_LATER, GIVEN, RECORDING, Clock
 from subtitles.qc.delays import MOVED, Spread, spread_of
 from subtitles.qc.faults import Ends
 from subtitles.qc.feed import is_enough
+from subtitles.qc.fitting import Found
 from subtitles.qc.names import Names
-from subtitles.qc.pair import Pair
+from subtitles.qc.pair import Begun, Pair
 from subtitles.qc.progress import Progress
 from subtitles.qc.severity import ERROR, OTHERS, REFUSALS, WARNING, Severity
 from subtitles.qc.speech import Speech
+from subtitles.qc.steps import Stretch
 from subtitles.qc.typed import Typed
 from subtitles.qc.verdict import Part, Verdict
 from subtitles.qc.within import FIXED, OF_ENDS, OF_FRAMES, OF_PACKETS, Trying
 from subtitles.reading.cutting import Cut
 from subtitles.reading.finding import Agreement
 from subtitles.reading.losses import Place
-from .bench import Case
+from .bench import Case, alone
 from .parts import CLOSING, HEADER, PAGE, answer, asked_for, part_with, row
 
 REFUSED = ("refused 72 Content frame 00:00:05:00 row 20 column 1", "1 faults")
@@ -97,6 +101,59 @@ class Verdicts(Case):
                 found = [gap.is_judged for gap in verdict.gaps]
                 self.must(f"{shift} {places}", found == judged and verdict.is_lost == any(judged),
                           found)
+                self.must("what decides", verdict.seen().losses == judged, verdict.seen().losses)
+
+    def pair(self) -> Pair:
+        """A pair of which nothing is judged yet."""
+        return Pair(verdict_of([]), Typed("tools/qc", self.bench.program),
+                    Names("one", self.folder, self.folder), Speech(Progress()), False)
+
+    def test_clocks_of_losses(self) -> None:
+        """A loss has the times of its part; one that is in none those of the first."""
+        for frame, times in ((50, ("00:00:02:00", "00:00:02:01")),
+                             (150, ("00:00:06:00", "00:00:06:01")),
+                             (2350, ("00:00:14:00", "00:00:14:01")),
+                             (2500, ("00:01:40:00", "00:01:40:01"))):
+            pair = self.pair()
+            pair.verdict.parts = [part_with(100, 199, 0), part_with(300, 399, TICKS * 2000,
+                                                                    number=2)]
+            pair.note_gaps([Place(TICKS * frame, TICKS * (frame + 1), 1)])
+            gap = pair.verdict.gaps[0]
+            self.must(f"{frame}", (gap.after, gap.before) == times, gap)
+
+    @alone
+    def test_promises_nothing_of_what_is_lost(self) -> None:
+        """Where a part lacks something, at a first place or a second, nothing is tried."""
+        pair = self.pair()
+        one: Any = SimpleNamespace(found=SimpleNamespace(origin=0), stl_path="one.stl")
+        inside, outside = (Place(TICKS * at, TICKS * (at + 1), missing=9) for at in (150, 250))
+        tried: Any = SimpleNamespace(least=lambda numbers, causes: 2)
+        for places, wanted in (([], 2), ([inside], None), ([outside], 2),
+                               ([outside, inside], None)):
+            part = part_with(100, 199, 0, answer(REFUSED))
+            part.pieces = Pieces("one.pes")
+            recording: Any = SimpleNamespace(places=lambda: places, is_feed=False)
+            with mock.patch("subtitles.qc.pair.Trying", lambda *_: tried):
+                pair.measure(part, one, recording)
+            self.must(f"{places}", part.accepted_within == wanted, part.accepted_within)
+
+    def test_losses_in_a_report(self) -> None:
+        """Twenty are named, and the others are counted."""
+        path = self.write("one.pes", pes_packet(0, [HEADER, CLOSING]))
+        for count, more in ((1, None), (20, None), (21, "and at 1 more place"),
+                            (23, "and at 3 more places")):
+            pair, drawn, part = self.pair(), list[list[str]](), part_with(0, 99, 0)
+            part.pieces = Pieces(path)
+            found = Found(0, 99, Clock(0, GIVEN))
+            stretch = Stretch("one.stl", "one.stl", pair.names, found)
+            recording: Any = SimpleNamespace(places=lambda: [Place(TICKS, TICKS * 2, 3)] * count,
+                                             live=None, shown="one.pes")
+            vars(pair).update(part_of=lambda begun: part, causes=lambda *_: None,
+                              measure=lambda *_: None)
+            vars(pair.steps)["draw"] = lambda *words: drawn.append(words[4])
+            pair.end_part(Begun(1, stretch, Pieces(path), part.answer), recording)
+            self.must(f"{count}", len(drawn[0]) == min(count, 20) + (more is not None) and
+                      (more is None or drawn[0][-1] == more), drawn)
 
     def test_accepted_within(self) -> None:
         """What is promised holds for all parts that are refused, and is known of each."""

@@ -14,7 +14,7 @@ from subtitles.core.pes import pts_in
 from subtitles.core.stl import boxed, gsi_block, subtitle_blocks
 from subtitles.core.times import TICKS, time_of
 from subtitles.core.words import counted
-from .bench import Case, example, example_bytes, moved, packets, tool_path
+from .bench import Case, alone, example, example_bytes, moved, packets, tool_path
 from .muxed import PRIVATE, TELETEXT_PID, Maker, teletext_descriptor
 from .test_qc import STORY, qc, stream
 
@@ -201,6 +201,7 @@ class Feeds(Case):
                   or running.lines[-1].startswith("refused "), (status, running.lines))
         running.close()
 
+    @alone
     def test_is_stopped_by_signals(self) -> None:
         """What was told so far is written, and no temporary folder is left."""
         stl, pes = subtitles(self, 3)
@@ -263,7 +264,7 @@ class Feeds(Case):
             self.must(f"{count}: status", process.returncode == 2 and known["status"] == 2, told)
             self.must(f"{count}: how much", f"{counted(faults, 'fault')} so far" in lines, lines)
             self.must(f"{count}: how far", told[-1:] == [f"qc: not judged: {known['reason']}"]
-                      and known["reason"].endswith(f"Z, when check had told {up_to}"), told)
+                      and known["reason"].endswith(f"Z, when check had reported {up_to}"), told)
             self.must(f"{count}: the object", len(known["faults"]) == faults
                       and known["parts"][0]["verdict"] == "not judged", known)
             self.must(f"{count}: the list", self.read("out/story.txt") == b"".join(came), came)

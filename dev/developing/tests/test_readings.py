@@ -5,6 +5,7 @@ import os
 
 from subtitles.core.words import Stop
 from ..definitions import Library, counts
+from ..promises import with_definitions
 from .bench import Case
 
 FILES = {
@@ -42,10 +43,17 @@ pub record IsSize (n : ℕ) : Type 0 where
 ghost use Rattle.high.specs.Things.{IsSize, size};
 ghost use Rattle.high.specs.Things.{total};
 
+/// A law, with nothing to do.
+pub fn law()
+    ensures { IsSize (size 1) }
+{}
+
 /// Counts.
 pub fn count(n: u64) -> u64
     requires { n < u64.MAX }
-    ensures exact { result ≡ total n }
+    ensures exact { result ≡ record {
+        number = total n;
+    } }
     ensures other { IsSize (size n) }
 {
     n
@@ -73,6 +81,7 @@ class ReadingLists(Case):
                 "IsSize": "low.size high.IsSize",
                 "count.exact": "low.size low.pair high.total",
                 "high/count.other": "low.size high.size high.IsSize",
+                "law": "low.size high.size high.IsSize",
                 "count": "low.size low.pair high.size high.total high.IsSize"}.items():
             found = " ".join(f"{one.file.crate}.{one.name}" for one in them.reading(name)[0])
             self.must(name, found == want, found)
@@ -89,3 +98,13 @@ class ReadingLists(Case):
             except Stop as reason:
                 told = str(reason)
             self.must(name, why in told, told)
+
+    def test_makes_an_index(self) -> None:
+        """The last cell of a row has what its clauses name, once; other rows stay as they are."""
+        them = library(self)
+        text = "| one | `low/none` |\n| a | `high/count.{}`, `high/law` | {} |\n"
+        made = with_definitions(text.format("other", "`old`"), them)
+        self.must("made", made == text.format("other", "`IsSize`, `size`"), made)
+        self.must("made again", with_definitions(made, them) == made)
+        with self.assertRaisesRegex(Stop, "high/count.gone is no"):
+            with_definitions(text.format("gone", ""), them)

@@ -83,7 +83,7 @@ class Starts(Case):
                 self.must(name, done.status == 0 and lines[-1] == ACCEPTED, done)
                 self.must(f"{name}: its PTS", any(
                     line.startswith(f"the first picture has PTS {first}, ")
-                    and "3 PES packets of video before it passed over" in line for line in lines),
+                    and "3 PES packets of video before it skipped" in line for line in lines),
                           done)
         long = b"".join(b"TIME" + data[at:at + 188] for at in range(0, len(data), 188))
         done = judged(self, "192", long, "--start", STARTED)

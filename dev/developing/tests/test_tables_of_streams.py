@@ -4,9 +4,7 @@ from __future__ import annotations
 import unittest
 from typing import Sequence
 
-from subtitles.core.pes import pes_packet, teletext_packets
-from subtitles.core.times import TICKS
-from subtitles.core.units import Units, of_magazine
+from subtitles.core.pes import pes_packet
 from subtitles.reading.listing import Listing
 from subtitles.reading.multiplex import head, section
 from subtitles.reading.programmes import (
@@ -145,30 +143,3 @@ class Listings(unittest.TestCase):
                  for one in timing.strange()}
         self.assertEqual(found, {"behind": (40, 4, 49, -90_000), "early": (43, 2, 49, 99_000),
                                  "changed": (42, 5, 49, -120_000)})
-
-
-class DataUnits(unittest.TestCase):
-    """The packets of a PES packet: the first, the last, and what stands between other units."""
-
-    def test_packets(self) -> None:
-        for count in (1, 2, 3, 7, 16):
-            rows = [row(1 + number, b"%d" % number) for number in range(count)]
-            data = pes_packet(TICKS, rows)
-            field = data[45:]
-            with self.subTest(count=count):
-                self.assertEqual(teletext_packets(field), rows)
-                last = 1 + 46 * count
-                self.assertEqual(teletext_packets(field[:last]), rows)
-                self.assertEqual(teletext_packets(field[:last - 1]), rows[:-1])
-
-    def test_heard(self) -> None:
-        """Headers, and rows while the page is open, in the order in which they are sent."""
-        packets = [row(1, b"before"), HEADER, row(2, b"two"), row(3, b"three"), CLOSING,
-                   row(4, b"after"), HEADER, row(5, b"five")]
-        units = Units(pes_packet(0, packets))
-        is_open, found = False, list[int]()
-        for number in units.heard(of_magazine(0), lambda: is_open):
-            found.append(number)
-            header = units.header(number)
-            is_open = is_open if header is None else header[:2] == (0, 0x88)
-        self.assertEqual(found, [1, 2, 3, 4, 6, 7])

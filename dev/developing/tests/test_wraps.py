@@ -6,14 +6,14 @@ of two may be the greater number.
 from __future__ import annotations
 
 import itertools
+import random
 import unittest
 
 from subtitles.calls.feed_clock import FeedClock
 from subtitles.core.batch import of_packets
-from subtitles.core.pes import pes_packet
+from subtitles.core.pes import MARK, pes_packet
 from subtitles.core.pieces import Pieces
-from subtitles.core.times import (
-    CLOCK, EARLY, FRAMES_OF_A_DAY, NO_FRAME, TICKS, frame_at, frame_in, frames_at, pts_of)
+from subtitles.core.times import CLOCK, EARLY, FRAMES_OF_A_DAY, TICKS
 from subtitles.preview.headers import Found as FoundHeaders, Headers
 from subtitles.preview.places import place_of_pts
 from subtitles.qc.clock import RECORDING, Clock
@@ -22,7 +22,7 @@ from subtitles.qc.held import Span
 from subtitles.qc.pair import is_in, time_at
 from subtitles.qc.start import Grid
 from subtitles.qc.why import Heard, unseen
-from subtitles.reading.bases import Bases, is_back
+from subtitles.reading.bases import Bases
 from subtitles.reading.cutting import Cut
 from subtitles.reading.losses import Place
 from subtitles.reading.listing import Listing
@@ -45,38 +45,6 @@ def shifted(pts: int, shift: int) -> int:
 class Frames(unittest.TestCase):
     """The frame of a PTS, and the PTS of a frame."""
 
-    def test_frame_of_a_pts(self) -> None:
-        for shift, within, (ticks, frame) in itertools.product(SHIFTS, (0, 1), (
-                (0, 0), (1, 0), (TICKS - EARLY - 1, 0), (TICKS, 1), (20 * TICKS, 20))):
-            with self.subTest(shift=shift, within=within, ticks=ticks):
-                self.assertEqual(frame_in(shifted(ticks, shift), shift, within), frame)
-
-    def test_early_within_more(self) -> None:
-        """Within 1 and more a PTS may be a quarter of a frame before its frame."""
-        for shift, (ticks, frame) in itertools.product(SHIFTS, (
-                (-EARLY, 0), (-EARLY - 1, (CLOCK - 1) // TICKS), (TICKS - EARLY, 1),
-                (TICKS - EARLY - 1, 0))):
-            with self.subTest(shift=shift, ticks=ticks):
-                self.assertEqual(frame_in(shifted(ticks, shift), shift, 1), frame)
-
-    def test_frames_of_many(self) -> None:
-        """Those in a row, and those that are not, are as each by itself."""
-        for shift, within in itertools.product(SHIFTS, (0, 2)):
-            for ticks in ([0, TICKS, 2 * TICKS, 3 * TICKS], [0, TICKS, 2 * TICKS + 1, 3 * TICKS],
-                          [3 * TICKS, 2 * TICKS], [TICKS * (FRAMES_OF_A_DAY - 1),
-                                                   TICKS * FRAMES_OF_A_DAY], [-TICKS, 0]):
-                several = [shifted(one, shift) for one in ticks]
-                with self.subTest(shift=shift, within=within, ticks=ticks):
-                    found = [None if one == NO_FRAME else one
-                             for one in frames_at(several, shift, within)]
-                    self.assertEqual(found, [frame_at(one, shift, within) for one in several])
-
-    def test_pts_of_a_frame(self) -> None:
-        for frame, origin, pts in ((0, 0, 0), (1, CLOCK - TICKS, 0), (2, CLOCK - TICKS, TICKS),
-                                   (1, CLOCK - TICKS + 1, 1), (1, CLOCK - TICKS - 1, CLOCK - 1)):
-            with self.subTest(frame=frame, origin=origin):
-                self.assertEqual(pts_of(frame, origin), pts)
-
     def test_time_of_a_pts(self) -> None:
         for shift in SHIFTS:
             for ticks, time in ((0, "00:00:00:00"), (25 * TICKS, "00:00:01:00"), (-TICKS, None),
@@ -87,13 +55,6 @@ class Frames(unittest.TestCase):
 
 class Order(unittest.TestCase):
     """Which of two PTS is the later one, and by how much."""
-
-    def test_back(self) -> None:
-        for shift, (other, wanted) in itertools.product(SHIFTS, (
-                (0, False), (1, False), (-1, True), (CLOCK // 2 - 1, False),
-                (-(CLOCK // 2 - 1), True))):
-            with self.subTest(shift=shift, other=other):
-                self.assertEqual(is_back(shifted(0, shift), shifted(other, shift)), wanted)
 
     def test_bases(self) -> None:
         """PTS go back twice: each time base begins where two are before the two before them."""
@@ -108,24 +69,33 @@ class Order(unittest.TestCase):
                 with self.subTest(shift=shift, sizes=sizes):
                     self.assertEqual(bases.ranges(), [(0, 3), (4, 7), (8, 11)])
 
-    def test_one_wrong_pts_is_no_base(self) -> None:
-        for shift, wrong in itertools.product(SHIFTS, (3, 40)):
-            frames = [20, 21, 22, wrong, 24, 25, 26]
+    def test_bases_of_any_order(self) -> None:
+        """Of rows at random, in lots of any size, with marks and what has no PTS among them: those
+        two in a row that are before the two that came before them."""
+        for seed in range(400):
+            chance = random.Random(seed)
+            shift, frames = chance.choice(SHIFTS), list[int | None]()
+            while len(frames) < 40:
+                first = chance.randrange(60)
+                frames += range(first, first + chance.choice([1, 1, 2, 3, 9]))
+                frames += [None] * (chance.random() < 0.2)
+            known = [(number, one) for number, one in enumerate(frames) if one is not None]
+            begins = [0] + [known[at][0] for at in range(2, len(known) - 1) if max(
+                known[at][1], known[at + 1][1]) < min(known[at - 1][1], known[at - 2][1])]
+            untimed = chance.choice([MARK, pes_packet(0, [])[:7] + b"\0" + bytes(176)])
+            rest = [untimed if one is None else pes_packet(shifted(TICKS * one, shift), [])
+                    for one in frames]
             bases = Bases()
-            bases.take([])
-            bases.take([pes_packet(shifted(TICKS * one, shift), [HEADER]) for one in frames])
-            with self.subTest(shift=shift, wrong=wrong):
-                self.assertEqual(bases.ranges(), [(0, 6)])
-
-    def test_steady(self) -> None:
-        """Many a frame apart, and behind them one that goes back twice."""
-        for shift in SHIFTS:
-            bases = Bases()
-            for first in (0, 40, 10):
-                bases.take([pes_packet(shifted(TICKS * one, shift), [HEADER])
-                            for one in range(first, first + 40)])
-            with self.subTest(shift=shift):
-                self.assertEqual((bases.ranges(), bases.timed), ([(0, 79), (80, 119)], 120))
+            while rest:
+                size = chance.choice([0, 1, 2, 3, 7, 50])
+                bases.take(rest[:size])
+                del rest[:size]
+            with self.subTest(seed=seed):
+                self.assertEqual(bases.begins, begins)
+                self.assertEqual(bases.ranges(), [
+                    (begin, end - 1) for begin, end in zip(begins, [*begins[1:], len(frames)])])
+                self.assertEqual((bases.count, bases.timed, bases.marks), (
+                    len(frames), len(known), frames.count(None) * (untimed == MARK)))
 
     def test_feed_clock(self) -> None:
         """It goes on where PTS begin again, and stands still where they go back or jump on, up to

@@ -1,0 +1,38 @@
+"""Python's own compiled form of the tools, made once for the calls of many tests: a tool writes
+none, so each of its calls would compile all of its modules anew."""
+from __future__ import annotations
+
+import contextlib
+import os
+import subprocess
+import sys
+import tempfile
+from typing import Iterator
+
+from . import TOOLS
+
+PREFIX, WRITES_NONE = "PYTHONPYCACHEPREFIX", "PYTHONDONTWRITEBYTECODE"
+IMPORT_ALL = """
+import importlib, pkgutil, subtitles
+for one in pkgutil.walk_packages(subtitles.__path__, "subtitles."):
+    importlib.import_module(one.name)
+"""
+
+
+@contextlib.contextmanager
+def compiled() -> Iterator[None]:
+    """While this holds, what is called takes the tools as they are compiled in a folder that goes
+    in the end; a module that has changed since then is compiled as ever."""
+    if PREFIX in os.environ:
+        yield
+        return
+    with tempfile.TemporaryDirectory() as folder:
+        os.chmod(folder, 0o755)  # another user looks into it
+        env = {name: word for name, word in os.environ.items() if name != WRITES_NONE}
+        subprocess.run([sys.executable, "-c", IMPORT_ALL], check=False,
+                       env={**env, PREFIX: folder, "PYTHONPATH": TOOLS})
+        os.environ[PREFIX] = folder
+        try:
+            yield
+        finally:
+            del os.environ[PREFIX]

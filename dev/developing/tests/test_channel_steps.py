@@ -1,0 +1,412 @@
+"""A channel step by step, in process: which programme is begun, with what, and what is told."""
+from __future__ import annotations
+
+import argparse
+import json
+import os
+import sys
+from typing import Any, Iterator
+from unittest import mock
+
+from subtitles.calls import channel as channels
+from subtitles.calls.channel import ENDED, ENOUGH, LATER, Channel, stall_heard
+from subtitles.calls.channel_feed import PesFeed, Taken, TransportFeed, feed_of
+from subtitles.calls.feed_clock import MINUTE, SECOND
+from subtitles.calls.objects import found, unjudged
+from subtitles.calls.planned import PlannedProgramme
+from subtitles.calls.queue import AT_ONCE
+from subtitles.calls.running import Running
+from subtitles.core.pes import pes_packet, pts_in
+from subtitles.core.times import CLOCK, TICKS
+from subtitles.core.words import Stop
+from subtitles.qc.source import Source
+from subtitles.qc.typed import Typed
+from .bench import Case
+from .muxed import TELETEXT_PID, Maker, components
+from .parts import CLOSING, HEADER, PAGE, asked_for, row
+from .test_channel_tables import EACH, FIRST, LASTS, defaults, programme
+
+TEXTS = ["Alpha", "Beta", "Gamma", "Delta"]
+LAST = EACH * (len(TEXTS) - 1) + LASTS  # frames from a programme's first TCI to its last TCO
+
+
+class Judging:
+    """Stands for a call that judges a programme: `given` is what it was handed, and it is over once
+    a test says so, or it is waited for."""
+
+    made: list[Judging] = []
+
+    def __init__(self, programme: Any, command: list[str], folder: str, end: int) -> None:
+        self.programme, self.command, self.end = programme, command, end
+        self.given, self.is_done, self.was_waited, self.was_closed = b"", False, False, False
+        self.process = argparse.Namespace(returncode=0)
+        Judging.made.append(self)
+
+    def put(self, data: bytes) -> None:
+        self.given += data
+
+    def is_over(self) -> bool:
+        return self.is_done
+
+    def wait(self) -> None:
+        self.was_waited = self.is_done = True
+
+    def close(self) -> None:
+        """Writes the object of an accepted programme, where the command says."""
+        self.was_closed = True
+        words = self.command
+        out = words[words.index("-o") + 1] if "-o" in words else None
+        path = os.path.join(out, f"{self.programme.name}.json") if out else \
+            words[words.index("--json") + 1]
+        if not os.path.exists(path):
+            with open(path, "w", encoding="ascii") as file:
+                json.dump({"format": 3, "verdict": "accepted", "status": 0, "asked": {},
+                           "line": "accepted 5 frames", "faults": [], "hints": []}, file)
+
+    def lines(self) -> list[str]:
+        """What it told."""
+        return ["qc: told"]
+
+
+class Told(Channel):
+    """A channel of a list; what it says is kept, without the time."""
+
+    def __init__(self, case: Case, lines: str, out: str | None = None, is_kept: bool = False) \
+            -> None:
+        words = argparse.Namespace(**{**vars(defaults()), "channel": case.write(
+            "list", lines.encode()), "patience": 2, "out": out, "is_kept": is_kept})
+        Judging.made = []
+        super().__init__(words, Typed("tools/qc", case.bench.program), case.folder)
+        self.said: list[str] = []
+        self.feed = PesFeed(Source(case.write("feed", b""), False))
+
+    def say(self, line: str) -> None:
+        self.said.append(line)
+
+    def give(self, packets: Iterator[bytes]) -> None:
+        """Takes PES packets one by one."""
+        for data in packets:
+            self.take(Taken(data, [data]))
+
+
+def sent(texts: list[str], begin: int, until: int = 0) -> Iterator[bytes]:
+    """PES packets of a programme from a PTS on, then one a second without the page's header up to
+    some seconds behind its end."""
+    for number, text in enumerate(texts):
+        for frame, is_text in ((EACH * number, True), (EACH * number + LASTS, False)):
+            rows = [row(20, text.encode())] * is_text
+            yield pes_packet((begin + TICKS * frame) % CLOCK, [HEADER, *rows, CLOSING])
+    for second in range(1, until):
+        yield pes_packet((begin + TICKS * LAST + SECOND * second) % CLOCK, [CLOSING])
+
+
+@mock.patch.object(channels, "Running", Judging)
+class Steps(Case):
+    """Programmes of four subtitles each."""
+
+    is_alone = True  # what a channel calls is replaced, which threads share
+
+    def setUp(self) -> None:
+        super().setUp()
+        os.mkdir(self.path("out"))
+        self.files = {name: programme(self, f"{name}.stl", FIRST, [f"{name} {text}" for text in
+                                                                   TEXTS])
+                      for name in ("one", "two", "three", "four", "five", "six")}
+
+    def texts(self, name: str) -> list[str]:
+        return [f"{name} {text}" for text in TEXTS]
+
+    def names(self) -> list[str]:
+        """The programmes that were begun."""
+        return [one.programme.name for one in Judging.made]
+
+    def listed(self, *names: str, options: str = "") -> str:
+        """Lines of a list."""
+        return "".join(f"{self.files[name]}{options}\n" for name in names)
+
+    def test_begins_with_what_was_kept(self) -> None:
+        """Once five edges have come: with the origin by the feed, and all that came before and
+        after; what is judged ends with its last TCO. Its verdict is told when it is over."""
+        for begin in (900_000, CLOCK - SECOND):
+            for out, is_kept in ((None, False), (self.path("out"), False),
+                                 (self.path("out"), True)):
+                channel = Told(self, self.listed("one", "two"), out, is_kept)
+                packets = list(sent(self.texts("one"), begin, 5))
+                channel.give(iter(packets[:4]))
+                self.must("not yet", not Judging.made)
+                channel.give(iter(packets[4:]))
+                [one] = Judging.made
+                origin = (begin - TICKS * FIRST) % CLOCK
+                files = ["-o", out, *["--keep"] * is_kept] if out else \
+                    ["--json", self.path("one.json")]
+                words = one.command[2:]
+                self.must("command", words[:len(files) + 2] == ["--name=one", *files, "--fitted"]
+                          and words[words.index("--origin") + 1] == str(origin)
+                          and words[-2:] == ["--", self.files["one"]] or words[-1] == "-", words)
+                self.must("bytes", one.given == b"".join(packets), len(one.given))
+                self.must("end", one.end == TICKS * LAST, one.end)
+                self.must("nothing said", not channel.said and channel.running is not None)
+                one.is_done = True
+                channel.go_on()
+                self.must("said", channel.said == [
+                    "one  accepted 5 frames; by a clock that was found in the recording"] or
+                    channel.said[0].startswith("one  accepted 5 frames; "), channel.said)
+                self.must("over", channel.running is None and channel.verdicts == ["accepted"]
+                          and list(channel.rows) == ["one"] and
+                          os.path.exists(self.path("out/index.html")) == (out is not None))
+                self.must("waits since then", channel.queue.since == channel.queue.ended ==
+                          min(one.end, channel.clock.now), channel.queue.since)
+                if out:
+                    for name in os.listdir(out):
+                        os.unlink(os.path.join(out, name))
+                else:
+                    os.unlink(self.path("one.json"))
+
+    def test_several(self) -> None:
+        """The second and the third, each by its own clock; what stands before one that is sent was
+        not, and of many no more than four are looked for."""
+        channel = Told(self, self.listed("one", "two", "three", "four", "five"))
+        for number, name in enumerate(("one", "three", "five")):
+            begin = 900_000 + 60 * SECOND * number
+            channel.give(sent(self.texts(name), begin, 20))
+            self.must(f"{name} is begun", self.names()[-1] == name, self.names())
+            self.must(f"{name}: origin", f"{(begin - TICKS * FIRST) % CLOCK}" in
+                      Judging.made[-1].command)
+            Judging.made[-1].is_done = True
+            channel.go_on()
+        self.must("said", [line.split("  ")[0] for line in channel.said] ==
+                  ["one", "two", "three", "four", "five"], channel.said)
+        self.must("why", channel.said[1].endswith(
+            "not judged: not seen: three, which is behind it in the list, is sent"), channel.said)
+        self.must("verdicts", channel.verdicts == ["accepted", "not judged", "accepted",
+                                                   "not judged", "accepted"], channel.verdicts)
+        channel = Told(self, self.listed("one", "two", "three", "four", "five"))
+        channel.give(sent(self.texts("five"), 900_000, 2))
+        self.must("the fifth", not Judging.made and len(channel.queue.waiting) == AT_ONCE)
+
+    def test_patience(self) -> None:
+        """Two minutes after the one before, or after waiting began; then the next one has two."""
+        for options, why in (("", "its first five edges were not seen within 2 minutes"),
+                             (" --origin 7000000000", "its first TCI did not come, by --origin "
+                              "7000000000, within 2 minutes")):
+            channel = Told(self, self.listed("one", "two", options=options))
+            for second, count in ((0, 0), (60, 0), (120, 0), (121, 1), (180, 1), (240, 1),
+                                  (241, 2)):
+                data = pes_packet(SECOND * second, [CLOSING])
+                channel.take(Taken(data, [data]))
+                self.must(f"{options} at {second}", len(channel.said) == count, channel.said)
+            self.must("why", channel.said == [f"{name}  not judged: {why}" for name in
+                                              ("one", "two")], channel.said)
+            self.must("since then", channel.queue.since == 241 * SECOND, channel.queue.since)
+
+    def test_origin_that_is_given(self) -> None:
+        """It is begun with its first TCI, and is not said to be fitted."""
+        begin = 900_000
+        origin = (begin - TICKS * FIRST) % CLOCK
+        channel = Told(self, self.listed("one", options=f" --origin {origin}"))
+        for ticks, is_begun in ((-SECOND, False), (-1, False), (0, True)):
+            data = pes_packet(begin + ticks, [CLOSING])
+            channel.take(Taken(data, [data]))
+            self.must(f"at {ticks}", bool(Judging.made) == is_begun)
+        self.must("command", "--fitted" not in Judging.made[0].command
+                  and str(origin) in Judging.made[0].command, Judging.made[0].command)
+        self.must("end", Judging.made[0].end == channel.clock.now + TICKS * LAST)
+        Judging.made[0].is_done = True
+        channel.go_on()
+        self.must("said", channel.said == ["one  accepted 5 frames"], channel.said)
+
+    def test_waits_for_a_verdict(self) -> None:
+        """Where the feed is two minutes ahead, and four PES packets were handed on since then."""
+        channel = Told(self, self.listed("one", "two"))
+        packets = list(sent(self.texts("one"), 900_000))
+        channel.give(iter(packets))
+        [one] = Judging.made
+        end = pts_in(packets[-1])
+        for ticks, waited in ((1, False), (2, False), (3, False), (LATER, False),
+                              (LATER + 1, True)):
+            data = pes_packet(end + ticks, [CLOSING])
+            channel.take(Taken(data, [data]))
+            self.must(f"{ticks}", one.was_waited == waited)
+        channel = Told(self, self.listed("one", "two"))
+        channel.give(iter(packets))
+        [one] = Judging.made
+        for count in range(1, ENOUGH + 1):
+            data = pes_packet(end + LATER + 1, [CLOSING])
+            channel.take(Taken(data, [data]))
+            self.must(f"{count} packets", one.was_waited == (count == ENOUGH))
+
+    def test_keeps_what_is_asked_for(self) -> None:
+        """What came within two minutes, and since the end of what is judged."""
+        channel = Told(self, self.listed("one", "two"))
+        self.must("before", channel.floor() == -2 * MINUTE)
+        channel.give(sent(self.texts("one"), 900_000))
+        channel.clock.now = 9 * MINUTE
+        [one] = Judging.made
+        self.must("its end", channel.floor() == one.end, channel.floor())
+        one.end = 8 * MINUTE
+        self.must("two minutes", channel.floor() == 7 * MINUTE, channel.floor())
+
+    def test_begins_anew(self) -> None:
+        """What is judged ends there, nothing before counts, and the next is waited for since then.
+        """
+        channel = Told(self, self.listed("one", "two", "three"))
+        channel.give(sent(self.texts("one"), 900_000))
+        channel.give(iter([pes_packet(100, [CLOSING])]))
+        self.must("ended", Judging.made[0].was_closed and channel.running is None)
+        self.must("said", channel.said[0].startswith("an encoder begins anew: PTS 100 after ")
+                  and channel.said[1].startswith("one  accepted"), channel.said)
+        self.must("since", channel.queue.ended == channel.clock.now, channel.queue.ended)
+        self.must("kept", b"".join(channel.ring.pieces()) == pes_packet(100, [CLOSING]))
+        channel.give(sent(self.texts("two"), 200_000))
+        self.must("the next", self.names() == ["one", "two"], self.names())
+        for pts, words in ((200_000 + TICKS * LAST + 61 * MINUTE, "nothing came for 01:01:00:00, "
+                            "or an encoder begins anew: PTS "),):
+            channel.give(iter([pes_packet(pts, [CLOSING])]))
+            self.must("forward", any(line.startswith(words) for line in channel.said), channel.said)
+
+    def test_end_of_the_feed(self) -> None:
+        """What is judged is ended, what is there is judged, and the others are open; a line that is
+        none is not."""
+        lines = self.listed("one", "two") + "none.stl --run 1\n" + self.listed("three")
+        for is_stopped, begun in ((False, ["one", "two"]), (True, ["one"])):
+            channel = Told(self, lines, self.path("out"))
+            channel.give(sent(self.texts("one"), 900_000, 9))
+            for data in sent(self.texts("two"), 900_000 + 20 * SECOND):
+                channel.take(Taken(data, [data]))
+            self.must("one is judged", self.names() == ["one"])
+            channel.is_stopped = is_stopped
+            channel.stop(ENDED)
+            self.must("begun", self.names() == begun and all(
+                one.was_closed for one in Judging.made), self.names())
+            known = {}
+            for name in ("one", "two", "line-3", "three"):
+                with open(self.path(f"out/{name}.json"), encoding="ascii") as file:
+                    known[name] = json.load(file)
+                os.unlink(self.path(f"out/{name}.json"))
+            self.must("reasons", known["three"]["reason"] == ENDED and known["three"]["open"]
+                      and "--run goes with" in known["line-3"]["reason"]
+                      and "open" not in known["line-3"], known)
+            self.must("verdicts", channel.verdicts.count("not judged") == 4 - len(begun))
+            if is_stopped:
+                self.must("two", known["two"] == {**unjudged("two", ENDED, True)}, known["two"])
+
+    def test_goes_on_with_an_earlier_call(self) -> None:
+        """With the first that has no object, or one of another subtitle file."""
+        for kept in range(3):
+            channel = Told(self, self.listed("one", "two", "three"), self.path("out"))
+            for name in ("one", "two")[:kept]:
+                asked = asked_for(self.files[name], None)
+                known = {"format": 3, "verdict": "refused", "status": 1, "line": "refused 72 X",
+                         "asked": {"stl": self.files[name]}, "found": found(asked)}
+                self.write(f"out/{name}.json", json.dumps(known).encode())
+            channel.resume()
+            self.must(f"{kept}", channel.verdicts == ["refused"] * kept and channel.said ==
+                      [f"{kept} programme{'s' * (kept > 1)} of an earlier call kept"] * (kept > 0),
+                      channel.said)
+            self.must(f"{kept}: next", channel.queue.waiting[0].programme.name ==
+                      ("one", "two", "three")[kept])
+        self.write("out/one.json", json.dumps(unjudged("one", "why", True)).encode())
+        channel = Told(self, self.listed("one", "two"), self.path("out"))
+        channel.resume()
+        self.must("open", channel.queue.waiting[0].programme.name == "one" and not channel.said)
+        self.must("rows", set(channel.rows) == {"one", "two"}, channel.rows)
+
+    def test_feed_that_stands_still(self) -> None:
+        """Told once, after as many seconds; that it goes on is told too, and then it may stand
+        still again."""
+        channel = Told(self, self.listed("one"))
+        wait = stall_heard(channel, 10)
+        for turn in range(2):
+            for still, count in ((9.4, 0), (10, 1), (11, 1), (99, 1)):
+                wait(still)
+                self.must(f"turn {turn}, {still}", channel.said == [
+                    "nothing has come for 10 seconds"] * count, channel.said)
+            data = pes_packet(SECOND, [CLOSING])
+            channel.take(Taken(data, [data]))
+            self.must("goes on", channel.said.pop() == "the feed goes on")
+            channel.take(Taken(data, [data]))
+            channel.said.clear()
+
+    def test_lines_that_are_none(self) -> None:
+        """Each is told when its turn has come, and not what stands before it."""
+        for lines, said in ((self.listed("one") + "none.stl --run 1\n", 0),
+                            ("none.stl --run 1\n" + self.listed("one"), 1),
+                            ("none.stl\nx.stl --pid 5\n" + self.listed("one"), 2)):
+            channel = Told(self, lines)
+            channel.give(iter([pes_packet(0, [CLOSING])]))
+            self.must(lines, len(channel.said) == said and
+                      channel.queue.waiting[0].programme.name == "one", channel.said)
+
+    def test_forgets(self) -> None:
+        """Changes that came more than two minutes ago."""
+        channel = Told(self, self.listed("one"))
+        channel.give(sent(["other", "texts"], 900_000))
+        channel.queue.since = MINUTE
+        for second in range(20, 160, 40):
+            channel.give(iter([pes_packet(900_000 + SECOND * second, [CLOSING])]))
+        [heard] = channel.hearing.by_way.values()
+        self.must("forgotten", not heard.changes.times and heard.changes.count == 4)
+
+    def test_progress(self) -> None:
+        """What is judged or waited for, the time of the feed, and how long nothing came."""
+        channel, shown = Told(self, self.listed("one", "two")), list[str]()
+        progress: Any = argparse.Namespace(is_due=lambda: True, show=shown.append)
+        channel.progress = progress
+        channel.show()
+        channel.go_on()
+        channel.clock.now = 61 * SECOND
+        channel.show(3.2)
+        channel.give(sent(self.texts("one"), 900_000))
+        channel.show()
+        self.must("lines", shown[0] == "waiting for a programme; 00:00:00:00 of the feed" and
+                  shown[1] == "waiting for one; 00:01:01:00 of the feed; nothing for 3 s" and
+                  shown[2].startswith("one is judged; 00:0"), shown)
+
+
+class Kinds(Case):
+    """Feeds by their first bytes, and calls that are handed what comes."""
+
+    def test_feeds(self) -> None:
+        """PES packets one by one, which have no PID; else a transport stream, of which the last
+        PES packets are asked for too."""
+        pes = list(sent(TEXTS, 900_000))
+        took: list[Taken] = []
+        feed = feed_of(Source(self.write("feed.pes", b"".join(pes)), False), None, lambda: [PAGE],
+                       print, "none")
+        feed.follow(took.append)
+        self.must("PES", isinstance(feed, PesFeed) and took == [Taken(one, [one]) for one in pes])
+        self.must("kept", list(feed.unpacked([pes[0] + pes[1], b"", pes[2]])) == pes[:3])
+        with self.assertRaises(Stop):
+            feed_of(Source(self.path("feed.pes"), False), 0x101, lambda: [PAGE], print, "none")
+        maker = Maker(components())
+        maker.put_tables()
+        for one in pes:
+            maker.put(TELETEXT_PID, one)
+        path = self.write("feed.ts", maker.data)
+        for pid in (None, TELETEXT_PID):
+            took = []
+            source = Source(path, False)
+            feed = feed_of(source, pid, lambda: [PAGE], print, self.bench.program)
+            feed.follow(took.append)
+            feed.close()
+            self.must(f"{pid}", isinstance(feed, TransportFeed) and source.is_feed and
+                      [data for one in took for data in one.packets] == pes, took)
+
+    def test_calls(self) -> None:
+        """What is put is read by the call, and nothing more is wanted once it is over."""
+        planned = PlannedProgramme("one", None, None)
+        code = "import sys; data = sys.stdin.buffer.read(5); print('qc: got', len(data), " \
+            "file=sys.stderr); sys.exit(3)"
+        running = Running(planned, [sys.executable, "-c", code], self.folder, 7)
+        self.must("waits", not running.is_over() and running.end == 7)
+        running.put(b"123")
+        running.put(b"45")
+        running.wait()
+        self.must("over", running.is_over() and running.process.returncode == 3 and
+                  running.lines() == ["qc: got 5"], running.lines())
+        running.put(b"more")
+        running.close()
+        closed = Running(planned, [sys.executable, "-c", code], self.folder, 7)
+        closed.put(b"12")
+        closed.close()
+        self.must("closed", closed.lines() == ["qc: got 2"], closed.lines())

@@ -1,0 +1,381 @@
+"""One pair: what is said at its end, in which order, and what is written of it."""
+from __future__ import annotations
+
+import argparse
+import contextlib
+import io
+import json
+import os
+from typing import Any, Sequence
+from unittest import mock
+
+from subtitles.calls import index_page, overview
+from subtitles.calls.objects import Row
+from subtitles.calls.single import Files, Output, end, end_pair, judge_pair, name_of
+from subtitles.core.words import Stop
+from subtitles.qc.checking import Answer
+from subtitles.qc.clock import FITTED, GIVEN, RECORDING, Clock
+from subtitles.qc.names import Names
+from subtitles.qc.severity import Severity
+from subtitles.qc.speech import Speech
+from subtitles.qc.progress import Progress
+from subtitles.qc.typed import Typed
+from subtitles.qc.unclear import Unclear
+from subtitles.qc.verdict import Gap, Part, Verdict
+from subtitles.qc.warned import Warned
+from subtitles.reading.losses import Place
+from .bench import Case, example
+from .parts import answer, asked_for, part_with
+
+REFUSED = ["refused 72 Content frame 00:00:01:00 row 1 column 2", "refused 68 Parity frame "
+           "00:00:02:00 packet 1", "2 faults"]
+
+
+class Heard(Speech):
+    """What is said and told, in its order."""
+
+    def __init__(self) -> None:
+        super().__init__(Progress())
+        self.lines: list[str] = []
+
+    def say(self, line: str) -> None:
+        self.last = line
+        self.lines.append(line)
+
+    def tell(self, line: str) -> None:
+        self.lines.append(f"! {line}")
+
+
+def gap(is_judged: bool, mark: int | None = None) -> Gap:
+    """A place at which packets are lost."""
+    return Gap("00:00:01:00", "00:00:02:00", "3 TS packets lost", Place(1, 2, 3, mark=mark),
+               is_judged)
+
+
+class Ends(Case):
+    """What is said of a verdict."""
+
+    def verdict(self, parts: Sequence[Part], *words: str, **more: Any) -> Verdict:
+        made = Verdict(asked_for("one.stl", "one.pes", *words), Severity(None, "--allow-lost" in
+                                                                         words), "now", count=3)
+        made.parts = list(parts)
+        for name, value in more.items():
+            setattr(made, name, value)
+        return made
+
+    def said(self, verdict: Verdict) -> list[str]:
+        heard = Heard()
+        end(verdict, heard)
+        return heard.lines
+
+    def test_accepted(self) -> None:
+        """The sentence, then what stands beside it, and the line last."""
+        said = self.said(self.verdict([part_with(0, 9, 0)], notes=["a note"], hints=["a hint"],
+                                      warnings=[Warned("kind", "strange")]))
+        self.must("lines", said == [
+            "Accepted: 3 subtitles, each of them as it is due from the first frame on.",
+            "! a note", said[2], "a hint", "accepted 10 frames 2 transmissions"] and
+            "strange" in said[2] and said[2].startswith("! "), said)
+        fitted = part_with(0, 9, 0)
+        fitted.clock = Clock(0, RECORDING)
+        said = self.said(self.verdict([fitted, part_with(10, 19, 0, number=2)]))
+        self.must("parts", said[1:3] == [
+            "part 1, from 00:00:00:00 to 00:00:00:09: accepted 10 frames 2 transmissions",
+            "part 2, from 00:00:00:10 to 00:00:00:19: accepted 10 frames 2 transmissions"], said)
+        self.must("fitted", FITTED in said and said[-1] ==
+                  "accepted 20 frames 4 transmissions in 2 parts", said)
+
+    def test_lost(self) -> None:
+        """Each place, twenty at most; whether it is judged; and what accepts it."""
+        for count, more in ((1, None), (20, None), (21, "! and at 1 more place"),
+                            (23, "! and at 3 more places")):
+            said = self.said(self.verdict([part_with(0, 99, 0)], gaps=[gap(True)] * count))
+            place = "! between 00:00:01:00 and 00:00:02:00: 3 TS packets lost"
+            self.must(f"{count}", said.count(place) == min(count, 20) and
+                      (more in said if more else not any("more place" in one for one in said[1:])),
+                      said)
+            self.must("allow", "! nobody saw what was sent there; --allow-lost accepts the "
+                      "recording without it" in said, said)
+        said = self.said(self.verdict([part_with(0, 99, 0)], gaps=[gap(False)]))
+        self.must("outside", said[1].endswith("3 TS packets lost, outside of what is judged") and
+                  not any("nobody saw" in one for one in said), said)
+        said = self.said(self.verdict([part_with(0, 99, 0)], "--allow-lost", gaps=[gap(True)]))
+        self.must("allowed", not any("nobody saw" in one for one in said) and
+                  said[-1].startswith("accepted"), said)
+        said = self.said(self.verdict([part_with(0, 99, 0, answer(REFUSED))], gaps=[gap(True)]))
+        self.must("refused too", "! nobody saw what was sent there" in said, said)
+
+    def test_refused(self) -> None:
+        """The line of the first part that is refused; within how many frames it is accepted."""
+        parts = [part_with(0, 9, 0), part_with(10, 19, 0, answer(REFUSED), 2)]
+        said = self.said(self.verdict(parts))
+        self.must("line", said[0].startswith("Refused: ") and said[-1] == REFUSED[0] and
+                  "part 2, from 00:00:00:10 to 00:00:00:19: " + REFUSED[0] in said, said)
+        rows: list[tuple[Sequence[int], int, bool]] = [
+            ((0, 3), 1, True), ((), 1, False), ((0, 3), 0, False)]
+        for delays, within, is_said in rows:
+            one = part_with(0, 9, 0)
+            one.delays = delays
+            said = self.said(self.verdict([one], *(["--within", str(within)] if within else [])))
+            self.must(f"{delays} {within}", len(said) == 2 + is_said, said)
+        refused = part_with(0, 9, 0, answer(REFUSED))
+        refused.accepted_within = 4
+        self.must("accepted within", any("--within 4" in one for one in self.said(
+            self.verdict([refused]))[1:]))
+
+    def test_not_judged(self) -> None:
+        """Why, in lines, and what to type; how far it came where a signal ended it."""
+        said = self.said(self.verdict([], reason="one\ntwo", to_type=("first", "second", "third")))
+        self.must("why", said == ["! one", "! two", "! type first", "! or second", "! or third"],
+                  said)
+        rows: list[tuple[list[Part], str]] = [
+            ([], "nothing was judged so far"),
+            ([part_with(0, 9, 0, answer(REFUSED))], "2 faults so far")]
+        for parts, words in rows:
+            said = self.said(self.verdict(parts, reason="stopped at x", is_stopped=True))
+            self.must(words, said[-2:] == [words, "! not judged: stopped at x"], said)
+
+
+    def test_words_for_the_report(self) -> None:
+        """Its sentence, and the verdict in one word where that is not what `check` says."""
+        waived = self.write("waived", b"others warning\n")
+        for severity, is_refused, is_strict, is_lost, wanted in (
+                (None, False, False, False, None), (None, True, False, False, None),
+                (waived, True, False, False, "waived"), (None, False, False, True, "lost"),
+                (waived, True, False, True, "lost"), (None, False, True, False, "warned"),
+                (waived, True, True, False, "warned")):
+            part = part_with(0, 9, 0, answer(REFUSED) if is_refused else None)
+            part.clock = Clock(0, RECORDING)
+            made = self.verdict([part], *["--strict"] * is_strict, severity=Severity(severity),
+                                gaps=[gap(True)] * is_lost)
+            self.must(f"{wanted} {is_refused}", made.report_words() == [
+                *(["--verdict", wanted] if wanted else []), "--sentence", made.sentence],
+                made.report_words())
+
+
+class Writes(Case):
+    """The files of a pair."""
+
+    is_alone = True  # it takes what is printed
+
+    def setUp(self) -> None:
+        super().setUp()
+        os.mkdir(self.path("out"))
+        self.write("one.pes", b"")
+
+    def files(self, verdict: Verdict, **words: Any) -> Files:
+        known = argparse.Namespace(json=None, csv=None, junit=None, out=None, is_kept=False)
+        vars(known).update(words)
+        names = Names("one", self.folder, known.out)
+        return Files(known, verdict, Typed("tools/qc", self.bench.program), names)
+
+    def part(self, number: int = 1, lines: Sequence[str] = REFUSED) -> Part:
+        """A part that is refused, with its list."""
+        said = Answer(self.path(f"list{number}"))
+        for line in lines:
+            said.take(line)
+        said.end(1)
+        made = part_with(0, 9, 0, said, number)
+        made.stl_path = example("story.stl")
+        return made
+
+    def verdict(self, lines: Sequence[str] = REFUSED) -> Verdict:
+        made = Verdict(asked_for(example("story.stl"), self.path("one.pes")), Severity(None), "now")
+        made.parts = [self.part(1, lines)]
+        return made
+
+    def test_before(self) -> None:
+        """What an earlier call left goes; an input is never written."""
+        for name in ("one.json", "one.html", "one.txt", "one.1.html", "two.json", "one.cut.pes"):
+            self.write(f"out/{name}", b"")
+        files = self.files(self.verdict(), out=self.path("out"))
+        files.prepare()
+        self.must("left", sorted(os.listdir(self.path("out"))) == ["two.json"])
+        for name in ("json", "csv", "junit"):
+            with self.assertRaises(Stop):
+                self.files(self.verdict(), **{name: self.path("one.pes")}).prepare()
+            with self.assertRaises(Stop):
+                self.files(self.verdict(), **{name: example("story.stl")}).prepare()
+        self.files(self.verdict(), json=self.path("new.json")).prepare()
+
+    def test_sums(self) -> None:
+        """They are needed for a folder, an object and lines of CSV, not for a CI."""
+        rows: list[tuple[dict[str, str], bool]] = [
+            ({}, False), ({"json": "x"}, True), ({"csv": "x"}, True), ({"junit": "x"}, False),
+            ({"out": self.path("out")}, True)]
+        for words, wanted in rows:
+            self.must(f"{words}", self.files(self.verdict(), **words).are_any() == wanted)
+
+    def test_all(self) -> None:
+        """The object, the lines and the testcase; of several parts with a folder the overview."""
+        files = self.files(self.verdict(), json=self.path("one.json"), csv=self.path("one.csv"),
+                           junit=self.path("one.xml"), out=self.path("out"))
+        files.write()
+        self.must("nothing failed", not files.verdict.failed, files.verdict.failed)
+        for name in ("one.json", "out/one.json"):
+            have = json.loads(self.read(name))
+            self.must(name, have["verdict"] == "refused" and len(have["faults"]) == 2, have)
+        self.must("lines", len(self.read("one.csv").splitlines()) == 4)
+        self.must("case", b"refused 68 Parity" in self.read("one.xml"))
+        self.must("no overview", not os.path.exists(self.path("out/one.html")))
+        verdict = self.verdict()
+        verdict.parts.append(self.part(2))
+        several = self.files(verdict, out=self.path("out"))
+        several.write()
+        self.must("overview", os.path.exists(self.path("out/one.html")), verdict.failed)
+
+    def test_failed(self) -> None:
+        """What could not be written stands in what was written before, and after."""
+        nowhere = self.path("no/where")
+        for name in ("csv", "junit", "json"):
+            outputs = {one: self.path(f"{name}.{one}") for one in ("csv", "junit", "json")}
+            outputs[name] = nowhere
+            files = self.files(self.verdict(), **outputs, out=self.path("out"))
+            files.write()
+            self.must(name, len(files.verdict.failed) == 1 and nowhere in files.verdict.failed[0])
+            self.must(f"{name}: object", json.loads(self.read("out/one.json"))["verdict"] ==
+                      "not judged")
+            if name != "csv":
+                self.must(f"{name}: lines", b"not judged" in self.read(f"{name}.csv"))
+            if name != "junit":
+                self.must(f"{name}: case", b"<error" in self.read(f"{name}.junit"))
+
+    def test_object_that_fails(self) -> None:
+        """An object that says why stands for it; of other outputs, and where no file can be
+        written, nothing does."""
+        def fail() -> Any:
+            raise ValueError("wrong")
+
+        for is_object in (True, False):
+            files = self.files(self.verdict())
+            path = self.path(f"{is_object}.json")
+            self.must("failed", not files.try_to_put(Output(path, fail, is_object)))
+            self.must(f"{is_object}", os.path.exists(path) == is_object and
+                      "wrong" in files.verdict.failed[0], files.verdict.failed)
+        self.must("why", "wrong" in json.loads(self.read("True.json"))["reason"])
+
+    def test_lines(self) -> None:
+        """The first hundred faults of all parts, none of one that is accepted."""
+        many = [f"refused 68 Parity frame 00:00:01:00 packet {at}" for at in range(70)]
+        verdict = self.verdict([*many, "70 faults"])
+        verdict.parts += [part_with(0, 9, 0), self.part(2, [*many, "70 faults"])]
+        lines = self.files(verdict).lines()
+        self.must("lines", lines == [*many, "70 faults", *many[:29]], lines[65:75])
+        self.must("name", name_of(asked_for("a.stl", None)) == "a.stl" and
+                  name_of(asked_for("a.stl", "b.ts")) == "a.stl b.ts")
+
+    def test_judged(self) -> None:
+        """Whatever ends judging early is why, and all is written."""
+        rows: list[tuple[BaseException, str, tuple[str, ...]]] = [
+            (Unclear("why", "a", "b"), "why", ("a", "b")), (ValueError("wrong"), "wrong", ()),
+            (KeyboardInterrupt(), "stopped at x", ())]
+        for raised, reason, to_type in rows:
+            verdict, raising = self.verdict(), raised
+
+            class Judging:
+                """A pair that ends so."""
+
+                def __init__(self, verdict: Verdict) -> None:
+                    self.verdict, self.speech = verdict, Heard()
+                    self.speech.commands.append("typed")
+
+                def judge(self) -> None:
+                    raise raising
+
+                def stop(self, now: str) -> str:
+                    return "x"
+
+            pair: Any = Judging(verdict)
+            files = self.files(verdict, json=self.path("one.json"))
+            with mock.patch("subtitles.calls.single.ignore_signals"):  # this is a thread
+                judge_pair(pair, files)
+            self.must(f"{raised!r}", (verdict.to_type, verdict.is_stopped) ==
+                      (to_type, isinstance(raised, KeyboardInterrupt)) and verdict.reason and
+                      reason in verdict.reason, verdict.reason)
+            have = json.loads(self.read("one.json"))
+            self.must("object", reason in have["reason"] and have["commands"] == ["typed"] and
+                      0 <= have["seconds"] < 60, have)
+
+    def test_end_that_fails(self) -> None:
+        """Where the verdict can't be said it is not judged, in the object too."""
+        class Failing(Heard):
+            """Says nothing."""
+
+            def say(self, line: str) -> None:
+                raise OSError(28, "No space left on device")
+
+        verdict = self.verdict()
+        files = self.files(verdict, json=self.path("one.json"))
+        files.write()
+        self.must("before", json.loads(self.read("one.json"))["status"] == 1)
+        with contextlib.redirect_stderr(io.StringIO()), contextlib.redirect_stdout(io.StringIO()):
+            end_pair(verdict, Failing(), files)
+        self.must("after", json.loads(self.read("one.json"))["status"] == 2 and
+                  verdict.status == 2, verdict.failed)
+
+
+class Overview(Case):
+    """The page over all parts, and that over all pairs."""
+
+    def test_parts(self) -> None:
+        """A row for each part, which leads to its page; what is between them; the clock."""
+        names = Names("one", self.folder, self.path("out"))
+        verdict = Verdict(asked_for(example("story.stl"), "one.pes"), Severity(None), "now")
+        verdict.parts = [part_with(0, 9, 7), part_with(50, 99, 9, answer(REFUSED), 2),
+                         part_with(120, 149, None, number=3)]
+        for delay, words in ((None, "origin 7, given"), (0, "origin 7, given"),
+                             (2, "origin 7, given, all 2 frames late"),
+                             (-1, "origin 7, given, all 1 frame early")):
+            verdict.parts[0].clock = Clock(7, GIVEN, delay)
+            self.must(words, overview.clock_of(verdict.parts[0]) == words)
+        self.must("no clock", overview.clock_of(verdict.parts[2]) == "")
+        table = overview.table(verdict, names)
+        for number in (1, 2, 3):
+            link = f'<a href="one.{number}.html">'
+            self.must(f"part {number}", table.count(f"{link}part {number}</a>") == 1 and
+                      table.count(link) == 2)
+        self.must("faults", '<td data-name="Faults">2</td>' in table and
+                  table.count('<td data-name="Faults">0</td>') == 2, table)
+        self.must("between", "between 00:00:00:09 and 00:00:02:00; between 00:00:03:24 and "
+                  "00:00:04:20." in overview.between(verdict.parts))
+        for part in verdict.parts:
+            part.stl_path = example("story.stl")
+        verdict.gaps = [gap(True), gap(False)]
+        verdict.warnings = [Warned("kind", "strange")]
+        box = overview.box(verdict, "the <line>")
+        self.must("box", box.startswith('<div class="verdict refused">') and "the &lt;line&gt;" in
+                  box and box.count("3 TS packets lost") == 1 and "warning: strange" in box, box)
+        scope = overview.scope(verdict)
+        count = 3 * overview.subtitles_of(verdict.parts[0])
+        self.must("scope", f"00:00:00:00 to 00:00:05:24, {count} subtitles" in scope, scope)
+
+    def test_pairs(self) -> None:
+        """What is broken first, then what nobody judged, warnings, and what is accepted."""
+        def one(name: str, verdict: str, status: int, line: str, faults: int = 0,
+                causes: int = 0, hint: str = "") -> Row:
+            return Row(name, f"{name}.stl", verdict, status, line, faults, {
+                f"cause {at}": at for at in range(causes)}, [], 0.0, hint)
+
+        rows = [one("a", "accepted", 0, "accepted 5"),
+                one("b", "not judged", 2, "why\nmore\nand\nfour"),
+                one("c", "waived", 0, "waived: x", 1, 1),
+                one("d<", "refused", 1, "refused 72", 9, 7, "a hint"),
+                one("e", "lost", 1, "not accepted")]
+        self.must("order", [row.name for row in sorted(rows, key=index_page.rank)] ==
+                  ["d<", "e", "b", "c", "a"])
+        for name in ("a.html", "a.json", "b.json", "b.txt"):
+            self.write(name, b"")
+        page = index_page.page_of(self.folder, rows, "now")
+        self.must("counts", page.count("5 pairs: 1 accepted, 1 lost, 1 not judged, 1 refused, "
+                                       "1 waived") == 2, page[:900])
+        lines = {row.name: index_page.line_of(self.folder, row) for row in rows}
+        self.must("links", [lines[name].count("<a ") for name in "abc"] == [2, 2, 0] and
+                  ">list</a>" in lines["b"] and ">report</a>" in lines["a"])
+        self.must("why", "why<br>more<br>and<" in lines["b"] and "four" not in lines["b"] and
+                  "refused 72<br>a hint" in lines["d<"] and "accepted 5" not in lines["a"])
+        self.must("causes", lines["d<"].count("&times;") == 6 and "&hellip;" in lines["d<"] and
+                  "&hellip;" not in lines["c"] and "9 faults<br>" in lines["d<"] and
+                  "1 fault<br>" in lines["c"] and "0 faults" in lines["e"] and
+                  "fault" not in lines["b"])
+        self.must("name", "d&lt;" in lines["d<"] and 'class="not-judged"' in lines["b"])
+        self.must("letters", index_page.shown("a\x07\udc80<") == "a\ufffd\\udc80&lt;")

@@ -1,0 +1,149 @@
+"""Pages as a report draws them, in process: spacing attributes, rows, frames, what a cell holds."""
+from __future__ import annotations
+
+import unittest
+from typing import Any
+
+from subtitles.preview.drawing import (
+    LOW_ROWS, Span, cut_of, differences, empty_picture, frames_of, is_boxed, picture, row_drawing,
+    spans_of, text_of_code, words_of)
+from subtitles.reading.receiver import BLANK_PAGE, HIT, OLD, Rows
+
+SUBTITLE_HEADER, PLAIN_HEADER = bytes([8, 8, 0, 8, 0, 8, 1, 0]), bytes([8, 8, 0, 8, 0, 0, 1, 0])
+
+
+def page(**rows: bytes) -> Rows:
+    """A page with some rows, by their numbers."""
+    return tuple(rows.get(f"r{number}", b"").ljust(40) for number in range(1, 25))
+
+
+class Attributes(unittest.TestCase):
+    """How cells look, by the spacing attributes before them (EN 300 706, 12.2)."""
+
+    def look(self, row: bytes, number: int = 20, is_boxed_page: bool = True) -> Span:
+        """The look of the last cell of a row."""
+        return spans_of(row, number, 0, is_boxed_page)[-1]
+
+    def test_last(self) -> None:
+        """White on black outside of a box at first; each attribute by itself, and what ends it."""
+        plain = Span("A", 7, 0, False, False, False)
+        rows: list[tuple[bytes, dict[str, Any]]] = [
+                (b"A", {}), (b"\x0b\x0bA", {"boxed": True}), (b"\x0bA", {}), (b"\x0b \x0bA", {}),
+                (b"\x0b\x0b\x0a\x0aA", {}), (b"\x0b\x0b\x0aA", {"boxed": True}),
+                (b"\1A", {"ink": 1}), (b"\0A", {"ink": 0}), (b"\x07A", {}),
+                (b"\1\2A", {"ink": 2}), (b"\x17A", {}), (b"\x11A", {"ink": 1, "letters": "A"}),
+                (b"\x08A", {"flash": True}), (b"\x08\x09A", {}), (b"\x0dA", {"double": True}),
+                (b"\x0d\x0cA", {}), (b"\1\x1dA", {"ink": 1, "paper": 1}),
+                (b"\1\x1d\x1cA", {"ink": 1}), (b"\1\x1d\2A", {"ink": 2, "paper": 1}),
+                (b"\x8b\x8bA", {"boxed": True}), (b"\x18A", {})]
+        for row, change in rows:
+            with self.subTest(row=row):
+                self.assertEqual(self.look(row)._replace(letters="A"), plain._replace(**change))
+        for number, wanted in ((22, True), (23, False), (24, False)):
+            self.assertEqual(self.look(b"\x0dA", number).double, wanted)
+        for row in (b"A", b"\x0b\x0bA", b"\x0a\x0aA"):
+            self.assertTrue(self.look(row, is_boxed_page=False).boxed)
+
+    def test_at_once_and_from_the_next_on(self) -> None:
+        """A colour, flash and double height hold from the next cell on, the others at once."""
+        rows: list[tuple[bytes, dict[str, Any]]] = [
+                         (b"\1", {"ink": 7}), (b"\x08", {"flash": False}),
+                         (b"\x0d", {"double": False}), (b"\1\x1d", {"paper": 1}),
+                         (b"\1\x1d\x1c", {"paper": 0}), (b"\x08\x09", {"flash": False}),
+                         (b"\x0d\x0c", {"double": False}), (b"\x0b\x0b", {"boxed": True}),
+                         (b"\x0b\x0b\x0a\x0a", {"boxed": False})]
+        for row, own in rows:
+            found = self.look(row)
+            with self.subTest(row=row):
+                self.assertEqual({name: getattr(found, name) for name in own}, own)
+
+    def test_mosaics(self) -> None:
+        """From a colour of mosaics on, up to one of letters; capital letters stay."""
+        for row, letters in ((b"\x11a", "\u2592"), (b"\x11A", "A"), (b"\x11 ", " "),
+                             (b"\x11\1a", "a"), (b"\x11!", "\u2592"), (b"a", "a")):
+            self.assertEqual(self.look(row).letters, letters, row)
+
+
+class Rowed(unittest.TestCase):
+    """Rows and pages as SVG."""
+
+    def test_row(self) -> None:
+        """Grounds of boxes alone, letters where they stand, marks of cells nobody sent."""
+        drawn, is_tall = row_drawing(b"\x0b\x0b\1Red  x".ljust(40), 20, 0, True)
+        self.assertIn('<g transform="translate(0 285)">', drawn)
+        self.assertIn('<rect class="p0" x="12" width="468" height="15"/>', drawn)
+        self.assertIn('<text class="i1" x="36" y="11.8" textLength="72"', drawn)
+        self.assertIn(">Red  x</text>", drawn)
+        self.assertFalse(is_tall)
+        drawn, is_tall = row_drawing(b"\x0dA".ljust(40), 20, 0, False)
+        self.assertTrue(is_tall)
+        self.assertIn('height="30"', drawn)
+        self.assertIn(' transform="scale(1 2)"', drawn)
+        outside = row_drawing(b"\x08A<".ljust(40), 20, 0, True)[0]
+        self.assertIn('class="i7 f u"', outside)
+        self.assertIn("A&lt;", outside)
+        self.assertNotIn("<rect", outside)
+        marked = row_drawing(bytes([OLD] * 3 + [0x41, HIT, HIT]).ljust(40), 20, 0, True)[0]
+        self.assertIn('<rect class="old" x="1" y="1" width="34" height="13"/>', marked)
+        self.assertIn('<rect class="hit" x="49" y="1" width="22" height="13"/>', marked)
+
+    def test_picture(self) -> None:
+        """Rows in use, none that is below one of double height; frames and the place."""
+        rows = page(r20=b"\x0b\x0b\x0dtall", r21=b"\x0b\x0bhidden", r22=b"\x0b\x0bseen")
+        drawn = picture(rows, SUBTITLE_HEADER, "label", (19, 23), [(22, 3), (22, 4)], (20, 5))
+        self.assertEqual(("tall" in drawn, "hidden" in drawn, "seen" in drawn),
+                         (True, False, True))
+        self.assertEqual(drawn.count('class="n"'), 2)
+        self.assertIn('<rect class="d1" x="36" y="315" width="24" height="15"/>', drawn)
+        self.assertIn('<rect class="d1" x="56" y="281" width="20" height="38"/>', drawn)
+        self.assertIn("M66 279l-6 -9h12z", drawn)
+        self.assertEqual(picture(rows, PLAIN_HEADER, "", (18, 20)).count('class="n"'), 3)
+        self.assertEqual(picture(rows, SUBTITLE_HEADER, "", (18, 20)).count('class="n"'), 1)
+        self.assertIn('viewBox="-2 ', picture(rows, PLAIN_HEADER, "", (1, 2), kind="page small"))
+        self.assertIn('viewBox="-22 284 504 47"', picture(rows, PLAIN_HEADER, "", (20, 22)))
+        self.assertIn(">why &lt;</text>", empty_picture("why <", (20, 22)))
+        self.assertEqual([is_boxed(bytes([8, 8, 0, 0, 0, bits, 1, 0])) for bits in (0, 4, 8, 12)],
+                         [False, True, True, True])
+
+    def test_frames(self) -> None:
+        """One for neighbours, and for rows that are alike; two lines for double height."""
+        rows: list[tuple[list[tuple[int, int]], list[int], int]] = [
+            ([], [], 0), ([(5, 1)], [], 1), ([(5, 1), (5, 2)], [], 1), ([(5, 1), (5, 3)], [], 2),
+            ([(5, 1), (6, 1)], [], 1), ([(5, 1), (7, 1)], [], 2), ([(5, 1), (7, 1)], [5], 1),
+            ([(5, 1), (6, 1), (6, 2)], [], 2)]
+        for cells, tall, count in rows:
+            drawn = frames_of(cells, set(tall))
+            self.assertEqual(drawn.count('class="d1"'), count, cells)
+            self.assertEqual(drawn.count('class="d2"'), count, cells)
+        self.assertIn('x="12" y="60" width="12" height="30"', frames_of([(6, 1), (5, 1)], set()))
+
+    def test_cut(self) -> None:
+        """The rows in use of all pages, one more on each side, and that of the place."""
+        for pages, row, wanted in (
+                ([BLANK_PAGE], None, LOW_ROWS), ([page(r20=b"x")], None, (19, 21)),
+                ([page(r1=b"x")], None, (1, 2)), ([page(r24=b"x")], None, (23, 24)),
+                ([page(r20=b"x"), page(r5=b"x")], None, (4, 21)), ([BLANK_PAGE], 7, (6, 8)),
+                ([page(r20=b"x")], 7, (6, 21)), ([page(r20=b"x", r22=b"x")], 23, (19, 24))):
+            self.assertEqual(cut_of(pages, row), wanted)
+
+    def test_differences(self) -> None:
+        """Cells whose codes differ, whatever says more than the code."""
+        one = page(r20=b"abc", r22=b"x")
+        for other, wanted in ((one, []), (page(r20=b"abd", r22=b"x"), [(20, 2)]),
+                              (page(r20=b"Abd"), [(20, 0), (20, 2), (22, 0)]),
+                              (page(r20=b"abc\xa0", r22=b"\xf8"), [])):
+            self.assertEqual(differences(one, other), wanted)
+
+    def test_words(self) -> None:
+        """What a cell holds, and a page for people who hear it."""
+        for byte, words in ((0x41, "<code>A</code>"), (0x20, "a space"), (OLD,
+                            "nothing that was sent"), (HIT, "a space for a byte of even parity"),
+                            (0x01, "code 01 (red)"), (0x0B, "code 0B (start box)"),
+                            (0x1E, "code 1E"), (0x81, "code 01 (red)"), (0x3C, "<code>&lt;</code>"),
+                            (0x00, "code 00 (black)"), (0x07, "code 07 (white)"),
+                            (0x18, "code 18 (conceal)")):
+            self.assertEqual(text_of_code(byte, 0), words)
+        self.assertEqual(text_of_code(0x5B, 4), "<code>\u00c4</code>")
+        for rows, words in ((BLANK_PAGE, "blank"), (page(r20=b"\x0b\x0b"), "blank"),
+                            (page(r20=b"\x0b\x0bone  two", r22=b"three"), "one two / three")):
+            self.assertEqual(words_of(rows, 0), words)

@@ -1,0 +1,375 @@
+"""Times, codes, PES packets and their units, held against what is said of each byte and bit alone:
+at each bound, of the first, the second and the last, and where the clock begins again.
+"""
+from __future__ import annotations
+
+import io
+import itertools
+import random
+import unittest
+from typing import Callable, Sequence
+
+from subtitles.core import batch, pes, teletext, times, units
+from subtitles.core.files import Damaged
+from .parts import CLOSING, HEADER, row
+
+CLOCK, DAY = 8_589_934_592, 2_160_000
+START = b"\0\0\1\xbd"
+CODES = ["00010101", "00000010", "01001001", "01011110", "01100100", "01110011", "00111000",
+         "00101111", "11010000", "11000111", "10001100", "10011011", "10100001", "10110110",
+         "11111101", "11101010"]  # Hamming 8/4 of 0 to 15, the last bit first (EN 300 706, 8.2)
+
+
+NOTHING = b"\x01"  # two wrong bits of each code that is near
+
+
+def of_all(packets: Sequence[bytes]) -> batch.Batch:
+    return batch.of_packets(list(packets))
+
+
+def bits_of(number: int, count: int) -> str:
+    return f"{number:0{count}b}"
+
+
+class Times(unittest.TestCase):
+    """Times of the day and PTS."""
+
+    def test_words(self) -> None:
+        """Of each kind of a frame its time and back; what is no time."""
+        for frame, text in ((0, "00:00:00:00"), (24, "00:00:00:24"), (25, "00:00:01:00"),
+                            (1499, "00:00:59:24"), (1500, "00:01:00:00"), (89_999, "00:59:59:24"),
+                            (90_000, "01:00:00:00"), (2_159_999, "23:59:59:24"),
+                            (979_331, "10:52:53:06")):
+            code = bytes(map(int, text.split(":")))
+            self.assertEqual((times.time_of(frame), times.frame_of(text), times.time_code(frame),
+                              times.time_of_code(code), times.frame_of_code(code)),
+                             (text, frame, code, text, frame))
+        self.assertEqual(times.time_of(DAY), "24:00:00:00")
+        self.assertEqual(times.time_of_code(bytes([24, 99, 255, 25])), "24:99:255:25")
+        for text in ("24:00:00:00", "23:60:00:00", "23:59:60:00", "23:59:59:25", "", "1:00:00:00",
+                     "00:00:00:000", "00:00:00:00\n", " 00:00:00:00", "00:00:00;00",
+                     "00:00:00:0\u0661"):
+            self.assertIsNone(times.frame_of(text), text)
+
+    def test_clock(self) -> None:
+        """A PTS is of 33 bits: what is later, at each end of half the clock."""
+        half = CLOCK // 2
+        for first, second, later in ((0, 0, 0), (0, 1, 1), (1, 0, -1), (CLOCK - 1, 0, 1),
+                                     (0, CLOCK - 1, -1), (0, half - 1, half - 1), (0, half, -half),
+                                     (7, half + 6, half - 1), (half + 7, 6, half - 1),
+                                     (half + 7, 7, -half), (CLOCK - 5, 20, 25)):
+            self.assertEqual(times.ticks_between(first, second), later)
+        for ticks, wanted in ((-1, CLOCK - 1), (0, 0), (CLOCK - 1, CLOCK - 1), (CLOCK, 0)):
+            self.assertEqual(times.wrapped(ticks), wanted)
+        for frame, origin, wanted in ((0, 5, 5), (1, 5, 3605), (1, CLOCK - 1, 3599),
+                                      (DAY, 0, 7_776_000_000), (DAY, CLOCK - 1, 7_775_999_999)):
+            self.assertEqual(times.pts_of(frame, origin), wanted)
+
+    def test_frames(self) -> None:
+        """Of PTS one by one, and of many that rise by a frame: at the ends of a day and of a frame,
+        and where the clock begins again."""
+        offs = (-901, -900, -899, -1, 0, 1, 1800, 2699, 2700, 3599)
+        rows = [[frame * 3600 + off] for frame in (0, 1, 7, DAY - 1, DAY) for off in offs]
+        rows += [[first + 3600 * number for number in range(count)] for count in (2, 3)
+                 for first in (off + 3600 * frame for frame in (0, DAY - 3, DAY - 2, DAY - 1)
+                               for off in (-900, 0, 1, 2700))]
+        rows += [[], [0, 3600, 7201], [0, 7200], [3600, 0], [0, 0]]
+        for origin, ticks, within in itertools.product((0, 1, 900, CLOCK - 3600, CLOCK - 1), rows,
+                                                       (0, 1, 50)):
+            several = [(origin + one) % CLOCK for one in ticks]
+            early = 900 if within else 0
+            distances = [(pts - origin + early) % CLOCK for pts in several]
+            wanted = [one // 3600 if one < 3600 * DAY and (within or one % 3600 == 0) else -1
+                      for one in distances]
+            self.assertEqual(list(times.frames_at(several, origin, within)), wanted, ticks)
+            for pts, frame, distance in zip(several, wanted, distances):
+                self.assertEqual(times.frame_at(pts, origin, within), None if frame < 0 else frame)
+                self.assertEqual(times.frame_in(pts, origin, within), distance // 3600)
+
+
+class Codes(unittest.TestCase):
+    """Teletext's codes, bit by bit."""
+
+    def test_bytes(self) -> None:
+        """Each byte: its parity, its reverse, the number that it codes with at most one wrong bit.
+        """
+        for byte in range(256):
+            bits = bits_of(byte, 8)
+            self.assertEqual(teletext.is_odd(byte), bits.count("1") % 2 == 1)
+            self.assertEqual(teletext.mirrored(bytes([byte])), bytes([int(bits[::-1], 2)]))
+            near = [number for number, code in enumerate(CODES)
+                    if sum(one != two for one, two in zip(bits, code)) < 2]
+            self.assertEqual(teletext.NUMBER[byte], near[0] if near else None)
+        for code in range(128):
+            self.assertIn(teletext.odd(code), (code, code + 128))
+            self.assertTrue(teletext.is_odd(teletext.odd(code)))
+
+    def test_addresses(self) -> None:
+        """Each magazine and packet number; with what means nothing in the first byte or the second;
+        a header's eight numbers, the second of them wrong, and the last."""
+        for magazine, number in itertools.product(range(8), range(32)):
+            made = teletext.packet(magazine, number, (), b"a")
+            self.assertEqual(teletext.address_of(made), (magazine, number))
+            self.assertEqual(made[2], 0x61)
+            for at in (0, 1):
+                self.assertIsNone(teletext.address_of(made[:at] + NOTHING + made[at + 1:]))
+        numbers = bytes([8, 7, 0, 9, 1, 14, 2, 15])
+        made = teletext.packet(1, 0, numbers, b" " * 32)
+        self.assertEqual((len(made), teletext.header_of(made)), (42, numbers))
+        for at in range(2, 10):
+            self.assertIsNone(teletext.header_of(made[:at] + NOTHING + made[at + 1:]), at)
+        self.assertEqual(teletext.page_in(numbers), 0x78)
+        rows = [row(1, b"a"), made, made[:9] + NOTHING + made[10:], NOTHING + made[1:], HEADER,
+                CLOSING]
+        self.assertEqual([one[:2] for one in teletext.headers_in(rows)],
+                         [(1, 0x78), (0, 0x88), (0, 0xFF)])
+
+    def test_control_bits(self) -> None:
+        """Each control bit alone, and all but it (EN 300 706, 9.3.1.3)."""
+        places = {4: 3 * 4 + 3, 5: 5 * 4 + 2, 6: 5 * 4 + 3, 7: 24, 8: 25, 9: 26, 10: 27, 11: 28,
+                  12: 29, 13: 30, 14: 31}
+        for bit, place in places.items():
+            alone = [(place // 4 == at) << place % 4 for at in range(8)]
+            for header, is_set in ((bytes(alone), True), (bytes(15 - one for one in alone), False)):
+                self.assertEqual([one for one in places if teletext.has_bit(header, one) == is_set],
+                                 [bit])
+
+    def test_triplets(self) -> None:
+        """18 bits in 24, each bit wrong by itself, and two of them (EN 300 706, 8.3)."""
+        for value in (0, 1, 0x20000, 0x3FFFF, 0x15555, 0x2AAAA, 0x12345):
+            bits = [0] * 25
+            data = iter(bits_of(value, 18)[::-1])
+            for at in range(1, 24):
+                bits[at] = 0 if at & at - 1 == 0 else int(next(data))
+            for check in range(5):
+                bits[1 << check] = 1 ^ sum(bits[at] for at in range(1, 24) if at >> check & 1) & 1
+            bits[24] = 1 ^ sum(bits[1:24]) & 1
+            word = sum(bit << at for at, bit in enumerate(bits[1:]))
+            self.assertEqual(teletext.triplet_of(word.to_bytes(3, "little")), value)
+            for one in range(24):
+                self.assertEqual(teletext.triplet_of((word ^ 1 << one).to_bytes(3, "little")),
+                                 value)
+                for two in range(one):
+                    wrong = word ^ 1 << one ^ 1 << two
+                    self.assertIsNone(teletext.triplet_of(wrong.to_bytes(3, "little")), (one, two))
+
+    def test_pages(self) -> None:
+        """Names of pages, and what is none."""
+        for text, page in (("888", (0, 0x88)), ("100", (1, 0)), ("7fE", (7, 0xFE)),
+                           ("8Ab", (0, 0xAB)), ("200", (2, 0)), ("899", (0, 0x99))):
+            self.assertEqual(teletext.page_of(text), page)
+            self.assertEqual(teletext.page_name(*page), text.upper())
+        for text in ("", "88", "8888", "000", "900", "8FF", "1ff", "8 1", "8+1", "8_1", "8g0",
+                     "x88", "8\u0661\u0661"):
+            self.assertIsNone(teletext.page_of(text), text)
+
+
+def unit(magazine: int, number: int, kind: int = 3, second: int | None = None) -> bytes:
+    """A data unit with a Teletext packet, 46 bytes."""
+    made = teletext.packet(magazine, number, [8, 8, 0, 8, 0, 8, 1, 0] if number == 0 else (),
+                           b"x" * (32 if number == 0 else 40))
+    made = made if second is None else made[:1] + bytes([second]) + made[2:]
+    return bytes([kind, 0x2C, 0xE7, 0xE4]) + teletext.mirrored(made)
+
+
+def packet_of(several: Sequence[bytes], length: int = 0x24) -> bytes:
+    """A PES packet with some data units, a data_identifier before them."""
+    body = b"\x84\x80" + bytes([length]) + pes.pts_bytes(7) + b"\xff" * (length - 5) + b"\x10"
+    body += b"".join(several)
+    return START + len(body).to_bytes(2, "big") + body
+
+
+class Packets(unittest.TestCase):
+    """PES packets."""
+
+    def test_pts(self) -> None:
+        """Each bit of a PTS stands where ISO 13818-1 has it."""
+        for pts in (0, 1, CLOCK - 1, 0x155555555, 0xAAAAAAAA, *(1 << bit for bit in range(33))):
+            bits = bits_of(pts, 33)
+            wanted = int(f"0010{bits[:3]}1{bits[3:18]}1{bits[18:]}1", 2).to_bytes(5, "big")
+            self.assertEqual(pes.pts_bytes(pts), wanted)
+            data = pes.pes_packet(pts, [])
+            self.assertEqual((pes.pts_in(data), pes.pts_or_none(data)), (pts, pts))
+            self.assertEqual(of_all([data, data]).pts(), [pts, pts])
+            self.assertEqual(of_all([data, pes.pes_packet(pts, [HEADER] * 4)]).pts(), [pts, pts])
+
+    def test_made(self) -> None:
+        """Of no Teletext packet to 16: on lines from 7 on, in as few blocks of 184 bytes as hold
+        them."""
+        for count in range(17):
+            rows = [row(1 + number, b"%d" % number) for number in range(count)]
+            data = pes.pes_packet(0, rows)
+            self.assertEqual(len(data), 184 * (1 + count // 4))
+            self.assertEqual(data[:9] + data[14:46], START + (len(data) - 6).to_bytes(2, "big")
+                             + b"\x84\x80\x24" + b"\xff" * 31 + b"\x10")
+            many = [data[at:at + 46] for at in range(46, len(data), 46)]
+            self.assertEqual(many[count:], [b"\xff\x2c" + b"\xff" * 44] * (len(many) - count))
+            self.assertEqual([one[:4] for one in many[:count]],
+                             [bytes([3, 44, 0xE0 + 7 + at, 0xE4]) for at in range(count)])
+            self.assertEqual([one[4:] for one in many[:count]], list(map(teletext.mirrored, rows)))
+
+    def test_heads(self) -> None:
+        """What has a PTS, what is a mark, and where the data begin: at each length."""
+        good = pes.pes_packet(5, [HEADER])
+        for size, has_pts, field in ((0, False, b""), (9, False, b""), (10, False, b""),
+                                     (13, False, b""), (14, True, b""), (45, True, b""),
+                                     (46, True, b"\x10"), (47, True, good[45:47])):
+            self.assertEqual((pes.has_pts(good[:size]), pes.data_field(good[:size])),
+                             (has_pts, field), size)
+        for flags, has_pts in ((0x00, False), (0x40, False), (0x80, True), (0xC0, True)):
+            data = good[:7] + bytes([flags]) + good[8:]
+            self.assertEqual((pes.has_pts(data), pes.pts_or_none(data)),
+                             (has_pts, 5 if has_pts else None))
+        for data, is_mark in ((pes.MARK, True), (START + b"\0\1\xff", True), (START, False),
+                              (START + b"\0\0", False), (pes.MARK[:-1] + b"\xfe", False),
+                              (good, False),
+                              (START + b"\0\2\xff\xfe", False), (START + b"\0\2\xfe\xff", False),
+                              (START + b"\0\2\0\xff", False)):
+            self.assertEqual(pes.is_mark(data), is_mark, data)
+            self.assertFalse(pes.has_pts(pes.MARK))
+        self.assertEqual((len(pes.MARK), pes.begins_in(pes.MARK)), (184, range(0, 185, 184)))
+
+    def test_data_units(self) -> None:
+        """Teletext packets of a data field: of both kinds, between others, and cut."""
+        one, two = unit(0, 1), unit(0, 2, 2)
+        packets = [teletext.mirrored(some[4:]) for some in (one, two)]
+        of_fields: list[tuple[bytes, list[bytes]]] = [
+            (b"\x10" + one + two, packets), (b"\x10" + one + two[:-1], packets[:1]),
+            (b"\x10" + unit(0, 3, 1) + unit(0, 3, 4) + two, packets[1:]),
+            (b"\x10\x03\x01\x00" + one + b"\xff\x00" + two, packets),
+            (b"\x10\x03\x2d" + b"\x00" * 45 + two, packets[1:]), (b"", []), (b"\x10", []),
+            (one, [])]
+        for field, wanted in of_fields:
+            self.assertEqual(pes.teletext_packets(field), wanted)
+            if wanted:
+                field = field[1:]
+                found = list(units.units_one_by_one(field, 0))
+                self.assertEqual([some for some in found if some[0] in (2, 3)],
+                                 [some for some in (one, two)
+                                  if teletext.mirrored(some[4:]) in wanted])
+
+    def test_begins(self) -> None:
+        """Runs of one length, of several, and more than are looked for in a step; then what is cut,
+        and what is none."""
+        chance = random.Random(3)
+        rows: list[list[int]] = [[], [6], [6, 6], [6, 7], [184] * 63, [184] * 64, [184] * 65,
+                                 [184] * 5000,
+                [184] * 64 + [368] * 3 + [184], [6] * 3 + [70_000 % 65_541] + [6] * 2]
+        rows += [[6 + chance.choice((0, 1, 255, 256)) for _ in range(9)] for _ in range(9)]
+        for lengths in rows:
+            data = b"".join(START + (length - 6).to_bytes(2, "big") + b"x" * (length - 6)
+                            for length in lengths)
+            wanted = [0, *itertools.accumulate(lengths)]
+            for rest in (b"", b"\0", START, START + b"\0", START + b"\0\1", START[:3] + b"\xbe" * 9,
+                         START + b"\0\7" + b"y" * 6):
+                found = pes.begins_in(data + rest)
+                self.assertEqual(list(found), wanted, (lengths[:9], rest))
+                self.assertEqual(isinstance(found, range), len(set(lengths)) == 1, lengths[:9])
+                self.assertEqual([len(one) for one in pes.whole_in(data + rest)], lengths)
+
+    def test_runs(self) -> None:
+        """Read a few bytes at a time: what comes whole, what is cut, and what is something else,
+        by its number."""
+        rows: list[list[int]] = [[], [10], [10, 10, 10], [10, 30, 10, 10], [90, 10], [10] * 200,
+                                 [10, 20] * 40]
+        for most, lengths in itertools.product((3, 50, 1 << 18), rows):
+            data = b"".join(START + (length - 6).to_bytes(2, "big") + b"z" * (length - 6)
+                            for length in lengths)
+            for rest, words in ((b"", ""), (b"\0", "is cut"), (START + b"\0\7abcdef", "is cut"),
+                                (b"x" * 5, "is cut"),
+                                (b"x" * 6, "does not begin with 00 00 01 BD")):
+                found: list[bytes] = []
+                told = ""
+                try:
+                    for one in pes.pes_packets(Slow(data + rest, most)):
+                        found.append(one)
+                except Damaged as reason:
+                    told = str(reason)
+                self.assertEqual(list(map(len, found)), lengths, (most, rest))
+                self.assertEqual(b"".join(found), data)
+                self.assertEqual(told, words and f"PES packet {len(lengths)} {words}")
+
+
+class Slow(io.BytesIO):
+    """Bytes that come a few at a time."""
+
+    def __init__(self, data: bytes, most: int) -> None:
+        super().__init__(data)
+        self.most = most
+
+    def read(self, size: int | None = -1, /) -> bytes:
+        assert size is not None and size > 0
+        return super().read(min(size, self.most))
+
+
+class Units(unittest.TestCase):
+    """Data units, all at once and one by one."""
+
+    def units(self) -> list[list[bytes]]:
+        """Of some PES packets."""
+        chance = random.Random(4)
+        kinds: list[Callable[[], bytes]] = [
+            lambda: unit(chance.randrange(8), chance.choice((0, 0, 1, 8, 16, 17, 31))),
+            lambda: unit(chance.randrange(8), 0, chance.choice((0, 1, 2, 4, 255))),
+            lambda: unit(chance.randrange(2), 0, 3, chance.randrange(256)),
+            lambda: pes.STUFFING_UNIT, lambda: unit(0, 0), lambda: unit(0, 25)]
+        return [[chance.choice(kinds)() for _ in range(count)]
+                for count in (0, 1, 2, 3, 7, 7, 7, 11, 15) for _ in range(6)]
+
+    def test_one_by_one(self) -> None:
+        """Each unit: its packet, its header, whether it may be one; of each magazine; also where
+        there are units of another length among them, and bytes behind them."""
+        for several in self.units():
+            short = [b"\x03\x01\x00", *several[:2], b"\xff\x00", *several[2:], b"\xff\x03ab"]
+            for number, data in enumerate((packet_of(several), packet_of(several, 9),
+                                           packet_of(several) + b"x" * 3, packet_of(short))):
+                made = units.Units(data)
+                self.assertEqual(made.data[made.first:made.end], b"".join(several), number)
+                packets = [teletext.mirrored(one[4:]) for one in several]
+                addresses = list(map(teletext.address_of, packets))
+                is_text = [one[0] in (2, 3) for one in several]
+                self.assertEqual(list(made.may_be_headers()),
+                                 [int(one is not None and one[1] == 0) for one in addresses])
+                for magazine in range(8):
+                    self.assertEqual(list(made.marks(4, units.of_magazine(magazine))), [
+                        int((low := teletext.NUMBER[one[0]]) is not None and low & 7 == magazine)
+                        for one in packets])
+                headers = [next(iter(teletext.headers_in([some] * is_one)), None)
+                           for is_one, some in zip(is_text, packets)]
+                self.assertEqual([made.header(at) for at in range(len(several))], headers)
+                self.assertEqual(list(made.headers()), [one for one in headers if one])
+                self.assertEqual([made.packet(at) for at in range(len(several))],
+                                 [one * is_one for one, is_one in zip(packets, is_text)])
+                self.assertEqual(list(made.coded_headers()), [
+                    one[4:14] for one, address in zip(several, addresses)
+                    if address and address[1] == 0])
+        for size in (0, 8, 9):
+            self.assertEqual(units.Units(packet_of([])[:size]).may_be_headers(), b"")
+
+    def test_heard(self) -> None:
+        """Headers alone while the page is not open; while it is, its magazine too."""
+        for several in self.units():
+            made = units.Units(packet_of(several))
+            addresses = [teletext.address_of(teletext.mirrored(one[4:])) for one in several]
+            for opens in (set[int](), {0}, {1, 2}, {2, 3, 4, 5}, set(range(20))):
+                found, asked = list[int](), list[int]()
+                for number in made.heard(units.of_magazine(0), lambda: len(found) in opens):
+                    found.append(number)
+                wanted = asked
+                for number, (address, one) in enumerate(zip(addresses, several)):
+                    low = teletext.NUMBER[teletext.mirrored(one[4:])[0]]
+                    is_own = low is not None and low & 7 == 0
+                    if address and address[1] == 0 or len(wanted) in opens and is_own:
+                        wanted.append(number)
+                self.assertEqual(found, wanted, opens)
+
+    def test_header(self) -> None:
+        """Ten coded bytes: a header, another packet, and with a byte that means nothing."""
+        coded = unit(3, 0)[4:14]
+        found = units.header_in(coded)
+        self.assertEqual(found, (3, 0x88, bytes([8, 8, 0, 8, 0, 8, 1, 0])))
+        self.assertIsNone(units.header_in(unit(3, 1)[4:14]))
+        for at in range(10):
+            wrong = coded[:at] + teletext.mirrored(NOTHING) + coded[at + 1:]
+            self.assertIsNone(units.header_in(wrong), at)
+        self.assertEqual(units.both(b"\1\0\1\3", b"\1\1\0\2"), b"\1\0\0\2")

@@ -1,0 +1,430 @@
+"""What is decided about a pair, by tables: within how many frames it would be accepted, what is
+strange of a recording, how PTS lie, when the first picture was.
+"""
+from __future__ import annotations
+
+import itertools
+import unittest
+from types import SimpleNamespace
+from typing import Any, Iterable, Sequence
+
+from subtitles.core.pes import pes_packet
+from subtitles.core.pieces import Pieces
+from subtitles.core.stl import gsi_block, subtitle_blocks, tti_block
+from subtitles.core.times import CLOCK, FRAMES_OF_A_DAY, TICKS
+from subtitles.qc.causes import (
+    ATTRIBUTE, EARLY, LATE, NEVER, NOT_ERASED, OTHER, PLACE, TEXT, UNKNOWN)
+from subtitles.qc.clock import GIVEN, RECORDING, START, TCP, Clock
+from subtitles.qc.fitting import Found, found_in
+from subtitles.qc.off_frame import Off, off_of, pts_of_file
+from subtitles.qc.start import Grid, began, refuse_outside, said_of, start_frame
+from subtitles.qc.subtitle_file import SubtitleFile
+from subtitles.qc.unclear import Unclear
+from subtitles.qc.warned import (
+    SAID, Warned, length_words, of_counts, of_jumps, of_option, of_pauses, of_repeat, of_tables,
+    of_timing, there_are)
+from subtitles.qc.whole import of_end, of_growth
+from subtitles.qc.within import Trying, is_accepted, line_of
+from subtitles.reading.finding import OfPart, Origin
+from subtitles.reading.holes import Jump
+from subtitles.reading.pictures import First
+from subtitles.reading.programmes import Announced
+from subtitles.reading.timing import Sample, Strange
+from .bench import Case
+from .muxed import MPEG_2
+from .parts import CLOSING, HEADER, PAGE, asked_for, row
+
+ACCEPTED = ("accepted 10 frames 2 transmissions", 0)
+LATER = ("refused 72 Content frame 00:00:01:00 row 20 column 1", 1)
+AT_THE_END = ("refused 77 Repeat frame 00:00:01:00", 1)
+OTHERS = ("refused 61 OffFrame pes 1", 1)
+
+
+class Tried(Trying):
+    """A part tried within more frames, of which `check` says what a test says."""
+
+    def __init__(self, said: Sequence[tuple[str, int]], clocks: dict[int, int | None],
+                 asked: int = 0, is_cut: bool = True) -> None:
+        self.said_within, self.clocks, self.is_cut = said, clocks, is_cut
+        self.asked = asked_for("one.stl", "one.pes", "--within", str(asked))
+        self.one: Any = SimpleNamespace(found=Found(0, 9, Clock(7, RECORDING)))
+        self.checked: list[tuple[int, int]] = []
+
+    def clocked(self, within: int) -> Found | None:
+        origin = self.clocks.get(within, 7)
+        return None if origin is None else Found(0, 9, Clock(origin, RECORDING))
+
+    def cut(self, found: Found) -> bool:
+        return self.is_cut
+
+    def check(self, found: Found, within: int) -> tuple[str, int]:
+        self.checked.append((within, found.origin))
+        return self.said_within[within - 1]
+
+
+class Within(unittest.TestCase):
+    """The least number of frames within which a part would be accepted."""
+
+    def test_least(self) -> None:
+        """The first that accepts, of those above what is asked and up to 5; what is refused by
+        another fault than late content ends it."""
+        none: dict[int, int | None] = {}
+        later: list[tuple[str, int]] = [LATER] * 5
+        of_answers: list[tuple[Sequence[tuple[str, int]], int, int | None, list[int]]] = [
+            ([ACCEPTED] * 5, 0, 1, [1]), ([*later[:4], ACCEPTED], 0, 5, [1, 2, 3, 4, 5]),
+            (later, 0, None, [1, 2, 3, 4, 5]), ([LATER, AT_THE_END, ACCEPTED], 0, 3, [1, 2, 3]),
+            ([LATER, OTHERS, ACCEPTED], 0, None, [1, 2]), ([OTHERS], 0, None, [1]),
+            ([*later[:2], ACCEPTED], 2, 3, [3]), (later, 4, None, [5]), (later, 5, None, []),
+            ([("accepted 10 frames 2 transmissions", 1)], 0, None, [1]),
+            ([("", 0)], 0, None, [1]), ([LATER[:1] + (2,)], 0, None, [1]),
+            ([(LATER[0], 0)], 0, None, [1]), ([("", 1)], 0, None, [1])]
+        for said, asked, wanted, checked in of_answers:
+            tried = Tried(said, none, asked)
+            self.assertEqual((tried.least({72}, None), [one for one, _ in tried.checked]),
+                             (wanted, checked), (said, asked))
+        self.assertIsNone(Tried([ACCEPTED] * 5, none).least({10}, None))
+        self.assertIsNone(Tried([ACCEPTED] * 5, none, is_cut=False).least({72}, None))
+        self.assertIsNone(Tried([ACCEPTED] * 5, {5: None}).least({72}, None))
+
+    def test_clocks(self) -> None:
+        """The clock within the most frames judges, and the one within fewer has to be the same, or
+        be accepted by too."""
+        later = [LATER, ACCEPTED, LATER, LATER, LATER]
+        of_clocks: list[tuple[dict[int, int | None], int | None, list[tuple[int, int]]]] = [
+            ({}, 2, [(1, 7), (2, 7)]), ({5: 9, 2: 9}, 2, [(1, 9), (2, 9)]),
+            ({5: 9}, 2, [(1, 9), (2, 9), (2, 7)]), ({5: 9, 2: None}, None, [(1, 9), (2, 9)])]
+        for clocks, wanted, checked in of_clocks:
+            tried = Tried(later, clocks)
+            self.assertEqual((tried.least({72}, None), tried.checked), (wanted, checked))
+        tried = Tried([ACCEPTED] * 5, {5: 9})
+        tried.said_within = [LATER] * 4 + [ACCEPTED]
+        self.assertEqual((tried.least({72}, None), tried.checked[-1]), (5, (5, 9)))
+
+    def test_delays(self) -> None:
+        """A cause that may be a delay: of each kind, by how many frames, of a clock that was given
+        and of one that was fitted."""
+        for source, most in ((GIVEN, 5), (RECORDING, 10)):
+            tried = Tried([], {})
+            tried.one = SimpleNamespace(found=Found(0, 9, Clock(7, source)))
+            for name, frames, wanted in (
+                    (LATE, most, True), (LATE, most + 1, False), (LATE, 1, True),
+                    (LATE, None, True), (EARLY, most, True), (EARLY, most + 1, False),
+                    (NOT_ERASED, 99, True), (UNKNOWN, None, True), (NEVER, None, False),
+                    (OTHER, None, False), (TEXT, None, False), (PLACE, None, False),
+                    (ATTRIBUTE, 1, False)):
+                cause: Any = SimpleNamespace(name=name, frames=frames)
+                self.assertEqual(tried.is_delay(cause), wanted, (source, name, frames))
+                late: Any = SimpleNamespace(name=LATE, frames=1)
+                for named in ((cause, late), (late, cause)):
+                    causes: Any = SimpleNamespace(named=dict(enumerate(named)))
+                    self.assertEqual(tried.may_be({72}, causes), wanted)
+
+    def test_clock_of_a_part(self) -> None:
+        """Fitted once more: of one part, the second of three; where other parts are found, or none,
+        there is none."""
+        asked: list[Any] = []
+
+        def ask(*words: Any) -> Origin:
+            asked.append(words)
+            return origin
+
+        origin = Origin(0, [OfPart(5, None, (0, 9)), OfPart(6, None, (10, 19)),
+                            OfPart(8, None, (20, 29))])
+        for number, count, begin, end, source, wanted in (
+                (1, 3, 0, 9, RECORDING, 5), (2, 3, 10, 19, RECORDING, 6),
+                (3, 3, 20, 29, RECORDING, 8), (2, 2, 10, 19, RECORDING, None),
+                (2, 3, 10, 18, RECORDING, None), (2, 3, 9, 19, RECORDING, None),
+                (2, 3, 10, 19, GIVEN, 7), (1, 1, 0, 9, START, 7)):
+            tried: Any = Trying.__new__(Trying)
+            tried.one = SimpleNamespace(found=Found(begin, end, Clock(7, source)))
+            tried.number, tried.count, tried.recording = number, count, "recording"
+            tried.steps = SimpleNamespace(ask_origin=ask)
+            found = tried.clocked(3)
+            self.assertEqual(found and found.origin, wanted, (number, count, begin, end))
+        self.assertEqual(set(asked), {("recording", None, "--within", "3")})
+        self.assertEqual(found_in(Origin(1, [OfPart(5)]), Found(0, 9, Clock(7, GIVEN))), [])
+        self.assertEqual(found_in(Origin(0, [OfPart(5, (1, 2))]), Found(3, 9, Clock(7, GIVEN))),
+                         [Found(3, 9, Clock(5, RECORDING), (1, 2))])
+
+    def test_words(self) -> None:
+        self.assertEqual(line_of(3), "within 3 it is accepted: --within 3")
+        for line, status, wanted in (
+                (ACCEPTED[0], 0, True), (ACCEPTED[0], 1, False), (ACCEPTED[0], 2, False),
+                (ACCEPTED[0], -9, False), (LATER[0], 0, False), (LATER[0], 1, False),
+                ("", 0, False)):
+            self.assertEqual(is_accepted(line, status), wanted)
+
+
+def said(warned: Iterable[Warned]) -> list[tuple[str, str, str | None]]:
+    return [(one.kind, one.line, one.time) for one in warned]
+
+
+class Warnings(Case):
+    """What is strange of a recording."""
+
+    def test_timing(self) -> None:
+        """Each kind, from its first sample on; behind the end of a day there is no time."""
+        for origin, pts, time, where in (
+                (0, 25 * TICKS, "00:00:01:00", "from 00:00:01:00 on"),
+                (CLOCK - TICKS, 0, "00:00:00:01", "from 00:00:00:01 on"),
+                (0, (FRAMES_OF_A_DAY - 1) * TICKS, "23:59:59:24", "from 23:59:59:24 on"),
+                (0, FRAMES_OF_A_DAY * TICKS, None, f"from PTS {FRAMES_OF_A_DAY * TICKS} on")):
+            several = [Strange(kind, Sample(pts, 5), number, 9, worst) for kind, number, worst in (
+                ("behind", 1, -90_000), ("early", 2, 135_000), ("changed", 3, -45_900))]
+            timing: Any = SimpleNamespace(strange=lambda: several)
+            self.assertEqual(said(of_timing(timing, origin)), [
+                (f"pts_{one.kind}", f"{where} PTS of the Teletext {SAID[one.kind]}, by up to "
+                 f"{words} s: {one.number} of 9 that were looked at", time)
+                for one, words in zip(several, ("1.00", "1.50", "0.51"))])
+
+    def test_jumps(self) -> None:
+        """Those of the frames that are judged, the first and the last too, each in its direction.
+        """
+        for origin in (0, CLOCK - 5 * TICKS):
+            jumps = [Jump(None, 90_000), *(Jump((origin + TICKS * frame) % CLOCK, ticks)
+                                           for frame, ticks in (
+                (9, 1), (10, 90_000), (15, -90_000), (20, 8_640_000), (21, 5)))]
+            holes: Any = SimpleNamespace(jumps=jumps)
+            found = [(one.kind, one.time, one.line.partition(" at ")[0])
+                     for one in of_jumps(holes, origin, 10, 20)]
+            self.assertEqual(found, [
+                ("clock_jump", "00:00:00:10", "the clock jumps by 1.00 s"),
+                ("clock_jump", "00:00:00:15", "the clock jumps back by 1.00 s"),
+                ("clock_jump", "00:00:00:20", "the clock jumps by 0:01:36")])
+        for ticks, words in ((0, "0.00 s"), (45_000, "0.50 s"), (59 * 90_000, "59.00 s"),
+                             (60 * 90_000, "0:01:00"), (3599 * 90_000, "0:59:59"),
+                             (8641 * 90_000, "2:24:01")):
+            self.assertEqual(length_words(ticks), words)
+
+    def test_tables(self) -> None:
+        """What the PMT announces: nothing, others, the page among others; in the second programme
+        too."""
+        own, other = Announced(PAGE, "eng", 2), Announced((1, 0x50), "ger", 5)
+        stl = self.write("one.stl", gsi_block(b"", 0, 0))
+        asked = asked_for(stl, "one.ts")
+        of_pages: list[tuple[list[list[Announced]], str]] = [
+            ([], ""), ([[own]], ""), ([[other, own]], ""), ([[], [own]], ""),
+            ([[other], [own]], ""),
+            ([[]], "announces no page of PID 0x101: receivers do not find page 888"),
+            ([[], []], "announces no page of PID 0x101: receivers do not find page 888"),
+            ([[other]], "announces 150 ger subtitles for the hard of hearing, and not page 888"),
+            ([[other], [other]], "150 ger subtitles for the hard of hearing, and not page 888"),
+            ([[Announced((0, 0x89), "eng", 2)]], "announces 889 eng subtitles, and not page 888")]
+        for pages, words in of_pages:
+            listing: Any = SimpleNamespace(programmes_of=lambda pid: [
+                SimpleNamespace(pages={0x101: some, 0x102: [other]}) for some in pages])
+            found = said(of_tables(listing, 0x101, asked))
+            self.assertEqual([kind for kind, *_ in found], ["page"] * bool(words), pages)
+            self.assertTrue(not found or found[0][1].endswith(words), found)
+        for words_of, option, words in (
+                ("", "english", ""), ("eng", "english", ""), ("ger", "english", "--option german"),
+                ("ger eng", "english", ""), ("pol", "english", "another region"),
+                ("ger fre", "english", "--option german and --option french"),
+                ("pol eng", "english", ""), ("xyz", "english", ""),
+                ("deu ger", "french", "--option german"), ("pol ger", "german", ""),
+                ("pol ger", "french", "another region and --option german")):
+            languages = words_of.split()
+            found = said(of_option(languages, asked_for(stl, "one.ts", "--option", option)))
+            self.assertEqual(bool(found), bool(words), (languages, option))
+            self.assertTrue(not found or f"which is of {words}; it was judged by --option {option}"
+                            in found[0][1], found)
+
+    def test_counts(self) -> None:
+        """The counts of a GSI block beside what is there: each one less, right, and one more."""
+        blocks = [subtitle_blocks(at, 25 * at, 25 * at + 20, 20, 2, b"a") for at in (1, 2)]
+        for told_blocks, told_subtitles in itertools.product((1, 2, 3), repeat=2):
+            data = gsi_block(b"", told_blocks, told_subtitles) + b"".join(blocks)
+            found = said(of_counts(SubtitleFile(self.write("one.stl", data))))
+            kinds = ["blocks"] * (told_blocks != 2) + ["subtitles"] * (told_subtitles != 2)
+            self.assertEqual([one[0] for one in found], kinds)
+            for _, line, _ in found:
+                self.assertTrue("there are 2" in line, line)
+        data = gsi_block(b"", 1, 1)[:238] + b"  x  00000" + gsi_block(b"", 1, 1)[248:]
+        self.assertEqual([one[:2] for one in said(of_counts(SubtitleFile(self.write(
+            "one.stl", data + blocks[0]))))], [
+                ("subtitles", "the GSI block counts 0 subtitles (TNS), and there is 1: is the "
+                 "subtitle file whole?")])
+        self.assertEqual([there_are(one) for one in (0, 1, 2, 1234)],
+                         ["there are 0", "there is 1", "there are 2", "there are 1,234"])
+        comment = tti_block(2, 30, 40, 20, 2, b"", comment=1)
+        for count in (1, 2):
+            data = gsi_block(b"", 2, count) + blocks[0] + comment
+            self.assertEqual(said(of_counts(SubtitleFile(self.write("one.stl", data)))), [])
+
+    def test_pauses(self) -> None:
+        """Frames without a PES packet, of what sends one in each but few: one in twenty."""
+        def pauses(frames: Sequence[int], origin: int = 0) -> list[tuple[str, str | None]]:
+            path = self.write("one.pes", b"".join(
+                pes_packet((origin + TICKS * frame) % CLOCK, []) for frame in frames))
+            warned = of_pauses(Pieces(path), asked_for("one.stl", "one.pes"), origin)
+            return [(one.line.partition(" from ")[0], one.time) for one in warned
+                    if one.kind == "pause"]
+
+        three = [("no PES packet for 3 frames", "00:00:00:20")]
+        for origin in (0, CLOCK - 10 * TICKS):
+            for frames, wanted in (
+                    (list(range(40)), []), ([*range(20), *range(22, 40)], []),
+                    ([*range(20), *range(23, 40)], three), ([*range(20), *range(22, 40)], []),
+                    ([*range(20), 23], three), ([*range(18), 21], []),
+                    ([*range(19), 22], [(three[0][0], "00:00:00:19")]),
+                    ([*range(20), *range(23, 40), *range(45, 60)],
+                     [*three, ("no PES packet for 5 frames", "00:00:01:15")]), ([], []), ([5], [])):
+                self.assertEqual(pauses(frames, origin), wanted, frames)
+
+    def test_repeats(self) -> None:
+        """A page that comes so often that a repeat that is missing would not be seen."""
+        def warned(step: int, every: int) -> list[str]:
+            path = self.write("one.pes", b"".join(
+                pes_packet(TICKS * frame, [HEADER, row(20, b"a"), CLOSING])
+                for frame in range(0, 600, step)))
+            asked = asked_for("one.stl", "one.pes", "--every", str(every))
+            return [one.line for one in of_repeat(Pieces(path), asked, 0, [(0, 599)])]
+
+        for step, every, words in ((25, 51, "25 frames; --every 25"), (25, 50, ""), (25, 25, ""),
+                                   (1, 3, "frame; --every 1"), (1, 2, ""), (2, 5, "2 frames")):
+            found = warned(step, every)
+            self.assertEqual((len(found), words in "".join(found)), (bool(words), True),
+                             (step, every))
+
+    def test_whole(self) -> None:
+        """A file that grew, and one that ends within a PES packet: of each kind of recording."""
+        one = pes_packet(0, [])
+        path = self.write("one.pes", one + one[:50])
+        whole = self.write("two.pes", one)
+        cut = SimpleNamespace(is_cut=lambda: True, made=None)
+        right = SimpleNamespace(is_cut=lambda: False, made=SimpleNamespace(refusal=None))
+        refused = SimpleNamespace(is_cut=lambda: False, made=SimpleNamespace(refusal="one"))
+        for carrier, live, file, count in (
+                (None, None, path, 1), (None, None, whole, 0), (None, "live", path, 0),
+                (cut, None, path, 1), (right, None, path, 0), (refused, None, path, 1),
+                (refused, None, whole, 0), (cut, "live", path, 0)):
+            recording: Any = SimpleNamespace(live=live, carrier=carrier, path=file, name="a.ts")
+            self.assertEqual([one[0] for one in said(of_end(recording))], ["cut"] * count,
+                             (carrier, live, file))
+        for before, words in ((184, ""), (183, "grew"), (185, "became shorter"), (None, "")):
+            recording = SimpleNamespace(name=whole, size=before)
+            found = said(of_growth(recording))
+            self.assertTrue(not found and not words or words in found[0][1], found)
+
+
+class Grids(Case):
+    """How PTS lie beside frames."""
+
+    def test_off(self) -> None:
+        """By how many ticks at most, before and after; over half a frame it is the other one's."""
+        for origin in (0, CLOCK - 3 * TICKS):
+            of_offs: list[tuple[list[int], int | None]] = [
+                ([0, 0], None), ([1, 0], 1), ([0, -1], 1), ([1799, 0], 1799), ([1800, 5], 1800),
+                ([1801], 1799), ([-1799, 3], 1799), ([], None), ([7, -9, 8], 9)]
+            for offs, most in of_offs:
+                several = [(origin + TICKS * (5 + at) + off) % CLOCK for at, off in enumerate(offs)]
+                found = off_of(several, origin)
+                self.assertEqual(found and found.most, most, offs)
+                self.assertIsNone(found and found.drift)
+
+    def test_drift(self) -> None:
+        """From ten PTS that rise, up to a thousandth, more than it jitters: over half a frame too.
+        """
+        def drifting(count: int, ppm: float, jitter: int = 0, step: int = 90_000) -> Off | None:
+            return off_of([round(step * at * (1 + ppm / 1e6)) + jitter * (-1) ** at + 5
+                           for at in range(count)], 5)
+
+        for count, ppm, jitter, wanted in (
+                (10, 100, 0, 100), (9, 100, 0, None), (100, -100, 0, -100), (100, 1001, 0, 1000),
+                (100, 1002, 0, None), (100, -999, 0, -1000), (100, -1000, 0, None),
+                (2000, 50, 0, 50), (1000, 50, 550, 50), (1000, 50, 600, None),
+                (100, 50, 90, None), (100, 0, 90, None), (12, 1, 0, None),
+                (400, 0.4, 0, None)):
+            found = drifting(count, ppm, jitter)
+            self.assertEqual(found and found.drift, wanted, (count, ppm, jitter))
+        rising = [90_000 * at + 9 * at for at in range(20)]
+        for several in (rising[:5] + rising[4:], rising[::-1],
+                        rising[:5] + rising[6:7] + rising[5:6] + rising[7:]):
+            found = off_of(several, 0)
+            self.assertTrue(found and found.drift is None)
+        for off, within, words in (
+                (Off(9, None), None, "PTS are up to 0.1 ms off the frame"),
+                (Off(900, None), 2, "PTS are up to 10.0 ms off the frame; --within 2 accepts that"),
+                (Off(9, -7), 1,
+                 "PTS drift by -7 ppm against whole frames; --within 1 accepts that"),
+                (Off(9, 0), None, "PTS drift by 0 ppm against whole frames")):
+            self.assertEqual(off.words(within), words)
+
+    def test_pts_of_a_file(self) -> None:
+        one, two = pes_packet(5, []), pes_packet(CLOCK - 1, [HEADER])
+        without = one[:7] + b"\0" + one[8:]
+        path = self.write("one.pes", one + without + two + one + b"\0")
+        self.assertEqual(pts_of_file(Pieces(path)), [5, CLOCK - 1, 5])
+        self.assertEqual(pts_of_file(Pieces(path, 2, 2, 368, 552)), [CLOCK - 1])
+
+    def test_first_picture(self) -> None:
+        """Most PTS decide where the grid is, and within 1 and more those near a frame; the origin
+        moves by less than half of one."""
+        for first, rests, within, after in (
+                (0, [0], 0, 0), (0, [1800], 0, 1800), (0, [1800, 5, 1800], 0, 1800),
+                (0, [1800, 5, 1800], 1, 5), (0, [1800, 1800, 2705], 1, 2705),
+                (0, [1800, 900], 1, 900), (0, [1800, 901], 1, 1800), (0, [1800, 2700], 1, 2700),
+                (0, [1800, 2699], 1, 1800), (CLOCK - 5, [9, 9, 8], 0, 9), (7, [0, 1, 1], 0, 1),
+                (0, [3, 3, 9, 9, 9], 2, 9)):
+            grid = Grid()
+            for number, rest in enumerate(rests):
+                grid.take((first + TICKS * number + rest) % CLOCK)
+            self.assertEqual(grid.after(first, within), after, (first, rests, within))
+            self.assertEqual(grid.count, len(rests))
+        for ticks, words in ((0, "which the PTS of the Teletext agree with"),
+                             (1, "moved by 1 tick forward to the PTS of the Teletext"),
+                             (-2, "moved by 2 ticks back to the PTS of the Teletext")):
+            self.assertEqual(said_of(ticks), words)
+
+    def test_start_frames(self) -> None:
+        """As it is given, and as the GSI block has it; what is none there."""
+        for code, frame in ((b"00000000", 0), (b"10000001", 900_001), (b"23595924", 2_159_999),
+                            (b"24000000", None), (b"        ", None), (b"1000000 ", None),
+                            (b"100000\xb90", None), (b"00000025", None)):
+            data = gsi_block(b"", 0, 0)
+            stl = self.write("one.stl", data[:256] + code + data[264:])
+            asked = asked_for(stl, "one.ts", "--start", "tcp")
+            try:
+                found: int | None = start_frame(asked)
+            except Unclear:
+                found = None
+            self.assertEqual(found, frame, code)
+        asked = asked_for(stl, "one.ts", "--start", "10:00:00:01")
+        self.assertEqual(start_frame(asked), 900_001)
+        short = asked_for(self.write("two.stl", data[:260]), "one.ts", "--start", "tcp")
+        with self.assertRaises(Unclear):
+            start_frame(short)
+
+    def test_clock_of_the_first_picture(self) -> None:
+        """By a time and by the TCP, over the wrap: the origin, its source, and what is said; half
+        a frame from it nothing is clear."""
+        data = gsi_block(b"", 0, 0)
+        stl = self.write("one.stl", data[:256] + b"00000100" + data[264:])
+        grid = Grid()
+        grid.take(TICKS // 2)
+        with self.assertRaises(Unclear):
+            began(asked_for(stl, "one.ts", "--start", "tcp"), First(0x200, MPEG_2, 0, 0), grid)
+        for start, source, name, frame in (
+                ("00:00:01:00", START, "--start 00:00:01:00", 25),
+                ("tcp", TCP, "the TCP 00:00:01:00", 25)):
+            for pts, ticks in ((90_000, 0), (90_000, 1), (90_000, -1), (5, 1799), (5, -1799),
+                               (0, 0)):
+                grid = Grid()
+                grid.take((pts + ticks) % CLOCK)
+                found = began(asked_for(stl, "one.ts", "--start", start),
+                              First(0x200, MPEG_2, pts, 0), grid)
+                origin = (pts - TICKS * frame + ticks) % CLOCK
+                self.assertEqual((found.clock, found.frame), (Clock(origin, source), frame))
+                self.assertEqual(found.lines[1], f"{name} there is --origin {origin}, "
+                                 f"{said_of(ticks)}")
+                for begin, end, last, is_right in (
+                        (25, 90, None, True), (24, 90, None, False), (25, 90, 65, True),
+                        (25, 90, 64, False), (25, 90, 90, True), (26, 90, 65, True)):
+                    pts_of_last = None if last is None else (origin + TICKS * last) % CLOCK
+                    try:
+                        refuse_outside(asked_for(stl, "one.ts", "--start", "tcp"), found, begin,
+                                       end, pts_of_last)
+                        is_inside = True
+                    except Unclear:
+                        is_inside = False
+                    self.assertEqual(is_inside, is_right, (begin, end, last))

@@ -1,0 +1,424 @@
+"""What a call names, hears and follows, and what differs on pages: row by row."""
+from __future__ import annotations
+
+import os
+import unittest
+from types import SimpleNamespace
+from typing import Any, Callable, Sequence
+from unittest import mock
+
+from subtitles.core.pes import MARK, pes_packet
+from subtitles.core.stl import gsi_block, tti_block
+from subtitles.core.times import CLOCK, FRAMES_OF_A_DAY, TICKS
+from subtitles.core.words import Stop
+from subtitles.qc.feed import LAST, At, Feed, Finder
+from subtitles.qc.hints import control_words
+from subtitles.qc.kinds import is_pes_packets, is_recording
+from subtitles.qc.lettering import (
+    ATTRIBUTES, attribute_words, code_words, is_moved, is_part, place_words, text_of, words_on)
+from subtitles.qc.live import Live
+from subtitles.qc.names import Names, again
+from subtitles.qc.option_advice import OptionAdvice
+from subtitles.qc.source import Source
+from subtitles.qc.stall import Stall
+from subtitles.qc.subtitle_file import SubtitleFile
+from subtitles.qc.sums import Files, Summing, file_of
+from subtitles.qc.typed import Typed, line_of
+from subtitles.qc.why import Heard, unseen
+from subtitles.qc.clock import GIVEN, Clock
+from subtitles.qc.fitting import Found
+from subtitles.qc.held import Span
+from subtitles.reading.bases import Bases
+from subtitles.reading.cutting import Cut
+from subtitles.reading.finding import Agreement, OfPart, Origin
+from subtitles.reading.losses import Place
+from subtitles.reading.receiver import BLANK_PAGE
+from subtitles.reading.repeat import FEWEST, longest_gap, measured
+from .bench import Case
+from .parts import PAGE, asked_for
+
+
+def page_with(*rows: tuple[int, bytes]) -> tuple[bytes, ...]:
+    """A page with codes in some rows, from column 0 on."""
+    page = list(BLANK_PAGE)
+    for number, text in rows:
+        page[number - 1] = text.ljust(40)
+    return tuple(page)
+
+
+class Named(Case):
+    """Files, and calls as they are typed."""
+
+    def test_files(self) -> None:
+        """Of a pair and of a part: as they are typed, and where they stand."""
+        for out, here in ((None, self.folder), ("out", "out")):
+            names = Names("one", self.folder, out)
+            for one, name in ((names, "one"), (names.of_part(2), "one.2")):
+                typed = os.path.join(out or "", name)
+                self.must(f"{out} {name}: typed", [one.whole, one.cut, one.stl, one.report] == [
+                    f"{typed}.{ending}" for ending in ("recording.pes", "cut.pes", "stl", "html")])
+                self.must(f"{out} {name}: here", (one.whole_path, one.cut_path, one.stl_path,
+                                                  one.list_path) == (
+                    os.path.join(self.folder, f"{name}.recording.pes"), *(
+                        os.path.join(here, f"{name}.{ending}")
+                        for ending in ("cut.pes", "stl", "txt"))))
+                self.must(f"{out} {name}: object", one.machine == (f"{typed}.json" if out else
+                                                                   None))
+            line = f"{self.folder}/one.stl and {self.folder}/x"
+            self.must(f"{out}: a line", names.as_typed(line) == line.replace(
+                self.folder + "/", "out/" if out else ""))
+
+    def test_what_an_earlier_call_left(self) -> None:
+        """Files of the pair and of its parts, and of no other pair."""
+        out = self.path("out")
+        os.mkdir(out)
+        own = ["one.1.stl", "one.12.cut.pes", "one.3.txt", "one.9.html"]
+        others = ["one.0.stl", "one.x.stl", "one.1x.stl", "two.1.stl", "one.1.json", "one.1.a.stl",
+                  "one.01.stl", "one.stl.1"]
+        for name in [*own, *others]:
+            with open(os.path.join(out, name), "wb"):
+                pass
+        names = Names("one", self.folder, out)
+        found = [os.path.basename(path) for path in names.kept()]
+        self.must("own", sorted(found) == sorted([*own, "one.cut.pes", "one.recording.pes",
+                                                  "one.txt", "one.html", "one.json"]), found)
+        self.must("judged", names.judged() == [os.path.join(out, "one.12.cut.pes")])
+        self.must("no folder", Names("one", self.folder, None).kept() == [])
+        with open(names.whole_path, "wb") as file:
+            file.write(b"whole")
+        names.keep()
+        self.must("kept", self.read("out/one.recording.pes") == b"whole")
+
+    def test_again(self) -> None:
+        """The same call with more words: an option that is said anew stands once."""
+        typed = Typed("tools/qc", self.bench.program)
+        asked = asked_for("one.stl", "one.ts", "--page", "150", "--every", "50", "--no-complete",
+                          "--pid", "0x101", "--origin", "7", "--within", "2", "--breaks", "1",
+                          "--run", "2", "--option", "german")
+        whole = "tools/qc one.stl one.ts --page 150 --every 50 --option german --no-complete " \
+            "--within 2 --pid 0x101 --origin 7 --breaks 1 --run 2"
+        for more, wanted in (((), whole), (("--page", "P"), whole.replace(" --page 150", "")
+                                           + " --page P"),
+                             (("--origin", "T"), whole.replace(" --origin 7", "") + " --origin T"),
+                             (("--breaks", "0"), whole.replace(" --breaks 1", "") + " --breaks 0"),
+                             (("--within", "5"), whole.replace(" --within 2", "") + " --within 5"),
+                             (("--run", "1"), whole.replace(" --run 2", "") + " --run 1")):
+            self.must(f"{more}", again(asked, typed, *more) == wanted, again(asked, typed, *more))
+        start = asked_for("one.stl", None, "--start", "tcp")
+        self.must("start", again(start, typed) == "tools/qc one.stl --start tcp")
+        self.must("an origin instead", again(start, typed, "--origin", "T") ==
+                  "tools/qc one.stl --origin T")
+        self.must("words", line_of("cat", "a b", ">", "c", "|", "d'e") ==
+                  "cat 'a b' >c | 'd'\"'\"'e'")
+        for called, tool, program in (("tools/qc", "tools/cut", "subttx"), ("./qc", "./cut",
+                                                                           "../subttx"),
+                                      ("qc", "./cut", "../subttx"),
+                                      ("/a/tools/qc", "/a/tools/cut", "/a/subttx")):
+            made = Typed(called, self.bench.program)
+            self.must(called, made.tool("cut") == tool and made.program_words ==
+                      ["-p", self.bench.program], made.tool("cut"))
+            self.must(f"{called}: beside", os.path.normpath(made.beside()) ==
+                      os.path.normpath(program), made.beside())
+
+
+class Kinds(Case):
+    """What a file is, by its first bytes."""
+
+    def test_kinds(self) -> None:
+        pes, stl = pes_packet(0, []), gsi_block(b"", 0, 0)
+        of_kinds: list[tuple[bytes, bool | None, bool]] = [
+            (pes, True, True), (pes[:4], True, True), (b"G" * 400, False, True), (stl, None, False),
+            (b"\0\0\1\xbdG" + b"\0" * 300, False, True), (b"\0\0\1\xe0" + b"\0" * 99, None, False),
+            (b"\0\0\1", False, False), (b"abcd" * 99, False, False), (b"", None, False),
+            (b"G" + b"\0" * 187 + b"G" + b"\0" * 99, False, True),
+            (b"G" + b"\0" * 203 + b"G" + b"\0" * 99, False, True),
+            (b"timeG" + b"\0" * 191 + b"G" + b"\0" * 99, False, True),
+            (b"G" + b"\0" * 188 + b"G" + b"\0" * 99, False, False)]
+        for data, is_pes, is_one in of_kinds:
+            path = self.write("one", data)
+            source = Source(path, False)
+            try:
+                found: bool | None = is_pes_packets(source)
+            except Stop:
+                found = None
+            rest = source.read()
+            source.close()
+            self.must(f"{data[:6]!r}", found == is_pes, found)
+            self.must(f"{data[:6]!r}: read again", data.startswith(rest) and len(rest) ==
+                      min(len(data), 11))
+            self.must(f"{data[:6]!r}: a recording", is_recording(path) == is_one)
+
+    def test_sums(self) -> None:
+        """Of a file, of several, and of what is read once."""
+        path = self.write("one", b"abc")
+        known = ("ba7816bf8f01cfea414140de5dae2223b00361a396177a9cb410ff61f20015ad", 3)
+        summing = Summing()
+        for data in (b"a", b"", b"bc"):
+            summing.take(data)
+        for one in (file_of(path, "x"), summing.file("x"), Files([path]).all()[0]):
+            self.must("sum", (one.sha256, one.size) == known and one.name in ("x", path), one)
+        sizes = [one.size for one in Files([path, self.write("two", b"")]).all()]
+        self.must("two", sizes == [3, 0])
+        with self.assertRaises(OSError):
+            Files([path, self.path("none")]).all()
+        with Source(path, True).file:
+            pass
+
+    def test_stalls(self) -> None:
+        """A feed that stands still is told once, and again when it goes on."""
+        told: list[str] = []
+        stall = Stall(10, told.append)
+        for still, wanted in ((9.9, 0), (10.0, 1), (30.4, 1)):
+            stall.wait(still)
+            self.must(f"{still}", len(told) == wanted, told)
+        stall.go_on()
+        stall.go_on()
+        self.must("goes on", told == ["nothing has come for 10 seconds",
+                                      "the feed goes on, after 30 seconds"], told)
+        stall.wait(10)
+        self.must("once more", len(told) == 3)
+
+
+def at_times(now: Callable[[], float]) -> Any:
+    """While this holds, a feed takes these times for those that are."""
+    return mock.patch("subtitles.qc.feed.time", SimpleNamespace(monotonic=now))
+
+
+class Feeds(unittest.TestCase):
+    """When a feed is judged, and when it is over."""
+
+    is_alone = True  # its clock is replaced, which threads share
+
+    def finder(self, origin: Origin) -> Finder:
+        return Finder(lambda path: origin)
+
+    def kept(self, count: int = 1) -> Any:
+        return SimpleNamespace(count=count, path="one.pes", flush=lambda: None)
+
+    def test_looks(self) -> None:
+        """Some seconds after the last look, and as many times as that took; if something came."""
+        finder = self.finder(Origin(1))
+        with at_times(lambda: finder.next - 0.1):
+            self.assertFalse(finder.is_due(self.kept()))
+        with at_times(lambda: finder.next):
+            self.assertTrue(finder.is_due(self.kept()))
+            self.assertFalse(finder.is_due(self.kept(0)))
+        for took, wait in ((0.1, 5.0), (0.625, 5.0), (1.0, 8.0)):
+            times = iter([100.0, 100.0 + took, 100.0 + took])
+            with at_times(lambda: next(times)):
+                finder.ask(self.kept(7))
+            self.assertAlmostEqual(finder.next, 100 + took + wait)
+            self.assertEqual(finder.count, 7)
+
+    def test_origins(self) -> None:
+        """One that is clear, of one part, with enough edges; the end of the last of some parts."""
+        enough, few = Agreement(5, 5, 5, 40, True), Agreement(4, 4, 4, 40, True)
+        one, second = OfPart(5, (3, 9)), OfPart(CLOCK - 5, None, (10, 20))
+        for origin, wanted in (
+                (Origin(0, [one], agreement=enough), At(5, (3, LAST))),
+                (Origin(0, [OfPart(5)], agreement=enough), At(5)),
+                (Origin(1, [one], agreement=enough), None), (Origin(0, [one], agreement=few), None),
+                (Origin(0, [one, second], agreement=enough), None),
+                (Origin(0, [], agreement=enough), None), (Origin(0, [one]), None)):
+            self.assertEqual(self.finder(origin).look(self.kept()), wanted)
+        for parts, breaks, status, end in (
+                ([one, second], 1, 0, 70 * TICKS - 5), ([one, second], 1, 1, None),
+                ([one, second], 2, 0, None), ([second, one], 1, 0, None), ([second], 0, 0,
+                                                                         70 * TICKS - 5)):
+            found = self.finder(Origin(status, parts)).look_for_end(self.kept(), breaks, 50)
+            self.assertEqual(found, end, (parts, breaks, status))
+
+    def test_over(self) -> None:
+        """By the last PTS or PCR; of one that is judged by what judges it."""
+        def of(until: int | None, live: Any = None) -> Feed:
+            start: Any = None
+            made = Feed(None, self.finder(Origin(1)), start, None, 1, 50)
+            made.until, made.live = until, live
+            return made
+
+        kept: Any = SimpleNamespace(pcr=lambda: 7, late=lambda: 3)
+        for until, pts, is_over, is_settled in (
+                (100, 101, True, True), (100, 100, False, True), (None, 100, False, False),
+                (CLOCK - 5, 3, True, True), (3, CLOCK - 5, False, True),
+                (50 * TICKS + 100, 100, False, True), (50 * TICKS + 100, 99, False, False)):
+            made = of(until)
+            self.assertEqual(made.is_over(kept, pes_packet(pts, [])), is_over, (until, pts))
+            self.assertEqual(made.is_settled(), is_settled, (until, pts))
+        self.assertEqual([of(until).is_over(kept, b"") for until in (6, 7)], [True, False])
+        for over, past, data, wanted in (
+                (True, False, b"1", True), (False, True, b"1", False), (False, True, b"", True),
+                (False, False, b"", False)):
+            live = SimpleNamespace(is_over=lambda: over, is_past=lambda pcr, late: past and
+                                   (pcr, late) == (7, 3), has_last=lambda: past)
+            self.assertEqual(of(None, live).is_over(kept, data), wanted)
+            self.assertEqual(of(None, live).is_settled(), over or past)
+
+    def test_past(self) -> None:
+        """By the PCR, less how late PTS are, after the last frame of the day that is judged; the
+        last sending has come where the first one has too."""
+        live = Live.__new__(Live)
+        for origin in (0, CLOCK - 50 * TICKS):
+            live.cut = Cut(10, 100, PAGE, origin)
+            for frame, late, wanted in ((99, 0, False), (100, 0, False), (101, 0, True),
+                                        (102, 1, True), (102, 2, False), (-5, 0, False)):
+                pcr = (origin + TICKS * frame) % CLOCK
+                self.assertEqual(live.is_past(pcr, TICKS * late), wanted, (origin, frame, late))
+        self.assertFalse(live.is_past(None, 0))
+        for was_in, has_end in ((False, False), (False, True), (True, False), (True, True)):
+            live.cut.was_in, live.cut.has_end = was_in, has_end
+            self.assertEqual(live.has_last(), was_in and has_end, (was_in, has_end))
+
+    def test_reach(self) -> None:
+        """Frames that the recording has, whole ones, and those of which something is lost."""
+        found = Found(100, 200, Clock(5, GIVEN))
+        for first, last, wanted in ((100, 200, Span(100, 200)), (90, 300, Span(90, 300))):
+            for off, more in ((0, (0, 0)), (1, (1, 0)), (-1, (0, -1))):
+                ends = [(5 + TICKS * frame + off) % CLOCK for frame in (first, last)]
+                carrier: Any = SimpleNamespace(reach=lambda: ends)
+                self.assertEqual(Heard("a", carrier).reach(found),
+                                 Span(wanted.first + more[0], wanted.last + more[1]))
+        self.assertIsNone(Heard("a", None).reach(found))
+        self.assertIsNone(Heard("a", carrier).reach(found._replace(packets=(0, 1))))
+        day = FRAMES_OF_A_DAY
+        for before, after, span in ((10, 20, Span(10, 20)), (None, 20, Span(0, 20)),
+                                    (10, None, Span(10, day)), (None, None, Span(0, day)),
+                                    (day, 20, Span(0, 20)), (day - 1, day, Span(day - 1, day))):
+            pts: Any = [None if one is None else (5 + TICKS * one) % CLOCK
+                        for one in (before, after)]
+            place = Place(*pts)
+            self.assertEqual(list(unseen([place], 5, 0)), [span])
+
+
+class Pages(Case):
+    """In what two pages differ, and what a letter of a file is."""
+
+    ONE, TWO = b"\x0b\x0bHello", b"\x03\x0b\x0bHello"
+
+    def test_words(self) -> None:
+        """The first that differs: a row, a column, a cell, the ends of a row."""
+        own = page_with((20, self.ONE), (22, b"  two"))
+        for other, place in (
+                (page_with((18, self.ONE), (22, b"  two")), "row 18 instead of 20"),
+                (page_with((20, self.ONE), (23, b"  two")), "row 23 instead of 22"),
+                (page_with((20, b" " + self.ONE), (22, b"  two")),
+                 "row 20 from column 3 instead of 2"),
+                (page_with((20, self.ONE), (22, b" two")), "row 22 from column 1 instead of 2"),
+                (page_with((20, self.ONE)), "1 rows instead of 2")):
+            self.assertEqual(place_words(own, other), place)
+        for other, words in (
+                (own, ""), (page_with((20, b"\x0b\x0bHallo"), (22, b"  two")),
+                            "row 20 column 3: 61 instead of 65"),
+                (page_with((20, b"\x0b Hello"), (22, b"  two")),
+                 "row 20 column 1: a space instead of start box"),
+                (page_with((20, self.ONE), (22, b"  twos")),
+                 "row 22 column 5: 73 instead of a space, ends a column late"),
+                (page_with((20, self.ONE), (22, b"\x02 tw")),
+                 "row 22 column 0: alpha green instead of a space, begins 2 columns early, ends a "
+                 "column early")):
+            self.assertEqual(attribute_words(own, other), words)
+        for sent, due, moved in (
+                (own, own, False), (page_with((20, b" " + self.ONE), (22, b"  two")), own, True),
+                (page_with((21, self.ONE), (22, b"  two")), own, True),
+                (page_with((20, self.TWO), (22, b"  two")), own, False),
+                (page_with((20, self.ONE), (22, b" two")), own, True)):
+            self.assertEqual(is_moved(due, sent), moved)
+        for sent, part in ((own, True), (page_with((20, self.ONE)), True), (BLANK_PAGE, True),
+                           (page_with((20, self.TWO)), False), (page_with((22, b"  two")), True),
+                           (page_with((21, b"x")), False)):
+            self.assertEqual(is_part(sent, own), part)
+        self.assertEqual((words_on(own), text_of(own, 0), text_of(page_with((1, b"\x5b[#")), 4)),
+                         ("Hello two", "Hello / two", "ÄÄ#"))
+        self.assertEqual([code_words(code) for code in (0, 7, 0x1F, 0x20, 0x21, 0x7F)],
+                         ["alpha black", "alpha white", "release mosaics", "a space", "21", "7F"])
+        self.assertEqual((len(ATTRIBUTES), ATTRIBUTES[0x0D]), (32, "double height"))
+
+    def test_control_bits(self) -> None:
+        """Each bit of a header of subtitles wrong by itself."""
+        good = [8, 8, 0, 8, 0, 8, 1, 0]
+        of_bits: list[tuple[int, int, list[str]]] = [
+            (0, 8, []), (3, 0, ["C4"]), (5, 0, ["C6"]), (6, 0, ["C7"]), (5, 12, ["C5"]),
+            (6, 9, ["C10"]), (5, 4, ["C6", "C5"]), (7, 8, ["the header is German"]),
+            (7, 14, ["C12, C13 and C14"])]
+        for place, value, words in of_bits:
+            header = bytes(value if at == place else one for at, one in enumerate(good))
+            found = control_words(header, "english")
+            self.assertEqual(len(found), len(words), (place, value, found))
+            self.assertTrue(all(one.startswith(word) for one, word in zip(found, words)), found)
+        self.assertEqual(control_words(bytes([*good[:7], 8]), "german"), [])
+        self.assertEqual(control_words(bytes(good), "german"),
+                         ["the header is English: --option english"])
+
+    def test_letters_of_a_file(self) -> None:
+        """A subtitle of two blocks among comments and user data: its text, its bytes, advice."""
+        first = tti_block(7, 25, 50, 20, 2, b"a\xc2e\x80", 0)
+        last = tti_block(7, 25, 50, 20, 2, b"\xf9\xff")
+        comment = tti_block(7, 25, 50, 20, 2, b"no", comment=1)
+        user = tti_block(7, 25, 50, 20, 2, b"no", 0xFE)
+        other = tti_block(300, 75, 99, 20, 2, b"$")
+        data = gsi_block(b"", 6, 2) + b"".join([comment, first, user, comment, last, other])
+        file = SubtitleFile(self.write("one.stl", data + b"x" * 127))
+        self.assertEqual((file.count(), file.ended(), list(file.lasts())), (6, (2, 4), [5, 6]))
+        self.assertEqual((file.text(5), file.text(6)), (b"a\xc2e\x80\xf9\xff", b"$"))
+        self.assertEqual([file.letter(5, at) for at in range(7)], [
+            ("61", "a"), ("C2", "é"), ("65", "e"), ("80", None), ("F9", "ø"), ("FF", "\ufffd"),
+            (None, None)])
+        self.assertEqual([file.letter(at, 0) for at in (0, 7)], [(None, None)] * 2)
+        self.assertEqual([file.first_before(at) for at in (2, 5, 6)], [None, None, 2])
+        found = [file.at_block(at) for at in range(8)]
+        self.assertEqual([one and (one.position, one.number, one.begin) for one in found], [
+            None, (0, 7, "00:00:01:00"), (1, 7, "00:00:01:00"), (1, 7, "00:00:01:00"),
+            (1, 7, "00:00:01:00"), (1, 7, "00:00:01:00"), (2, 300, "00:00:03:00"), None])
+        advice = OptionAdvice(file, "english")
+        self.assertTrue(advice.of(5, 4).startswith("ø is in no option"))
+        self.assertEqual((advice.of(5, 6), advice.drawing), ("", []))
+        german = SubtitleFile(self.write("two.stl", gsi_block(b"", 1, 1) + tti_block(
+            1, 25, 50, 20, 2, b"\xc8a")))
+        self.assertEqual(OptionAdvice(german, "english").of(1, 0),
+                         "the whole file draws in --option german, swedish")
+
+
+class Repeats(unittest.TestCase):
+    """How often a page comes, and where PTS go back."""
+
+    def test_measured(self) -> None:
+        """Between edges, and not up to five frames before one; of few there is no measure."""
+        steady = list(range(0, 200, 10))
+        of_frames: list[tuple[list[int], list[int], int | None]] = [
+                (steady, [], 10), (steady[:5], [], 10), (steady[:4], [], None),
+                (steady, [15, 25, 35, 45, 55, 65, 75, 85, 95, 105, 115, 125, 135, 145, 155, 165],
+                 None), (steady[:8], [45], 10), (steady[:8], [36, 45], 10),
+                (steady[:8], [35, 45], None), (steady[:5], [46], 10), (steady[:5], [45], None),
+                (steady[:5] * 2, [46], 10),
+                ([0, 1, 25, 26, 50, 51, 75, 76], [], 24), ([], [], None),
+                ([0, 10, 20, 30, 50, 90], [], 20)]
+        for frames, edges, every in of_frames:
+            self.assertEqual(measured(frames, edges), every, (frames, edges))
+        self.assertEqual(FEWEST, 3)
+        of_gaps: list[tuple[list[int], int]] = [([], 0), ([5], 0), ([5, 5], 0), ([9, 5, 30], 21)]
+        for frames, gap in of_gaps:
+            self.assertEqual(longest_gap(frames), gap)
+
+    def test_bases(self) -> None:
+        """Two PTS in a row that are before the two before them begin one; heard in any pieces."""
+        plain = pes_packet(0, [])
+        without = plain[:7] + b"\0" + plain[8:]
+        of_rows: list[tuple[Sequence[int | None], list[int]]] = [
+            ([10, 20, 30], [0]), ([10, 20, 5, 6], [0, 2]), ([10, 20, 5], [0]),
+            ([10, 20, 5, 30, 40], [0]), ([10, 20, 5, 15], [0]), ([10, 5, 6, 7], [0]),
+            ([10, 20, 5, 6, 1, 2], [0, 2, 4]), ([10, 20, None, 5, None, 6], [0, 3]),
+            ([CLOCK - 9, CLOCK - 5, 3, 9], [0]), ([3, 9, CLOCK - 9, CLOCK - 5], [0, 2]),
+            ([10, 20, 9, 9, 9], [0, 2]), ([10, 20, 10, 10], [0]), ([], [0])]
+        for row, begins in of_rows:
+            packets = [without if pts is None else pes_packet(pts, []) for pts in row]
+            for by in (1, 2, 3, 9):
+                bases = Bases()
+                for at in range(0, len(packets), by):
+                    bases.take(packets[at:at + by])
+                self.assertEqual(bases.begins, begins, (row, by))
+                self.assertEqual((bases.count, bases.timed), (len(row), sum(
+                    pts is not None for pts in row)))
+                ends = [*(one - 1 for one in begins[1:]), len(row) - 1]
+                self.assertEqual(bases.ranges(), list(zip(begins, ends)))
+        bases = Bases()
+        bases.take([MARK, plain, MARK])
+        self.assertEqual((bases.count, bases.timed, bases.marks), (3, 1, 2))
