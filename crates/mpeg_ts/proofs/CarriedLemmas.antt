@@ -11,7 +11,8 @@ use Rattle.mpeg_ts.specs.GoodPackets.{GoodPacket, Note, Valid, Wrong, good_after
 use Rattle.mpeg_ts.specs.GoodPackets.{note_of, notes, nothing_since}
 use Rattle.mpeg_ts.specs.Joining.{given_after, nothing_joined}
 use Rattle.mpeg_ts.specs.PacketsInStep.{Item, Packet, Skipped, begins_packet, items, items_of}
-use Rattle.mpeg_ts.specs.Parts.{PartOutcome, begins_part, gap_where, is_break, outcomes, part_of, parts}
+use Rattle.mpeg_ts.specs.Parts.{PartOutcome, begins_part, gap_where, is_break, outcomes, part_of}
+use Rattle.mpeg_ts.specs.Parts.{parts}
 use Rattle.mpeg_ts.specs.Stream.{given_of, start_of_stream, still_given, stream_gives}
 use Rattle.mpeg_ts.specs.TransportPacket.{begins, has_adaptation, has_payload, is_wrong}
 use Rattle.mpeg_ts.specs.TransportPacket.{payload, payload_place, pid}

@@ -16,7 +16,7 @@ use Rattle.mpeg_ts.specs.GoodPackets.{Follows}
 use Rattle.mpeg_ts.specs.InSequence.{GoesOn, behind_packet, joined_so_far, plain_header}
 use Rattle.mpeg_ts.specs.Joining.{JoiningValue, after_good, after_valid, found_in}
 use Rattle.mpeg_ts.specs.Joining.{has_ended, link_after, repeats}
-use Rattle.mpeg_ts.specs.Joining.{settled_as, found_of}
+use Rattle.mpeg_ts.specs.Joining.{settled_as, found_by_size}
 use Rattle.mpeg_ts.specs.declared.joining.PartState.TheVariants.{Open}
 use Rattle.mpeg_ts.specs.declared.joining.Given.TheVariants as given
 use Rattle.mpeg_ts.specs.PacketsInStep.{begins_packet}
@@ -204,10 +204,6 @@ next_good v p number c b is some unbroken straight before =
     (ap (λ l. after_good l v p) (follows v v.last p c some unbroken straight is.plain before
     is.counter))
 
--- The payload is what stands behind the header.
-plain_payload : (p : List ℕ) → has_adaptation p ≡ false → payload p ≡ drop 4 p
-plain_payload p plain = rw plain refl
-
 -- ---- the PES packet so far
 
 -- The open part.
@@ -227,7 +223,7 @@ open_value head bytes = record {
 
 -- It is complete where it has as many bytes as the PES packet.
 settled_is : (size : ℕ) (head bytes : List ℕ)
-    → found_in bytes ≡ found_of (length bytes) (Ok size)
+    → found_in bytes ≡ found_by_size (length bytes) (Ok size)
     → length bytes ≤ size
     → settled_as (found_in bytes) (open_value head bytes) ≡ joined_so_far size head bytes
 settled_is size head bytes found le =
@@ -244,7 +240,7 @@ settled_is size head bytes found le =
 found_is : (size : ℕ) (bytes : List ℕ)
     → 6 ≤ length bytes
     → size_at (take 6 bytes) ≡ Ok size
-    → found_in bytes ≡ found_of (length bytes) (Ok size)
+    → found_in bytes ≡ found_by_size (length bytes) (Ok size)
 unfolding found_in
 found_is size bytes many is =
     let enough : nat_lt (length bytes) 6 ≡ false = grind (arith, nat_tests) in

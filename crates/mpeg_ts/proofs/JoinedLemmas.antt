@@ -215,7 +215,8 @@ give-excess_quiet g true rest quiet = sym (give-quiet g rest (quiet refl))
 give-excess_quiet g false rest quiet = refl
 
 -- A new part behind one that is not whole, of which a gap comes.
-after_unfinished : (wrong : Bool) (more : List GoodPacket) (part : Part) (h : Given) (g : GoodPacket)
+after_unfinished : (wrong : Bool) (more : List GoodPacket) (part : Part) (h : Given)
+    (g : GoodPacket)
     → outcome false part ≡ gap_where true
     → mark_where ((is_break g.link || true) && gave_packet h)
     ++ give (given_after (is_break g.link || true) h) (tail wrong (part_of g) more)

@@ -225,7 +225,8 @@ link_same v s (Some q) p last jump lost =
     let load = last.0.load in
     let some : 0 < length v.last = subst (λ (l : List ℕ). 0 < length l) (sym load) last.1 in
     link_some v v.last p some
-    ∙ ap (λ (b : Bool). link_by b (v.has_jump || announces_jump p) (counter_goes_on v.header p)) lost
+    ∙ ap (λ (b : Bool). link_by b (v.has_jump || announces_jump p)
+    (counter_goes_on v.header p)) lost
     ∙ ap (λ (b : Bool). link_by (s.has_wrong || s.has_hole) (b || announces_jump p)
     (counter_goes_on v.header p)) jump
     ∙ ap (link_by (s.has_wrong || s.has_hole) (s.has_jump || announces_jump p))

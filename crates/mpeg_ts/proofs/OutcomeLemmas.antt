@@ -12,10 +12,10 @@ use Rattle.ttx_pes.specs.Reading.{size_at}
 use Rattle.ttx_pes.specs.declared.fault.PesFault.{PesFault}
 use Rattle.mpeg_ts.specs.Carried.{mark, mark_where, with_marks}
 use Rattle.mpeg_ts.specs.GoodPackets.{GoodPacket}
-use Rattle.mpeg_ts.specs.Joining.{found_in, found_of, gave_packet, given_after}
-use Rattle.mpeg_ts.specs.Parts.{PartOutcome, Pes, Gap, Other, Part, begins_part, part_bytes, gap_where}
-use Rattle.mpeg_ts.specs.Parts.{is_break, may_be_cut_off, outcome, outcome_of_size, outcomes}
-use Rattle.mpeg_ts.specs.Parts.{part_of, parts_from, up_to, with_packet}
+use Rattle.mpeg_ts.specs.Joining.{found_in, found_by_size, gave_packet, given_after}
+use Rattle.mpeg_ts.specs.Parts.{PartOutcome, Pes, Gap, Other, Part, begins_part, part_bytes}
+use Rattle.mpeg_ts.specs.Parts.{gap_where, is_break, may_be_cut_off, outcome, outcome_of_size}
+use Rattle.mpeg_ts.specs.Parts.{outcomes, part_of, parts_from, up_to, with_packet}
 use Rattle.mpeg_ts.specs.TransportPacket.{payload}
 use Rattle.mpeg_ts.specs.declared.joining.Given.{Given}
 use Rattle.mpeg_ts.specs.declared.joining.Given.TheVariants as given
@@ -197,7 +197,7 @@ up_to-last c (f ∷ ps) x lt =
 
 -- A whole PES packet.
 found-whole : (n size : ℕ) (r : Result ℕ PesFault)
-    → found_of n r ≡ found.Whole size
+    → found_by_size n r ≡ found.Whole size
     → (r ≡ Ok size) × (size ≤ n)
 found-whole n size (Err f) e = absurd cc
 found-whole n size (Ok s) e = by_bool (nat_le s n)
@@ -209,7 +209,7 @@ found-whole n size (Ok s) e = by_bool (nat_le s n)
 
 -- Another start or length.
 found-other : (n : ℕ) (r : Result ℕ PesFault)
-    → found_of n r ≡ found.Other
+    → found_by_size n r ≡ found.Other
     → (f : PesFault) × (r ≡ Err f)
 found-other n (Err f) e = (f, refl)
 found-other n (Ok s) e = by_bool (nat_le s n)
@@ -255,7 +255,7 @@ outcome-headless cut part headless = rw headless refl
 
 -- By the size that the first six bytes say.
 outcome-of_unfinished : (cut : Bool) (part : Part) (r : Result ℕ PesFault)
-    → found_of (length (part_bytes part)) r ≡ found.Unfinished
+    → found_by_size (length (part_bytes part)) r ≡ found.Unfinished
     → outcome_of_size cut part r ≡ gap_where (not cut)
 outcome-of_unfinished cut part (Err f) e = absurd cc
 outcome-of_unfinished cut part (Ok size) e = by_bool (nat_le size (length (part_bytes part)))
@@ -283,7 +283,8 @@ outcome-whole : (cut : Bool) (part : Part) (size : ℕ)
     ≡ Pes (take size (part_bytes part)) ∷ gap_where (nat_lt size (length (part_bytes part)))
 unfolding outcome
 outcome-whole cut part size begins w =
-    let many : nat_le 6 (length (part_bytes part)) ≡ true = is_le 6 (length (part_bytes part)) w.six in
+    let many : nat_le 6 (length (part_bytes part)) ≡ true =
+    is_le 6 (length (part_bytes part)) w.six in
     let fits : nat_le size (length (part_bytes part)) ≡ true =
     is_le size (length (part_bytes part)) w.within in
     let sized = w.sized in
@@ -299,7 +300,8 @@ outcome-other : (cut : Bool) (part : Part)
     → outcome cut part ≡ Other (up_to 6 part.payloads) ∷ []
 unfolding outcome
 outcome-other cut part begins o =
-    let many : nat_le 6 (length (part_bytes part)) ≡ true = is_le 6 (length (part_bytes part)) o.six in
+    let many : nat_le 6 (length (part_bytes part)) ≡ true =
+    is_le 6 (length (part_bytes part)) o.six in
     let refused = o.refused in
     rw (begins, many, refused) refl
   where
@@ -417,7 +419,7 @@ other_with_last bytes more e o = by_bool (nat_lt (length bytes) 6)
     is_le m many = grind (arith, nat_tests)
 
     not_other : (r : Result ℕ PesFault) (n : ℕ) (f : PesFault)
-        → found_of n r ≡ found.Unfinished
+        → found_by_size n r ≡ found.Unfinished
         → r ≡ Err f
         → ⊥
     not_other (Err f) n h e same = cc

@@ -90,7 +90,8 @@ pub ready-front : (b : Bool) (m : ℕ) (s e : ℕ) (behind : Bool) (bytes : List
 ready-front true m s e behind bytes is =
     ap (λ n. drop (184 - n) mark ++ (slice_range bytes s e ++ mark_where behind)) is
 ready-front false m s e behind bytes is =
-    let gone : drop (184 - m) mark ≡ [] = drop_all (184 - m) mark (omega (arith, is, length-mark)) in
+    let gone : drop (184 - m) mark ≡ [] =
+    drop_all (184 - m) mark (omega (arith, is, length-mark)) in
     ap (λ l. l ++ (slice_range bytes s e ++ mark_where behind)) gone
 
 -- ---- what is passed over

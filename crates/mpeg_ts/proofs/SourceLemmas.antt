@@ -85,14 +85,6 @@ pub prepend_none : (told : Option (List ℕ)) → prepend_known [] told ≡ told
 prepend_none None = refl
 prepend_none (Some b) = refl
 
--- What is still to be given, by what is left of them.
-pub kept_behind : (x y : Option (List ℕ)) (batch rest : List ℕ)
-    → batch ≡ []
-    → Keeps x (prepend_known rest y)
-    → Keeps (prepend_known batch x) (prepend_known rest y)
-kept_behind x y batch rest none keeps =
-    rw (none, prepend_none x) keeps
-
 pub ruleset pulls = (gave, gave_ready, gave_none)
 
 pub ruleset lends = lends_front

@@ -107,16 +107,16 @@ with_gap gap v = record v {
 }
 
 -- What so many bytes hold of a PES packet of that size.
-abbrev pub found_of : ℕ → Result ℕ PesFault → Found
-found_of count (Ok size) = if nat_le size count then found.Whole size else found.Unfinished
-found_of count (Err f) = found.Other
+abbrev pub found_by_size : ℕ → Result ℕ PesFault → Found
+found_by_size count (Ok size) = if nat_le size count then found.Whole size else found.Unfinished
+found_by_size count (Err f) = found.Other
 
 -- What the bytes of a part hold: the PES packet that they begin with, not all of it yet, or another
 -- start or length.
 unfoldable pub found_in : List ℕ → Found
 found_in bytes =
     if nat_lt (length bytes) 6 then found.Unfinished
-    else found_of (length bytes) (size_at (take 6 bytes))
+    else found_by_size (length bytes) (size_at (take 6 bytes))
 
 -- An open part by what its bytes hold.
 abbrev pub settled_as : Found → JoiningValue → JoiningValue
@@ -185,7 +185,8 @@ given_later v (note ∷ more) =
 
 -- ---- how it is kept
 
--- The bytes that are ready: so many last ones of a mark, then those of a range, then perhaps a mark.
+-- The bytes that are ready: so many last ones of a mark, then those of a range, then perhaps a
+-- mark.
 abbrev pub ready_bytes : ℕ → ℕ → ℕ → Bool → List ℕ → List ℕ
 ready_bytes mark_left start end mark_behind bytes =
     drop (184 - mark_left) mark ++ (slice_range bytes start end ++ mark_where mark_behind)

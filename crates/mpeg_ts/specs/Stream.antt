@@ -5,12 +5,13 @@ use Rattle.mpeg_ts.specs.GoodPackets.{Hole, hole_size, note_of, notes}
 use Rattle.mpeg_ts.specs.Joining.{JoiningValue, after_note, given_later, handed_over}
 use Rattle.mpeg_ts.specs.Joining.{nothing_joined}
 use Rattle.mpeg_ts.specs.PacketsInStep.{items, lead_size, most_bytes}
+use Rattle.mpeg_ts.specs.Pid.{greatest_pid}
 use Rattle.mpeg_ts.specs.TransportPacket.{pid}
 use Rattle.mpeg_ts.specs.Window.{WindowValue, held_and_left}
 
--- The PID and the distance of packets; the bytes that were taken; so many bytes that are passed over
--- before the next item; whether reading is in step; how many bytes were skipped in a row; and what
--- is kept of the packets.
+-- The PID and the distance of packets; the bytes that were taken; so many bytes that are passed
+-- over before the next item; whether reading is in step; how many bytes were skipped in a row; and
+-- what is kept of the packets.
 pub record StreamValue : Type 0 where
   pub number : ℕ
   pub distance : ℕ
@@ -65,7 +66,8 @@ abbrev pub after_skipped : ℕ → ℕ → JoiningValue → JoiningValue
 after_skipped distance run j = if run + 1 == hole_size distance then after_note j Hole else j
 
 -- What holds of the numbers.
-pub record IsStream (distance lead run taken : ℕ) (in_step : Bool) : Type 0 where
+pub record IsStream (number distance lead run taken : ℕ) (in_step : Bool) : Type 0 where
+  pub is_pid : number ≤ greatest_pid
   pub near : 188 ≤ distance
   pub far : distance ≤ 204
   pub short_lead : lead ≤ 16

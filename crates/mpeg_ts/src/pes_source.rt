@@ -22,6 +22,10 @@ use sub_io::{Failed, Source};
 /// of the next where that packet was found out of step; a mark as soon as it is known. A PES packet
 /// is lent whole. It takes no memory beside its own.
 ///
+/// Where the source inside lends its bytes, PES packets whose transport packets follow one another
+/// in them, with nothing between, are taken together, at most 16 KiB at a time, and lent as one run
+/// of bytes.
+///
 /// Contracts see it as the source inside, and what was read of it.
 #[derive(Drop)]
 pub struct PesSource<S> {
@@ -92,7 +96,7 @@ impl<S: Source> Source for PesSource<S> {
         self.inner.failures()
     }
 
-    /// The bytes that are ready, a PES packet or a mark: none only where none are ready.
+    /// The bytes that are ready, PES packets or a mark: none only where none are ready.
     #[tactic(auto, using(crate::proofs::SourceLemmas::lends))]
     fn held(&self) -> &[u8]
         ensures bytes { AreNext result.now (prepend_known self.now.batch

@@ -54,7 +54,7 @@ impl Model for Stream {
       joining = s.joining;
     } };
 
-    ghost invariant = { λ s. IsStream
+    ghost invariant = { λ s. IsStream s.number
         s.distance s.lead s.run (length s.window.held + s.window.left) s.in_step };
 }
 
@@ -416,7 +416,7 @@ impl Stream {
         ensures idle { self.new.joining.pending ≡ [] }
         ensures count { S.failure_count source.new ≡ S.failure_count source.old }
     {
-        if !self.in_step || self.window.len() > 0 || self.lead > 0 || self.number > 0x1FFF {
+        if !self.in_step || self.window.len() > 0 || self.lead > 0 {
             return;
         }
         let Some(counter) = self.joining.counter_before() else {

@@ -60,4 +60,10 @@ cell_of_pair-small n byte next = grind (arith, nat_tests, cell_in-small)
 pub code_before-small : (n : National) (b : ℕ) (bytes : List ℕ)
     → HasSevenBits (code_before n b bytes).0
 code_before-small n b bytes =
-    grind (arith, nat_tests, cell_of_pair-small n b (first_of bytes), cell_of-small n b, other-small)
+    grind (
+      arith,
+      nat_tests,
+      cell_of_pair-small n b (first_of bytes),
+      cell_of-small n b,
+      other-small,
+    )

@@ -32,8 +32,8 @@ abbrev pub is_control : ℕ → Bool
 is_control byte = nat_lt byte 0x20 || is_within 0x80 0x9F byte
 
 -- Column C of code table 00: diacritical marks, each of which stands before its letter.
-abbrev pub is_mark : ℕ → Bool
-is_mark byte = is_within 0xC0 0xCF byte
+abbrev pub is_diacritical : ℕ → Bool
+is_diacritical byte = is_within 0xC0 0xCF byte
 
 -- The bytes that give the cells of their own numbers under each option: code table 00 of EBU Tech
 -- 3264 on the left, EN 300 706 on the right.
@@ -74,7 +74,7 @@ text_code national byte = unwrap_or (option_map Cell (cell_of national byte)) (c
 -- has the character of the two.
 unfoldable pub cell_of_pair : National → ℕ → Option ℕ → Option ℕ
 cell_of_pair national byte next =
-    if is_mark byte
+    if is_diacritical byte
     then option_and_then (cell_in (sub_set national).characters (Some byte)) next
     else None
 

@@ -1,5 +1,5 @@
 -- How far the check has come, as the checker keeps it. Private functions alone cite this.
-use Rattle.std.specs.Prelude.{◌≡◌, ℕ, ◌+◌, ◌*◌, ◌<◌, ◌≤◌, ◌&&◌, ◌||◌, ◌==◌, List, [], ◌∷◌, ◌++◌}
+use Rattle.std.specs.Prelude.{◌≡◌, ℕ, ◌+◌, ◌-◌, ◌*◌, ◌<◌, ◌≤◌, ◌&&◌, ◌||◌, ◌==◌, List, [], ◌∷◌, ◌++◌}
 use Rattle.std.specs.Prelude.{Option, Some, None, max, map, nat_le, nat_lt, is_some, not}
 use Rattle.std.specs.Prelude.{Bool, false, true, if◌then◌else◌}
 use Rattle.stl_file.specs.TimeCode.{day}
@@ -39,6 +39,11 @@ nothing_counted =
 -- More headers of the page.
 abbrev pub with_headers : ℕ → Counts → Counts
 with_headers headers n = record n { headers = n.headers + headers }
+
+-- The end of the last frame is still to come, which has so many headers of the page, and packets.
+abbrev pub left_open : ℕ → ℕ → Counts → Counts
+left_open headers packets n =
+    record n { headers_before = n.headers - headers; packets = packets; is_open = true }
 
 -- So many PES packets may have been counted.
 pub record AreFew (pes : ℕ) (n : Counts) : Type 0 where

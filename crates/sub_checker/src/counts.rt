@@ -1,6 +1,6 @@
 //! What is counted of the PES packets that were heard.
-ghost use Rattle.std.specs.Prelude.{◌≡◌};
-ghost use Rattle.sub_checker.specs.Checker.{nothing_counted};
+ghost use Rattle.std.specs.Prelude.{◌≡◌, ◌≤◌};
+ghost use Rattle.sub_checker.specs.Checker.{left_open, nothing_counted};
 
 /// What is counted of the PES packets that were heard, and of the frame of the last of them.
 #[derive(Clone, Copy)]
@@ -29,5 +29,17 @@ impl Counts {
             packets: 0,
             is_open: false,
         }
+    }
+
+    /// The end of the last frame is still to come: it has so many headers of the page, and packets.
+    /// Apart from what is done with each frame, which else would keep both counts of headers.
+    #[inline(never)]
+    pub fn leave_open(&mut self, headers: u8, packets: u32)
+        requires { headers ≤ self.old.headers }
+        ensures { self.new ≡ left_open headers packets self.old }
+    {
+        self.headers_before = self.headers - u64::from(headers);
+        self.packets = packets;
+        self.is_open = true;
     }
 }

@@ -8,11 +8,12 @@ ghost use Rattle.sub_checker.specs.Following.{Follows, Heard, Keeps, quiet_stage
 ghost use Rattle.sub_checker.specs.Passing.{Moves, StagePasses};
 ghost use Rattle.sub_packets.specs.Listener.{Knows};
 ghost use Rattle.sub_rules.specs.Events.{undue_after, wrong_after};
-ghost use Rattle.sub_rules.specs.FrameRules.{Task, packets_before};
-ghost use Rattle.sub_rules.specs.PacketRules.{header_count};
+ghost use Rattle.sub_rules.specs.FrameRules.{Task, packets_of_frame};
 ghost use Rattle.sub_rules.specs.PieceEvents.{marks_of_ending, marks_of_waiting};
 ghost use Rattle.sub_rules.specs.Transmission.{Transmission};
 ghost use Rattle.sub_plan.specs.Schedule.{due_in};
+ghost use Rattle.ttx_page.specs.PacketKind.{kind};
+ghost use Rattle.ttx_page.specs.Span.{holds_header};
 
 use crate::checker::Checker;
 use crate::late_end::{is_overdue, unfinished_from};
@@ -252,8 +253,8 @@ impl<'a> Checker<'a> {
         }
     }
 
-    /// The end of the frame of the PES packets that were heard last: that the first one has a
-    /// header of the page, and what stands broken.
+    /// The end of the frame of the PES packets that were heard last, among which there is a header
+    /// of the page or none: that the first one has one, and what stands broken.
     ///
     /// # Errors
     ///
@@ -261,7 +262,7 @@ impl<'a> Checker<'a> {
     #[inline(always)]
     pub fn end_sent<A: Audience<Event>>(
         &mut self,
-        headers_before: u64,
+        has_header: bool,
         stage: &mut Stage<'_, A>,
     ) -> Result<(), Stopped>
         requires goes_on { A.has_stopped stage.old.device.now ≡ false }
@@ -270,11 +271,10 @@ impl<'a> Checker<'a> {
         ensures counts { self.new.counts ≡ self.old.counts }
         ensures told { (g : Task) (frames : Transmission) (n : ℕ) (last : List (List ℕ))
             → Heard g frames n last self.old → n < length frames
-            → headers_before ≡ header_count g.watched.page (packets_before frames n)
+            → has_header ≡ holds_header (kind g.watched.page) (packets_of_frame frames n)
             → StagePasses A.is_told stage.old (marks_of_ending g frames n) stage.new result
             × OnOk result (Follows g frames (suc n) last self.new) }
     {
-        let has_header = headers_before < self.counts.headers;
         let is_told = lacks_first(self.counts.frames, has_header);
         let fault = CheckFault::NoFirstHeader { frame: self.frame };
         tell_if(is_told, Event::Told(fault), stage)?;
@@ -324,8 +324,8 @@ impl<'a> Checker<'a> {
             × OnOk result (Follows g sent (length sent) last self.new) }
     {
         self.counts.is_open = false;
-        let headers_before = self.counts.headers_before;
-        self.end_sent(headers_before, stage)
+        let has_header = self.counts.headers_before < self.counts.headers;
+        self.end_sent(has_header, stage)
     }
 }
 

@@ -1,8 +1,8 @@
 //! The exact checker: tells all that is broken of a PES file, one PES packet at a time.
 //!
 //! Stands on `sub_rules`, which says what is asked, and on `sub_packets`, which tells the rules
-//! that a sending's packets break and holds what they show. What its events mean for acceptance, and
-//! for receivers, `sub_check` says.
+//! that a sending's packets break and holds what they show. What its events mean for acceptance,
+//! and for receivers, `sub_check` says.
 //!
 //! ```text
 //! tell_pieces(&programme, &mut source, &options, &mut audience)?; // Accepted { frames: 51, .. }

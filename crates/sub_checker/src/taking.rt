@@ -1,13 +1,13 @@
 //! A PES packet that is sent: the way to its frame, its packets, and the end of its frame.
 ghost use Rattle.std.specs.Prelude.{◌≡◌, ℕ, suc, ◌+◌, ◌<◌, ◌≤◌, ◌==◌, ◌&&◌, List, OnOk, map};
-ghost use Rattle.std.specs.Prelude.{false, is_err, length, true};
+ghost use Rattle.std.specs.Prelude.{IfOk, false, is_err, length, true};
 ghost use Rattle.stl_file.specs.TimeCode.{day};
 ghost use Rattle.ttx_pes.specs.PesPacket.{most_units};
 ghost use Rattle.ttx_pes.specs.Reading.{most_packets};
 ghost use Rattle.sub_packets.specs.Listener.{KnowsLast};
 ghost use Rattle.sub_rules.specs.Events.{packets_told};
 ghost use Rattle.sub_rules.specs.FrameRules.{Task};
-ghost use Rattle.sub_rules.specs.PacketRules.{packets_of_units};
+ghost use Rattle.sub_rules.specs.PacketRules.{header_count, packets_of_units};
 ghost use Rattle.sub_rules.specs.PieceEvents.{marks_of_more, marks_of_sent};
 ghost use Rattle.sub_rules.specs.Pieces.{sent_after, with_packets};
 ghost use Rattle.sub_rules.specs.Sendings.{IsSentFrame};
@@ -98,15 +98,12 @@ impl<'a> Checker<'a> {
     {
         self.reach(sending.frame, stage)?;
         stage.begin_frame(sending.frame);
-        let headers_before = self.counts.headers;
-        self.hear(sending.again, 0, units, stage)?;
+        let headers = self.hear(sending.again, 0, units, stage)?;
         self.counts.frames += 1;
         if self.within == 0 {
-            return self.end_sent(headers_before, stage);
+            return self.end_sent(headers > 0, stage);
         }
-        self.counts.headers_before = headers_before;
-        self.counts.packets = units.len() as u32;
-        self.counts.is_open = true;
+        self.counts.leave_open(headers, units.len() as u32);
         Ok(())
     }
 
@@ -141,7 +138,8 @@ impl<'a> Checker<'a> {
         Ok(())
     }
 
-    // Packets of the frame that was reached, the first of them this one of it.
+    // Packets of the frame that was reached, the first of them this one of it: how many headers of
+    // the page are among them.
     #[inline(always)]
     fn hear<A: Audience<Event>>(
         &mut self,
@@ -149,14 +147,14 @@ impl<'a> Checker<'a> {
         from: u32,
         units: &SentUnits<'_>,
         stage: &mut Stage<'_, A>,
-    ) -> Result<(), Stopped>
+    ) -> Result<u8, Stopped>
         requires goes_on { A.has_stopped stage.old.device.now ≡ false }
         requires few { length units.now ≤ most_units }
         requires room { self.old.counts.headers < 0xFFFF_FFFF_FF00 }
         requires from { from + most_units ≤ u32.MAX }
         ensures stopped { A.has_stopped stage.new.device.now ≡ is_err result }
         ensures moves { Moves A.is_told A.has_stopped stage.old stage.new }
-        ensures counts { OnOk result ((headers : ℕ) × (headers ≤ 255)
+        ensures counts { IfOk result (λ headers. (headers ≤ 255)
             × (self.new.counts ≡ with_headers headers self.old.counts)) }
         ensures told { (heard last : List (List ℕ))
             → KnowsLast heard last self.old.listener
@@ -164,12 +162,14 @@ impl<'a> Checker<'a> {
             → StagePasses A.is_told stage.old
             (map Says (packets_told self.old.listener.watched self.old.frame from heard
             (packets_of_units units.now) (length (packets_of_units units.now)))) stage.new result
-            × OnOk result (HasHeard heard (packets_of_units units.now) self.old self.new) }
+            × IfOk result (λ headers.
+            HasHeard heard (packets_of_units units.now) self.old self.new × (headers ≡ header_count
+            self.old.listener.watched.page (packets_of_units units.now))) }
     {
         let headers = self
             .listener
             .hear_sending(units, again, self.frame, from, stage)?;
         self.count(headers);
-        Ok(())
+        Ok(headers)
     }
 }

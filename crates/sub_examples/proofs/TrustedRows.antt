@@ -1,7 +1,8 @@
 -- Which frames are told as trusted, by the definition: examples_of_trusted.
 use Rattle.std.proofs.Common.{refl}
 use Rattle.sub_rules.specs.Trusted.{at_pes, doubted_by, last_begun, late_of, pes_told, run_of}
-use Rattle.sub_rules.specs.Trusted.{since_of, stays_quiet, tells_fall, told_after, told_at, whole_of}
+use Rattle.sub_rules.specs.Trusted.{since_of, stays_quiet, tells_fall, told_after, told_at}
+use Rattle.sub_rules.specs.Trusted.{whole_of}
 use Rattle.sub_examples.specs.TrustedExamples.{ExamplesOfTrusted}
 
 pub examples_of_trusted : ExamplesOfTrusted

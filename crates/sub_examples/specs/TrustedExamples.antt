@@ -21,6 +21,8 @@ well pes f = AtPes pes ∷ Begins f ∷ Ends f true true ∷ []
 abbrev pub over : ℕ → List Mark
 over pes = AtPes pes ∷ Closes false false ∷ []
 
+-- For each thing that may come of a file one example: what comes, and what is told of it, with the
+-- frames that are told as trusted.
 pub record ExamplesOfTrusted : Type 0 where
   -- Nothing is told: no frame is told as trusted either.
   pub nothing : IsToldOf [] (well 0 0 ++ well 1 50 ++ over 2)

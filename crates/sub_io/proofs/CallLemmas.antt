@@ -1,6 +1,6 @@
 -- The calls of a filling and of a writing, one call more.
-use Rattle.std.proofs.Common.{◌≡◌, ℕ, ◌-◌, ◌<◌, true, false, Bool, List, [], ◌∷◌, ◌++◌, length}
-use Rattle.std.proofs.Common.{Option, Some, None, inl, inr, refl, subst, ◌+◌, ◌≤◌, arith, drop}
+use Rattle.std.proofs.Common.{◌≡◌, ℕ, ◌-◌, ◌<◌, true, false, Bool, List, [], ◌∷◌, length}
+use Rattle.std.proofs.Common.{Option, Some, None, inl, inr, refl, ◌+◌, ◌≤◌, arith, drop}
 use Rattle.std.proofs.Common.{drop-drop, length-drop}
 use Rattle.std.proofs.lemmas.List.{nil_from_length}
 use Rattle.sub_io.specs.Calls.{FillsByPulls, PutsByPushes}

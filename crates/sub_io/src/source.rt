@@ -54,8 +54,8 @@ pub trait Source {
         &[]
     }
 
-    /// Reads on until it lends bytes, where it makes them of those of the device below it; any other
-    /// device does nothing. It gives none.
+    /// Reads on until it lends bytes, where it makes them of those of the device below it; any
+    /// other device does nothing. It gives none.
     ///
     /// # Errors
     ///

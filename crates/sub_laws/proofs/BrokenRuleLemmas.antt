@@ -77,7 +77,16 @@ one_mode this first = grind (arith, nat_tests, mode-none)
 subtitle_header : (national : National) (h : Header)
     → Decides (is_subtitle_header national h) (IsSubtitleHeader national h)
 subtitle_header national h =
-    grind (arith, nat_tests, Decides-like, is_subtitle_header, Decides-and, holds, fails, same_option)
+    grind (
+      arith,
+      nat_tests,
+      Decides-like,
+      is_subtitle_header,
+      Decides-and,
+      holds,
+      fails,
+      same_option,
+    )
 
 -- What is asked of a header of the page alone.
 of_this_page : (P : Header → Type 0) (b : Bool) (this : Header) → Decides b (P this)

@@ -18,7 +18,7 @@ use Rattle.std.specs.Io.KnownBytes.{Consumes, IsAtEnd, Keeps, prepend_known}
 use Rattle.sub_io.specs.Device.{PassesOver, Pulls}
 use Rattle.sub_io.specs.Reading.{AreNext, IfTold}
 use Rattle.ttx_pes.specs.PieceRange.{AheadValue, IsAhead, KeepsIndex, PieceRangeValue, first_index}
-use Rattle.ttx_pes.specs.PieceRange.{behind_pieces, count_pieces, given_by_phase, lent_of}
+use Rattle.ttx_pes.specs.PieceRange.{behind_pieces, count_pieces, lent_of}
 use Rattle.ttx_pes.specs.PieceRange.{first_pieces, if_whole, piece_size, told_index, told_of}
 use Rattle.ttx_pes.specs.PieceRange.{told_piece, limited}
 use Rattle.ttx_pes.specs.Reading.{size_at}
@@ -367,14 +367,6 @@ told_lent next held None (Some size) are none e = λ bytes is. absurd cc
 told_lent next [] (Some b) (Some size) are none e = told_next next (Some b) size are (sym e)
 told_lent next (h ∷ held) (Some b) (Some size) are none e = absurd (omega (arith, none))
 
--- The source inside read on. For `read_on`.
-pub told_on : (p : Phase) (x y : Option (List ℕ)) (held : List ℕ) (n : ℕ) (left : Option ℕ)
-    → Keeps x y
-    → Keeps (told_of p n left held x) (told_of p n left held y)
-told_on p None y held n left k = tt
-told_on p (Some x) None held n left k = absurd k
-told_on p (Some x) (Some y) held n left k = ap (λ l. given_by_phase p n left (held ++ l)) k
-
 -- ---- what is pulled
 
 -- A pull after what was given stayed as it was.
@@ -440,15 +432,6 @@ pulls_piece E (Some x) (Some y) old new part to size n m left some le fits same 
     )
 
 -- ---- what is lent
-
--- Where the source inside lends nothing, nothing is lent. For `read_on`.
-pub lent_inside : (p : Phase) (held lent : List ℕ) → lent_of p held lent ≢ [] → lent ≢ []
-lent_inside Passing held lent some none = some refl
-lent_inside Between held lent some none = some refl
-lent_inside (Giving k) [] lent some none = some (ap (take k) none ∙ take_all k [] (omega arith))
-lent_inside (Giving k) (h ∷ held) lent some none = some refl
-lent_inside Open [] lent some none = some none
-lent_inside Open (h ∷ held) lent some none = some refl
 
 -- What is lent of a piece comes next. For `held`.
 pub lent_next : (next lent held : List ℕ) (x : Option (List ℕ)) (size n m : ℕ) (left : Option ℕ)

@@ -15,8 +15,6 @@ use Rattle.ttx_pes.specs.declared.fault.PesFault.{PesFault}
 use Rattle.ttx_pes.specs.declared.fault.PesFault.TheVariants as fault
 use Rattle.ttx_pes.specs.declared.progress.Progress.{Progress}
 use Rattle.ttx_pes.specs.declared.progress.Progress.TheVariants.{Reading}
-use Rattle.ttx_pes.specs.Fault.{is_of_piece}
-use Rattle.ttx_pes.specs.Pieces.{TakesPiece}
 use Rattle.ttx_pes.specs.PesPacket.{PesValue, IsPesPacket}
 use Rattle.ttx_pes.specs.Reading.{most_packets, size_at, value_at, packet_at, answer_at, rest_after}
 use Rattle.ttx_pes.specs.Reading.{is_format_fault}
@@ -279,7 +277,7 @@ tells_failed_on given x y k = tells_failed given x y (record {
   begun = inl (omega arith);
 })
 
--- What was taken of a packet, and of a piece.
+-- What was taken of a packet.
 pub takes_on : (x y z : Option (List ℕ)) (v : PesValue) (field : List ℕ)
     → Keeps x y
     → TakesDataField y z v field
@@ -293,18 +291,4 @@ takes_on x y z v field k t =
         consumed = Consumes-on x y z p.bytes k p.consumed;
       };
       field_is = t.field_is;
-    }
-
-pub piece_on : {C : Type 0} (x y z : Option (List ℕ)) (r : Result C PesFault)
-    → Keeps x y
-    → IfErr r (λ f. is_of_piece f ≡ true → TakesPiece y z f)
-    → IfErr r (λ f. is_of_piece f ≡ true → TakesPiece x z f)
-piece_on x y z (Ok v) k h = tt
-piece_on x y z (Err f) k h = λ kind.
-    let t = h kind in
-    record {
-      bytes = t.bytes;
-      is_piece = t.is_piece;
-      consumed = Consumes-on x y z t.bytes k t.consumed;
-      refused = t.refused;
     }

@@ -1,6 +1,6 @@
 //! The PES packet that was read last, and room for the next.
 ghost use Rattle.std.specs.Prelude.{◌≡◌, ◌≢◌, ◌+◌, ◌≤◌, false, true, [], Ok, IfErr};
-ghost use Rattle.std.specs.Prelude.{Some, if◌then◌else◌};
+ghost use Rattle.std.specs.Prelude.{IsOk, Some, if◌then◌else◌};
 ghost use Rattle.std.specs.Io.KnownBytes.{Keeps};
 ghost use Rattle.sub_io.specs.Device.{CanFail, CountsFailure, CountsIf, failed};
 ghost use Rattle.ttx_pes.specs.Comparing.{as_given, TakesDataField};
@@ -103,19 +103,21 @@ fn read_compared<S: Source>(
     }
 }
 
-// Has the source read on where it lends nothing, so that it lends the next packet. That is looked
-// for only where the packet in the room was sent again.
+// Has the source read on where it lends nothing, and answers whether it lends bytes since. That is
+// looked for only where the packet in the room was sent again. A source that can't read on is known
+// to lend nothing still, so that no code is left of this.
 #[inline(always)]
-fn read_on_again<S: Source>(given: u32, source: &mut S, held: &HeldPacket) -> Result<(), Failed>
+fn read_on_again<S: Source>(given: u32, source: &mut S, held: &HeldPacket) -> Result<bool, Failed>
     requires count { CanFail (S.failure_count source.old) }
     ensures bytes { Keeps (S.remaining source.old) (S.remaining source.new) }
-    ensures lent { S.lent source.old ≢ [] → (source.new ≡ source.old) × (result ≡ Ok tt) }
+    ensures lent { S.lent source.old ≢ [] → (source.new ≡ source.old) × IsOk result }
     ensures count { CountsFailure (S.failure_count source.old) result (S.failure_count source.new) }
 {
     if !held.repeats() || given == MOST_PACKETS || !source.held().is_empty() {
-        return Ok(());
+        return Ok(false);
     }
-    source.read_on()
+    source.read_on()?;
+    Ok(!source.held().is_empty())
 }
 
 // Passes over the packet that the source lends next, and answers whether it did: where that is the
@@ -218,12 +220,37 @@ impl KeptFrame {
         ensures lent { holds_packet (S.lent source.old) ≡ true → failed is_read result ≡ false }
         ensures count { CountsIf S.failure_count source.old (failed is_read result) source.new }
     {
-        read_on_again(given, source, &self.held)?;
-        self.read_lent(given, source)
+        if self.pass_again(given, source) {
+            return Ok(Compared::Same);
+        }
+        if read_on_again(given, source, &self.held)? {
+            return self.read_lent(given, source);
+        }
+        self.read_other(given, source)
     }
 
-    // The same, where the source read on before.
+    // Passes over the next packet, where the source lends it and it is the one that is kept, sent
+    // again.
     #[inline(always)]
+    fn pass_again<S: Source>(&mut self, given: u32, source: &mut S) -> bool
+        requires { CanFail (S.failure_count source.old) }
+        ensures tells { result ≡ true → TellsPacket (Reading given) (S.remaining source.old)
+            (S.remaining source.new) (Ok (Some self.new.frame)) }
+        ensures taken { result ≡ true → TakesDataField (S.remaining source.old)
+            (S.remaining source.new) self.new.frame self.new.data_field }
+        ensures same { self.new.data_field ≡ self.old.data_field }
+        ensures units { self.new.frame.units ≡ self.old.frame.units }
+        ensures below { result ≡ true → given ≢ most_packets }
+        ensures none { result ≡ false → (source.new ≡ source.old) × (self.new ≡ self.old) }
+        ensures count { S.failure_count source.new ≡ S.failure_count source.old }
+    {
+        let kept = kept_in(self.in_second, &self.first, &self.second);
+        passes_again(given, source, kept, &mut self.held)
+    }
+
+    // Takes the next packet, and compares it, where the source lends bytes since it read on. These
+    // are few packets: this stands apart, so that the others are passed over quicker.
+    #[inline(never)]
     fn read_lent<S: Source>(&mut self, given: u32, source: &mut S) -> Result<Compared, PesFault>
         requires { CanFail (S.failure_count source.old) }
         ensures tells { TellsPacket (Reading given) (S.remaining source.old)
@@ -241,10 +268,31 @@ impl KeptFrame {
         ensures lent { holds_packet (S.lent source.old) ≡ true → failed is_read result ≡ false }
         ensures count { CountsIf S.failure_count source.old (failed is_read result) source.new }
     {
-        let kept = kept_in(self.in_second, &self.first, &self.second);
-        if passes_again(given, source, kept, &mut self.held) {
+        if self.pass_again(given, source) {
             return Ok(Compared::Same);
         }
+        self.read_other(given, source)
+    }
+
+    // Reads the next packet, and compares it with the one that is kept.
+    #[inline(always)]
+    fn read_other<S: Source>(&mut self, given: u32, source: &mut S) -> Result<Compared, PesFault>
+        requires { CanFail (S.failure_count source.old) }
+        ensures tells { TellsPacket (Reading given) (S.remaining source.old)
+            (S.remaining source.new) (given_frame (as_given result) self.new.frame) }
+        ensures taken { as_given result ≡ Ok true → TakesDataField (S.remaining source.old)
+            (S.remaining source.new) self.new.frame self.new.data_field }
+        ensures same { result ≡ Ok Same → self.new.data_field ≡ self.old.data_field }
+        ensures units { result ≡ Ok Same → self.new.frame.units ≡ self.old.frame.units }
+        ensures other { result ≡ Ok Other → self.new.data_field ≢ self.old.data_field }
+        ensures below { as_given result ≡ Ok true → given ≢ most_packets }
+        ensures piece { IfErr result (λ fault. is_of_piece fault ≡ true
+            → TakesPiece (S.remaining source.old) (S.remaining source.new) fault) }
+        ensures before_piece { IfErr result (λ fault. is_of_piece fault ≡ true
+            → given ≢ most_packets) }
+        ensures lent { holds_packet (S.lent source.old) ≡ true → failed is_read result ≡ false }
+        ensures count { CountsIf S.failure_count source.old (failed is_read result) source.new }
+    {
         if self.in_second {
             self.in_second = false;
             read_compared(given, source, &mut self.first, &self.second, &mut self.held)

@@ -154,8 +154,8 @@ impl<S: Source> RangeSource<S> {
         told_piece(self.inner.held())
     }
 
-    // Begins the next piece, where the range has room for it and its size is known by bytes that the
-    // source inside lends.
+    // Begins the next piece, where the range has room for it and its size is known by bytes that
+    // the source inside lends.
     #[inline(always)]
     fn begin_lent(&mut self)
         requires phase { self.old.phase ≡ Phase.Between }
@@ -322,8 +322,8 @@ impl<S: Source> Source for RangeSource<S> {
         self.settle()
     }
 
-    /// Passes over bytes that are lent, in the source inside. Behind the last of a piece the next one
-    /// is lent at once, where its size is known by what the source inside lends.
+    /// Passes over bytes that are lent, in the source inside. Behind the last of a piece the next
+    /// one is lent at once, where its size is known by what the source inside lends.
     #[inline(always)]
     fn pass(&mut self, count: usize) -> bool {
         if !self.held.bytes().is_empty() {

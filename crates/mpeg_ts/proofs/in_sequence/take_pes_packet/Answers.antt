@@ -1,6 +1,6 @@
 -- The first payload, and then the others: began, was_given.
-use Rattle.std.proofs.Common.{◌≡◌, ◌≤◌, ◌+◌, ◌%◌, ◌==◌, ◌++◌, ℕ, List, length, take, drop, true, ap, sym, ◌∙◌}
-use Rattle.std.proofs.Common.{arith, length-take-le, Ok}
+use Rattle.std.proofs.Common.{◌≡◌, ◌≤◌, ◌+◌, ◌%◌, ◌==◌, ◌++◌, ℕ, List, length, take, drop, true}
+use Rattle.std.proofs.Common.{ap, arith, length-take-le, sym, ◌∙◌, Ok}
 use Rattle.std.proofs.lemmas.Bool.Decides.{nat_tests}
 use Rattle.ttx_pes.specs.Reading.{size_at}
 use Rattle.mpeg_ts.specs.InSequence.{joined_so_far, plain_header}
@@ -17,7 +17,8 @@ returns-clause-gives c =
     let bytes = c.args.bytes.now in
     let to = c.take_rest.new.to in
     let found : size_at (take 6 (drop 4 packet)) ≡ Ok size = grind (arith, nat_tests) in
-    let within : size ≤ length to = omega (arith, c.take_rest.ensures.len, c.copy_payload.ensures.len) in
+    let within : size ≤ length to =
+    omega (arith, c.take_rest.ensures.len, c.copy_payload.ensures.len) in
     let long : length (take size to) ≡ size = length-take-le size to within in
     if_some c.take_rest.result
     (λ t same gives. λ v on rest.

@@ -50,6 +50,7 @@ loop-taken-preserved c =
           ∙ ap (λ k. k ++ stream_gives spacing.distance spacing.number 0 true
           (behind_packet head packet) (drop l.last.place (bytes ++ rest))) (sym same))
           (taken.gives (behind_packet head packet)
-          (goes_on_behind spacing.number l.last.counter (l.last.size == 184) packet inv.counter least)
+          (goes_on_behind spacing.number l.last.counter (l.last.size == 184) packet inv.counter
+          least)
           rest);
     }

@@ -34,8 +34,8 @@ loop-done-preserved c =
           (ap (take 6) copied ∙ take-append-le 6 so_far (drop 4 packet) (omega (arith, long)))
           ∙ inv.size;
       gives = λ rest. rw (other, copied)
-          (went_on spacing.distance spacing.number l.place l.counter size c.args.bytes.now rest packet
-          (plain_header spacing.number (l.done == 184) l.counter) so_far c.requires.near
+          (went_on spacing.distance spacing.number l.place l.counter size c.args.bytes.now rest
+          packet (plain_header spacing.number (l.done == 184) l.counter) so_far c.requires.near
           c.in-Some.ensures.there c.in-Some.ensures.packet (omega arith) c.requires.number
           (c.in-Some.ensures.header ∙ c.plain_header-header.ensures) inv.size (omega (arith, long))
           (omega (arith, long))

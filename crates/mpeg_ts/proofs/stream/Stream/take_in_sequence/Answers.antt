@@ -1,6 +1,6 @@
 -- What is left behind PES packets that follow one another: sequence_kept.
-use Rattle.std.proofs.Common.{◌≡◌, ◌≤◌, ◌-◌, ◌==◌, ◌++◌, [], List, ℕ, length, drop, true, ap, sym, ◌∙◌}
-use Rattle.std.proofs.Common.{arith, length-take, rules}
+use Rattle.std.proofs.Common.{◌≡◌, ◌≤◌, ◌-◌, ◌==◌, ◌++◌, [], List, ℕ, length, drop, true}
+use Rattle.std.proofs.Common.{ap, arith, length-take, rules, sym, ◌∙◌}
 use Rattle.std.proofs.lemmas.List.{nil_from_length}
 use Rattle.mpeg_ts.specs.InSequence.{behind_packet, plain_header}
 use Rattle.mpeg_ts.specs.Joining.{JoiningValue}
@@ -18,7 +18,8 @@ returns-clause-keeps g c =
     let given = c.take.new.self in
     let lent = c.held-lent.result.now in
     let head = plain_header i.number (last.size == 184) last.counter in
-    let joined : c.set_behind.new.self ≡ behind_packet head (drop (length given - last.size) given) =
+    let joined : c.set_behind.new.self
+    ≡ behind_packet head (drop (length given - last.size) given) =
     c.set_behind.ensures
     ∙ ap (λ (h : List ℕ). behind_packet h c.last.result.now) c.plain_header-header.ensures
     ∙ ap (behind_packet head) c.last.ensures in

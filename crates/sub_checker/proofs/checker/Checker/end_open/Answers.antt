@@ -1,6 +1,7 @@
 -- The end, after which none is still to come: by TakingLemmas.
-use Rattle.std.proofs.Common.{◌-◌, ◌∙◌, length, arith, ap, false}
+use Rattle.std.proofs.Common.{◌-◌, ◌<◌, ◌∙◌, length, arith, ap, false}
 use Rattle.sub_checker.specs.Checker.{CheckerValue}
+use Rattle.sub_checker.proofs.HearingLemmas.{header_more}
 use Rattle.sub_checker.proofs.TakingLemmas.{follows_all, heard_shut, waiting_some}
 use Rattle.sub_checker.proofs.StageLemmas.{passes_same}
 use Rattle.sub_checker.proofs.checker.Checker.end_open.Goals as goal
@@ -10,12 +11,15 @@ returns-clause-told g c = λ task sent last keeps.
     let opened = c.requires.opened in
     let opens = keeps.opens opened in
     let some = keeps.some opened in
-    let end =
-    c.end_sent.ensures.told task sent (length sent - 1) last
-    (heard_shut task sent (length sent - 1) last c.args.self.now _
+    let shut =
+    heard_shut task sent (length sent - 1) last c.args.self.now _
     (ap (λ (v : CheckerValue). record v { counts = record v.counts { is_open = false } })
-    c.self.view_is) opens.heard) (omega (arith, some))
-    (ap (λ (v : CheckerValue). v.counts.headers_before) c.self.view_is ∙ opens.before) in (
+    c.self.view_is) opens.heard in
+    let there : length sent - 1 < length sent = omega (arith, some) in
+    let end =
+    c.end_sent.ensures.told task sent (length sent - 1) last shut there
+    (header_more task sent (length sent - 1) last _ shut _ there
+    (ap (λ (v : CheckerValue). v.counts.headers_before) c.self.view_is ∙ opens.before)) in (
       passes_same (waiting_some task sent last c.args.self.now keeps opened) end.0,
       follows_all c.end_sent.result task sent last _ some end.1,
     )

@@ -8,7 +8,6 @@ use Rattle.sub_rules.specs.declared.event.Event.{Event}
 use Rattle.sub_checker.specs.Following.{Follows, Heard}
 use Rattle.sub_checker.specs.Passing.{at_mark}
 use Rattle.sub_checker.proofs.HearingLemmas.{end_mark, ending_marks, first_told, follows_then}
-use Rattle.sub_checker.proofs.HearingLemmas.{header_more}
 use Rattle.sub_checker.proofs.PassingLemmas.{silent_ends}
 use Rattle.sub_checker.proofs.StageLemmas.{Moves-ends, Moves-tells, Moves-trans, ok_whole}
 use Rattle.sub_checker.proofs.StageLemmas.{passes_same, stops_two, told_ok, told_part, whole_mark}
@@ -42,10 +41,9 @@ returns-clause-moves g c =
     c.end_frame.new.self _ _ _ c.end_frame.ensures)
 
 pub returns-in_err-tell_if-clause-told : goal.returns-in_err-tell_if-clause-told
-returns-in_err-tell_if-clause-told g c = λ task frames n last heard there before.
+returns-in_err-tell_if-clause-told g c = λ task frames n last heard there has.
     let p = err_from_is_err_and c.from_residual.result c.from_residual.ensures.1 in
     let here = subst (Heard task frames n last) (sym c.self.view_is) heard in
-    let has = header_more task frames n last _ here c.args.headers_before there before in
     let first = first_told task frames n last _ here _ _ has c.lacks_first-is_told.ensures in
     rw p.1 (
       told_part g.A.Audience.is_told g.A.Audience.has_stopped c.args.stage.now
@@ -57,11 +55,10 @@ returns-in_err-tell_if-clause-told g c = λ task frames n last heard there befor
     )
 
 pub returns-in_err-end_of_frame-clause-told : goal.returns-in_err-end_of_frame-clause-told
-returns-in_err-end_of_frame-clause-told g c = λ task frames n last heard there before.
+returns-in_err-end_of_frame-clause-told g c = λ task frames n last heard there has.
     let r = c.from_residual-in_err-end_of_frame in
     let p = err_from_is_err_and r.result r.ensures.1 in
     let here = subst (Heard task frames n last) (sym c.self.view_is) heard in
-    let has = header_more task frames n last _ here c.args.headers_before there before in
     let first = first_told task frames n last _ here _ _ has c.lacks_first-is_told.ensures in
     let marks = ending_marks task frames n last _ heard c.in_err-end_of_frame.ensures.due in
     let told =
@@ -76,9 +73,8 @@ returns-in_err-end_of_frame-clause-told g c = λ task frames n last heard there 
     )
 
 pub returns-clause-told : goal.returns-clause-told
-returns-clause-told g c = λ task frames n last heard there before.
+returns-clause-told g c = λ task frames n last heard there has.
     let here = subst (Heard task frames n last) (sym c.self.view_is) heard in
-    let has = header_more task frames n last _ here c.args.headers_before there before in
     let first = first_told task frames n last _ here _ _ has c.lacks_first-is_told.ensures in
     let due = c.in_ok-end_of_frame.ensures.due in
     let marks = ending_marks task frames n last _ heard due in

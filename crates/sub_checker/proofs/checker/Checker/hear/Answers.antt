@@ -39,29 +39,32 @@ returns-clause-told g c = λ heard last knows again.
     let ps = packets_of_units c.args.units.now in
     let here = subst (λ (v : CheckerValue). KnowsLast heard last v.listener) (sym c.self.view_is)
     knows in
-    let hears = c.in_ok-headers.ensures.knows heard last here again in (
+    let hears = c.in_ok-headers.ensures.knows heard last here again in
+    let count =
+    hears.1 ∙ ap (λ (v : CheckerValue). header_count v.listener.watched.page ps) c.self.view_is in (
       ok_whole refl
           (told_ok g.A.Audience.is_told g.A.Audience.has_stopped c.args.stage.now
           c.hear_sending.new.audience _
           (ap (λ (v : CheckerValue). map Says (packets_told v.listener.watched v.frame c.args.from
           heard ps (length ps))) (sym c.self.view_is)) c.in_ok-headers.ensures.stopped hears.2),
-      record {
-        listener = c.hear_sending.new.self;
-        headers = c.in_ok-headers.headers;
-        new_is =
-            c.count.ensures
-            ∙ ap (λ (v : CheckerValue). after_headers c.in_ok-headers.headers (record v {
-              listener = c.hear_sending.new.self;
-            })) c.self.view_is;
-        watched =
-            c.in_ok-headers.ensures.watched
-            ∙ ap (λ (v : CheckerValue). v.listener.watched) c.self.view_is;
-        due =
-            c.in_ok-headers.ensures.due
-            ∙ ap (λ (v : CheckerValue). v.listener.comparison.due) c.self.view_is;
-        knows = hears.0;
-        count =
-            hears.1
-            ∙ ap (λ (v : CheckerValue). header_count v.listener.watched.page ps) c.self.view_is;
-      },
+      (
+        record {
+          listener = c.hear_sending.new.self;
+          headers = c.in_ok-headers.headers;
+          new_is =
+              c.count.ensures
+              ∙ ap (λ (v : CheckerValue). after_headers c.in_ok-headers.headers (record v {
+                listener = c.hear_sending.new.self;
+              })) c.self.view_is;
+          watched =
+              c.in_ok-headers.ensures.watched
+              ∙ ap (λ (v : CheckerValue). v.listener.watched) c.self.view_is;
+          due =
+              c.in_ok-headers.ensures.due
+              ∙ ap (λ (v : CheckerValue). v.listener.comparison.due) c.self.view_is;
+          knows = hears.0;
+          count = count;
+        },
+        count,
+      ),
     )

@@ -49,7 +49,7 @@ returns-clause-told g c = λ task sent last keeps again.
           (marks ∙ ap (λ (k : ℕ). map Says (packets_told c.args.self.now.listener.watched
           c.args.self.now.frame k (packets_before sent (suc (length sent - 1))) ps (length ps)))
           (sym from)) heard.0,
-      more_keeps task sent last ps c.args.self.now c.hear.new.self _ _ keeps opened heard.1
+      more_keeps task sent last ps c.args.self.now c.hear.new.self _ _ keeps opened heard.1.0
           (ap (λ (v : CheckerValue). record v {
             counts = record v.counts { packets = v.counts.packets + c.len.result };
           }) c.self-2.view_is)

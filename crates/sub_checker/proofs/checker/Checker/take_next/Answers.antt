@@ -1,9 +1,12 @@
 -- The way to its frame, its packets, and the end where that comes at once: by TakingLemmas.
-use Rattle.std.proofs.Common.{◌∙◌, ◌+◌, ℕ, true, ap, refl, sym, subst, arith}
+use Rattle.std.proofs.Common.{◌∙◌, ◌+◌, ◌-◌, ℕ, nat_lt, true, ap, refl, sym, subst, arith}
 use Rattle.std.proofs.lemmas.List.{length-map}
 use Rattle.std.proofs.lemmas.Result.{err_from_is_err_and}
 use Rattle.sub_rules.specs.FrameRules.{Task, packets_before}
-use Rattle.sub_rules.specs.PacketRules.{packets_of_units}
+use Rattle.sub_rules.specs.PacketRules.{header_count, packets_of_units}
+use Rattle.sub_rules.proofs.PacketLists.{holds-count}
+use Rattle.ttx_page.specs.PacketKind.{kind}
+use Rattle.ttx_page.specs.Span.{holds_header}
 use Rattle.sub_checker.specs.Checker.{CheckerValue}
 use Rattle.sub_checker.specs.Following.{Follows}
 use Rattle.sub_checker.specs.declared.counts.Counts.{Counts}
@@ -23,24 +26,24 @@ returns-in_err-reach-clause-told g c = λ task frames n last follows long sent a
     let reached = c.in_err-reach.ensures.told task frames n last follows sent.frame_is in
     rw p.1 (stops_one _ (reached_part task frames n) reached.0, tt)
 
-pub returns-in_err-hear-clause-moves : goal.returns-in_err-hear-clause-moves
-returns-in_err-hear-clause-moves g c =
+pub returns-in_err-headers-clause-moves : goal.returns-in_err-headers-clause-moves
+returns-in_err-headers-clause-moves g c =
     Moves-trans g.A.Audience.is_told g.A.Audience.has_stopped c.args.stage.now
     c.reach.new.stage c.hear.new.stage c.in_ok-reach.ensures.moves c.in_ok-reach.ensures.stopped
     (Moves-marked g.A.Audience.is_told g.A.Audience.has_stopped _ c.reach.new.stage
     c.begin_frame.new.self c.hear.new.stage c.begin_frame.ensures
     (Moves-begins g.A.Audience.is_told g.A.Audience.has_stopped c.reach.new.stage
     c.begin_frame.new.self _ c.begin_frame.ensures c.requires.day) c.in_ok-reach.ensures.stopped
-    c.in_err-hear.ensures.moves)
+    c.in_err-headers.ensures.moves)
 
-pub returns-in_err-hear-clause-told : goal.returns-in_err-hear-clause-told
-returns-in_err-hear-clause-told g c = λ task frames n last follows long sent again.
-    let r = c.from_residual-in_err-hear in
+pub returns-in_err-headers-clause-told : goal.returns-in_err-headers-clause-told
+returns-in_err-headers-clause-told g c = λ task frames n last follows long sent again.
+    let r = c.from_residual-in_err-headers in
     let p = err_from_is_err_and r.result r.ensures.1 in
     let reached = c.in_ok-reach.ensures.told task frames n last follows sent.frame_is in
     let arrives = reached.1 in
     let heard =
-    c.in_err-hear.ensures.told (packets_before frames n) last arrives.waits.known.knows again in
+    c.in_err-headers.ensures.told (packets_before frames n) last arrives.waits.known.knows again in
     let marks = packets_are task frames n last _ _ arrives sent.packets_are in
     rw p.1 (
       stops_two _ refl
@@ -60,7 +63,7 @@ returns-then-self-eq0-clause-moves g c =
     (Moves-begins g.A.Audience.is_told g.A.Audience.has_stopped c.reach.new.stage
     c.begin_frame.new.self _ c.begin_frame.ensures c.requires.day) c.in_ok-reach.ensures.stopped
     (Moves-trans g.A.Audience.is_told g.A.Audience.has_stopped c.begin_frame.new.self
-    c.hear.new.stage c.end_sent.new.stage c.in_ok-hear.ensures.moves c.in_ok-hear.ensures.stopped
+    c.hear.new.stage c.end_sent.new.stage c.in_ok-headers.ensures.moves c.in_ok-headers.ensures.stopped
     c.end_sent.ensures.moves))
 
 pub returns-then-self-eq0-clause-told : goal.returns-then-self-eq0-clause-told
@@ -69,26 +72,30 @@ returns-then-self-eq0-clause-told g c = λ task frames n last follows long sent 
     let reached = c.in_ok-reach.ensures.told task frames n last follows sent.frame_is in
     let arrives = reached.1 in
     let heard =
-    c.in_ok-hear.ensures.told (packets_before frames n) last arrives.waits.known.knows again in
+    c.in_ok-headers.ensures.told (packets_before frames n) last arrives.waits.known.knows again in
     let marks = packets_are task frames n last ps _ arrives sent.packets_are in
-    let view = c.self-2.view_is in
+    let view = c.self.view_is in
     let each =
     each_is task frames n last ps c.reach.new.self c.hear.new.self arrives sent.there
-    sent.packets_are heard.1 (sym (ap (λ (v : CheckerValue). v.within) view)
+    sent.packets_are heard.1.0 (sym (ap (λ (v : CheckerValue). v.within) view)
     ∙ c.if-self-eq0.true) in
     let there =
     next_heard task frames n last ps c.reach.new.self c.hear.new.self arrives sent.there
-    sent.packets_are heard.1 _
+    sent.packets_are heard.1.0 _
     (ap (λ (v : CheckerValue). record v {
       counts = record v.counts { frames = v.counts.frames + 1 };
     }) view) in
     let end =
     c.end_sent.ensures.told task frames n ps there sent.there
-    (ap (λ (v : CheckerValue). v.counts.headers) c.self.view_is ∙ arrives.waits.known.count) in
+    (ap (nat_lt 0) heard.1.1
+    ∙ ap (λ (t : Task). nat_lt 0 (header_count t.watched.page ps))
+    (sym arrives.waits.known.task_is)
+    ∙ sym (holds-count task.watched.page ps)
+    ∙ ap (holds_header (kind task.watched.page)) (sym sent.packets_are)) in
     let shut =
     ap (λ (m : Counts). m.is_open) c.end_sent.ensures.counts
     ∙ ap (λ (v : CheckerValue). v.counts.is_open) view
-    ∙ ap (λ (v : CheckerValue). v.counts.is_open) heard.1.new_is
+    ∙ ap (λ (v : CheckerValue). v.counts.is_open) heard.1.0.new_is
     ∙ ap (λ (m : Counts). m.is_open) c.in_ok-reach.ensures.counts
     ∙ c.requires.closed in (
       passes_two (next_each task frames n each)
@@ -110,7 +117,7 @@ returns-clause-moves g c =
     c.begin_frame.new.self c.hear.new.stage c.begin_frame.ensures
     (Moves-begins g.A.Audience.is_told g.A.Audience.has_stopped c.reach.new.stage
     c.begin_frame.new.self _ c.begin_frame.ensures c.requires.day) c.in_ok-reach.ensures.stopped
-    c.in_ok-hear.ensures.moves)
+    c.in_ok-headers.ensures.moves)
 
 pub returns-clause-told : goal.returns-clause-told
 returns-clause-told g c = λ task frames n last follows long sent again.
@@ -118,14 +125,18 @@ returns-clause-told g c = λ task frames n last follows long sent again.
     let reached = c.in_ok-reach.ensures.told task frames n last follows sent.frame_is in
     let arrives = reached.1 in
     let heard =
-    c.in_ok-hear.ensures.told (packets_before frames n) last arrives.waits.known.knows again in
+    c.in_ok-headers.ensures.told (packets_before frames n) last arrives.waits.known.knows again in
     let marks = packets_are task frames n last ps _ arrives sent.packets_are in
-    let view = c.self-2.view_is in
+    let view = c.self.view_is in
     let not_each = c.if-self-eq0.false in
     let within =
     some_is task frames n last ps c.reach.new.self c.hear.new.self arrives sent.there
-    sent.packets_are heard.1
+    sent.packets_are heard.1.0
     (λ e. not_each (ap (λ (v : CheckerValue). v.within) view ∙ e)) in
+    let before = c.self.inside.counts.headers - c.in_ok-headers.headers in
+    let grown =
+    ap (λ (v : CheckerValue). v.counts.headers) view
+    ∙ ap (λ (m : Counts). m.headers) c.in_ok-headers.ensures.counts.1 in
     let task_within = ap (λ (t : Task). t.within) arrives.waits.known.task_is in (
       ok_whole (next_within task frames n (omega (arith, task_within, within)))
           (whole_two refl
@@ -133,15 +144,14 @@ returns-clause-told g c = λ task frames n last follows long sent again.
           c.begin_frame.ensures)
           (whole_ok marks heard.0)),
       next_keeps task frames n last ps c.reach.new.self c.hear.new.self arrives sent.there
-          sent.packets_are heard.1 _ c.self.inside.counts.headers c.len.result within long
-          (ap (λ (v : CheckerValue). record v {
-            counts = record v.counts {
-              frames = v.counts.frames + 1;
-              headers_before = c.self.inside.counts.headers;
-              packets = c.len.result;
-              is_open = true;
-            };
-          }) view)
-          (ap (λ (v : CheckerValue). v.counts.headers) c.self.view_is)
-          (c.len.ensures.value ∙ sym (length-map _ _)),
+          sent.packets_are heard.1.0 _ before c.len.result within long
+          (ap (λ (v : CheckerValue). record v { counts = c.leave_open.new.self }) view
+          ∙ ap (λ (m : Counts). record c.hear.new.self { counts = m })
+          (c.leave_open.ensures ∙ ap (λ (v : CheckerValue). record v.counts {
+            frames = v.counts.frames + 1;
+            headers_before = before;
+            packets = c.len.result;
+            is_open = true;
+          }) view))
+          (omega (arith, grown)) (c.len.ensures.value ∙ sym (length-map _ _)),
     )

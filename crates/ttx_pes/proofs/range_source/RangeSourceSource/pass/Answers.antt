@@ -10,7 +10,8 @@ returns-then-count-size-clause-bytes g c = λ _.
     grind (arith, nat_tests, ap length c.bytes.ensures) in
     rw c.in-Giving.is
     (passes_piece _ _ _ c.in-Giving.size c.args.count c.args.self.now.ahead.to_pass _ none
-    c.requires.some (omega (arith, c.if-size-count.false)) (c.pass.ensures.bytes c.if-not-pass.false))
+    c.requires.some (omega (arith, c.if-size-count.false))
+    (c.pass.ensures.bytes c.if-not-pass.false))
 
 pub returns-else-count-size-clause-bytes : goal.returns-else-count-size-clause-bytes
 returns-else-count-size-clause-bytes g c = λ _.
