@@ -5,9 +5,9 @@ import argparse
 import concurrent.futures
 import os
 import subprocess
-import tempfile
 import time
 
+from ..core.files import temporary_folder
 from ..core.words import Stop, counted, line_of, shown, tell
 from ..qc.asked import Asked
 from ..qc.made_with import program_at
@@ -55,6 +55,8 @@ class Calls:
                                   stderr=subprocess.PIPE, encoding="utf-8", errors="replace",
                                   start_new_session=True) as process:
                 self.running.add(process)
+                if self.is_stopped:  # while it began
+                    process.terminate()
                 told = process.communicate()[1].splitlines()
                 self.running.discard(process)
         except OSError as error:
@@ -101,7 +103,10 @@ def judge(words: argparse.Namespace, called: str) -> int:
         raise Stop("--resume goes with -o, where the results of an earlier call are")
     collecting.refuse_names(words)
     items = pairs_at(words.batch, words)
-    with tempfile.TemporaryDirectory(prefix="subttx-qc-") as folder, \
+    collecting.refuse_names(words, [words.batch, *(
+        one for item in items if item.asked for one in (
+            item.asked.stl, item.asked.recording, item.asked.severity))])
+    with temporary_folder("subttx-qc-") as folder, \
             claimed_for_batch(words.out):
         calls = Calls(typed, folder, words.out, words.is_kept)
         kept = kept_rows(calls, items) if words.is_resumed else {}

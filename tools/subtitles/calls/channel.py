@@ -5,11 +5,10 @@ import argparse
 import dataclasses
 import os
 import signal
-import tempfile
 import time
 from typing import Callable
 
-from ..core.files import Damaged
+from ..core.files import Damaged, temporary_folder
 from ..core.pes import has_pts, pts_in
 from ..core.times import FRAMES_OF_A_DAY, TICKS, time_of
 from ..core.words import Stop, counted, tell
@@ -52,7 +51,7 @@ class Channel:
         self.progress = Progress()
         self.verdicts: list[str] = []  # of this call, and what it goes on with
         self.feed: Feed | None = None
-        self.is_stalled = self.is_stall_told = self.is_stopped = False
+        self.is_stalled = self.is_stopped = False
         for path, known in objects_in(words.out) if words.out else []:
             name = os.path.basename(path).removesuffix(ENDING)
             if known is not None:
@@ -64,7 +63,7 @@ class Channel:
         """Takes what came, and goes on as far as that allows."""
         if self.is_stalled:
             self.say("the feed goes on")
-            self.is_stalled = self.is_stall_told = False
+            self.is_stalled = False
         for data in taken.packets:
             if has_pts(data):
                 self.turn_to(pts_in(data))
@@ -105,7 +104,6 @@ class Channel:
     def begin_anew(self) -> None:
         """What was kept has another clock: nothing of it tells what comes."""
         if self.running:
-            self.running.close()
             self.end_running()
         self.ring.clear()
         self.hearing.begin_anew()
@@ -183,7 +181,7 @@ class Channel:
             self.running.put(data)
 
     def end_running(self) -> None:
-        """Takes the verdict of the programme that was judged."""
+        """Takes the verdict of the programme that was judged, to which nothing more comes."""
         running = self.running
         assert running
         running.close()
@@ -218,13 +216,11 @@ class Channel:
         """Nothing more comes: what is judged is judged up to here; at the feed's end also what is
         there of all that was kept, and nothing else."""
         if self.running:
-            self.running.close()
             self.end_running()
+        self.queue.end()
         if not self.is_stopped:
-            self.queue.next_look = 0.0
             while self.begin_next():
                 if self.running:
-                    self.running.close()
                     self.end_running()
         for programme in self.queue.rest():
             self.unjudged(programme.name, programme.reason or reason, programme.reason is None)
@@ -232,7 +228,7 @@ class Channel:
     def resume(self) -> None:
         """Goes on with the first programme of the list that has no object."""
         kept = 0
-        while programme := self.queue.planned.next():
+        while programme := self.queue.planned.next(True):
             path = self.path(programme.name)
             known = object_at(path) if os.path.exists(path) else None
             if known is None or not has_had_its_turn(known, programme.asked):
@@ -279,9 +275,8 @@ class Channel:
 def stall_heard(channel: Channel, seconds: int) -> Callable[[float], None]:
     """Hears how long the feed has stood still, tells that once, and goes on meanwhile."""
     def wait(still: float) -> None:
-        channel.is_stalled = channel.is_stalled or still >= seconds
-        if channel.is_stalled and not channel.is_stall_told:
-            channel.is_stall_told = True
+        if still >= seconds and not channel.is_stalled:
+            channel.is_stalled = True
             channel.say(f"nothing has come for {counted(round(still), 'second')}")
         channel.go_on()
         channel.show(still)
@@ -298,7 +293,7 @@ def judge(words: argparse.Namespace, called: str) -> int:
     if words.out is not None:
         os.makedirs(words.out, exist_ok=True)
     source = Source(words.stl, False)
-    with tempfile.TemporaryDirectory(prefix="subttx-qc-") as folder:
+    with temporary_folder("subttx-qc-") as folder:
         channel = Channel(words, Typed(called, words.program), folder)
         source.wait = stall_heard(channel, words.stall)
         reason = ENDED

@@ -10,36 +10,29 @@ from ..core.files import naming
 from ..core.words import Stop
 
 
-@contextlib.contextmanager
-def claimed(folder: str | None, name: str) -> Iterator[None]:
+def claimed(folder: str | None, name: str) -> contextlib.AbstractContextManager[None]:
     """Makes a folder, and keeps other calls from writing the files of a pair in it."""
-    if folder is None:
-        yield
-        return
-    refusal = f"another call is writing the files of {name} in {folder}"
-    with locking(folder, f".{name}.lock", refusal):
-        yield
+    return locking(folder, f".{name}.lock", f"another call is writing the files of {name} in ")
 
 
-@contextlib.contextmanager
-def claimed_for_batch(folder: str | None) -> Iterator[None]:
+def claimed_for_batch(folder: str | None) -> contextlib.AbstractContextManager[None]:
     """Makes a folder, and keeps other batches from judging into it."""
-    if folder is None:
-        yield
-        return
-    with locking(folder, ".lock", f"another batch is judging into {folder}"):
-        yield
+    return locking(folder, ".lock", "another batch is judging into ")
 
 
 @contextlib.contextmanager
-def locking(folder: str, name: str, refusal: str) -> Iterator[None]:
-    """Makes a folder, and holds a lock in it; `Stop` with these words where another one does."""
+def locking(folder: str | None, name: str, refusal: str) -> Iterator[None]:
+    """Makes a folder, if there is to be one, and holds a lock in it; `Stop` with these words where
+    another one does."""
+    if folder is None:
+        yield
+        return
     path = os.path.join(folder, name)
     with naming(folder):
         os.makedirs(folder, exist_ok=True)
         handle = locked(path)
     if handle is None:
-        raise Stop(refusal)
+        raise Stop(refusal + folder)
     try:
         yield
     finally:

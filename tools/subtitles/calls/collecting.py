@@ -7,7 +7,7 @@ import os
 import sys
 from typing import Callable, Iterator, Sequence
 
-from ..core.files import OWN_OUTPUT, refuse_name, whole_file
+from ..core.files import OWN_OUTPUT, refuse_input, refuse_name, whole_file
 from ..core.words import Stop, counted, line_of, shown, silence, tell
 from ..qc.status import ACCEPTED, of_all
 from . import index_page, junit, table
@@ -17,6 +17,7 @@ from .single import now
 
 HEADS = ("pair", "verdict", "faults", "first fault")
 INDEX = "index.html"
+
 
 def collect(words: argparse.Namespace) -> int:
     """Makes all there is to make of the objects in a folder; answers the status."""
@@ -34,6 +35,7 @@ def collect(words: argparse.Namespace) -> int:
         paths.append(path)
     if not rows:
         raise Stop(f"{folder} has no JSON result of a pair")
+    refuse_names(words, paths)
     write_index(folder, rows)
     return end(words, rows, paths)
 
@@ -67,11 +69,13 @@ def end(words: argparse.Namespace, rows: Sequence[Row], paths: Sequence[str],
     return status()
 
 
-def refuse_names(words: argparse.Namespace) -> None:
-    """Names under which nothing can be written are refused before anything is done."""
+def refuse_names(words: argparse.Namespace, inputs: Sequence[str | None] = ()) -> None:
+    """Names under which nothing can be written, and those of inputs, are refused before anything is
+    done."""
     for path in (words.json, words.csv, words.junit):
         if path is not None:
             refuse_name(path)
+            refuse_input(path, inputs)
 
 
 def write_index(folder: str, rows: Sequence[Row]) -> None:

@@ -7,7 +7,7 @@ import os
 import sys
 from typing import Sequence
 
-from ..core.files import plain_name
+from ..core.files import IsInput, plain_name
 from ..core.words import Stop, Words, line_of
 from ..qc.asked import add_pair_options
 from . import modes, objects, single
@@ -86,7 +86,7 @@ def main(text: str, called: str, line: list[str]) -> int:
     except (Exception, KeyboardInterrupt) as reason:
         path = json_in(line)
         with contextlib.suppress(Stop, OSError):
-            if path is not None and objects.may_take(path):
+            if path is not None and not isinstance(reason, IsInput) and objects.may_take(path):
                 objects.put(path, objects.unjudged(name_in(line), line_of(reason)))
         raise
 

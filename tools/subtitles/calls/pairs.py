@@ -25,18 +25,29 @@ class Item(NamedTuple):
     reason: str | None
 
 
+class OwnNames:
+    """Names of pairs, each of its own: one that is taken gets a number."""
+
+    def __init__(self) -> None:
+        self.taken: set[str] = set()
+
+    def of(self, name: str) -> str:
+        """The name of the next pair."""
+        own, number = name, 1
+        while own in self.taken:
+            number += 1
+            own = f"{name}-{number}"
+        self.taken.add(own)
+        return own
+
+
 def pairs_at(path: str, defaults: argparse.Namespace) -> list[Item]:
     """The pairs of a folder or a list, each with a name of its own."""
     items = of_folder(path, defaults) if os.path.isdir(path) else of_list(path, defaults)
     if not items:
         raise Stop(f"{path} has no pair")
-    counts: collections.Counter[str] = collections.Counter()
-    named = []
-    for item in (item._replace(name=shown(item.name)) for item in items):
-        counts[item.name] += 1
-        number = counts[item.name]
-        named.append(item if number == 1 else item._replace(name=f"{item.name}-{number}"))
-    return named
+    names = OwnNames()
+    return [item._replace(name=names.of(shown(item.name))) for item in items]
 
 
 def of_folder(folder: str, defaults: argparse.Namespace) -> list[Item]:

@@ -10,7 +10,7 @@ from typing import Iterator, NamedTuple
 from ..core.words import Stop, Words
 from ..qc.asked import Asked, add_pair_options, asked_of, pair_options
 from .modes import CHANNEL_LINE, refuse_options
-
+from .pairs import OwnNames
 
 
 class PlannedProgramme(NamedTuple):
@@ -28,25 +28,25 @@ class Planned:
         self.path, self.defaults = path, defaults
         self.place = self.lines = 0
         self.rest, self.is_old = b"", False
-        self.counts: collections.Counter[str] = collections.Counter()
+        self.names = OwnNames()
         self.waiting: collections.deque[PlannedProgramme] = collections.deque()
 
-    def next(self) -> PlannedProgramme | None:
+    def next(self, is_whole: bool = False) -> PlannedProgramme | None:
         """The next programme, if the list names one by now."""
         if not self.waiting:
-            self.waiting.extend(self.new())
+            self.waiting.extend(self.new(is_whole))
         return self.waiting.popleft() if self.waiting else None
 
-    def new(self) -> Iterator[PlannedProgramme]:
+    def new(self, is_whole: bool) -> Iterator[PlannedProgramme]:
         """The programmes that have come since the last call. A last line without an end is one of
-        them where it stood there at the last call too."""
+        them where it stood there at the last call too, or the list is whole."""
         with open(self.path, "rb") as file:
             file.seek(self.place)
             data = file.read()
         self.place += len(data)
         *whole, rest = (self.rest + data).split(b"\n")
         is_same = rest == self.rest and not data
-        is_without_end = bool(rest) and is_same and self.is_old
+        is_without_end = bool(rest) and (is_whole or is_same and self.is_old)
         if is_without_end:
             whole, rest = [*whole, rest], b""
         self.is_old, self.rest = is_same, rest
@@ -63,13 +63,11 @@ class Planned:
                 return
             asked = self.asked_of(words)
         except (Stop, ValueError) as reason:
-            yield PlannedProgramme(f"line-{self.lines}", None,
+            yield PlannedProgramme(self.names.of(f"line-{self.lines}"), None,
                                    f"{self.path}, line {self.lines}: {reason}")
             return
         name = os.path.splitext(os.path.basename(asked.stl))[0]
-        self.counts[name] += 1
-        number = self.counts[name]
-        yield PlannedProgramme(name if number == 1 else f"{name}-{number}", asked, None)
+        yield PlannedProgramme(self.names.of(name), asked, None)
 
     def asked_of(self, line: list[str]) -> Asked:
         """What the words of a line ask."""

@@ -71,6 +71,7 @@ class Queue:
         self.waiting: list[Waiting] = []
         self.since = self.ended = 0
         self.next_look = 0.0
+        self.is_whole = False  # the list
 
     @property
     def until(self) -> int:
@@ -80,7 +81,7 @@ class Queue:
     def fill(self, now: int) -> None:
         """Waits for as many as can be waited for."""
         while len(self.waiting) < AT_ONCE and time.monotonic() >= self.next_look:
-            programme = self.planned.next()
+            programme = self.planned.next(self.is_whole)
             if programme is None:
                 self.next_look = time.monotonic() + LOOK
             else:
@@ -93,11 +94,15 @@ class Queue:
         self.waiting.append(Waiting(programme))
         self.waiting[-1].begin(self.ended, self.until)
 
+    def end(self) -> None:
+        """Takes that nothing more comes to the list, and looks into it at once."""
+        self.is_whole, self.next_look = True, 0.0
+
     def rest(self) -> Iterator[PlannedProgramme]:
-        """All that are left, when nothing more comes."""
+        """All that are left then."""
         while self.waiting:
             yield self.waiting.pop(0).programme
-        while programme := self.planned.next() or self.planned.next():  # a line without an end
+        while programme := self.planned.next(self.is_whole):
             yield programme
 
     def seen(self, hearing: Hearing, clock: FeedClock) -> Seen | None:

@@ -3,16 +3,15 @@ from __future__ import annotations
 
 import argparse
 import contextlib
-import io
 import itertools
 import os
 import re
 import signal
-import tempfile
 import time
 from typing import Callable, Iterator, NamedTuple
 
-from ..core.files import OWN_OUTPUT, is_replaced, refuse_name, whole_file
+from ..core.files import (
+    OWN_OUTPUT, is_replaced, refuse_input, refuse_name, temporary_folder, whole_file)
 from ..core.words import Stop, counted, escaped, line_of, shown, silence, tell
 from ..qc.asked import Asked, asked_of
 from ..qc.cause_words import count_line
@@ -56,7 +55,7 @@ def judge(words: argparse.Namespace, called: str) -> int:
                       was_fitted=words.is_fitted)
     verdict.is_kept = words.is_kept
     name = shown(words.name or os.path.splitext(os.path.basename(asked.stl))[0])
-    with tempfile.TemporaryDirectory(prefix="subttx-qc-") as folder, claimed(out, name):
+    with temporary_folder("subttx-qc-") as folder, claimed(out, name):
         names = Names(name, folder, out)
         names.give(asked.stl)
         files = Files(words, verdict, typed, names)
@@ -163,7 +162,8 @@ class Files:
     def __init__(self, words: argparse.Namespace, verdict: Verdict, typed: Typed,
                  names: Names) -> None:
         self.words, self.verdict, self.typed, self.names = words, verdict, typed, names
-        self.of_pair = names.kept()
+        self.of_pair, asked = names.kept(), verdict.asked
+        self.inputs = [asked.stl, asked.recording, asked.severity]
         self.written: list[Output] = []
 
     def are_any(self) -> bool:
@@ -174,19 +174,13 @@ class Files:
     def prepare(self) -> None:
         """Takes away what an earlier call left of this pair in the folder."""
         written = [path for path in (self.words.json, self.words.csv, self.words.junit) if path]
-        for path in [*self.of_pair, *written]:
-            self.refuse_input(path)
+        for path in [*self.names.written(), *written]:
+            refuse_input(path, self.inputs)
         for path in written:
             refuse_name(path)
         for path in self.of_pair:
             if os.path.lexists(path):
                 os.unlink(path)
-
-    def refuse_input(self, path: str) -> None:
-        for one in (self.verdict.asked.stl, self.verdict.asked.recording):
-            is_there = one and os.path.exists(path) and os.path.exists(one)
-            if one and is_there and os.path.samefile(path, one):
-                raise Stop(f"{path} is an input too")
 
     def write(self) -> None:
         """Writes what is asked for. What could not be written stands in the verdict: so what was
@@ -254,20 +248,13 @@ class Files:
 
     def table_lines(self) -> Iterator[str]:
         """The lines of the CSV file: the names of the columns, the pair, its faults."""
-        text = io.StringIO()
-        table.write_head(text)
-        table.write_row(text, table.of_pair(self.verdict))
-        yield text.getvalue()
-        for fault in faults_of(self.verdict, self.typed):
-            text.seek(0)
-            text.truncate()
-            table.write_row(text, table.of_fault(self.verdict, fault))
-            yield text.getvalue()
+        return table.lines_of(itertools.chain(
+            [table.of_pair(self.verdict)], (table.of_fault(self.verdict, fault)
+                                            for fault in faults_of(self.verdict, self.typed))))
 
     def put(self, path: str, pieces: Iterator[str]) -> None:
         """Writes a file whole, or not at all."""
-        inputs = [one for one in (self.verdict.asked.stl, self.verdict.asked.recording) if one]
-        with whole_file(path, inputs) as file:
+        with whole_file(path, self.inputs) as file:
             for piece in pieces:
                 # Only an object has such bytes still: the others have them escaped.
                 file.write(ESCAPED.sub(lambda found: "\\" + escaped(found[0]), piece).encode())

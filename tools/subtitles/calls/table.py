@@ -3,7 +3,8 @@ from __future__ import annotations
 
 import csv
 import io
-from typing import IO, Any, Iterable, Iterator, Sequence
+import itertools
+from typing import Any, Iterable, Iterator, Sequence
 
 from ..core.words import shown
 from ..qc.faults import Cell, Fault
@@ -85,15 +86,19 @@ def with_fault(pair: Known, parts: Sequence[dict[str, Any]], fault: Fault) -> Kn
     return known
 
 
-def write_head(file: IO[str]) -> None:
-    """Writes the names of the columns."""
-    csv.writer(file, lineterminator="\n").writerow(COLUMNS)
-
-
-def write_row(file: IO[str], known: Known) -> None:
-    """Writes a line; a column is empty where it does not apply."""
-    row = [said(known.get(name)) for name in COLUMNS]
-    csv.writer(file, lineterminator="\n").writerow(["" if one is None else one for one in row])
+def lines_of(rows: Iterable[Known]) -> Iterator[str]:
+    """The names of the columns, then a line for each row, in which a column is empty where it does
+    not apply."""
+    text = io.StringIO()
+    writer = csv.writer(text, lineterminator="\n")
+    values: Iterator[list[object]] = (
+        [said(known.get(name)) for name in COLUMNS] for known in rows)
+    head: list[object] = [*COLUMNS]
+    for line in itertools.chain([head], values):
+        writer.writerow(["" if one is None else one for one in line])
+        yield text.getvalue()
+        text.seek(0)
+        text.truncate()
 
 
 def said(value: object) -> object:
@@ -103,14 +108,12 @@ def said(value: object) -> object:
 
 def text_of(objects: Iterable[dict[str, Any]]) -> Iterator[bytes]:
     """The lines of many pairs and of their faults, by their objects, under one head."""
-    text = io.StringIO()
-    write_head(text)
-    for known in objects:
-        pair = of_object(known)
-        write_row(text, pair)
-        for fault in known.get("faults") or []:
-            write_row(text, with_fault(pair, known.get("parts") or [], fault))
-        yield text.getvalue().encode()
-        text.seek(0)
-        text.truncate()
-    yield text.getvalue().encode()
+    return (line.encode() for line in lines_of(row for known in objects for row in rows_of(known)))
+
+
+def rows_of(known: dict[str, Any]) -> Iterator[Known]:
+    """The columns of a pair, and of each of its faults, by its object."""
+    pair = of_object(known)
+    yield pair
+    for fault in known.get("faults") or []:
+        yield with_fault(pair, known.get("parts") or [], fault)

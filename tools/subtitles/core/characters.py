@@ -1,6 +1,6 @@
 """The characters of the codes 20 to 7F under each national option (EN 300 706, Latin G0).
 
-`dev/check-preview` compares them with the table of libzvbi in letters-libzvbi.txt.
+`test_national` compares them with those of libzvbi.
 """
 from __future__ import annotations
 

@@ -5,6 +5,7 @@ import contextlib
 import errno
 import os
 import select
+import shutil
 import stat
 import sys
 import tempfile
@@ -20,6 +21,10 @@ OWN_OUTPUT = {STANDARD, "/dev/stdout", "/dev/fd/1", "/proc/self/fd/1"}
 
 class Damaged(Exception):
     """Bytes that can't be read on; the text says where and why."""
+
+
+class IsInput(Stop):
+    """A file that is to be written is read too; it stays as it is."""
 
 
 class Source(Protocol):
@@ -112,6 +117,13 @@ def refuse_device(file: IO[Any], name: str) -> None:
         raise Stop(f"{name} is a device: give a file or a pipe")
 
 
+def refuse_input(path: str, inputs: Iterable[str | None]) -> None:
+    """A file that is read is not written to."""
+    for one in inputs:
+        if one and os.path.exists(path) and os.path.exists(one) and os.path.samefile(path, one):
+            raise IsInput(f"{path} is an input too")
+
+
 @contextlib.contextmanager
 def whole_file(path: str, inputs: Iterable[str | None]) -> Iterator[BinaryIO]:
     """A file to write to, which takes the name `path` when all went well; else that is as it was.
@@ -119,9 +131,7 @@ def whole_file(path: str, inputs: Iterable[str | None]) -> Iterator[BinaryIO]:
     A device, which has no other name, is written to as it is, and so is standard output, `-`. None
     of the inputs may be `path`.
     """
-    for one in inputs:
-        if one and os.path.exists(path) and os.path.exists(one) and os.path.samefile(path, one):
-            raise Stop(f"{path} is an input too")
+    refuse_input(path, inputs)
     if path in OWN_OUTPUT:
         with own_output() as file:
             yield file
@@ -152,21 +162,36 @@ def own_output() -> Iterator[BinaryIO]:
 def replaced(path: str) -> Iterator[BinaryIO]:
     """A file to write to, which takes the place of `path` at the end."""
     target = os.path.realpath(path)
-    with naming(path):
-        handle, name = tempfile.mkstemp(prefix=".subttx-", dir=os.path.dirname(target))
+    name = new_name(os.path.dirname(target), ".subttx-")
     try:
-        file = os.fdopen(handle, "wb")
+        with naming(path):
+            file = open(name, "xb")
         with written(file, path):
             yield file
-        mask = os.umask(0)
-        os.umask(mask)
         with naming(path):
-            os.chmod(name, 0o666 & ~mask)
             os.replace(name, target)
-    except BaseException:
-        with contextlib.suppress(FileNotFoundError):  # it has the other name by now
+    finally:
+        with contextlib.suppress(OSError):  # it has the other name by now
             os.unlink(name)
-        raise
+
+
+def new_name(folder: str, begin: str) -> str:
+    """A name that nothing has: it is known before anything has it, so that a signal finds it."""
+    return os.path.join(folder, begin + os.urandom(8).hex())
+
+
+@contextlib.contextmanager
+def temporary_folder(begin: str) -> Iterator[str]:
+    """A folder that is gone at the end, whenever a signal comes."""
+    path = new_name(tempfile.gettempdir(), begin)
+    try:
+        os.mkdir(path, 0o700)
+        yield path
+    finally:
+        try:
+            shutil.rmtree(path, ignore_errors=True)
+        finally:  # also where a signal came meanwhile
+            shutil.rmtree(path, ignore_errors=True)
 
 
 @contextlib.contextmanager

@@ -2,13 +2,14 @@
 from __future__ import annotations
 
 import itertools
-from typing import TYPE_CHECKING, Iterable, NamedTuple
+from typing import TYPE_CHECKING, Iterable
 
 from ..core.manual import number_link, shown
 from ..core.stl import GSI, LAST, TTI, USER_DATA
 from ..core.times import frame_of
 from ..core.words import counted
 from ..qc.subtitle_file import COMMENT, NamedSubtitle, SubtitleFile
+from .counts import heads
 from .program import Verdict, verdict_of
 
 if TYPE_CHECKING:
@@ -25,13 +26,6 @@ FIELDS = {11: ("DFC", slice(3, 11)), 12: ("DFC", slice(3, 11)), 13: ("DSC", slic
           17: ("CF", slice(15, 16)), 18: ("JC", slice(14, 15)), 19: ("VP", slice(13, 14)),
           22: ("SGN and SN", slice(0, 3))}
 FIRST_LINES, LAST_LINES = 200, 20  # of what `show` prints
-
-
-class Times(NamedTuple):
-    """TCI and TCO as HTML."""
-
-    begin: str
-    end: str
 
 
 class Blocks:
@@ -79,7 +73,7 @@ class Blocks:
         name, place = FIELDS[fault.number]
         data = self.file.block(fault.block) if fault.block else self.file.data[:GSI]
         words = data[place].hex() if fault.block else "".join(map(readable, data[place]))
-        return f"{name} <mark>{words.upper() if fault.block else words}</mark>"
+        return f"{name} {mark(words.upper() if fault.block else words)}"
 
 
 def block_place(report: Report, blocks: Blocks) -> str:
@@ -102,12 +96,12 @@ def block_place(report: Report, blocks: Blocks) -> str:
 def refused_subtitle(blocks: Blocks, subtitle: NamedSubtitle, fault: Verdict) -> str:
     """The first refused subtitle, in tables."""
     assert fault.block is not None
-    times, text = times_of(blocks, subtitle, [fault]), blocks.text(fault.block)
+    text = blocks.text(fault.block)
     parts = [f"<h3>{name_of(subtitle, fault.block)}</h3>"]
     if fault.number in ORDER_FAULTS:
         parts.append(two_times(blocks, subtitle, fault))
     else:
-        parts.append(f"<p>{times.begin} to {times.end}</p>")
+        parts.append(f"<p>{' to '.join(times_of(subtitle, [fault]))}</p>")
     if fault.number in BYTE_FAULTS:
         return "".join(parts) + byte_table(text, fault.at)
     if fault.number in ROW_FAULTS:
@@ -121,21 +115,25 @@ def name_of(subtitle: NamedSubtitle, block: int) -> str:
     return f"SN {subtitle.number}, block {block}"
 
 
-def times_of(blocks: Blocks, subtitle: NamedSubtitle, faults: list[Verdict]) -> Times:
-    """The times of a subtitle, marked where a fault is about them."""
+def mark(text: str) -> str:
+    return f"<mark>{text}</mark>"
+
+
+def times_of(subtitle: NamedSubtitle, faults: list[Verdict]) -> tuple[str, str]:
+    """TCI and TCO of a subtitle, marked where a fault is about them."""
     numbers = {one.number for one in faults}
-    is_each = [frame_of(time) is None for time in (subtitle.begin, subtitle.end)] \
-        if 20 in numbers else [21 in numbers] * 2
-    is_each[0] = is_each[0] or bool(numbers & {*ORDER_FAULTS})
-    return Times(*(f"<mark>{time}</mark>" if is_marked else time
-                   for time, is_marked in zip((subtitle.begin, subtitle.end), is_each)))
+    is_begin, is_end = (20 in numbers and frame_of(time) is None or 21 in numbers
+                        for time in (subtitle.begin, subtitle.end))
+    is_begin = is_begin or bool(numbers & {*ORDER_FAULTS})
+    return (mark(subtitle.begin) if is_begin else subtitle.begin,
+            mark(subtitle.end) if is_end else subtitle.end)
 
 
 def refused_blocks(report: Report, blocks: Blocks) -> str:
     """All that is told of the subtitle file, subtitle by subtitle."""
     faults = report.faults
     items = []
-    told = map(lambda line: verdict_of(line, 1), faults.of_blocks)
+    told = map(lambda line: verdict_of(line), faults.of_blocks)
     for index, (block, several) in enumerate(itertools.groupby(told, lambda one: one.block), 1):
         items.append(refused_item(blocks, index, block, list(several)))
     more = faults.count - len(faults.of_blocks)
@@ -147,7 +145,7 @@ def refused_blocks(report: Report, blocks: Blocks) -> str:
 
 def end_of_reading(report: Report, blocks: Blocks) -> str:
     """Where reading ended."""
-    last = verdict_of(report.faults.last_told, 1)
+    last = verdict_of(report.faults.last_told)
     if last.number not in ENDS:
         return f"The file was read to its end, {counted(blocks.count, 'block')}."
     return (f"<b>Reading ended at block {last.block}</b>, with {last.number} {last.name}: nothing "
@@ -160,8 +158,7 @@ def refused_item(blocks: Blocks, index: int, block: int | None, faults: list[Ver
     subtitle = blocks.subtitle(block)
     if not subtitle or block is None:
         return f'<li id="e{index}">{"<br/>".join(lines)}</li>'
-    times = times_of(blocks, subtitle, faults)
-    words = f"<b>{name_of(subtitle, block)}</b> {times.begin} to {times.end}"
+    words = f"<b>{name_of(subtitle, block)}</b> {' to '.join(times_of(subtitle, faults))}"
     before = blocks.before(block)
     if before and any(one.number in ORDER_FAULTS for one in faults):
         words += f" after {before.begin} to {before.end}, SN {before.number}"
@@ -175,9 +172,9 @@ def marked_text(text: bytes, faults: list[Verdict]) -> str:
     lines, begin = [], 0
     for number, line in enumerate(text.split(b"\x8a")):
         letters = [" " if byte == 0x20 else readable(byte) for byte in line]
-        words = "".join(f"<mark>{letter}</mark>" if (True, at) in marked else letter
+        words = "".join(mark(letter) if (True, at) in marked else letter
                         for at, letter in enumerate(letters, begin))
-        lines.append(f"<mark>{words}</mark>" if (False, number) in marked else words)
+        lines.append(mark(words) if (False, number) in marked else words)
         begin += len(line) + 1
     return f'<span class="text">{"<br/>".join(lines)}</span>'
 
@@ -203,17 +200,15 @@ def listed(lines: list[str]) -> str:
 
 def two_times(blocks: Blocks, subtitle: NamedSubtitle, fault: Verdict) -> str:
     """The times of a subtitle and the one before; those that the refusal is about are marked."""
-    rows = []
+    rows = [(subtitle.number, *times_of(subtitle, [fault]))]
     before = blocks.before(fault.block or 0)
-    for one in [before, subtitle] if before else [subtitle]:
-        begin, end = one.begin, one.end
-        if one is subtitle or fault.number == 56:
-            begin = f"<mark>{begin}</mark>"
-        else:
-            end = f"<mark>{end}</mark>"
-        rows.append(f"<tr><td>{one.number}</td><td>{begin}</td><td>{end}</td></tr>")
-    return ('<table><tr><th scope="col">SN</th><th scope="col">TCI</th><th scope="col">TCO'
-            f"</th></tr>{''.join(rows)}</table>")
+    if before:
+        is_begin = fault.number == 56
+        rows.insert(0, (before.number, mark(before.begin) if is_begin else before.begin,
+                        before.end if is_begin else mark(before.end)))
+    told = "".join(f"<tr><td>{number}</td><td>{begin}</td><td>{end}</td></tr>"
+                   for number, begin, end in rows)
+    return f'<table><tr>{heads("SN", "TCI", "TCO")}</tr>{told}</table>'
 
 
 def readable(byte: int) -> str:

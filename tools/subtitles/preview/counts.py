@@ -1,7 +1,7 @@
 """How many faults there are of each number, with what the manual says of it."""
 from __future__ import annotations
 
-from typing import TYPE_CHECKING
+from typing import TYPE_CHECKING, Iterable
 
 from ..core.manual import marked_up, shown
 from ..core.times import time_of
@@ -19,6 +19,13 @@ COLUMNS = ("Faults", "First", "Means", "Do")
 def heads(*names: str) -> str:
     """The heads of columns."""
     return "".join(f'<th scope="col">{name}</th>' for name in names)
+
+
+def row_of(head: str, columns: Iterable[str], cells: Iterable[str], name: str = "") -> str:
+    """A row of a table, each cell with the head of its column."""
+    named = "".join(f'<td data-name="{column}">{cell}</td>'
+                    for column, cell in zip(columns, cells))
+    return f'<tr{name}><th scope="row">{head}</th>{named}</tr>'
 
 
 def place_words(fault: Verdict) -> str:
@@ -57,7 +64,7 @@ def numbers_table(report: Report) -> str:
         return ""
     rows = []
     for number, count in sorted(faults.counts.items()):
-        first = verdict_of(faults.firsts[number], 1)
+        first = verdict_of(faults.firsts[number])
         cells = [f"{count:,}", report.first_link(first)]
         if number == report.verdict.number:
             name, words = "", None
@@ -65,9 +72,6 @@ def numbers_table(report: Report) -> str:
         else:
             name, words = f' id="n{number}"', means_and_do(report, number)
             cells += words or ("", "")
-        named = "".join(f'<td data-name="{column}">{cell}</td>'
-                        for column, cell in zip(COLUMNS, cells))
-        rows.append(f'<tr{name}><th scope="row">{number} {shown(first.name or "")}</th>{named}'
-                    "</tr>")
+        rows.append(row_of(f"{number} {shown(first.name or '')}", COLUMNS, cells, name))
     return (f'<table class="numbers"><thead><tr>{heads("Number", *COLUMNS)}</tr></thead>'
             f"<tbody>{''.join(rows)}</tbody></table>")

@@ -36,11 +36,11 @@ class Entry:
 
     @functools.cached_property
     def first(self) -> Verdict:
-        return verdict_of(self.first_line, 1)
+        return verdict_of(self.first_line)
 
     @property
     def last(self) -> Verdict:
-        return verdict_of(self.last_line, 1)
+        return verdict_of(self.last_line)
 
 
 class Spans:
@@ -179,7 +179,7 @@ class Faults:
 
     def ending(self) -> Verdict | None:
         """The last fault, where it is that the PES file can't be read on."""
-        last = verdict_of(self.last_told, 1)
+        last = verdict_of(self.last_told)
         return last if last.number in ENDS_READING else None
 
     def named(self) -> set[int]:

@@ -9,13 +9,10 @@ from ..core.times import time_of
 from ..reading.receiver import (
     BLANK_PAGE, HIT, OLD, Rows, State, control_bits, lines_of, national_option)
 from .drawing import (
-    HIDDEN, cut_of, differences, empty_picture, is_boxed, label_of, picture, words_of)
+    HIDDEN, Cut, Place, cut_of, differences, empty_picture, is_boxed, label_of, picture, words_of)
 
 if TYPE_CHECKING:
     from .listening import Heard
-
-Cell = tuple[int, int]  # its row and its column
-Cut = tuple[int, int]  # the first and the last row of a picture
 
 NOT_READ = "a receiver can't be followed up to there"
 # What is held beside what is due, with the words for the count of such subtitles.
@@ -54,7 +51,7 @@ class Figures:
             return DIFFERENT
         return SAME
 
-    def at(self, frame: int, place: Cell | None = None) -> str:
+    def at(self, frame: int, place: Place | None = None) -> str:
         """The figures at the end of a frame, with the cell that is refused marked."""
         time, state = time_of(frame), self.held.state_at(frame)
         due, header = self.due_at(frame)
@@ -75,22 +72,22 @@ class Figures:
                                 ["heard no"]))
         else:
             told = "still open for rows" if state.is_open else "not open"
-            drawn = Drawn(state.rows, state.header, cut, place)
-            parts.append(page_figure("held", held, told, due, drawn))
+            parts.append(page_figure("held", held, told, due, (state.rows, state.header), cut,
+                                     place))
         if self.is_complete:
             parts.append(self.screen_figure(time, due, state, cut, place))
         names = "pictures three" if self.is_complete else "pictures"
         return f'<div class="{names}">{"".join(parts)}</div>'
 
     def screen_figure(self, time: str, due: Rows, state: State | None, cut: Cut,
-                      place: Cell | None) -> str:
+                      place: Place | None) -> str:
         caption, told = f"On its screen at the end of {time}", "complete pages alone"
         if state is None:
             return figure("screen", caption, NOT_READ, empty_picture("not known", cut), [])
         if state.screen is None:
             lines = ["shown no" if state.is_heard else "heard no"]
             return figure("screen", caption, told, empty_picture("nothing yet", cut), lines)
-        return page_figure("screen", caption, told, due, Drawn(*state.screen, cut, place))
+        return page_figure("screen", caption, told, due, state.screen, cut, place)
 
     def small_at(self, frame: int) -> str:
         """One small picture, of the page that is held as it is due."""
@@ -99,24 +96,17 @@ class Figures:
         return picture(rows, header, label, cut_of([rows]), kind="page small")
 
 
-class Drawn:
-    """A page that is drawn: its rows and header, the rows of the picture, and a marked cell."""
-
-    def __init__(self, rows: Rows, header: bytes, cut: Cut, place: Cell | None) -> None:
-        self.rows, self.header, self.cut, self.place = rows, header, cut, place
-
-    def picture(self, different: list[Cell]) -> str:
-        return picture(self.rows, self.header, HIDDEN, self.cut, different, self.place)
-
-
-def page_figure(kind: str, caption: str, told: str, due: Rows, drawn: Drawn) -> str:
+def page_figure(kind: str, caption: str, told: str, due: Rows, page: tuple[Rows, bytes], cut: Cut,
+                place: Place | None) -> str:
     """The figure of a page that a receiver has, with the cells framed that are not as due."""
-    different = differences(due, drawn.rows)
+    rows, header = page
+    different = differences(due, rows)
     count = len(different)
     cells = f"<b>{count} cells differ</b>" if count > 1 else \
         "<b>1 cell differs</b>" if count else "no cell differs"
-    words = f"{cells}; {told}; {header_words(drawn.header, drawn.rows)}"
-    return figure(kind, caption, words, drawn.picture(different), lines_of(drawn.rows))
+    words = f"{cells}; {told}; {header_words(header, rows)}"
+    return figure(kind, caption, words, picture(rows, header, HIDDEN, cut, different, place),
+                  lines_of(rows))
 
 
 def header_words(header: bytes, rows: Rows) -> str:

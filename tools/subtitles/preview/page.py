@@ -9,7 +9,7 @@ from ..core.words import counted
 from ..qc.delays import spread_of
 from ..qc.hints import HINTED
 from ..qc.status import ACCEPTED, LOST, REFUSED, WAIVED, WARNED
-from .counts import heads, meaning_of_verdict, numbers_table
+from .counts import heads, meaning_of_verdict, numbers_table, row_of
 from .places import place_of_pts
 from .program import verdict_of
 from .scope import listed
@@ -131,7 +131,7 @@ def report_page(report: Report) -> str:
 def refused_file_parts(report: Report) -> list[str]:
     """What is said of a subtitle file that is refused."""
     from . import blocks  # a subtitle file that is read needs nothing of it
-    told = (verdict_of(line, 1) for line in report.faults.of_blocks)
+    told = (verdict_of(line) for line in report.faults.of_blocks)
     known = blocks.Blocks(report.stl, told)
     return [blocks.block_place(report, known), faults_head(report),
             blocks.refused_blocks(report, known), blocks.printed(report)]
@@ -275,9 +275,7 @@ def pages_table(report: Report) -> str:
         cells = [f"{known.count:,}"]
         for pts in (known.first, known.last):
             cells += [str(pts), place_of_pts(pts, report.origin, report.asked.within)]
-        named = "".join(f'<td data-name="{name}">{cell}</td>'
-                        for name, cell in zip(COLUMNS, [*cells, bits]))
-        rows.append(f'<tr><th scope="row">{page_name} {words}</th>{named}</tr>')
+        rows.append(row_of(f"{page_name} {words}", COLUMNS, [*cells, bits]))
     if rows:
         parts.append(f'<table class="pages"><thead><tr>{heads("Page", *COLUMNS)}</tr></thead>'
                      f"<tbody>{''.join(rows)}</tbody></table>")

@@ -1,11 +1,11 @@
 """What `subttx` is asked, its lines as values, and the PES packets that it reads."""
 from __future__ import annotations
 
+import collections
 import contextlib
 import os
 import subprocess
-from typing import (
-    TYPE_CHECKING, Callable, Iterable, Iterator, NamedTuple, Protocol, TypeVar)
+from typing import TYPE_CHECKING, Any, Callable, Iterable, Iterator, NamedTuple, Sequence
 
 from ..core.batch import Batch, first_refused, is_listed
 from ..core.files import Damaged
@@ -18,6 +18,7 @@ from ..core.words import Stop, within_words
 from ..qc.status import NOT_JUDGED, UNSAID, Said, word_of
 
 if TYPE_CHECKING:
+    from .faults import Faults
     from .passed import Passed
 
 
@@ -41,18 +42,7 @@ class Verdict(NamedTuple):
     column: int | None = None
 
 
-class Told(Protocol):
-    """What is made of the lines of `check --all`."""
-
-    first_line: str
-    last_line: str
-    count: int
-
-
-AnyTold = TypeVar("AnyTold", bound=Told)
-
-
-def verdict_of(line: str, status: int) -> Verdict:
+def verdict_of(line: str, status: int = 1) -> Verdict:
     """The last line of a command, with its place where it names one."""
     told = told_of(line)
     if told is None or told.word == ENDED:
@@ -106,52 +96,37 @@ class Program:
     def __init__(self, name: str, path: str, page: str, every: str, origin: str, option: str,
                  is_complete: bool, within: int = 0) -> None:
         self.name, self.path = name, os.path.abspath(path)
-        self.receiver = ["--page", page, "--origin", origin]
-        self.schedule_options = [*self.receiver, "--option", option]
-        self.check_options = [*self.schedule_options, "--every", every]
-        if is_complete:
-            self.check_options.append("--complete")
-        self.check_options += within_words(within)
+        self.schedule_options = ["--page", page, "--origin", origin, "--option", option]
+        self.check_options = [*self.schedule_options, "--every", every,
+                              *["--complete"] * is_complete, *within_words(within)]
 
-    def command(self, *words: str) -> list[str]:
-        return [self.path, *words]
-
-    def cannot_run(self, error: OSError | ValueError) -> NoReport:
-        reason = error.strerror if isinstance(error, OSError) else error
-        return NoReport(f"{self.name} can't be run: {reason}")
-
-    def run(self, *words: str) -> tuple[list[str], Verdict]:
-        """Runs a command; answers its lines and its last one as a verdict."""
+    def asked(self, words: Sequence[str], take: Callable[[Iterable[str]], Any]) -> tuple[int, Any]:
+        """Runs a command; its status, and what `take` makes of its lines as they come."""
         try:
             # The program says nothing on standard error; the script that builds it does.
-            done = subprocess.run(self.command(*words), stdin=subprocess.DEVNULL, check=False,
-                                  stdout=subprocess.PIPE)
+            with subprocess.Popen([self.path, *words], stdin=subprocess.DEVNULL, encoding="utf-8",
+                                  stdout=subprocess.PIPE, errors="replace") as process:
+                assert process.stdout
+                taken = take(line.rstrip("\n") for line in process.stdout)
         except (OSError, ValueError) as error:
-            raise self.cannot_run(error) from None
-        lines = done.stdout.decode("utf-8", "replace").splitlines()
-        if not lines or done.returncode not in (0, 1, 2):
-            raise NoReport(f"{self.name} {words[0]}: status {done.returncode}, no answer")
-        return lines, verdict_of(lines[-1], done.returncode)
+            reason = error.strerror if isinstance(error, OSError) else error
+            raise NoReport(f"{self.name} can't be run: {reason}") from None
+        return process.returncode, taken
 
     def answered(self, *words: str) -> tuple[list[str], Verdict]:
-        """`run` for a command that has to be answered."""
-        lines, verdict = self.run(*words)
-        return lines, answered(words[0], verdict)
+        """The lines of a command that has to be answered, and its last one as a verdict."""
+        status, lines = self.asked(words, list)
+        if not lines or status not in (0, 1, 2):
+            raise NoReport(f"{self.name} {words[0]}: status {status}, no answer")
+        return lines, answered(words[0], verdict_of(lines[-1], status))
 
-    def check(self, stl: str, pieces: Pieces,
-              take: Callable[[Iterable[str]], AnyTold]) -> tuple[Verdict, AnyTold]:
+    def check(self, stl: str, pieces: Pieces, take: Callable[[Iterable[str]], Faults]
+              ) -> tuple[Verdict, Faults]:
         """The verdict, accepted or refused, and all that `take` makes of the lines of `--all`."""
-        command = self.command("check", *self.check_options, *pieces.words(), "--all", "--", stl,
-                               pieces.path)
-        try:
-            with subprocess.Popen(command, stdin=subprocess.DEVNULL, stdout=subprocess.PIPE,
-                                  text=True, errors="replace") as process:
-                assert process.stdout
-                told = take(line.rstrip("\n") for line in process.stdout)
-        except (OSError, ValueError) as error:
-            raise self.cannot_run(error) from None
-        verdict = verdict_of(told.first_line, process.returncode)
-        said = Said(process.returncode, accepted_of(told.last_line) is not None, told.count,
+        status, told = self.asked(["check", *self.check_options, *pieces.words(), "--all", "--",
+                                   stl, pieces.path], take)
+        verdict = verdict_of(told.first_line, status)
+        said = Said(status, accepted_of(told.last_line) is not None, told.count,
                     count_of(told.last_line), () if verdict.number is None else (verdict.number,))
         if word_of(said) == NOT_JUDGED:
             raise NoReport(f"{UNSAID}: {told.last_line or 'it printed nothing'}")
@@ -172,16 +147,9 @@ class Program:
 
     def refusal_of_packets(self, pieces: Pieces, count: int) -> Verdict:
         """The last line of `packets`, which is a refusal of the PES packet with that number."""
-        try:
-            with subprocess.Popen(self.command("packets", *pieces.words(), "--", pieces.path),
-                                  stdin=subprocess.DEVNULL, stdout=subprocess.PIPE) as process:
-                assert process.stdout
-                line = b""
-                for line in process.stdout:
-                    pass
-        except (OSError, ValueError) as error:
-            raise self.cannot_run(error) from None
-        verdict = verdict_of(line.decode("utf-8", "replace").rstrip("\n"), process.returncode)
+        words = ["packets", *pieces.words(), "--", pieces.path]
+        status, last = self.asked(words, lambda lines: collections.deque(lines, 1))
+        verdict = verdict_of("".join(last), status)
         if answered("packets", verdict).pes != count:
             raise NoReport(f"packets says {verdict.line}, where PES packet {count} is refused here")
         return verdict

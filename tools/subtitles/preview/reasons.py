@@ -15,7 +15,7 @@ from ..qc.naming import Causes
 from ..qc.due_pages import DuePages, due_pages_of
 from ..qc.unclear import Unclear
 from ..reading.cutting import Range
-from .counts import heads
+from .counts import heads, row_of
 from .program import NoReport
 
 if TYPE_CHECKING:
@@ -50,10 +50,8 @@ class Reasons:
         begin, end = (told_of(faults.firsts.get(number, "")) for number in (BEGIN, END))
         if begin:
             self.causes.take(begin)
-        marks, begun = faults.marks[CONTENT], faults.begun.get(CONTENT)
-        for first, last in [*marks, *[(begun, held.last)] * (begun is not None)]:
-            if first is not None and first <= last:
-                self.causes.add(first, last)
+        for first, last in faults.marks[CONTENT]:
+            self.causes.add(first, last)
         if end:
             self.causes.take(end)
         self.causes.settle(True)
@@ -98,9 +96,7 @@ class Reasons:
         sent = "nothing" if known["sent"] is None else known["sent"]
         cells = [shown(self.wording.said(cause, has_text=False)), shown(known["text"]),
                  shown("the same" if sent == known["text"] else sent)]
-        named = "".join(f'<td data-name="{name}">{cell}</td>'
-                        for name, cell in zip(COLUMNS, cells))
-        return f'<tr><th scope="row">{self.link(cause)}</th>{named}</tr>'
+        return row_of(self.link(cause), COLUMNS, cells)
 
 
 def due_programme(program: str, asked: Asked) -> DuePages:

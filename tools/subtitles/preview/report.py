@@ -3,11 +3,11 @@ from __future__ import annotations
 
 import os
 import shlex
-import tempfile
 import time
 from typing import NamedTuple
 
 from ..core.built import behind_script
+from ..core.files import temporary_folder
 from ..core.national import BY_WORD
 from ..core.gsi import titles_in
 from ..core.manual import meanings
@@ -98,18 +98,17 @@ class Report:
         self.command_line = shlex.join(["tools/preview", *asked.words])
         self.date = time.strftime("%Y-%m-%d %H:%M:%S UTC", time.gmtime())
         self.made_with = program_at(path)
+        names = {"STL": asked.stl}
         # A range of PES packets is named by the recording that it is of, where that is known.
-        is_of_recording = asked.pieces is not None and asked.pieces.name is not None \
-            and asked.recording is not None
-        kinds = ["STL", "PES"] if asked.pes and not is_of_recording else ["STL"]
-        summed = Files([asked.stl, *([asked.pes] if asked.pes and len(kinds) > 1 else [])])
+        if asked.pes and not (asked.recording and asked.pieces and asked.pieces.name):
+            names["PES"] = asked.pes
+        summed = Files(names.values())  # while they are read
         self.read(program)
-        # Each with what it is; those that come with the pair are summed up while they are read.
-        own = File(asked.program, os.path.getsize(path), self.made_with.sha256)
-        self.files: list[tuple[str, File | Recorded]] = \
-            list(zip([*kinds, "Program"], [*summed.all(), own]))
+        self.files: list[tuple[str, File | Recorded]] = [*zip(names, summed.all())]
         if asked.recording:
-            self.files.insert(len(kinds), ("Recording", asked.recording))
+            self.files.append(("Recording", asked.recording))
+        self.files.append(("Program", File(asked.program, os.path.getsize(path),
+                                           self.made_with.sha256)))
         self.looks = None if self.is_refused_file else Looks(self, program)
 
     def read(self, program: Program) -> None:
@@ -226,7 +225,7 @@ def end_of_knowledge(held: Heard, subtitles: list[Subtitle]) -> int | None:
 
 def due_pages(program: Program, asked: Asked, frames: list[int], hears_all: bool) -> Heard | None:
     """What a receiver holds of the program's own schedule; `None` where there is no subtitle."""
-    with tempfile.TemporaryDirectory() as folder:
+    with temporary_folder("subttx-preview-") as folder:
         path = os.path.join(folder, "due.pes")
         verdict = program.schedule(asked.stl, path)
         if verdict.number == NO_SUBTITLES:

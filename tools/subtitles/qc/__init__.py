@@ -20,7 +20,7 @@ warned        what is strange of a recording
 
 checking      `check --all`, and what it comes to
 faults        faults with all that is known of them
-cells         the cells that are due and held at their places
+cells         the PES packets and the cells at their places
 subtitle_file the subtitles of a file by blocks and by frames
 status        the verdict in one word, and its exit status: decided here alone
 sentence      it in one sentence for a person

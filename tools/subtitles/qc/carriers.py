@@ -272,6 +272,11 @@ class Carriers:
             yield from self.kept(carrier, [*self.put(carrier, several), *carrier.end()])
         self.skipped = reader.skipped
 
+    def rest(self) -> Iterator[tuple[Carrier, bytes]]:
+        """The PES packets that are still to come of what was handed on, where nothing more is."""
+        for carrier in self.by_pid.values():
+            yield from self.kept(carrier, carrier.end())
+
     def calls(self) -> list[Extracting]:
         """What can be waited for beside a feed."""
         return [one.call for one in self.by_pid.values() if one.call and one.is_heard()]

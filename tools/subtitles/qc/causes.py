@@ -67,10 +67,7 @@ class Namer:
 
     def is_due(self, frame: int) -> bool:
         """Whether at a frame the page is held that is due."""
-        place = self.programme.place_at(frame)
-        is_subtitle = place >= 0 and frame < self.subtitles[place].end
-        due: Rows = self.pages[place] if is_subtitle else BLANK_PAGE
-        return self.held.page_at(frame) == due
+        return self.held.page_at(frame) == self.programme.page_at(frame)
 
     def split(self, first: int, last: int) -> list[Span]:
         """Faulty frames, so that in each stretch one page is due and one is held."""

@@ -1,82 +1,19 @@
-"""The cells that are due and held, and the PES packets, at the places that faults name."""
+"""The cells that are held, and the PES packets, at the places that faults name."""
 from __future__ import annotations
 
 import bisect
+import contextlib
 import itertools
 from typing import Iterable, Iterator, NamedTuple
 
 from ..core.files import Damaged
 from ..core.pes import data_field, has_pts, pes_packets, pts_in, teletext_packets
 from ..core.pieces import Pieces
-from ..core.teletext import address_of, header_of
+from ..core.teletext import header_of
 from ..core.times import FRAMES_OF_A_DAY, frame_in
 from ..core.told import CONTROL, PASSED_OVER, Told
-from ..reading.receiver import BLANK_PAGE, OLD, STORED, TUNED, Packet, hear
-
-ROWS = 24
-
-
-class Listener:
-    """A receiver that hears PES packets."""
-
-    def __init__(self, page: tuple[int, int]) -> None:
-        self.page, self.state = page, TUNED
-        self.field, self.is_settled = b"", False
-
-    def hear(self, data: bytes) -> None:
-        """Hears a PES packet; the same field again changes nothing where it changed nothing."""
-        field = data_field(data)
-        if field == self.field and self.is_settled:
-            return
-        before = self.state
-        for packet in map(self.packet, teletext_packets(field)):
-            if packet:
-                self.state = hear(self.state, packet, self.page)
-        self.field, self.is_settled = field, before == self.state
-
-    def packet(self, data: bytes) -> Packet | None:
-        """A header, or a row of the magazine; the receiver does nothing about other packets."""
-        address = address_of(data)
-        if address is None:
-            return None
-        magazine, number = address
-        if number == 0:
-            header = header_of(data)
-            return Packet(magazine, 0, header) if header else None
-        is_row = magazine == self.page[0] and number <= ROWS
-        return Packet(magazine, number, data[2:].translate(STORED)) if is_row else None
-
-
-class Due:
-    """The pages that are due at the frames asked for, as the program's own schedule sends them."""
-
-    def __init__(self, path: str, page: tuple[int, int], origin: int,
-                 asked: Iterable[int]) -> None:
-        self.frames: list[int] = []  # from which on another page is due
-        self.pages: list[tuple[bytes, ...]] = []
-        listener, wanted = Listener(page), sorted(set(asked))
-        with open(path, "rb") as file:
-            for data in pes_packets(file):
-                frame = frame_in(pts_in(data), origin)
-                listener.hear(data)
-                if not self.pages or self.pages[-1] != listener.state.rows:
-                    self.drop_unasked(wanted, frame)
-                    self.frames.append(frame)
-                    self.pages.append(listener.state.rows)
-
-    def drop_unasked(self, wanted: list[int], frame: int) -> None:
-        """Takes the last page away again, where none of its frames is asked for."""
-        if self.frames:
-            at = bisect.bisect_left(wanted, self.frames[-1])
-            if at == len(wanted) or wanted[at] >= frame:
-                self.frames.pop()
-                self.pages.pop()
-
-    def at(self, frame: int) -> tuple[bytes, ...]:
-        """The page at an asked frame; blank before the first subtitle."""
-        at = bisect.bisect_right(self.frames, frame) - 1
-        blank: tuple[bytes, ...] = BLANK_PAGE
-        return self.pages[at] if at >= 0 else blank
+from ..reading.receiver import OLD, TUNED, Rows
+from .held import Listener
 
 
 class Place(NamedTuple):
@@ -85,7 +22,7 @@ class Place(NamedTuple):
 
     pes: int | None
     pts: int | None
-    rows: tuple[bytes, ...] | None
+    rows: Rows | None
     header: bytes | None = None
 
 
@@ -99,7 +36,7 @@ class Sending:
     def __init__(self, frame: int) -> None:
         self.frame = frame
         self.members: list[tuple[int, int, bytes]] = []
-        self.rows: tuple[bytes, ...] = TUNED.rows
+        self.rows: Rows = TUNED.rows
 
     def place(self, packet: int | None) -> Place:
         """Its last PES packet, or the one with a Teletext packet of that number, which is counted
@@ -131,21 +68,13 @@ class Places:
         (self.origin, self.within), self.is_heard = clock, is_heard
         self.listener = Listener(page)
         self.passed_over, self.span = passed_over, next(passed_over, None)
-        self.packets = self.read(pieces)
+        self.packets = readable(pieces)
         self.index, self.highest = pieces.first - 1, -1
         self.before: Sending | None = None
         self.now: Sending | None = None
         self.next: tuple[int, int, bytes] | None = None  # which is of another sending
         self.pts: dict[int, int | None] = {}  # of the PES packets from the sending before on
         self.is_over = False
-
-    @staticmethod
-    def read(pieces: Pieces) -> Iterator[bytes]:
-        with pieces.open() as file:
-            try:
-                yield from pes_packets(file)
-            except Damaged:
-                return
 
     def of(self, fault: Told) -> Place:
         """The place of the next fault of a PES file."""
@@ -186,7 +115,7 @@ class Places:
                           self.frame_of(member[1]) == self.now.frame):
             self.now.members.append(member)
             if self.is_heard:
-                self.listener.hear(member[2])
+                self.listener.hear_pes(member[2])
             member = self.read_on() if self.within else None
         self.next, self.now.rows = member, self.listener.state.rows
 
@@ -204,6 +133,12 @@ class Places:
     def frame_of(self, pts: int) -> int:
         frame = frame_in(pts, self.origin, self.within)
         return frame if frame < FRAMES_OF_A_DAY else -1
+
+
+def readable(pieces: Pieces) -> Iterator[bytes]:
+    """PES packets, as far as they can be read."""
+    with pieces.open() as file, contextlib.suppress(Damaged):
+        yield from pes_packets(file)
 
 
 def passed_over(told: Iterable[Told]) -> Iterator[tuple[int, int]]:
@@ -224,7 +159,7 @@ def passed_over(told: Iterable[Told]) -> Iterator[tuple[int, int]]:
         yield begun, begun
 
 
-def code_at(rows: tuple[bytes, ...] | None, row: int, column: int) -> int | None:
+def code_at(rows: Rows | None, row: int, column: int) -> int | None:
     """The code of a cell; `None` for one of the old page, which nobody sent."""
     if rows is None or rows[row - 1][column] == OLD:
         return None

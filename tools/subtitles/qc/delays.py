@@ -1,7 +1,7 @@
 """After how many frames each subtitle was whole: what a house needs to choose --within N."""
 from __future__ import annotations
 
-from typing import Iterable, NamedTuple, Sequence
+from typing import Iterable, NamedTuple
 
 from ..core.pieces import Pieces
 from ..core.programme import Subtitle
@@ -15,8 +15,6 @@ from .naming import Causes
 
 # Where none of these is told, within 0, each page is whole at the end of the frame of its TCI.
 MOVED = {*range(30, 33), 44, 45, 60, 62, 63, 71, 72, 74, 77}
-
-Frames = Sequence[int | None]  # of each subtitle; `None` where nobody saw it whole while it is due
 
 
 class Spread(NamedTuple):

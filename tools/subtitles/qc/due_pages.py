@@ -3,8 +3,8 @@ from __future__ import annotations
 
 import os
 import subprocess
-import tempfile
 
+from ..core.files import temporary_folder
 from ..core.programme import Programme, Subtitle, subtitles_shown
 from ..core.teletext import Page, page_name
 from ..reading.receiver import BLANK_PAGE, Rows
@@ -32,22 +32,35 @@ class DuePages(Programme):
         places = self.by_page.get(page)
         return self.nearest(places, frame) if places and page != BLANK_PAGE else None
 
+    def page_at(self, frame: int) -> Rows:
+        """The page that is due at a frame."""
+        count, is_due = self.due(frame)
+        blank: Rows = BLANK_PAGE
+        return self.pages[count - 1] if is_due else blank
+
+
+def asked_of(program: str, *words: str) -> list[str]:
+    """What the program at a path answers."""
+    done = subprocess.run([program, *words], stdin=subprocess.DEVNULL, check=False,
+                          stdout=subprocess.PIPE, encoding="utf-8", errors="replace")
+    lines = done.stdout.splitlines()
+    if done.returncode and f"refused {NOTHING} " not in "".join(lines[-1:]):
+        raise Unclear(f"{words[0]} was not answered: {''.join(lines[-1:])}")
+    return lines
+
+
+def subtitles_in(program: str, stl: str) -> list[Subtitle]:
+    """The subtitles of a file, as the program shows them."""
+    return subtitles_shown(asked_of(program, "show", "--", stl))
+
 
 def due_pages_of(program: str, stl: str, page: Page, option: str) -> DuePages:
     """Those of a file, by the program at a path."""
-    def ask(*words: str) -> list[str]:
-        done = subprocess.run([program, *words], stdin=subprocess.DEVNULL, check=False,
-                              stdout=subprocess.PIPE, encoding="utf-8", errors="replace")
-        lines = done.stdout.splitlines()
-        if done.returncode and f"refused {NOTHING} " not in "".join(lines[-1:]):
-            raise Unclear(f"{words[0]} was not answered: {''.join(lines[-1:])}")
-        return lines
-
-    with tempfile.TemporaryDirectory(prefix="subttx-qc-") as folder:
+    with temporary_folder("subttx-qc-") as folder:
         path = os.path.join(folder, "due.pes")
-        ask("schedule", "--page", page_name(*page), "--option", option, "--every", "1500", "--",
-            stl, path)
+        asked_of(program, "schedule", "--page", page_name(*page), "--option", option, "--every",
+                 "1500", "--", stl, path)
         due = Held(path, page, 0)
         due.follow()
-    subtitles = subtitles_shown(ask("show", "--", stl))
+    subtitles = subtitles_in(program, stl)
     return DuePages(subtitles, [due.page_at(one.begin) for one in subtitles])

@@ -1,9 +1,6 @@
 """The faults of a verdict with all that is known of them, one after another."""
 from __future__ import annotations
 
-import os
-import subprocess
-import tempfile
 from typing import Iterator, TypedDict
 
 from ..core.characters import letters
@@ -11,14 +8,15 @@ from ..core.manual import meanings, plain
 from ..core.national import BY_WORD
 from ..core.times import frame_at, time_of
 from ..core.told import CHARACTER, CONTENT, LETTERS, STL_FAULTS, WITH_CAUSE, Told
+from ..reading.receiver import Rows
 from .cause_words import CauseWords, SubtitleWords, Wording
-from .cells import NOWHERE, Due, Place, Places, code_at, passed_over
+from .cells import NOWHERE, Place, Places, code_at, passed_over
+from .due_pages import DuePages, due_pages_of
 from .hints import control_words
 from .midnight import midnight_words
 from .option_advice import OptionAdvice
 from .subtitle_file import NamedSubtitle, SubtitleFile
 from .typed import Typed
-from .unclear import Unclear
 from .verdict import Part, Verdict
 
 
@@ -92,16 +90,16 @@ class PartFaults:
         self.wording = Wording(part.causes, self.asked.option) if part.causes else None
         self.subtitles = SubtitleFile(part.stl_path)
         self.of_letters = OptionAdvice(self.subtitles, self.asked.option)
-        self.due: Due | None = None
+        self.due: DuePages | None = None
         self.places: Places | None = None
         if part.pieces is not None and part.origin is not None:
-            asked = [one.frame for one in part.answer.told()
-                     if one.is_fault and one.number == CONTENT and one.frame is not None]
-            if asked:
-                self.due = due_pages(typed, verdict, part, asked)
+            is_heard = CONTENT in part.answer.numbers
+            if is_heard:
+                self.due = part.causes.programme if part.causes else due_pages_of(
+                    typed.program_path, part.stl_path, self.asked.page, self.asked.option)
             self.places = Places(part.pieces, self.asked.page,
                                  (part.origin, self.asked.within),
-                                 passed_over(part.answer.told()), bool(asked))
+                                 passed_over(part.answer.told()), is_heard)
 
     def __iter__(self) -> Iterator[Fault]:
         faults = (one for one in self.part.answer.told() if one.is_fault)
@@ -114,7 +112,7 @@ class PartFaults:
         place = self.places.of(told) if self.places and not is_stl else NOWHERE
         byte, character = self.subtitles.letter(told.block, told.at) \
             if told.number in LETTERS and told.block and told.at is not None else (None, None)
-        until, until_pes = self.ends.of(index)
+        subtitle, (until, until_pes) = self.subtitle_of(told), self.ends.of(index)
         means, do = self.meanings.get(told.number, ("", ""))
         if told.number == CHARACTER and told.block and told.at is not None:
             do = self.of_letters.of(told.block, told.at) or do
@@ -125,8 +123,9 @@ class PartFaults:
             "part": self.part.number, "line": told.line, "number": told.number,
             "name": told.name, "severity": self.verdict.severity.of(told.number),
             "file": "stl" if is_stl else "pes", "block": told.block,
-            "subtitle": words_of(self.subtitle_of(told)), "byte": byte, "character": character,
-            "text_at": told.at, "pes": place.pes if told.pes is None else told.pes,
+            "subtitle": subtitle and words_of_subtitle(subtitle),
+            "byte": byte, "character": character, "text_at": told.at,
+            "pes": place.pes if told.pes is None else told.pes,
             "pes_pts": place.pts, "pes_time": self.time_at(place.pts), "packet": told.packet,
             "frame": told.frame, "time": told.time, "row": told.row, "column": told.column,
             "due": self.due_cell(told), "held": self.held_cell(told, place),
@@ -158,13 +157,13 @@ class PartFaults:
         """The cell of a 72 as it is due."""
         if self.due is None or told.number != CONTENT or told.frame is None:
             return None
-        return self.cell(self.due.at(told.frame), told)
+        return self.cell(self.due.page_at(told.frame), told)
 
     def held_cell(self, told: Told, place: Place) -> Cell | None:
         """The same as it is held."""
         return self.cell(place.rows, told) if told.number == CONTENT else None
 
-    def cell(self, rows: tuple[bytes, ...] | None, told: Told) -> Cell | None:
+    def cell(self, rows: Rows | None, told: Told) -> Cell | None:
         """The cell that a fault names."""
         if told.row is None or told.column is None:
             return None
@@ -174,28 +173,10 @@ class PartFaults:
         return {"code": f"{code:02X}", "character": self.letters[code] if code >= 0x20 else None}
 
 
-def words_of(subtitle: NamedSubtitle | None) -> SubtitleWords | None:
-    return None if subtitle is None else words_of_subtitle(subtitle)
-
-
 def words_of_subtitle(subtitle: NamedSubtitle) -> SubtitleWords:
     """A subtitle for machines."""
     return {"position": subtitle.position, "number": subtitle.number, "begin": subtitle.begin,
             "end": subtitle.end}
-
-
-def due_pages(typed: Typed, verdict: Verdict, part: Part, frames: list[int]) -> Due:
-    """The pages that are due, by the program's own schedule of the subtitle file."""
-    asked = verdict.asked
-    with tempfile.TemporaryDirectory(prefix="subttx-qc-") as folder:
-        path = os.path.join(folder, "due.pes")
-        command = [typed.program_path, "schedule", "--page", asked.page_name, "--option",
-                   asked.option, "--every", "1500", "--", part.stl_path, path]
-        done = subprocess.run(command, stdin=subprocess.DEVNULL, stdout=subprocess.PIPE,
-                              encoding="utf-8", check=False)
-        if done.returncode:
-            raise Unclear(f"schedule was not answered: {done.stdout.strip()}")
-        return Due(path, asked.page, 0, frames)
 
 
 def faults_of(verdict: Verdict, typed: Typed) -> Iterator[Fault]:

@@ -2,7 +2,7 @@
 from __future__ import annotations
 
 import time
-from typing import Callable, Iterator, NamedTuple
+from typing import Callable, Iterable, Iterator, NamedTuple
 
 from ..core.pes import pts_or_none
 from ..core.times import TICKS, ticks_between, wrapped
@@ -90,15 +90,24 @@ class Feed:
         self.live: Live | None = None
         self.has_ended = False  # since nothing more is needed, or a second PID carries the page
 
-    def follow(self, packets: Iterator[tuple[Kept, bytes]], show: Callable[[], None]) -> None:
+    def follow(self, packets: Iterator[tuple[Kept, bytes]], show: Callable[[], None],
+               rest: Iterable[tuple[Kept, bytes]] = ()) -> None:
         """Takes the PES packets as they come; `show` tells how much is read where none is judged.
-        """
+        The PCR may tell that all has come before all has come back: that is the `rest`."""
         for kept, data in packets:
             is_over = self.hear(kept, data)
             if not self.live and not is_over:
                 show()
             if is_over:
+                if not data:
+                    self.take_rest(rest)
                 return
+
+    def take_rest(self, packets: Iterable[tuple[Kept, bytes]]) -> None:
+        """Takes the PES packets that come back when nothing more is handed on."""
+        for kept, data in packets:
+            if self.live and kept is self.carrier:
+                self.live.put(data)
 
     def hear(self, kept: Kept, data: bytes) -> bool:
         """Takes a PES packet, or that time goes on; whether nothing more is needed."""
@@ -130,7 +139,9 @@ class Feed:
             self.begin(self.carrier)
         if self.until is not None and self.now is not None:  # whether the last TCO has come
             return ticks_between(self.until, self.now) >= -TICKS * self.every
-        return self.live is not None and (self.live.is_over() or self.live.has_last())
+        kept, live = self.carrier, self.live
+        return live is not None and (live.is_over() or live.has_last() or kept is not None
+                                     and live.is_past(kept.pcr(), kept.late()))
 
     def take(self, kept: Kept, data: bytes) -> None:
         """Takes a PES packet of what carries the page."""

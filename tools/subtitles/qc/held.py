@@ -39,6 +39,22 @@ class Near:
         return Cut(*self.heard, page, origin, None, self.packets, within)
 
 
+class Listener(Receiver):
+    """A receiver that does nothing about units that come once more, where they changed nothing."""
+
+    def __init__(self, page: Page) -> None:
+        super().__init__(page)
+        self.units, self.is_settled = b"", False
+
+    def hear_pes(self, pes: bytes) -> None:
+        units = pes[UNIT:]
+        if self.is_settled and units == self.units:
+            return
+        before = self.state
+        super().hear_pes(pes)
+        self.units, self.is_settled = units, before == self.state
+
+
 class Held:
     """The pages, each with the frame from whose end on it is held; the frames rise.
 
@@ -62,12 +78,12 @@ class Held:
 
     def forget(self) -> None:
         """Holds nothing, and has heard nothing."""
-        self.receiver = Receiver(self.page)
+        self.receiver = Listener(self.page)
         self.frames, self.pages = array.array("i"), list[Rows]()
         self.when: dict[Rows, array.array[int]] = {}  # the frames at which a page came
         self.turns = array.array("i")  # the frames at whose ends the page turns open, or closed
         self.first = self.last = NO_FRAME
-        self.is_settled, self.field, self.is_doubted = False, b"", False
+        self.is_doubted = False
         self.doubts: list[Span] = []
         self.count = 0  # PES packets
         self.pauses: list[Span] = []  # frames without one
@@ -125,7 +141,7 @@ class Held:
             self.hear(batch.packet(number), frame)
 
     def hear(self, data: bytes, frame: int) -> None:
-        """Hears a PES packet; the same units again change nothing where they changed nothing."""
+        """Hears a PES packet."""
         if self.is_doubted:
             self.doubts.append(Span(max(self.last, 0), frame))
             self.is_doubted = False
@@ -134,12 +150,10 @@ class Held:
             self.pauses.append(Span(self.last + 1, frame - 1))
         self.count += 1
         self.last = frame
-        field = data[UNIT:]
-        if self.is_settled and field == self.field:
-            return
         before = self.receiver.state
         self.receiver.hear_pes(data)
-        self.field, self.is_settled = field, before == self.receiver.state
+        if self.receiver.state is before:
+            return
         if self.receiver.state.is_open != len(self.turns) % 2:
             self.turn(frame)
         if self.receiver.state.rows is not before.rows:

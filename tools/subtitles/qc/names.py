@@ -4,6 +4,7 @@ from __future__ import annotations
 import glob
 import os
 import shutil
+from typing import Iterator
 
 from ..core.files import is_utf_8
 from ..core.words import shown
@@ -12,14 +13,15 @@ from .typed import Typed, line_of
 
 
 LINK = ".out"  # in the temporary folder
+ENDINGS = ("stl", "cut.pes", "txt", "html")  # of what is made of a part
 
 
 class Names:
     """The files that the steps make: as a person types them, and where they stand here.
 
     What is judged of a feed stands in the folder that was asked for; the rest is temporary, under
-    the names that a person would type. The program asks for names that are UTF-8: `here` is another one of
-    that folder, where its own is none.
+    the names that a person would type. The program asks for names that are UTF-8: `here` is another
+    one of that folder, where its own is none.
     """
 
     def __init__(self, name: str, folder: str, out: str | None) -> None:
@@ -54,15 +56,30 @@ class Names:
         return Names(f"{self.name}.{number}", self.folder, self.out)
 
     def kept(self) -> list[str]:
-        """What an earlier call may have left in the folder: files of the pair, and of its parts."""
+        """What an earlier call may have left in the folder: files of the pair, and of its parts.
+        One beside a JSON result is of another pair, and a subtitle file without a list may be
+        somebody's own."""
         if self.out is None:
             return []
         own = [self.cut_path, self.place("recording.pes"), self.list_path, self.report,
                self.typed("json")]
-        return own + [path for ending in ("stl", "cut.pes", "txt", "html") for path in
-                      glob.glob(os.path.join(glob.escape(self.out), f"{glob.escape(self.name)}."
-                                             f"[1-9]*.{ending}"))
-                      if os.path.basename(path)[len(self.name) + 1:-len(ending) - 1].isdecimal()]
+        return own + [path for ending in ENDINGS for path, stem in self.of_parts(ending)
+                      if not os.path.exists(f"{stem}.json")
+                      and (ending != "stl" or os.path.exists(f"{stem}.txt"))]
+
+    def of_parts(self, ending: str) -> Iterator[tuple[str, str]]:
+        """Files in the folder that are named as one of a part, each with its name without the
+        ending."""
+        if self.out is not None:
+            begin = self.typed("")
+            for path in glob.glob(f"{glob.escape(begin)}[1-9]*.{ending}"):
+                stem = path.removesuffix(f".{ending}")
+                if stem.removeprefix(begin).isdecimal():
+                    yield path, stem
+
+    def written(self) -> list[str]:
+        """What is there of the files that may be written."""
+        return self.kept() + [path for ending in ENDINGS for path, _ in self.of_parts(ending)]
 
     def give(self, stl: str) -> None:
         """Takes the subtitle file."""

@@ -5,10 +5,10 @@ import itertools
 import statistics
 from typing import NamedTuple, Sequence
 
-from ..core.files import Damaged
-from ..core.pes import has_pts, pes_packets, pts_in
+from ..core.pes import has_pts, pts_in
 from ..core.pieces import Pieces
 from ..core.times import TICKS, ticks_between
+from .cells import readable
 
 MILLISECOND = 90  # ticks
 FEWEST = 10  # PTS of which a drift can be told
@@ -34,15 +34,8 @@ class Off(NamedTuple):
 
 def pts_of_file(pieces: Pieces) -> list[int]:
     """The first PTS of some PES packets, as far as they can be read."""
-    found = []
-    with pieces.open() as file:
-        try:
-            for data in itertools.islice(pes_packets(file), LOOKED_AT):
-                if has_pts(data):
-                    found.append(pts_in(data))
-        except Damaged:
-            pass
-    return found
+    return [pts_in(data) for data in itertools.islice(readable(pieces), LOOKED_AT)
+            if has_pts(data)]
 
 
 def off_of(several: Sequence[int], origin: int) -> Off | None:

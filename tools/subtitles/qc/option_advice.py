@@ -6,8 +6,6 @@ import functools
 from ..core.national import NationalOption, OPTIONS, character_of, draws, letter_at, options_with
 from .subtitle_file import SubtitleFile
 
-FIRST_LETTER = 0xA0  # bytes below are control codes of the subtitle file
-
 
 class OptionAdvice:
     """The advice for the letters of one subtitle file, which is judged by the option `asked`."""

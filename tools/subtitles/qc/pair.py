@@ -31,7 +31,7 @@ from .start import Starting, refuse_outside
 from .status import REFUSED, UNSAID
 from .steps import Steps, Stretch, origin_in, origin_words, packets_words
 from .subtitle_file import SubtitleFile
-from .sums import File, file_of
+from .sums import file_of
 from .typed import Typed
 from .unclear import Unclear
 from .verdict import Gap, Part, Verdict

@@ -156,7 +156,7 @@ class Recording:
             if source.is_feed:
                 source.calls = carriers.calls
                 source.hear = lambda: any(feed.hear(*one) for one in carriers.come())
-                feed.follow(carriers.packets(), lambda: self.show(source, feed))
+                feed.follow(carriers.packets(), lambda: self.show(source, feed), carriers.rest())
             else:
                 for _ in carriers.packets():
                     self.show(source, feed)

@@ -19,7 +19,7 @@ class Source:
 
     `read` gives what is there: of a feed what has come, without waiting for more. `wait` hears how
     many seconds a feed has stood still, and ends it where it answers True; `gone_on` hears that it
-    goes on after that. What `calls` have to tell comes when it comes: `hear` takes it meanwhile, and
+    goes on after that. What `calls` have to tell comes when it comes: `hear` takes it meanwhile and
     answers whether nothing more is wanted.
     """
 

@@ -7,7 +7,7 @@ from typing import NamedTuple, Sequence
 
 from ..core.files import Input
 from ..core.pieces import Pieces
-from ..core.programme import Subtitle, subtitles_shown
+from ..core.programme import Subtitle
 from ..core.times import time_of
 from ..core.words import Stop, line_of, within_words
 from ..reading.cutting import Cut, cut_out, times_of_file
@@ -15,6 +15,7 @@ from ..reading.finding import Origin, Packets, find, read_words
 from .asked import MOST_TRIED, Asked
 from .checking import Answer, check
 from .clock import START, TCP, Clock
+from .due_pages import subtitles_in
 from .fitting import Found, found_in, refuse
 from .names import Names, again
 from .recording import Recording
@@ -59,7 +60,8 @@ class Steps:
         self.speech.command(self.typed.tool(name), *typed)
         done = subprocess.run([*self.typed.call(name), *words], stdin=subprocess.DEVNULL,
                               stdout=subprocess.PIPE, stderr=subprocess.PIPE, encoding="utf-8",
-                              errors="replace", check=False)
+                              errors="replace", check=False,
+                              env={**os.environ, "TMPDIR": self.names.folder})  # a signal ends it
         told = [line.partition(": ")[2] for line in done.stderr.splitlines()]
         return self.say(name, Done(done.returncode, done.stdout.splitlines(), told))
 
@@ -84,13 +86,8 @@ class Steps:
                             *self.asked.option_words(), "--all")
 
     def subtitles(self, stl: str) -> list[Subtitle]:
-        """The subtitles of a file, as the program shows them."""
-        command = [self.typed.program_path, "show", "--", stl]
-        done = subprocess.run(command, stdin=subprocess.DEVNULL, stdout=subprocess.PIPE,
-                              encoding="utf-8", errors="replace", check=False)
-        if done.returncode:
-            raise Unclear(f"show was not answered: {''.join(done.stdout.splitlines()[-1:])}")
-        return subtitles_shown(done.stdout.splitlines())
+        """The subtitles of a file."""
+        return subtitles_in(self.typed.program_path, stl)
 
     def fit(self, recording: Recording, clock: Clock | None, *more: str) -> Origin:
         """What is found of the clock, also compared with one that is known; said as tools/origin
@@ -194,8 +191,9 @@ class Steps:
             "preview",
             [*given, *words, *sums, *around[0], "-p", self.typed.program_path, "-o", names.report],
             [*typed, *words, *shown, *around[1], *self.typed.program_words, "-o", names.report])
-        if done.status == 2:
-            raise Unclear(f"no report was made: {'; '.join(done.told)}")
+        if done.status not in (0, 1):  # below 0 where a signal ended it
+            why = "; ".join(done.told) or f"status {done.status}"
+            raise Unclear(f"no report was made: {why}")
 
 
 def origin_in(recording: str, stl: str, words: Sequence[str]) -> Origin:

@@ -6,10 +6,9 @@ from typing import Iterator, NamedTuple
 
 from ..core.files import Damaged
 from ..core.national import BY_WORD, OTHER_REGIONS, as_sent, of_track
-from ..core.pes import has_pts, pes_packets, pts_in
+from ..core.pes import has_pts, pes_batches, pts_in
 from ..core.pieces import Pieces
-from ..core.stl import GSI
-from ..core.times import FRAMES_OF_A_DAY, frame_at, frame_in, time_of
+from ..core.times import FRAMES_OF_A_DAY, NO_FRAME, frame_in, frames_at, time_of
 from ..core.words import counted, pid_name, shown
 from ..reading.character_sets import character_sets
 from ..reading.holes import Holes
@@ -18,12 +17,11 @@ from ..reading.listing import Listing
 from ..reading.programmes import KINDS, SUBTITLE_KINDS, Announced
 from ..reading.repeat import measured, sendings
 from ..reading.timing import SECOND, Timing
-from .asked import Asked
+from .asked import LC, Asked
 from .held import FEW, PAUSE
 from .subtitle_file import SubtitleFile
 
-LC = slice(14, 16)  # of a GSI block
-TNB, TNS = slice(238, 243), slice(243, 248)  # the same: how many TTI blocks and subtitles there are
+TNB, TNS = slice(238, 243), slice(243, 248)  # of a GSI block: how many TTI blocks and subtitles
 SAID = {"behind": "are behind the PCR", "early": "are more than a second ahead of the PCR",
         "changed": "moved against the PCR by more than half a second"}
 
@@ -142,7 +140,7 @@ def listed(announced: list[Announced]) -> str:
 def language_of(stl: str) -> str:
     """The LC of a subtitle file."""
     with open(stl, "rb") as file:
-        return file.read(GSI)[LC].decode("latin-1")
+        return file.read(LC.stop)[LC].decode("latin-1")
 
 
 def of_counts(subtitles: SubtitleFile) -> Iterator[Warned]:
@@ -173,9 +171,10 @@ def of_pauses(pieces: Pieces, asked: Asked, origin: int) -> Iterator[Warned]:
     """Where no PES packet came for some frames, of what else sends one in each frame but few."""
     frames: list[int] = []
     with pieces.open() as file, contextlib.suppress(Damaged):
-        for data in pes_packets(file):
-            frame = frame_at(pts_in(data), origin, asked.within) if has_pts(data) else None
-            frames += [] if frame is None else [frame]
+        for batch in pes_batches(file):
+            timed = [pts_in(data) for data in batch if has_pts(data)]
+            frames += [frame for frame in frames_at(timed, origin, asked.within)
+                       if frame != NO_FRAME]
     pauses = [(first + 1, second) for first, second in zip(frames, frames[1:])
               if second - first - 1 > PAUSE]
     if len(pauses) * FEW <= len(frames):

@@ -7,7 +7,7 @@ from __future__ import annotations
 from typing import Sequence
 
 from ..core.pes import has_pts, is_mark, pts_in
-from ..core.times import ticks_between
+from ..core.times import CLOCK, ticks_between
 
 BEFORE, AFTER = 2, 2  # PES packets that have to agree: one alone may have a wrong PTS
 
@@ -15,6 +15,13 @@ BEFORE, AFTER = 2, 2  # PES packets that have to agree: one alone may have a wro
 def is_back(pts: int, other: int) -> bool:
     """Whether a second PTS is before the first one."""
     return ticks_between(other, pts) > 0
+
+
+def go_on(several: Sequence[int]) -> bool:
+    """Whether each of several PTS is at least the one before it as a number, and none is before
+    the first one: most are so, and then none is back."""
+    return list(several) == sorted(several) and (
+        not several or several[-1] - several[0] < CLOCK // 2)
 
 
 class Bases:
@@ -39,9 +46,10 @@ class Bases:
         self.timed += len(heard)
         known = self.latest + heard
         values = [pts for _, pts in known]
-        self.begins += [known[at][0] for at in range(BEFORE, len(known) - AFTER + 1)
-                        if all(is_back(pts, other) for pts in values[at - BEFORE:at]
-                               for other in values[at:at + AFTER])]
+        if not go_on(values):
+            self.begins += [known[at][0] for at in range(BEFORE, len(known) - AFTER + 1)
+                            if all(is_back(pts, other) for pts in values[at - BEFORE:at]
+                                   for other in values[at:at + AFTER])]
         self.latest = known[1 - BEFORE - AFTER:]
 
     def ranges(self) -> list[tuple[int, int]]:

@@ -155,12 +155,11 @@ class Cut:
             return False
         early = EARLY * (self.within > 0)
         ticks = [wrapped(pts - self.origin + early) for pts in batch.pts()]
-        if min(ticks) < TICKS * self.low or max(ticks) >= TICKS * min(self.end, self.high):
+        if min(ticks) < TICKS * self.low or max(ticks) >= TICKS * self.end:
             return False
         self.read, self.kept = self.read + len(batch), self.kept + len(batch)
         self.at = self.ends_at = self.at + batch.end
         self.frame = self.last = ticks[-1] // TICKS
-        self.is_in, self.after = True, 0
         return True
 
     def is_of_range(self) -> bool:

@@ -5,6 +5,7 @@ is one line, which becomes a value here; what it wrote are whole PES packets, ma
 """
 from __future__ import annotations
 
+import contextlib
 import dataclasses
 import fcntl
 import os
@@ -21,7 +22,8 @@ from ..core.words import PACKET_SIZE, stream_words
 WRITTEN = re.compile(r"written (\d{1,20}) pes (\d{1,20}) gaps")
 REFUSALS = (31, 32, EMPTY)  # those that `extract` has
 UNSAID = "extract was not answered"
-AT_ONCE = 1 << 18  # bytes that wait to be read, at most
+STANDARD_INPUT = "/dev/stdin"  # as the program opens it
+AT_ONCE = PIECE  # bytes that wait to be read, at most: so nobody waits until those are read
 
 
 @dataclasses.dataclass(frozen=True)
@@ -59,9 +61,10 @@ def extracted_of(lines: Sequence[str], status: int) -> Extracted:
 
 def extract(program: str, source: str, out: str, pid: int,
             packet_size: int = PACKET_SIZE) -> Extracted:
-    """Takes the PES packets of a PID out of a file into another."""
+    """Takes the PES packets of a PID out of a file, or standard input, into another."""
     words = ["extract", *stream_words(pid, packet_size), "--", source, out]
-    done = subprocess.run([program, *words], stdin=subprocess.DEVNULL, stdout=subprocess.PIPE,
+    stdin = None if source == STANDARD_INPUT else subprocess.DEVNULL
+    done = subprocess.run([program, *words], stdin=stdin, stdout=subprocess.PIPE,
                           encoding="utf-8", errors="replace", check=False)
     return extracted_of(done.stdout.splitlines(), done.returncode)
 
@@ -85,7 +88,7 @@ class Extracting:
             os.set_blocking(self.out, False)
             passed = [writing]
         name = path if path is not None else f"/dev/fd/{passed[0]}"
-        words = ["extract", *stream_words(pid, packet_size), "--", "/dev/stdin", name]
+        words = ["extract", *stream_words(pid, packet_size), "--", STANDARD_INPUT, name]
         try:
             self.process = subprocess.Popen([program, *words], stdin=subprocess.PIPE, bufsize=0,
                                             stdout=subprocess.PIPE, pass_fds=passed)
@@ -95,7 +98,8 @@ class Extracting:
         assert self.process.stdin
         self.into = self.process.stdin.fileno()
         self.has_ended = False  # before all was handed on
-        fcntl.fcntl(self.into, fcntl.F_SETPIPE_SZ, AT_ONCE)
+        with contextlib.suppress(PermissionError):  # of several calls, more than one user may have
+            fcntl.fcntl(self.into, fcntl.F_SETPIPE_SZ, AT_ONCE)
         os.set_blocking(self.into, self.out is None)
 
     def fileno(self) -> int:

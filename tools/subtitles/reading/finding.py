@@ -216,7 +216,7 @@ def is_sent(sent: Sent, asked: argparse.Namespace, told: list[str]) -> bool:
                     f"{counted(bases.count, 'PES packet')} have no PTS, and are skipped here: "
                     "check refuses them as 34")
     if not sent.changes:
-        pages = [page_name(*page) for page, count in sent.others.most_common(NAMED) if count]
+        pages = [page_name(*page) for page, _ in sent.others.most_common(NAMED)]
         told.append(f"there is no header of page {page_name(*asked.page)} in {asked.pes}; other "
                     f"subtitle pages: {', '.join(pages) or 'none'}")
     return bool(sent.changes)

@@ -8,8 +8,8 @@ that long, the PCR made a pause, and nothing happened.
 """
 from __future__ import annotations
 
+import bisect
 import collections
-import statistics
 from typing import Iterator, NamedTuple
 
 from ..core.pes import has_pts, pts_in
@@ -17,7 +17,7 @@ from ..core.times import ticks_between
 from .losses import Place
 from .timing import SECOND, Timing, pcr_at
 from .transport import (
-    ADAPTED, DISCONTINUITY, ERROR, PAYLOAD, PCR, Piece, flagged, payload_at, places)
+    DISCONTINUITY, ERROR, PAYLOAD, PCR, Piece, has_flag, payload_at)
 
 LEAST = SECOND // 10  # between two PCR
 TIMES = 3  # as long as is usual
@@ -60,10 +60,11 @@ class Holes:
     """The holes of a PID that its own counters need not tell, and the jumps of its clock."""
 
     def __init__(self, timing: Timing) -> None:
-        self.timing, self.own = timing, timing.stream.pid
+        self.timing, self.own = timing, timing.pid
         self.places: list[Place] = []
         self.jumps: list[Jump] = []
         self.intervals: collections.deque[Interval] = collections.deque(maxlen=KNOWN)
+        self.in_order: list[int] = []  # their ticks
         self.last: Heard | None = None  # the last piece with a PCR
         self.since: list[Piece] = []  # those after it
         self.packets = 0  # before the piece that is heard
@@ -73,15 +74,15 @@ class Holes:
         """Hears a piece of the file, before which a PTS was the last one of the PID."""
         packets, self.packets = self.packets, self.packets + piece.packets
         self.go_on(piece)
-        if not self.timing.finds_clock() or not self.timing.clock:
+        if not self.timing.finds_clock() or self.timing.clock is None:
             return
-        if self.pid != self.timing.clock.pid:
-            self.pid, self.last, self.since = self.timing.clock.pid, None, []
+        if self.pid != self.timing.clock:
+            self.pid, self.last, self.since = self.timing.clock, None, []
             self.intervals.clear()
-        marks = self.timing.clock.marks(piece)
-        clocks = list(places(piece, marks & flagged(piece, PCR)))
+            self.in_order.clear()
+        clocks = piece.flagged(self.pid, PCR)
         if clocks:
-            announced = list(places(piece, marks & flagged(piece, DISCONTINUITY)))
+            announced = piece.flagged(self.pid, DISCONTINUITY)
             self.follow(Heard(piece, before, packets, clocks), announced)
         elif self.last:
             self.since.append(piece)
@@ -110,9 +111,10 @@ class Holes:
                                      pcr_at(new.piece.data, second)),
                        new.number(second) - old.number(first))
         if self.is_usual(one.ticks):
-            self.intervals.append(one)
+            self.add(one)
             return
-        usual, packets = (statistics.median(several) for several in zip(*self.intervals))
+        usual = middle(self.in_order)
+        packets = middle(sorted(one.packets for one in self.intervals))
         way = stretches(old, first, self.since if old is not new else [], new, second)
         are_whole = counters(way, self.own)
         before = self.pts_before(old, first)
@@ -122,11 +124,18 @@ class Holes:
         elif are_whole and one.packets * PAUSE * usual < packets * abs(one.ticks):
             self.jumps.append(Jump(before, one.ticks - round(usual)))
 
+    def add(self, one: Interval) -> None:
+        """Takes an interval as one that is usual; the oldest is no longer known."""
+        if len(self.intervals) == KNOWN:
+            del self.in_order[bisect.bisect_left(self.in_order, self.intervals[0].ticks)]
+        self.intervals.append(one)
+        bisect.insort(self.in_order, one.ticks)
+
     def is_usual(self, ticks: int) -> bool:
         """Whether a PCR comes as others do; the first ones tell how that is."""
         if 0 <= ticks <= LEAST or len(self.intervals) < FEWEST:
             return ticks >= 0
-        return 0 <= ticks <= TIMES * statistics.median(one.ticks for one in self.intervals)
+        return 0 <= ticks <= TIMES * middle(self.in_order)
 
     def pts_before(self, heard: Heard, end: int) -> int | None:
         """The last PTS of the PID before a place."""
@@ -138,10 +147,15 @@ class Holes:
 
     def own_pts(self, piece: Piece) -> Iterator[tuple[int, int]]:
         """The PTS of the PID in a piece, each with its place."""
-        for at in self.timing.stream.beginnings(piece):
+        for at in piece.beginnings(self.own):
             header = payload_at(piece.data, at)
             if has_pts(header):
                 yield at, pts_in(header)
+
+
+def middle(in_order: list[int]) -> float:
+    """The median of numbers that are in order."""
+    return (in_order[len(in_order) // 2] + in_order[(len(in_order) - 1) // 2]) / 2
 
 
 class Way(NamedTuple):
@@ -176,8 +190,7 @@ def counters(ways: Iterator[Way], own: int) -> bool | None:
                 settled.add(pid)
             if part == BEFORE or before is None:
                 continue
-            may_jump = control & ADAPTED and data[at + 4] and data[at + 5] & DISCONTINUITY
-            if not may_jump and counter not in (before, before + 1 & 15):
+            if not has_flag(data, at, DISCONTINUITY) and counter not in (before, before + 1 & 15):
                 return False
             is_told = True
     return True if is_told else None

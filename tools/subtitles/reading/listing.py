@@ -9,7 +9,7 @@ from ..core.teletext import Page, page_name
 from ..core.units import ADDRESS, CODED, IS_EVEN, IS_LOW, TELETEXT, both, header_in
 from ..core.words import pid_name
 from .programmes import ProgramMap, program_map_of
-from .transport import Piece, Stream, beginnings, crc, payload_at
+from .transport import Piece, Stream, crc, payload_at
 
 PAT, PMT = 0, 2  # tables; the first is also its PID
 VIDEO = range(0xE0, 0xF0)  # stream_id
@@ -20,16 +20,16 @@ STUFFING = 0xFF  # after the last section of a packet
 
 
 class Tables:
-    """The sections of a PID, each once."""
+    """The sections of a PID, each when it begins to be sent."""
 
     def __init__(self, pid: int) -> None:
         self.stream = Stream(pid)
         self.rest: bytes | None = None
-        self.known: set[bytes] = set()
+        self.known: dict[bytes, bytes] = {}  # the last of each table, programme and number
         self.whole: set[bytes] = set()  # payloads that begin and end sections, and were read
 
     def new_sections(self, piece: Piece) -> Iterator[bytes]:
-        """The sections that end in a piece of the file and that were not there before."""
+        """The sections that end in a piece of the file and are others than the last ones."""
         for begins, data, trouble in self.stream.payloads(piece):
             if begins and data in self.whole or trouble and trouble.is_scrambled:
                 self.rest = None
@@ -52,10 +52,12 @@ class Tables:
             if len(self.rest) < length:
                 break
             one, self.rest = self.rest[:length], self.rest[length:]
-            if one not in self.known:
-                self.known.add(one)
-                if crc(one) == 0:
-                    yield one
+            kind = one[:1] + one[3:5] + one[6:7]
+            if one != self.known.get(kind) and crc(one) == 0:
+                if kind in self.known:
+                    self.whole = set()  # the one before may come back
+                self.known[kind] = one
+                yield one
 
 
 class Teletext:
@@ -104,7 +106,7 @@ class Teletext:
         """What is known of the PID."""
         pages = self.pages()
         more = [f"and {len(pages) - SHOWN} more"] if len(pages) > SHOWN else []
-        announced = ", ".join(dict.fromkeys(self.announced)) or "nothing"
+        announced = ", ".join(self.announced) or "nothing"
         sent = " ".join(pages[:SHOWN] + more) or "none"
         return f"{pid_name(self.pid)}: announced {announced}; subtitle pages sent: {sent}"
 
@@ -118,14 +120,15 @@ def headers_among(data: bytes, end: int) -> list[int]:
 
 class Listing:
     """The PIDs with Teletext of a file that is read in pieces, in `streams`; `others` have none,
-    `videos` among these have PES packets of video. `programmes` are those that PMTs announce."""
+    `videos` among these have PES packets of video. `programmes` are those that PMTs announce, each
+    once, the latest one last."""
 
     def __init__(self) -> None:
         self.tables = {PAT: Tables(PAT)}
         self.programmes: list[ProgramMap] = []
         self.videos: list[int] = []
         self.streams: dict[int, Teletext] = {}
-        self.others: dict[int, Stream] = {}
+        self.others: set[int] = set()
 
     def take(self, piece: Piece) -> None:
         """Hears a piece of the file; what it announces is heard from its beginning."""
@@ -152,17 +155,17 @@ class Listing:
                     self.tables.setdefault(table, Tables(table))
         elif section[0] == PMT and len(section) > 12:
             programme = program_map_of(section)
-            self.programmes.append(programme)
+            self.programmes = [one for one in self.programmes if one != programme] + [programme]
             for stream, pages in programme.pages.items():
                 known = self.streams.setdefault(stream, Teletext(stream))
-                known.announced += [f"{page.line()} in programme {programme.number}"
-                                    for page in pages]
+                known.announced = [*dict.fromkeys([*known.announced, *(
+                    f"{page.line()} in programme {programme.number}" for page in pages)])]
 
     def find_unannounced(self, piece: Piece) -> None:
         """PIDs whose PES packets are those of Teletext, whatever is announced."""
-        known = [*(one.stream for one in self.streams.values()),
-                 *(tables.stream for tables in self.tables.values()), *self.others.values()]
-        for at in beginnings(piece, known):
+        known = self.others.union(self.streams, self.tables)
+        for at in sorted(at for pid in piece.by_pid() if pid not in known
+                         for at in piece.beginnings(pid)):
             pid = int.from_bytes(piece.data[at + 1:at + 3], "big") & 0x1FFF
             if pid in self.streams or pid in self.others:
                 continue
@@ -171,7 +174,7 @@ class Listing:
                     and data[9 + data[8]] in IDENTIFIERS:
                 self.streams[pid] = Teletext(pid)
             elif data.startswith(START[:3]):
-                self.others[pid] = Stream(pid)  # another kind of PES packets
+                self.others.add(pid)  # another kind of PES packets
                 if data[3:4] and data[3] in VIDEO:
                     self.videos.append(pid)
 

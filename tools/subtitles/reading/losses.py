@@ -60,7 +60,7 @@ class Losses:
     def take(self, piece: Piece) -> None:
         """Hears a piece of the file."""
         if self.stream.goes_on(piece):
-            for at in self.stream.beginnings(piece):
+            for at in piece.beginnings(self.stream.pid):
                 self.go_on(payload_at(piece.data, at))
             return
         for begins_here, payload, trouble in self.stream.payloads(piece):
@@ -105,19 +105,28 @@ def is_after(one: Place, other: Place) -> bool:
         ticks_between(other.after, one.before) >= 0
 
 
+class Counted:
+    """What the counters tell, to go with gaps. Both come in their order, maybe hours apart, where
+    no PTS tells which is the later one: the next that overlaps a gap goes with it."""
+
+    def __init__(self, counts: Sequence[Place]) -> None:
+        self.counts, self.at = counts, 0
+
+    def place_of(self, gap: Gap) -> Place:
+        """The place of the next gap, with what is counted there."""
+        place = Place(gap.before, gap.after, mark=gap.number)
+        at = next((number for number in range(self.at, len(self.counts))
+                   if overlap(self.counts[number], place)), len(self.counts))
+        while at < len(self.counts) and overlap(self.counts[at], place):
+            place.lost += self.counts[at].lost
+            place.scrambled += self.counts[at].scrambled
+            self.at = at = at + 1
+        return place
+
+
 def of_gaps(gaps: Iterable[Gap], counts: Sequence[Place]) -> list[Place]:
     """The places of the marks, with what the counters tell of them."""
-    found: list[Place] = []
-    at = 0
-    for gap in gaps:
-        place = Place(gap.before, gap.after, mark=gap.number)
-        while at < len(counts) and not is_after(counts[at], place):
-            if not is_after(place, counts[at]):
-                place.lost += counts[at].lost
-                place.scrambled += counts[at].scrambled
-            at += 1
-        found.append(place)
-    return found
+    return [*map(Counted(counts).place_of, gaps)]
 
 
 def what_of(place: Place) -> str:

@@ -4,13 +4,12 @@ from __future__ import annotations
 
 import contextlib
 import os
-import tempfile
 from typing import Iterator
 
 from ..core.built import program_at
-from ..core.files import STANDARD, Damaged, Input
+from ..core.files import STANDARD, Damaged, Input, temporary_folder
 from ..core.words import PACKET_SIZE, Stop, Words, packet_size_word, pid_word
-from .extract import extract
+from .extract import STANDARD_INPUT, extract
 from .losses import Losses
 from .refused import packet_size_of, why_refused
 from .transport import Reader
@@ -31,8 +30,8 @@ def pes_of(path: str, pid: int | None, packet_size: int, program: str | None) ->
     if pid is None:
         yield path
         return
-    name = "/dev/stdin" if path == STANDARD else path
-    with tempfile.TemporaryDirectory(prefix="subttx-pes-") as folder:
+    name = STANDARD_INPUT if path == STANDARD else path
+    with temporary_folder("subttx-pes-") as folder:
         out = os.path.join(folder, "recording.pes")
         made = extract(program_at(program), name, out, pid, packet_size)
         if made.failure:

@@ -9,13 +9,13 @@ from __future__ import annotations
 from typing import Iterator, NamedTuple
 
 from ..core.pes import pts_in
-from ..core.times import ticks_between, wrapped
+from ..core.times import wrapped
 from ..core.words import counted, pid_name
+from .bases import is_back
 from .codecs import NAMES, OTHERS, Counter
 from .listing import Listing
 from .programmes import ProgramMap
-from .transport import (
-    PAYLOAD, RANDOM_ACCESS, Piece, Stream, as_number, beginning, flagged, is_set, places)
+from .transport import BEGINS, PAYLOAD, RANDOM_ACCESS, Piece, Stream
 
 LONGEST = 10 * 90_000  # ticks within which all pictures are sent that are shown before another
 
@@ -61,14 +61,12 @@ class Video:
 
     def take(self, piece: Piece) -> None:
         """Hears a piece of the file."""
-        own, begins = self.stream.marks(piece), beginning(piece)
         # The flag stands in the packet in which a PES packet begins, or in one without a payload
         # before that.
-        bare = as_number(piece.column(3).translate(is_set(PAYLOAD)))
-        bare ^= as_number(b"\1" * piece.packets)
-        access = own & flagged(piece, RANDOM_ACCESS) & (begins | bare)
+        access = [at for at in piece.flagged(self.stream.pid, RANDOM_ACCESS)
+                  if piece.data[at + 1] & BEGINS or not piece.data[at + 3] & PAYLOAD]
         if not access and not self.count and not self.begins_with_access:
-            self.passed += (own & begins).bit_count()
+            self.passed += len(piece.beginnings(self.stream.pid))
             return
         for is_access, part in split(piece, access):
             self.begins_with_access = self.begins_with_access or is_access
@@ -107,7 +105,7 @@ class Video:
             self.untimed[kind] += pictures > 0 and pts is None
         if pts is None:
             return
-        if self.first is None or is_before(pts, self.first):
+        if self.first is None or is_back(self.first, pts):
             self.first = pts
         self.is_over = wrapped(pts - self.first) > LONGEST
 
@@ -196,17 +194,12 @@ def components(programmes: list[ProgramMap]) -> str:
                      for pid, kind in sorted(kinds.items()))
 
 
-def split(piece: Piece, access: int) -> Iterator[tuple[bool, Piece]]:
+def split(piece: Piece, access: list[int]) -> Iterator[tuple[bool, Piece]]:
     """A piece in parts, each of which begins with a packet that has the flag, but for the first."""
     begin, is_access = piece.start, False
     end = piece.start + piece.packets * piece.stride
-    for at in [*places(piece, access), end]:
+    for at in [*access, end]:
         if at > begin:
             count = (at - begin) // piece.stride
             yield is_access, piece.part(begin, count)
         begin, is_access = at, True
-
-
-def is_before(pts: int, other: int) -> bool:
-    """Whether a PTS is earlier than another; both are of a few seconds."""
-    return ticks_between(pts, other) > 0

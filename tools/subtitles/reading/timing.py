@@ -8,7 +8,7 @@ from typing import NamedTuple
 from ..core.pes import has_pts, pts_in
 from ..core.times import ticks_between, wrapped
 from .listing import Listing
-from .transport import PCR, PCR_PLACE, Piece, Stream, flagged, payload_at, places
+from .transport import PCR, PCR_PLACE, Piece, payload_at
 
 SECOND = 90_000  # ticks
 FIRST = 60 * SECOND  # from the first look on, of which the median is what is usual
@@ -38,9 +38,9 @@ class Timing:
     """Looks at the PTS of a PID and at the PCR of the programme whose PMT names it."""
 
     def __init__(self, pid: int, listing: Listing) -> None:
-        self.listing, self.stream = listing, Stream(pid)
+        self.listing, self.pid = listing, pid
         self.samples: list[Sample] = []
-        self.clock: Stream | None = None  # the PID of the PCR
+        self.clock: int | None = None  # the PID of the PCR
         self.first: int | None = None  # the first PCR
         self.pcr: int | None = None  # the last one that was read
         self.piece: Piece | None = None  # the last one, of which it may have been left unread
@@ -59,19 +59,17 @@ class Timing:
 
     def finds_clock(self) -> bool:
         """Whether the PID of the PCR is known."""
-        known = [one.pcr_pid for one in self.listing.programmes_of(self.stream.pid)]
+        known = [one.pcr_pid for one in self.listing.programmes_of(self.pid)]
         pid = known[-1] if known else None
-        if pid is None:
-            self.clock = self.pcr = None
-        elif self.clock is None or self.clock.pid != pid:
-            self.clock, self.pcr = Stream(pid), None
-        return self.clock is not None
+        if pid != self.clock:
+            self.clock, self.pcr = pid, None
+        return pid is not None
 
     def look(self, piece: Piece) -> None:
         """Takes a PTS of each second of a piece, where it stands behind a PCR."""
-        assert self.clock
-        clocks = list(places(piece, self.clock.marks(piece) & flagged(piece, PCR)))
-        for at in self.stream.beginnings(piece):
+        assert self.clock is not None
+        clocks = piece.flagged(self.clock, PCR)
+        for at in piece.beginnings(self.pid):
             header = payload_at(piece.data, at)
             if not has_pts(header) or not self.is_due(pts_in(header)):
                 continue
@@ -85,9 +83,8 @@ class Timing:
 
     def last(self) -> int | None:
         """The last PCR that has come."""
-        if self.piece is not None and self.finds_clock() and self.clock:
-            found = list(places(self.piece, self.clock.marks(self.piece)
-                                & flagged(self.piece, PCR)))
+        if self.piece is not None and self.finds_clock() and self.clock is not None:
+            found = self.piece.flagged(self.clock, PCR)
             if found:
                 self.pcr = pcr_at(self.piece.data, found[-1])
         return self.pcr

@@ -6,8 +6,7 @@ in one step, so that all others cost next to nothing.
 from __future__ import annotations
 
 import dataclasses
-import functools
-from typing import Iterable, Iterator, NamedTuple, Optional, Tuple
+from typing import Iterator, NamedTuple, Optional, Tuple
 
 from ..core.files import PIECE, Damaged, Source
 from ..core.words import PACKET_SIZES
@@ -17,20 +16,54 @@ STRIDES = PACKET_SIZES  # from a packet to the next one: bare, with a time, with
 IN_A_ROW = 5  # packets that tell where they begin
 ERROR, BEGINS = 0x80, 0x40  # in the second byte of a packet
 SCRAMBLED, ADAPTED, PAYLOAD = 0xC0, 0x20, 0x10  # in the fourth
-BEGIN_MARK = bytes(byte & BEGINS != 0 for byte in range(256))
-HAS_FIELD = bytes(byte & ADAPTED != 0 for byte in range(256))
-HAS_FLAGS = bytes(byte > 0 for byte in range(256))
 DISCONTINUITY, RANDOM_ACCESS, PCR = 0x80, 0x40, 0x10  # in an adaptation field's first byte
 PCR_PLACE = slice(6, 12)  # of a packet
 
-
-# The counters of packets that follow one another, more of them than a piece of the file has.
-IN_ORDER = bytes(range(16)) * (PIECE // 188 // 16 + 2)
+# The first bytes of packets, and the counters of those that follow one another: more of them than
+# a piece of the file has.
+SYNCS = bytes([SYNC]) * (PIECE // PACKET + 2)
+IN_ORDER = bytes(range(16)) * (len(SYNCS) // 16 + 1)
+GOOD = bytes(byte for byte in range(256) if not byte & ERROR)
 COUNTER = bytes(byte & 15 for byte in range(256))
 PLAIN = bytes(byte for byte in range(256) if not byte & SCRAMBLED and byte & PAYLOAD)
 
+NOTABLE = 1  # the mark of a packet in which something begins, or that has an adaptation field
+HAS_FIELD = bytes(NOTABLE * (byte & ADAPTED != 0) for byte in range(256))
+MARKS = 7  # that packets of the PIDs can have beside that one
+IS_MARKED = bytes(byte > 0 for byte in range(256))
 
-@dataclasses.dataclass(frozen=True, eq=False)
+
+class Followed:
+    """PIDs whose packets are found in one step in each piece, among those of all others.
+
+    A packet gets a mark where its second byte and its third may be those of such a PID.
+    """
+
+    def __init__(self) -> None:
+        self.pids: set[int] = set()
+        # By the byte that has the high bits of a PID, and by its low one.
+        self.by_high = bytearray(NOTABLE * (byte & BEGINS != 0) for byte in range(256))
+        self.by_low = bytearray([NOTABLE]) * 256
+
+    def add(self, pid: int) -> None:
+        """One more of them."""
+        if pid in self.pids:
+            return
+        mark = 2 << len(self.pids) % MARKS
+        self.pids.add(pid)
+        self.by_low[pid & 0xFF] |= mark
+        for flags in range(0, 0x100, 0x20):
+            self.by_high[flags | pid >> 8] |= mark
+
+    def marked(self, piece: Piece) -> bytes:
+        """A byte for each packet of a piece, 1 for those that may be of interest."""
+        high, low, control = map(piece.column, (1, 2, 3))
+        marks = as_number(high.translate(self.by_high)) & as_number(low.translate(self.by_low)) \
+            | as_number(control.translate(HAS_FIELD))
+        return marks.to_bytes(piece.packets, "big").translate(IS_MARKED)
+
+
+@dataclasses.dataclass(eq=False)
 class Piece:
     """TS packets one after another: `packets` of them from `start` on, `stride` bytes apart."""
 
@@ -38,30 +71,41 @@ class Piece:
     start: int
     packets: int
     stride: int
-    columns: dict[int, bytes] = dataclasses.field(default_factory=dict, repr=False)
-    # By PID, or by what else is asked, the packets of which that is so; several ask the same.
-    marks: dict[int | str, int] = dataclasses.field(default_factory=dict, repr=False)
+    followed: Followed = dataclasses.field(default_factory=Followed, repr=False)
+    found: dict[int, list[int]] = dataclasses.field(default_factory=dict, repr=False)
+    looked_for: int = -1  # PIDs that were followed then
 
     def column(self, at: int) -> bytes:
-        """The byte `at` of each packet; several ask for the same ones."""
-        known = self.columns.get(at)
-        if known is None:
-            end = self.start + (self.packets - 1) * self.stride + PACKET
-            known = self.columns[at] = self.data[self.start + at:end:self.stride]
-        return known
+        """The byte `at` of each packet."""
+        end = self.start + (self.packets - 1) * self.stride + PACKET
+        return self.data[self.start + at:end:self.stride]
 
-    def of_pid(self, pid: int) -> int:
-        """A number with a byte for each packet, the first the highest: 1 for those of a PID."""
-        known = self.marks.get(pid)
-        if known is None:
-            low, known = self.column(2), 0
-            if pid & 0xFF in low:
-                high = f"high {pid >> 8}"  # which several have
-                if high not in self.marks:
-                    self.marks[high] = as_number(self.column(1).translate(is_byte(pid >> 8, 0x1F)))
-                known = self.marks[high] & as_number(low.translate(is_byte(pid & 0xFF, 0xFF)))
-            self.marks[pid] = known
-        return known
+    def by_pid(self) -> dict[int, list[int]]:
+        """Where packets begin, by their PID: of PIDs that are followed all, of others at least
+        those that are notable."""
+        if self.looked_for != len(self.followed.pids):
+            self.found, self.looked_for = {}, len(self.followed.pids)
+            data, marked = self.data, self.followed.marked(self)
+            number = marked.find(1)
+            while number >= 0:
+                at = self.start + number * self.stride
+                pid = (data[at + 1] & 0x1F) << 8 | data[at + 2]
+                self.found.setdefault(pid, []).append(at)
+                number = marked.find(1, number + 1)
+        return self.found
+
+    def of_pid(self, pid: int) -> list[int]:
+        """Where the packets of a PID begin, which is followed from then on."""
+        self.followed.add(pid)
+        return self.by_pid().get(pid, [])
+
+    def beginnings(self, pid: int) -> list[int]:
+        """Where those packets of a PID begin in which a PES packet or a section does."""
+        return [at for at in self.by_pid().get(pid, ()) if self.data[at + 1] & BEGINS]
+
+    def flagged(self, pid: int, flag: int) -> list[int]:
+        """Where those packets of a PID begin in whose adaptation field a flag is set."""
+        return [at for at in self.by_pid().get(pid, ()) if has_flag(self.data, at, flag)]
 
     def part(self, begin: int, packets: int) -> Piece:
         """Some of them, from a place on."""
@@ -94,6 +138,7 @@ class Reader:
         self.file = file
         self.strides: tuple[int, ...] = STRIDES
         self.count = self.skipped = 0
+        self.followed = Followed()
 
     def __iter__(self) -> Iterator[Piece]:
         data, is_end, is_found = b"", False, False
@@ -157,8 +202,9 @@ class Reader:
         stride = self.strides[0]
         count = (len(data) - at - PACKET) // stride + 1
         syncs = data[at:at + stride * (count - 1) + 1:stride]
-        good = len(syncs) - len(syncs.lstrip(bytes([SYNC])))
-        return Piece(data, at, good, stride), good == count
+        good = count if SYNCS.startswith(syncs) else \
+            len(syncs) - len(syncs.lstrip(bytes([SYNC])))
+        return Piece(data, at, good, stride, self.followed), good == count
 
 
 class Stream:
@@ -174,33 +220,24 @@ class Stream:
         self.last: tuple[bytes, int] = b"", 0  # the last one with a payload: where it stands
         self.is_jump = False
 
-    def marks(self, piece: Piece) -> int:
-        """A number with a byte for each packet of a piece, the first the highest: 1 for its own."""
-        return piece.of_pid(self.pid)
-
     def goes_on(self, piece: Piece) -> bool:
         """Whether all its packets of a piece have a payload and go on as they should, as most do;
         takes them then."""
-        own = list(places(piece, self.marks(piece)))
-        controls = bytes([piece.data[at + 3] for at in own])
+        own = piece.of_pid(self.pid)
+        flags, controls = (bytes([piece.data[at + place] for at in own]) for place in (1, 3))
         first = controls[0] & 15 if self.counter is None and controls else (self.counter or 0) + 1
         is_steady = not self.is_jump and not controls.translate(None, PLAIN) \
             and IN_ORDER.startswith(controls.translate(COUNTER), first & 15) \
-            and not any(piece.data[at + 1] & ERROR for at in own)
+            and not flags.translate(None, GOOD)
         if is_steady and own:
             self.count += len(own)
             self.counter, self.last = controls[-1] & 15, (piece.data, own[-1])
         return is_steady
 
-    def beginnings(self, piece: Piece) -> list[int]:
-        """Where its packets are in which a PES packet or a section begins."""
-        own = self.marks(piece)
-        return list(places(piece, own & beginning(piece))) if own else []
-
     def payloads(self, piece: Piece) -> Iterator[Payload]:
         """The payloads of a piece. A packet that is marked as wrong is as one that is lost."""
         data = piece.data
-        for at in places(piece, self.marks(piece)):
+        for at in piece.of_pid(self.pid):
             self.count += 1
             flags, control = data[at + 1], data[at + 3]
             if flags & ERROR:
@@ -240,53 +277,9 @@ def as_number(data: bytes) -> int:
     return int.from_bytes(data, "big")
 
 
-def flagged(piece: Piece, flag: int) -> int:
-    """The packets of a piece in whose adaptation field a flag is set, as `marks` of a stream."""
-    known = piece.marks.get("flags")
-    if known is None:
-        known = piece.marks["flags"] = as_number(piece.column(3).translate(HAS_FIELD)) \
-            & as_number(piece.column(4).translate(HAS_FLAGS))
-    return known and known & as_number(piece.column(5).translate(is_set(flag)))
-
-
-def beginning(piece: Piece) -> int:
-    """The packets of a piece in which a PES packet or a section begins."""
-    known = piece.marks.get("begins")
-    if known is None:
-        known = piece.marks["begins"] = as_number(piece.column(1).translate(BEGIN_MARK))
-    return known
-
-
-@functools.lru_cache(maxsize=None)
-def is_byte(value: int, mask: int) -> bytes:
-    """By a byte: 1 where some of its bits are those of a value."""
-    return bytes(byte & mask == value for byte in range(256))
-
-
-@functools.lru_cache(maxsize=None)
-def is_set(flag: int) -> bytes:
-    """By a byte: 1 where a bit is set in it."""
-    return bytes(byte & flag != 0 for byte in range(256))
-
-
-def places(piece: Piece, marks: int) -> Iterator[int]:
-    """Where the packets of a piece begin whose byte in a number is 1."""
-    if not marks:
-        return
-    found = marks.to_bytes(piece.packets, "big")
-    at = found.find(1)
-    while at >= 0:
-        yield piece.start + at * piece.stride
-        at = found.find(1, at + 1)
-
-
-def beginnings(piece: Piece, left_out: Iterable[Stream]) -> Iterator[int]:
-    """Where the packets of a piece begin in which a PES packet or a section does, but for those of
-    some streams."""
-    marks = beginning(piece)
-    for stream in left_out:
-        marks &= ~stream.marks(piece)
-    return places(piece, marks)
+def has_flag(data: bytes, at: int, flag: int) -> bool:
+    """Whether the TS packet at a place has an adaptation field in which a flag is set."""
+    return bool(data[at + 3] & ADAPTED and data[at + 4] and data[at + 5] & flag)
 
 
 def payload_at(data: bytes, at: int) -> bytes:

@@ -119,7 +119,7 @@ class Election:
         for change in changes:
             frames, ticks = self.distance(change.pts)
             self.changes[frames] = change.letters, ticks
-        self.length = max(self.distance(last)[0], 0)
+        self.length = self.distance(last)[0]
         self.best: list[Fit] | None = None
         self.known_apart: dict[int, Apart | None] = {}  # by start, since it is asked for often
 
