@@ -1,0 +1,265 @@
+#!/usr/bin/env python3
+"""Makes what bench/run and bench/count measure with: inputs.py KIND COUNT STL PES
+
+A subtitle file (EBU Tech 3264) and its transmission, of COUNT frames, or of many and fresh so many
+subtitles:
+
+day      one subtitle over all frames, each with a sending of one row
+pages    one subtitle of 23 rows of 40 cells over all frames, each with a sending
+many     subtitles of one row, of 20 frames each, one after the other, sent each 25 frames
+fresh    such subtitles of a frame each: no sending is that of the frame before
+service  all that a service sends, as below, whose page `check --every 25` accepts
+late     the same with the rows and the closing header of the page in the frame after its header, as
+         an inserter may that leaves a receiver time to erase it: accepted with `--within 1`
+cells    day, where each sending has another wrong cell than the one before
+passed   day, where no sending can be read, for its data_identifier and for a unit's length by turns
+swing    the first sending of day again and again, by turns at the first frame of the day and at the
+         last one
+
+Each frame of a service is a PES packet of 920 bytes with 16 Teletext units, on lines 7 to 22 of the
+first field: packets of the magazines 1, 2, 3 and 8 by turns, in parallel mode. Each magazine is a
+carousel of pages, 100 to 189, 200 to 289, 300 to 389 and 800 to 887: a header with C8, rows 1 to 23
+of random letters and spaces, a packet X/27 of random bytes. A packet 8/30 comes each second. Page
+888 has two lines of text for the first 75 frames of each 100, another text each time. It is sent in
+the frames 0, 25, 50 and 75 of the 100, from the first unit on: header, rows, closing header, and
+then the others. A page of magazine 8 that a sending interrupts begins again after it. The seed is
+fixed, so the same COUNT gives the same files.
+"""
+from __future__ import annotations
+
+import itertools
+import os
+import random
+import subprocess
+import sys
+from typing import BinaryIO, Iterator
+
+sys.dont_write_bytecode = True
+TOOLS = os.path.join(os.path.dirname(os.path.realpath(__file__)), "..", "tools")
+sys.path.insert(0, TOOLS)
+from subtitles.core.built import built_program  # noqa: E402
+from subtitles.core.pes import (  # noqa: E402
+    DATA, FIRST_LINE, START, STUFFING_UNIT, UNIT, pts_bytes)
+from subtitles.core.stl import (  # noqa: E402
+    DOUBLE_HEIGHT, END_BOX, NEW_LINE, START_BOX, TTI, boxed, gsi_block, subtitle_blocks)
+from subtitles.core.teletext import CODE_WORDS, MIRROR, mirrored, odd, packet  # noqa: E402
+from subtitles.core.times import FRAMES_A_SECOND, FRAMES_OF_A_DAY, TICKS  # noqa: E402
+
+EVERY = {"day": "1", "pages": "1", "many": "25", "fresh": "1", "service": "25", "late": "25",
+         "cells": "1", "passed": "1", "swing": "1"}  # frames from a sending to the next
+BROKEN = ("cells", "passed", "swing")  # kinds that are made of day
+
+
+# Subtitle files
+
+Shown = tuple[int, int, int, bytes]  # the first frame, the frame after the last one, row and text
+
+
+def stl_file(subtitles: list[Shown]) -> bytes:
+    made = [subtitle_blocks(number, begin, end, row, 2, text)
+            for number, (begin, end, row, text) in enumerate(subtitles)]
+    return gsi_block(b"Measured", sum(map(len, made)) // TTI, len(made)) + b"".join(made)
+
+
+def subtitles_of(kind: str, count: int) -> Iterator[Shown]:
+    """The subtitles of day, pages, many or fresh."""
+    begin, end = START_BOX * 2, END_BOX * 2
+    if kind == "day":
+        yield 0, count, 22, DOUBLE_HEIGHT + begin + b"One sending a frame" + end
+    elif kind == "pages":
+        line = begin + b"All the cells of a page are in use, 1234"[:36] + end
+        yield 0, count, 1, NEW_LINE.join([line] * 23)
+    else:
+        frames = 20 if kind == "many" else 1
+        for index in range(count):
+            text = DOUBLE_HEIGHT + begin + b"Subtitle %05d" % index + end
+            yield frames * index, frames * index + frames, 22, text
+
+
+# What is broken of `day`
+
+SENDING = 184  # bytes of a PES packet
+LETTERS = 19  # of "One sending a frame", from column 11 on
+FIRST_LETTER = DATA + UNIT + 4 + 2 + 11
+
+
+def break_pes(kind: str, data: bytearray) -> bytearray:
+    """The transmission of day, broken."""
+    if kind == "cells":
+        for number, begin in enumerate(range(0, len(data), SENDING)):
+            data[begin + FIRST_LETTER + number % LETTERS] = MIRROR[odd(ord("*"))]
+    elif kind == "passed":
+        data[DATA - 1::2 * SENDING] = bytes([0x20]) * len(data[DATA - 1::2 * SENDING])
+        data[SENDING + DATA + 1::2 * SENDING] = bytes(len(data[SENDING + DATA + 1::2 * SENDING]))
+    else:
+        both = [data[:9] + pts_bytes(TICKS * frame) + data[14:SENDING]
+                for frame in (0, FRAMES_OF_A_DAY - 1)]
+        return bytearray().join(both) * (len(data) // SENDING // 2)
+    return data
+
+
+# A service
+
+UNITS = 16  # in each frame
+ROUND, SHOWN = 100, 75  # frames of a round, and those of them with a subtitle
+ROWS = (20, 22)  # of the two lines, each in double height
+LINE = 31  # letters of a line, which has 36 cells with its codes, and so begins in column 2
+HEAD = START + (914).to_bytes(2, "big") + b"\x84\x80\x24"
+AFTER_PTS = b"\xff" * 31 + b"\x10"
+OTHER, SUBTITLE = 2, 3  # data_unit_id
+PLACES = {kind: [bytes([kind, 0x2C, 0xE0 | FIRST_LINE + unit, 0xE4]) for unit in range(UNITS)]
+          for kind in (OTHER, SUBTITLE)}
+CLOSING = mirrored(packet(0, 0, [15, 15, 15, 7, 15, 3, 0, 0], b" " * 32))
+HEADER = mirrored(packet(0, 0, [8, 8, 0, 8, 0, 8, 1, 0], b" " * 32))
+Texts = list[tuple[bytes, bytes]]  # of each round in which a subtitle ends
+
+
+def letters(chance: random.Random, length: int) -> bytes:
+    """Random letters, and one time in six a space."""
+    return bytes(chance.choices(b"abcdefghijklmnopqrstuvwxyz     ", k=length))
+
+
+def page(chance: random.Random, magazine: int, number: int) -> list[bytes]:
+    """The packets of a page as they are sent: header, rows, packet X/27."""
+    title = b"%d%02d Page of the carousel" % (magazine or 8, number)
+    numbers = [number % 10, number // 10, 0, 0, 0, 0, 2, 0]  # C8, update indicator
+    made = [packet(magazine, 0, numbers, title.ljust(32))]
+    made += [packet(magazine, row, (), letters(chance, 40)) for row in range(1, 24)]
+    links = bytes([CODE_WORDS[0]]) + chance.randbytes(39)
+    made.append(packet(magazine, 27, (), b"") + links)
+    return [mirrored(one) for one in made]
+
+
+class Carousel:
+    """The pages of a magazine, one after another and again from the first on."""
+
+    def __init__(self, chance: random.Random, magazine: int, count: int) -> None:
+        self.pages = itertools.cycle([page(chance, magazine, number) for number in range(count)])
+        self.page, self.place = next(self.pages), 0
+
+    def next(self) -> bytes:
+        """The next packet."""
+        if self.place == len(self.page):
+            self.page, self.place = next(self.pages), 0
+        self.place += 1
+        return self.page[self.place - 1]
+
+
+class Service:
+    """All that is sent, frame after frame."""
+
+    def __init__(self) -> None:
+        chance = random.Random(472)
+        self.magazines = [Carousel(chance, magazine, 90) for magazine in (1, 2, 3)]
+        self.magazines.append(Carousel(chance, 0, 88))
+        self.turns = itertools.cycle(self.magazines)
+        self.service_data = mirrored(packet(0, 30, [0], b"") + chance.randbytes(39))
+
+    def turn(self, is_waiting: bool) -> Carousel:
+        """The magazine that comes next: while rows are waited for, none of their own magazine."""
+        magazine = next(self.turns)
+        return next(self.turns) if is_waiting and magazine is self.magazines[-1] else magazine
+
+    def frame(self, frame: int, first: list[bytes], is_waiting: bool) -> bytes:
+        """The PES packet of a frame, which begins with these packets of the page; its rows may be
+        waited for after it."""
+        units, own = list(first), self.magazines[-1]
+        if units and own.place < len(own.page):
+            own.place = 0  # a page of which something is left is sent from its header on
+        heads = PLACES[SUBTITLE][:len(units)] + PLACES[OTHER][len(units):]
+        if frame % FRAMES_A_SECOND == FRAMES_A_SECOND // 2:
+            units.append(self.service_data)
+        units += [self.turn(is_waiting).next() for _ in range(UNITS - len(units))]
+        data = b"".join(map(bytes.__add__, heads, units))
+        return HEAD + pts_bytes(TICKS * frame) + AFTER_PTS + data + STUFFING_UNIT * 3
+
+
+def rows_of(texts: Texts, frame: int) -> list[bytes]:
+    """The rows of the page in a frame with a sending; none where it is blank."""
+    number, place = divmod(frame, ROUND)
+    if place >= SHOWN or number >= len(texts):
+        return []
+    return [mirrored(packet(0, row, (), (b"  " + boxed(line)).ljust(40)))
+            for row, line in zip(ROWS, texts[number])]
+
+
+def write_service(file: BinaryIO, frames: int, texts: Texts, is_late: bool) -> None:
+    service = Service()
+    later: list[bytes] = []  # what is sent in the next frame
+    for frame in range(frames):
+        first, later = later, []
+        if frame % FRAMES_A_SECOND == 0:
+            first = [HEADER, *rows_of(texts, frame), CLOSING]
+            if is_late and frame + 1 < frames:
+                first, later = first[:1], first[1:]
+        file.write(service.frame(frame, first, bool(later)))
+
+
+# Files
+
+def make(program: str, kind: str, count: int, stl: str, pes: str) -> None:
+    """Writes the subtitle file and the transmission of a kind."""
+    if kind in ("service", "late"):
+        chance = random.Random(3264)
+        texts = [(letters(chance, LINE), letters(chance, LINE))
+                 for _ in range(SHOWN, count, ROUND)]
+        data = stl_file([(ROUND * number, ROUND * number + SHOWN, ROWS[0],
+                          (NEW_LINE * 2).join(map(boxed, lines)))
+                         for number, lines in enumerate(texts)])
+        with open(pes, "wb") as file:
+            write_service(file, count, texts, kind == "late")
+    else:
+        data = stl_file(list(subtitles_of("day" if kind in BROKEN else kind, count)))
+    with open(stl, "wb") as file:
+        file.write(data)
+    if kind in ("service", "late"):
+        return
+    subprocess.run([program, "schedule", stl, pes, "--every", EVERY[kind]],
+                   stdout=subprocess.DEVNULL, check=True)
+    if kind in BROKEN:
+        with open(pes, "r+b") as changed:
+            made = break_pes(kind, bytearray(changed.read()))
+            changed.seek(0)
+            changed.truncate()
+            changed.write(made)
+
+
+PACKET, PID = 188, 0x101
+FILLING = bytes([0x47, 0x02, 0x00, 0x10])  # the head of a packet of PID 0x200
+CLOCKED = 5  # frames between two times of the tables and the clock
+MIXED = 388  # TS packets for each PES packet; 5 have Teletext where it has 920 bytes
+
+
+def record(pes: str, ts: str, size: int = 0) -> None:
+    """Writes a transport stream of what tools/pes2ts makes of a PES file, of which for each PES
+    packet there are so many TS packets, the others of another PID with random bytes, and the tables
+    and the clock at most each fifth frame. Where the size is 0 the packets with Teletext stand
+    alone."""
+    chance = random.Random(13818)
+    filling = b"".join(FILLING + chance.randbytes(PACKET - len(FILLING)) for _ in range(size))
+    with open(ts, "wb") as file, subprocess.Popen(
+            [os.path.join(TOOLS, "pes2ts"), pes, hex(PID)], stdout=subprocess.PIPE,
+            stderr=subprocess.DEVNULL) as made:
+        assert made.stdout
+        frames, group = -1, b""
+        while one := made.stdout.read(PACKET):
+            is_own = (one[1] & 0x1F) << 8 | one[2] == PID
+            if is_own and one[1] & 0x40:  # a PES packet begins
+                frames += 1
+                file.write(group + filling[len(group):] if group else b"")
+                group = b""
+            if is_own or size and (frames % CLOCKED == CLOCKED - 1 or frames < 0):
+                group += one
+        file.write(group + filling[len(group):])
+
+
+def main() -> None:
+    if len(sys.argv) != 5 or sys.argv[1] not in EVERY or not sys.argv[2].isdecimal():
+        sys.exit(__doc__)
+    if not SHOWN < int(sys.argv[2]) <= FRAMES_OF_A_DAY:
+        sys.exit(f"inputs.py: COUNT is {SHOWN + 1} to {FRAMES_OF_A_DAY}")
+    make(built_program(), sys.argv[1], int(sys.argv[2]), sys.argv[3], sys.argv[4])
+
+
+if __name__ == "__main__":
+    main()
