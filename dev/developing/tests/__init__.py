@@ -2,6 +2,7 @@
 
 at_random  calls of qc at random, and all that is said of each
 bench      what they share: the program, folders, calls
+judged     pairs judged in process, and what is sent
 muxed      transport streams with video
 parts      values: parts with answers, carriers, sendings
 runner     finds them and runs them side by side

@@ -347,7 +347,8 @@ def tool_here(command: Sequence[str], **options: Any) -> Any:
     assert spec
     module = importlib.util.module_from_spec(spec)
     loader.exec_module(module)
-    status, out, told = in_process(module.main, list(command))
+    given = [module.__doc__] if name == "origin" else []  # its `main` takes the help that it has
+    status, out, told = in_process(lambda line: module.main(*given, line), list(command))
     return subprocess.CompletedProcess(command, status, out, told)
 
 

@@ -7,15 +7,18 @@ developing.tests.test_clocks`.
 from __future__ import annotations
 
 import atexit
+import importlib.machinery
+import importlib.util
 import io
 import os
 import random
 import shutil
 import subprocess
+import sys
 import tempfile
 import threading
 import unittest
-from typing import Callable, NamedTuple, Sequence, TypeVar
+from typing import Any, Callable, NamedTuple, Sequence, TypeVar
 
 from subtitles.core.built import TOP, built_program
 from subtitles.core.pes import pes_packets, pts_bytes, pts_in
@@ -120,6 +123,14 @@ class Case(unittest.TestCase):
         done = self.call([self.bench.program, *words])
         return done.status, done.out.decode().splitlines()
 
+    def program_but(self, when: str, does: str) -> str:
+        """A program that does something where its words are like a pattern of the shell, and what
+        it should at all others."""
+        path = self.write("program", f"#!/bin/sh\ncase $* in {when}) {does} ;; esac\nexec "
+                          f"'{self.bench.program}' \"$@\"\n".encode())
+        os.chmod(path, 0o755)
+        return path
+
     def schedule(self, stl: str, name: str, *options: str) -> str:
         """The program's own transmission of a subtitle file."""
         done = self.call([self.bench.program, "schedule", stl, self.path(name), *options])
@@ -131,6 +142,16 @@ def tool_path(name: str) -> str:
     """The file of a tool, of tools/ where it has one there, else of dev/."""
     path = os.path.join(TOP, "tools", name)
     return path if os.path.exists(path) else os.path.join(TOP, "dev", name)
+
+
+def script(name: str) -> Any:
+    """A tool as a module."""
+    loader = importlib.machinery.SourceFileLoader(name, tool_path(name))
+    spec = importlib.util.spec_from_loader(name, loader)
+    assert spec
+    made = sys.modules[name] = importlib.util.module_from_spec(spec)  # for its data classes
+    loader.exec_module(made)
+    return made
 
 
 def example(name: str) -> str:
@@ -155,16 +176,16 @@ def moved(data: bytes, new_pts: Callable[[int, int], int]) -> bytes:
                     for number, one in enumerate(packets(data)))
 
 
-def random_subtitles(seed: int, count: int = 40) -> tuple[bytes, list[int]]:
+def random_subtitles(seed: int) -> tuple[bytes, list[int]]:
     """A subtitle file at random, with touching subtitles and repeated texts; and its edges."""
     chance = random.Random(seed)
     made: list[bytes] = []
     edges: list[int] = []
     frame = chance.randrange(1_900_000)
-    for number in range(count):
+    for number in range(40):
         begin = frame + chance.choice([0, chance.randrange(1, 200)])
         end = begin + chance.randrange(12, 150)
-        text = b"Number %d" % chance.randrange(count // 2)
+        text = b"Number %d" % chance.randrange(20)
         made.append(subtitle_blocks(number, begin, end, chance.randrange(18, 23), 2, text))
         edges += [begin, end]
         frame = end

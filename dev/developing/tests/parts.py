@@ -25,9 +25,10 @@ def row(number: int, text: bytes) -> bytes:
 
 
 def answer(lines: Sequence[str] = ("accepted 10 frames 2 transmissions",),
-           status: int | None = None) -> Answer:
-    """What `check --all` answered, by its lines."""
-    made = Answer(os.devnull)
+           status: int | None = None, path: str = os.devnull) -> Answer:
+    """What `check --all` answered, by its lines, which stand in a file where they are read again.
+    """
+    made = Answer(path)
     for line in lines:
         made.take(line)
     made.end(int(made.frames is None) if status is None else status)

@@ -158,6 +158,105 @@ class Table(unittest.TestCase):
             self.assertEqual(Made(number).row(), row, number)
 
 
+# Subtitles, what is held from when on, and the causes by hand: each the place of its subtitle, its
+# name, the frames, the place of another one, and the page that is sent.
+BY_HAND: list[tuple[str, str, list[tuple[int, str, int | None, int | None, str | None]]]] = [
+    ("100-150 a", "0:- 100:a 150:-", []), ("100-150 a", "0:- 103:a 150:-", [
+        (0, "late", 3, None, "a")]),
+    # All are moved by as many frames, also to where another one is due; or one alone is.
+    ("100-200 a;200-300 b", "0:- 200:a 300:b 400:-", [(0, "late", 100, None, "a"),
+                                                     (1, "late", 100, None, "b")]),
+    ("200-300 a;300-400 b", "0:- 100:a 200:b 400:-", [(0, "early", 100, None, "a"),
+                                                     (1, "early", 100, None, "b")]),
+    ("100-200 a;200-300 b", "0:- 200:a 250:b 300:-", [
+        (0, "never sent", None, None, None), (1, "another subtitle's text", None, 0, "a")]),
+    ("100-150 a;200-250 b;300-350 c", "0:- 100:a 150:- 200:c 250:- 300:c 350:-", [
+        (1, "another subtitle's text", None, 2, "c")]),
+    # Looked for up to 250 frames before and after its TCI, where no other one is farther away.
+    ("100-150 a;300-340 b", "0:- 300:b 340:- 350:a 380:-", [(0, "late", 250, None, "a")]),
+    ("100-150 a;300-340 b", "0:- 300:b 340:- 351:a 380:-", [
+        (0, "never sent", None, None, None), (1, "unknown", None, None, "a")]),
+    ("10-20 a;400-450 b", "0:- 10:a 20:- 150:b 160:-", [(1, "early", 250, None, "b")]),
+    # Of several pages the one that is held for longest; before its own one came; behind it.
+    ("100-150 a", "0:- 100:z 110:y 150:-", [(0, "wrong text", None, None, "y")]),
+    ("100-150 a", "0:- 100:z 140:y 150:-", [(0, "wrong text", None, None, "z")]),
+    ("100-150 a", "0:- 100:z 105:y 108:x 150:-", [(0, "wrong text", None, None, "x")]),
+    ("100-150 a", "0:- 100:z 125:y", [(0, "wrong text", None, None, "z")]),
+    ("100-150 a", "0:- 100:z 120:a 150:-", [(0, "wrong text", None, None, "z")]),
+    ("100-150 a", "0:z 120:a 150:-", [(0, "late", 20, None, "a")]),
+    ("100-150 a;200-250 b", "0:- 100:a 150:- 180:z 220:b 250:-", [
+        (0, "unknown", None, None, "z"), (1, "wrong text", None, None, "z")]),
+    ("100-150 a;200-250 b", "0:z 100:a 150:- 200:b 250:-", [(0, "unknown", None, None, "a")]),
+    ("100-150 a;200-250 b", "0:- 100:a 150:b 250:-", [(1, "early", 50, None, "b")]),
+    ("100-150 a", "0:- 100:a 120:z 150:-", [(0, "wrong text", None, None, "z")]),
+    ("50-60 c;100-150 a;300-350 b", "0:- 50:c 110:- 120:b 150:- 300:b 350:-", [
+        (0, "not erased", None, None, "c"), (1, "another subtitle's text", None, 2, "b")]),
+    # No PES packet comes for some frames, of what else sends one in each: up to when the page is
+    # erased, or comes; or for longer, or less long, than that.
+    ("100-150 a", "0:- 100:a 161:- !148-160", [(0, "unknown", None, None, "a")]),
+    ("100-150 a", "0:- 100:a 165:- !148-160", [(0, "not erased", None, None, "a")]),
+    ("100-150 a", "0:- 111:a 150:- !95-110", [(0, "unknown", None, None, None)]),
+    ("100-150 a", "0:- 112:a 150:- !95-110", [(0, "late", 12, None, "a")]),
+    ("100-150 a", "0:- 160:- !95-149", [(0, "unknown", None, None, None)]),
+    ("100-150 a", "0:- 160:- !95-148", [(0, "never sent", None, None, None)]),
+    # Rows of it that come while the page is not open: before its time, in it, and behind it.
+    ("100-150 a", "0:- 160:- @99 @150", [(0, "never sent", None, None, None)]),
+    ("100-150 a", "0:- 160:- @90 @120", [(0, "unknown", None, None, None)]),
+    ("100-150 a", "0:- 160:- @149 @160", [(0, "unknown", None, None, None)]),
+    # What can't be read: behind a stretch of faulty frames, and in it.
+    ("100-150 a", "0:- 100:a 110:z 130:a 150:- ?130-140", [(0, "wrong text", None, None, "z")]),
+    ("100-150 a", "0:- 100:a 110:z 130:a 150:- ?129-140", [(0, "unknown", None, None, "z")]),
+    ("100-150 a", "0:- 100:a 110:z 130:a 150:- ?100-109", [(0, "wrong text", None, None, "z")]),
+    ("100-150 a", "0:- 120:a 150:- ?90-99", [(0, "late", 20, None, "a")]),
+    ("100-150 a", "0:- 120:a 150:- ?120-130", [(0, "unknown", None, None, None)]),
+    ("100-150 a", "0:- 160:- ?149-155", [(0, "unknown", None, None, None)]),
+    ("100-150 a", "0:- 160:- ?150-155", [(0, "never sent", None, None, None)]),
+    ("100-150 a", "0:- 100:a 110:- 120:z 150:-", [(0, "unknown", None, None, None)]),
+    ("100-150 a", "0:- 100:a,r 150:-", [(0, "wrong text", None, None, "a,r")]),
+    ("100-150 a", "0:- 100:a,m 150:-", [(0, "wrong place", None, None, "a,m")]),
+    ("100-150 a", "0:- 100:a,a 150:-", [(0, "wrong colour or attribute", None, None, "a,a")]),
+    # Not erased: up to another text, up to the same one, and for ever.
+    ("100-150 a;200-250 b", "0:- 100:a 200:b 250:-", [(0, "not erased", None, None, "a")]),
+    ("100-150 a;160-250 a", "0:- 100:a 250:-", [(0, "not erased", None, None, "a")]),
+    ("100-150 a", "0:- 100:a", [(0, "not erased", None, None, "a")])]
+
+
+class ByHand(unittest.TestCase):
+    """Rows that were worked by hand."""
+
+    def test_causes(self) -> None:
+        for subtitles, sent, wanted in BY_HAND:
+            times = [[int(frame) for frame in one.split()[0].split("-")]
+                     for one in subtitles.split(";")]
+            programme = DuePages(
+                [Subtitle(at, at, begin, end, 20, 2, b"") for at, (begin, end) in
+                 enumerate(times, 1)], [page_of(one[-1]) for one in subtitles.split(";")])
+            held, pages = Held(os.devnull, PAGE, 0), dict[Rows, str]()
+            for frame, _, name in (one.partition(":") for one in sent.split() if ":" in one):
+                held.change(int(frame), page_of(name))
+                pages[page_of(name)] = name
+            held.first, held.last = 0, 999
+            held.doubts, held.pauses = (
+                [Span(*map(int, one[1:].split("-"))) for one in sent.split() if one[0] == mark]
+                for mark in "?!")
+            held.count, row = 500, programme.pages[0][18]
+            held.strays = {int(one[1:]): {19: row} for one in sent.split() if one[0] == "@"}
+            causes = Causes(programme, held)
+            faulty = [frame for frame in range(500) if not causes.namer.is_due(frame)]
+            for begin in faulty:
+                if begin - 1 not in faulty:
+                    causes.add(begin, next(last for last in range(begin, 501)
+                                           if last + 1 not in faulty))
+            causes.settle(True)
+            for begin in faulty:
+                one = causes.of(72, begin)
+                self.assertTrue(one and one.place in [place for place, *_ in wanted], sent)
+            with self.subTest(subtitles=subtitles, sent=sent):
+                self.assertEqual([(one.place, one.name, one.frames, one.other,
+                                   None if one.sent is None else pages.get(one.sent, "due"))
+                                  for one in causes.all()], wanted)
+
+
 if __name__ == "__main__":
     for NUMBER in range(COUNT):
         print(Made(NUMBER).row())

@@ -4,26 +4,22 @@ from __future__ import annotations
 import argparse
 import json
 import os
-import sys
 from typing import Any, Iterator
 from unittest import mock
 
 from subtitles.calls import channel as channels
 from subtitles.calls.channel import ENDED, ENOUGH, LATER, Channel, stall_heard
-from subtitles.calls.channel_feed import PesFeed, Taken, TransportFeed, feed_of
+from subtitles.calls.channel_feed import PesFeed, Taken
 from subtitles.calls.feed_clock import MINUTE, SECOND
 from subtitles.calls.objects import found, unjudged
-from subtitles.calls.planned import PlannedProgramme
 from subtitles.calls.queue import AT_ONCE
-from subtitles.calls.running import Running
 from subtitles.core.pes import pes_packet, pts_in
 from subtitles.core.times import CLOCK, TICKS
-from subtitles.core.words import Stop
+from subtitles.qc.clock import FITTED_SHORT
 from subtitles.qc.source import Source
 from subtitles.qc.typed import Typed
 from .bench import Case
-from .muxed import TELETEXT_PID, Maker, components
-from .parts import CLOSING, HEADER, PAGE, asked_for, row
+from .parts import CLOSING, HEADER, asked_for, row
 from .test_channel_tables import EACH, FIRST, LASTS, defaults, programme
 
 TEXTS = ["Alpha", "Beta", "Gamma", "Delta"]
@@ -35,11 +31,14 @@ class Judging:
     a test says so, or it is waited for."""
 
     made: list[Judging] = []
+    ended = 0  # its status
+    left: dict[str, Any] = {"format": 3, "verdict": "accepted", "status": 0, "asked": {},
+                            "line": "accepted 5 frames", "faults": [], "hints": []}
 
     def __init__(self, programme: Any, command: list[str], folder: str, end: int) -> None:
         self.programme, self.command, self.end = programme, command, end
         self.given, self.is_done, self.was_waited, self.was_closed = b"", False, False, False
-        self.process = argparse.Namespace(returncode=0)
+        self.process = argparse.Namespace(returncode=self.ended)
         Judging.made.append(self)
 
     def put(self, data: bytes) -> None:
@@ -60,20 +59,19 @@ class Judging:
             words[words.index("--json") + 1]
         if not os.path.exists(path):
             with open(path, "w", encoding="ascii") as file:
-                json.dump({"format": 3, "verdict": "accepted", "status": 0, "asked": {},
-                           "line": "accepted 5 frames", "faults": [], "hints": []}, file)
+                json.dump(self.left, file)
 
     def lines(self) -> list[str]:
         """What it told."""
-        return ["qc: told"]
+        return ["qc: first", "qc: told: last"]
 
 
 class Told(Channel):
     """A channel of a list; what it says is kept, without the time."""
 
-    def __init__(self, case: Case, lines: str, out: str | None = None, is_kept: bool = False) \
-            -> None:
-        words = argparse.Namespace(**{**vars(defaults()), "channel": case.write(
+    def __init__(self, case: Case, lines: str, out: str | None = None, is_kept: bool = False,
+                 *more: str) -> None:
+        words = argparse.Namespace(**{**vars(defaults(*more)), "channel": case.write(
             "list", lines.encode()), "patience": 2, "out": out, "is_kept": is_kept})
         Judging.made = []
         super().__init__(words, Typed("tools/qc", case.bench.program), case.folder)
@@ -130,7 +128,9 @@ class Steps(Case):
         for begin in (900_000, CLOCK - SECOND):
             for out, is_kept in ((None, False), (self.path("out"), False),
                                  (self.path("out"), True)):
-                channel = Told(self, self.listed("one", "two"), out, is_kept)
+                channel = Told(self, self.listed("one", "two"), out, is_kept, "--pid", "0x101")
+                if out:
+                    self.write("out/one.json", b"of an earlier call")
                 packets = list(sent(self.texts("one"), begin, 5))
                 channel.give(iter(packets[:4]))
                 self.must("not yet", not Judging.made)
@@ -142,15 +142,16 @@ class Steps(Case):
                 words = one.command[2:]
                 self.must("command", words[:len(files) + 2] == ["--name=one", *files, "--fitted"]
                           and words[words.index("--origin") + 1] == str(origin)
-                          and words[-2:] == ["--", self.files["one"]] or words[-1] == "-", words)
+                          and words[-3:] == ["--", self.files["one"], "-"]
+                          and "--pid" not in words, words)
+                self.must("no earlier object", not os.path.exists(self.path("out/one.json")))
                 self.must("bytes", one.given == b"".join(packets), len(one.given))
                 self.must("end", one.end == TICKS * LAST, one.end)
                 self.must("nothing said", not channel.said and channel.running is not None)
                 one.is_done = True
                 channel.go_on()
-                self.must("said", channel.said == [
-                    "one  accepted 5 frames; by a clock that was found in the recording"] or
-                    channel.said[0].startswith("one  accepted 5 frames; "), channel.said)
+                self.must("said", channel.said == [f"one  accepted 5 frames; {FITTED_SHORT}"],
+                          channel.said)
                 self.must("over", channel.running is None and channel.verdicts == ["accepted"]
                           and list(channel.rows) == ["one"] and
                           os.path.exists(self.path("out/index.html")) == (out is not None))
@@ -180,9 +181,54 @@ class Steps(Case):
             "not judged: not seen: three, which is behind it in the list, is sent"), channel.said)
         self.must("verdicts", channel.verdicts == ["accepted", "not judged", "accepted",
                                                    "not judged", "accepted"], channel.verdicts)
+        # What is waited for at the same time is waited for anew, and its file may come meanwhile.
+        for late in ("two", "three"):
+            os.rename(self.files[late], self.path("away"))
+            channel = Told(self, self.listed("one", "two", "three"))
+            channel.give(sent(self.texts("one"), 900_000, 20))
+            os.rename(self.path("away"), self.files[late])
+            Judging.made[0].is_done = True
+            channel.go_on()
+            channel.give(sent(self.texts(late), 900_000 + 115 * SECOND))
+            self.must(f"the {late}", self.names() == ["one", late], self.names())
+        self.write("copy.stl", self.read("one.stl"))
+        channel = Told(self, f"{self.path('copy.stl')}\n" + self.listed("one", "two"))
+        channel.give(sent(self.texts("one"), 900_000, 2))
+        self.must("the first of two that are alike", self.names() == ["copy"], self.names())
         channel = Told(self, self.listed("one", "two", "three", "four", "five"))
         channel.give(sent(self.texts("five"), 900_000, 2))
         self.must("the fifth", not Judging.made and len(channel.queue.waiting) == AT_ONCE)
+
+    def test_what_a_call_left(self) -> None:
+        """Its line, with what to know of its first fault; where it ended with another status, what
+        it told last."""
+        refused: dict[str, Any] = {**Judging.left, "verdict": "refused", "status": 1,
+                                   "line": "refused 72 X"}
+        for left, ended, said in (
+                (refused, 1, f"refused 72 X; {FITTED_SHORT}"),
+                ({**refused, "hints": ["72: why"]}, 1, f"refused 72 X; why; {FITTED_SHORT}"),
+                (refused, 0, "not judged: told: last"), (Judging.left, 1, "not judged: told: last"),
+                (Judging.left, -9, "not judged: it did not end by itself"),
+                ({**refused, "verdict": "not judged", "status": 2, "reason": "why\nmore"}, 2,
+                 "not judged: why")):
+            channel = Told(self, self.listed("one"), self.path("out"))
+            with mock.patch.multiple(Judging, left=left, ended=ended):
+                channel.give(sent(self.texts("one"), 900_000))
+                Judging.made[0].is_done = True
+                channel.go_on()
+            self.must(said, channel.said == [f"one  {said}"], channel.said)
+            with open(self.path("out/one.json"), encoding="ascii") as file:
+                self.must("its object", [json.load(file)["verdict"]] == channel.verdicts)
+
+    def test_call_that_ends_early(self) -> None:
+        """The next one is waited for since then, and not since the end that was planned."""
+        channel = Told(self, self.listed("one", "two"))
+        channel.give(iter(list(sent(self.texts("one"), 900_000))[:6]))
+        [one] = Judging.made
+        one.is_done = True
+        channel.go_on()
+        self.must("since then", channel.queue.since == channel.queue.ended == channel.clock.now
+                  < one.end, channel.queue.ended)
 
     def test_patience(self) -> None:
         """Two minutes after the one before, or after waiting began; then the next one has two."""
@@ -201,19 +247,20 @@ class Steps(Case):
 
     def test_origin_that_is_given(self) -> None:
         """It is begun with its first TCI, and is not said to be fitted."""
-        begin = 900_000
-        origin = (begin - TICKS * FIRST) % CLOCK
-        channel = Told(self, self.listed("one", options=f" --origin {origin}"))
-        for ticks, is_begun in ((-SECOND, False), (-1, False), (0, True)):
-            data = pes_packet(begin + ticks, [CLOSING])
-            channel.take(Taken(data, [data]))
-            self.must(f"at {ticks}", bool(Judging.made) == is_begun)
-        self.must("command", "--fitted" not in Judging.made[0].command
-                  and str(origin) in Judging.made[0].command, Judging.made[0].command)
-        self.must("end", Judging.made[0].end == channel.clock.now + TICKS * LAST)
-        Judging.made[0].is_done = True
-        channel.go_on()
-        self.must("said", channel.said == ["one  accepted 5 frames"], channel.said)
+        for begin in (900_000, TICKS * FIRST):  # the second one is 0
+            origin = (begin - TICKS * FIRST) % CLOCK
+            channel = Told(self, self.listed("one", options=f" --origin {origin}"), None, False,
+                           "--origin", "7")  # that of the call is for the others
+            for ticks, is_begun in ((-SECOND, False), (-1, False), (0, True)):
+                data = pes_packet(begin + ticks, [CLOSING])
+                channel.take(Taken(data, [data]))
+                self.must(f"at {ticks}", bool(Judging.made) == is_begun)
+            self.must("command", "--fitted" not in Judging.made[0].command
+                      and str(origin) in Judging.made[0].command, Judging.made[0].command)
+            self.must("end", Judging.made[0].end == channel.clock.now + TICKS * LAST)
+            Judging.made[0].is_done = True
+            channel.go_on()
+            self.must("said", channel.said == ["one  accepted 5 frames"], channel.said)
 
     def test_waits_for_a_verdict(self) -> None:
         """Where the feed is two minutes ahead, and four PES packets were handed on since then."""
@@ -234,6 +281,13 @@ class Steps(Case):
             data = pes_packet(end + LATER + 1, [CLOSING])
             channel.take(Taken(data, [data]))
             self.must(f"{count} packets", one.was_waited == (count == ENOUGH))
+        channel = Told(self, self.listed("one", "two"))
+        channel.give(sent(self.texts("one"), 900_000, ENOUGH + 3))
+        Judging.made[0].is_done = True
+        packets = list(sent(self.texts("two"), 900_000 + 40 * SECOND))
+        channel.give(iter([*packets, pes_packet(pts_in(packets[-1]) + LATER + 1, [CLOSING])]))
+        self.must("counted anew", self.names() == ["one", "two"] and
+                  not Judging.made[1].was_waited, self.names())
 
     def test_keeps_what_is_asked_for(self) -> None:
         """What came within two minutes, and since the end of what is judged."""
@@ -259,6 +313,11 @@ class Steps(Case):
         self.must("kept", b"".join(channel.ring.pieces()) == pes_packet(100, [CLOSING]))
         channel.give(sent(self.texts("two"), 200_000))
         self.must("the next", self.names() == ["one", "two"], self.names())
+        waiting = Told(self, self.listed("one"))
+        waiting.give(sent(self.texts("two"), 900_000))
+        waiting.give(iter([pes_packet(100, [CLOSING])]))
+        self.must("waits on", (waiting.queue.since, waiting.queue.ended) == (0, waiting.clock.now)
+                  and waiting.clock.now > 0, waiting.queue.since)
         for pts, words in ((200_000 + TICKS * LAST + 61 * MINUTE, "nothing came for 01:01:00:00, "
                             "or an encoder begins anew: PTS "),):
             channel.give(iter([pes_packet(pts, [CLOSING])]))
@@ -290,11 +349,24 @@ class Steps(Case):
             if is_stopped:
                 self.must("two", known["two"] == {**unjudged("two", ENDED, True)}, known["two"])
 
+    def test_list_at_the_end_of_the_feed(self) -> None:
+        """What was written to it at last, and a last line without an end, are looked at too."""
+        channel = Told(self, self.listed("one"))
+        channel.give(sent(self.texts("one"), 900_000, 9))
+        channel.give(sent(self.texts("two"), 900_000 + 20 * SECOND))
+        with open(self.path("list"), "a", encoding="ascii") as file:
+            file.write(self.listed("two") + self.listed("three").rstrip())
+        channel.stop(ENDED)
+        self.must("begun", self.names() == ["one", "two"], self.names())
+        self.must("said", channel.said[2:] == [f"three  not judged: {ENDED}"], channel.said)
+
     def test_goes_on_with_an_earlier_call(self) -> None:
         """With the first that has no object, or one of another subtitle file."""
-        for kept in range(3):
-            channel = Told(self, self.listed("one", "two", "three"), self.path("out"))
-            for name in ("one", "two")[:kept]:
+        names = ["one", "two", "three"]
+        for kept in range(4):
+            # The last line has no end.
+            channel = Told(self, self.listed(*names).rstrip(), self.path("out"))
+            for name in names[:kept]:
                 asked = asked_for(self.files[name], None)
                 known = {"format": 3, "verdict": "refused", "status": 1, "line": "refused 72 X",
                          "asked": {"stl": self.files[name]}, "found": found(asked)}
@@ -303,18 +375,20 @@ class Steps(Case):
             self.must(f"{kept}", channel.verdicts == ["refused"] * kept and channel.said ==
                       [f"{kept} programme{'s' * (kept > 1)} of an earlier call kept"] * (kept > 0),
                       channel.said)
-            self.must(f"{kept}: next", channel.queue.waiting[0].programme.name ==
-                      ("one", "two", "three")[kept])
+            self.must(f"{kept}: next", [one.programme.name for one in channel.queue.waiting] ==
+                      names[kept:kept + 1])
         self.write("out/one.json", json.dumps(unjudged("one", "why", True)).encode())
         channel = Told(self, self.listed("one", "two"), self.path("out"))
         channel.resume()
         self.must("open", channel.queue.waiting[0].programme.name == "one" and not channel.said)
-        self.must("rows", set(channel.rows) == {"one", "two"}, channel.rows)
+        self.must("rows", set(channel.rows) == {*names}, channel.rows)
 
     def test_feed_that_stands_still(self) -> None:
         """Told once, after as many seconds; that it goes on is told too, and then it may stand
         still again."""
-        channel = Told(self, self.listed("one"))
+        channel, shown = Told(self, self.listed("one")), list[str]()
+        progress: Any = argparse.Namespace(is_due=lambda: len(shown) == 0, show=shown.append)
+        channel.progress = progress
         wait = stall_heard(channel, 10)
         for turn in range(2):
             for still, count in ((9.4, 0), (10, 1), (11, 1), (99, 1)):
@@ -326,6 +400,13 @@ class Steps(Case):
             self.must("goes on", channel.said.pop() == "the feed goes on")
             channel.take(Taken(data, [data]))
             channel.said.clear()
+        self.must("shown", shown == ["waiting for one; 00:00:00:00 of the feed; nothing for 9 s"],
+                  shown)
+        channel = Told(self, self.listed("one"))
+        channel.give(sent(self.texts("one"), 900_000))
+        Judging.made[0].is_done = True
+        stall_heard(channel, 10)(3.0)
+        self.must("the verdict comes meanwhile", len(channel.said) == 1, channel.said)
 
     def test_lines_that_are_none(self) -> None:
         """Each is told when its turn has come, and not what stands before it."""
@@ -361,52 +442,3 @@ class Steps(Case):
         self.must("lines", shown[0] == "waiting for a programme; 00:00:00:00 of the feed" and
                   shown[1] == "waiting for one; 00:01:01:00 of the feed; nothing for 3 s" and
                   shown[2].startswith("one is judged; 00:0"), shown)
-
-
-class Kinds(Case):
-    """Feeds by their first bytes, and calls that are handed what comes."""
-
-    def test_feeds(self) -> None:
-        """PES packets one by one, which have no PID; else a transport stream, of which the last
-        PES packets are asked for too."""
-        pes = list(sent(TEXTS, 900_000))
-        took: list[Taken] = []
-        feed = feed_of(Source(self.write("feed.pes", b"".join(pes)), False), None, lambda: [PAGE],
-                       print, "none")
-        feed.follow(took.append)
-        self.must("PES", isinstance(feed, PesFeed) and took == [Taken(one, [one]) for one in pes])
-        self.must("kept", list(feed.unpacked([pes[0] + pes[1], b"", pes[2]])) == pes[:3])
-        with self.assertRaises(Stop):
-            feed_of(Source(self.path("feed.pes"), False), 0x101, lambda: [PAGE], print, "none")
-        maker = Maker(components())
-        maker.put_tables()
-        for one in pes:
-            maker.put(TELETEXT_PID, one)
-        path = self.write("feed.ts", maker.data)
-        for pid in (None, TELETEXT_PID):
-            took = []
-            source = Source(path, False)
-            feed = feed_of(source, pid, lambda: [PAGE], print, self.bench.program)
-            feed.follow(took.append)
-            feed.close()
-            self.must(f"{pid}", isinstance(feed, TransportFeed) and source.is_feed and
-                      [data for one in took for data in one.packets] == pes, took)
-
-    def test_calls(self) -> None:
-        """What is put is read by the call, and nothing more is wanted once it is over."""
-        planned = PlannedProgramme("one", None, None)
-        code = "import sys; data = sys.stdin.buffer.read(5); print('qc: got', len(data), " \
-            "file=sys.stderr); sys.exit(3)"
-        running = Running(planned, [sys.executable, "-c", code], self.folder, 7)
-        self.must("waits", not running.is_over() and running.end == 7)
-        running.put(b"123")
-        running.put(b"45")
-        running.wait()
-        self.must("over", running.is_over() and running.process.returncode == 3 and
-                  running.lines() == ["qc: got 5"], running.lines())
-        running.put(b"more")
-        running.close()
-        closed = Running(planned, [sys.executable, "-c", code], self.folder, 7)
-        closed.put(b"12")
-        closed.close()
-        self.must("closed", closed.lines() == ["qc: got 2"], closed.lines())

@@ -2,8 +2,11 @@
 from __future__ import annotations
 
 import argparse
+import contextlib
+import errno
 import os
-from typing import Sequence
+from typing import Any, Sequence
+from unittest import mock
 
 from subtitles.calls.awaited import NEAR, Awaited, Changes, Timed
 from subtitles.calls.channel import GAP, Channel
@@ -22,6 +25,7 @@ from subtitles.qc.asked import add_pair_options
 from subtitles.qc.source import Source
 from subtitles.qc.typed import Typed
 from subtitles.reading.losses import Place
+from subtitles.reading.timing import Sample
 from .bench import Case
 from .parts import CLOSING, HEADER, PAGE, asked_for, row
 
@@ -38,11 +42,11 @@ def sendings(first: int) -> list[bytes]:
             for at in range(COUNT)]
 
 
-def defaults() -> argparse.Namespace:
-    """The options of a call that has none."""
+def defaults(*words: str) -> argparse.Namespace:
+    """The options of a call that has these."""
     parser = Words("")
     add_pair_options(parser)
-    return parser.parse_args([])
+    return parser.parse_args(words)
 
 
 def programme(case: Case, name: str, first: int, texts: list[str]) -> str:
@@ -102,6 +106,15 @@ class Tables(Case):
                 ("the last three", 0, last, ["One", *texts[1:]], midnight)):
             found = Awaited(stl, "english", since, until).midnight(self.changes(own, begin))
             self.must(name, found == wanted, found)
+
+    def test_waits_for_texts_that_come_again(self) -> None:
+        """Where each of those that are heard stands in the file before, too."""
+        texts, begin = ["Alpha", "Beta", "Gamma", "Gamma", "Beta", "Alpha"], 7 * SECOND
+        changes = self.changes(texts, begin)
+        changes.drop(begin + TICKS * EACH * 3)
+        stl = programme(self, "one.stl", FIRST, texts)
+        found = Awaited(stl, "english", 0, 3600 * SECOND).midnight(changes)
+        self.must("the second time", found == begin - TICKS * FIRST, found)
 
     def test_waits_in_steps(self) -> None:
         """Looked at after each change, as a feed brings them, it is found as early."""
@@ -214,12 +227,34 @@ class Tables(Case):
         folder = self.path("claimed/here")
         for turn in range(2):
             with claimed(folder, "one"), claimed(folder, "two"), claimed_for_batch(folder):
-                for again in (claimed(folder, "one"), claimed_for_batch(folder)):
-                    with self.assertRaises(Stop), again:
+                for again, why in ((claimed(folder, "one"), "another call is writing the files of "
+                                    f"one in {folder}"), (
+                        claimed_for_batch(folder), f"another batch is judging into {folder}")):
+                    with self.assertRaises(Stop) as refused, again:
                         self.must("never", False)
+                    self.must("why", str(refused.exception) == why, refused.exception)
             self.must(f"turn {turn}", os.listdir(folder) == [])
         with claimed(None, "one"), claimed_for_batch(None):
             self.must("no folder", True)
+        locked: list[str] = []
+
+        def flock(handle: int, kind: int) -> None:
+            """The first time somebody takes the file away, and then locks are not known."""
+            locked.append(os.readlink(f"/proc/self/fd/{handle}"))
+            if len(locked) == 1:
+                os.unlink(locked[0])
+            elif len(locked) == 3:
+                raise OSError(errno.ENOLCK, "No locks")
+
+        with mock.patch("fcntl.flock", flock):
+            for count in (2, 3):
+                with claimed(folder, "one"):
+                    self.must("its file", os.listdir(folder) == [".one.lock"]
+                              and len(locked) == count, locked)
+        self.must("nothing is left", os.listdir(folder) == [])
+        with self.assertRaises(OSError) as told, claimed_for_batch(self.write("file", b"")):
+            self.must("never", False)
+        self.must("its name", told.exception.filename == self.path("file"))
 
     def test_ring(self) -> None:
         """All that came from a floor on is kept, and little more; what was dropped is gone."""
@@ -261,7 +296,8 @@ class Tables(Case):
         for more, wanted in ((b"", ["one"]), (b"", ["two"]), (b"", []), (b"\none.stl\n", ["one-2"]),
                              (b"one.stl\nx/one.stl", ["one-3"]), (b"", ["one-4"]),
                              (b"\n--pid 5 two.stl\ntwo.stl --breaks 1\n\"\n",
-                              ["line-8", "line-9", "line-10"]), (b"two.stl\n", ["two-2"])):
+                              ["line-8", "line-9", "line-10"]), (b"two.stl\n", ["two-2"]),
+                             (b"one-2.stl\nline-9.stl\n", ["one-2-2", "line-9-2"])):
             found = take(more)
             self.must(repr(more), found == wanted, found)
         self.must("what is asked", dict(taken)["two"] == ("two.stl", 50) and
@@ -296,13 +332,24 @@ class Tables(Case):
                 ("one of two", [(OTHER, second), (PID, first)], PID, PID),
                 ("the second", [(PID, first), (OTHER, second)], OTHER, OTHER)):
             feed = self.feed(pid)
+            carriers = dict(feed.carriers.by_pid)
             feed.hand(ways)
             feed.hand([])
             self.must(name, feed.pid == wanted and len(feed.taken) == 8, (feed.pid, feed.taken))
-        feed = self.feed(None)
-        with self.assertRaises(Stop):
-            for _ in range(3):
-                feed.hand([(PID, first[:4]), (OTHER, second[:4])])
+            self.must(f"{name} alone", pid or (feed.carriers.pid, [*feed.carriers.by_pid]) == (
+                wanted, [wanted]) and [one for one in carriers if carriers[one].file.closed] ==
+                      [one for one in carriers if one != wanted])
+        both, own = [(PID, first[:4]), (OTHER, second[:4])], [(PID, first)]
+        rows: list[tuple[list[Any], bool]] = [
+            ([both] * 3, True), ([own, both[1:], []], True), ([own, [], []], False)]
+        for several, is_refused in rows:
+            feed = self.feed(None)
+            refused: Any = self.assertRaises(Stop) if is_refused else contextlib.nullcontext()
+            with refused:
+                for ways in several:
+                    feed.hand(ways)
+            self.must(f"{is_refused}", (feed.pid, len(feed.taken)) == (
+                (None, 0) if is_refused else (PID, 8)), feed.pid)
 
     def test_keeps_what_came_before_the_header(self) -> None:
         """Of the PID that sends the page; nothing of another one."""
@@ -326,6 +373,11 @@ class Tables(Case):
         feed.hand([(PID, [MARK])])
         self.must("not yet", len(said) == 3, said)
         feed.hand([(PID, sendings(20))])
+        carrier = feed.carriers.by_pid[PID]
+        carrier.timing.samples = [Sample(number, 0) for number in range(99)]
+        feed.hand([])
+        self.must("no more is kept", not carrier.gaps and not carrier.losses.places and
+                  [one.pts for one in carrier.timing.samples] == list(range(39, 99)))
         self.must("then", len(said) == 4 and said[3].endswith(
             f"before PTS {pts_in(sendings(20)[0])}"), said)
 

@@ -92,6 +92,12 @@ class Named(unittest.TestCase):
             ("X/28 for data", [HEADER, naming(28, 8, function=4)], []),
             ("M/29 has no function", [naming(29, 8, function=4)], [NamedSet(29, 0, 1, 0)]),
             ("a row like one", [HEADER, packet(0, 20, (), b" " * 10 + naming(29, 8)[:30])], []),
+            ("a row more like one", [HEADER, packet(0, 20, (), b" " * 6 + b"@   " + naming(29, 8)[
+                :30]), naming(29, 16)], [NamedSet(29, 0, 2, 0)]),
+            ("a row like a header", [HEADER, packet(0, 20, (), b" " * 10 + OTHER[:30]),
+                                     naming(28, 0x16)], [NamedSet(28, 0, 2, 6)]),
+            ("two of a kind, and a third", [naming(29, 8), naming(29, 16), ROW, naming(29, 25)],
+             [NamedSet(29, 0, 1, 0), NamedSet(29, 0, 2, 0), NamedSet(29, 0, 3, 1)]),
             ("both, one twice", [naming(29, 8), naming(29, 8), naming(29, 0, 4)],
              [NamedSet(29, 0, 1, 0), NamedSet(29, 4, 0, 0)]),
             ("a wrong bit", [with_bits(naming(29, 8), 24 + 9)], [NamedSet(29, 0, 1, 0)]),

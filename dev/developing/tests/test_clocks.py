@@ -1,163 +1,134 @@
-"""tools/qc and the clock: what is late is refused, and what can't be seen is said."""
+"""Pairs and the clock, in process: what is late is refused, and what can't be seen is said; the
+clock by the first picture of a transport stream.
+"""
 from __future__ import annotations
 
-import json
 import re
-from typing import Sequence
+import shutil
+import subprocess
 
-from subtitles.core.pes import pts_in
-from subtitles.core.stl import gsi_block, subtitle_blocks
-from subtitles.core.times import TICKS, time_of
-from .bench import Case, Done, moved, packets
-from .test_qc import FITTED, lines_of, qc
+from subtitles.core.stl import boxed, gsi_block, subtitle_blocks
+from subtitles.core.times import CLOCK, TICKS, time_of
+from .bench import Case, example, example_bytes, moved
+from .judged import Judged, Sent, in_pipe, joined, judged, late, programme, sendings
+from .muxed import H_264, HEVC, MPEG_2, mpeg_2_picture, programme as stream_with
+from .test_qc import FITTED, TS, in_two_parts, lines_of, qc
 
 FIRST, EACH, LASTS = 900_000, 125, 60  # frames: of the first subtitle, from one to the next, of one
-Frames = list[tuple[int, int]]
+WORDS = ["--every", "25", "--no-complete"]
+STORY, BEGIN = example("story.stl"), 1_822_500  # the frame of its first TCI, 20:15:00:00
+EARLIER = 25  # frames that its recordings here begin before it
+FIRST_PTS, STARTED = (BEGIN - EARLIER) * TICKS, time_of(BEGIN - EARLIER)
 
 
-def evenly(count: int) -> Frames:
+def evenly(count: int) -> list[tuple[int, int]]:
     """Subtitles every five seconds: where they are late by ten, edges are at edges of others."""
-    return [(FIRST + EACH * number, FIRST + EACH * number + LASTS) for number in range(count)]
-
-
-def made_of(case: Case, name: str, frames: Frames, numbers: Sequence[int] = ()) -> str:
-    """A subtitle file; each subtitle has its number as text."""
-    texts = numbers or range(len(frames))
-    blocks = [subtitle_blocks(number, *one, 20, 2, b"Subtitle %d" % number)
-              for number, one in zip(texts, frames)]
-    return case.write(name, gsi_block(b"Clock", len(blocks), len(blocks), frames[0][0])
-                      + b"".join(blocks))
-
-
-def sent(case: Case, frames: Frames, *words: str, numbers: Sequence[int] = ()) -> bytes:
-    """The PES packets of subtitles at other frames."""
-    made_of(case, "sent.stl", frames, numbers)
-    case.schedule(case.path("sent.stl"), "sent.pes", "--every", "25", *words)
-    return case.read("sent.pes")
-
-
-def later(frames: Frames, first: int, by: int) -> Frames:
-    """Subtitles that are late from one on."""
-    return [(begin + by * (number >= first), end + by * (number >= first))
-            for number, (begin, end) in enumerate(frames)]
-
-
-def judged(case: Case, stl: str, data: bytes, *words: str) -> Done:
-    """What qc says, with an object."""
-    return qc(case, stl, case.write("sent.pes", data), "--no-complete", "--every", "25", "--json",
-              "out.json", *words)
-
-
-def clocks(case: Case) -> list[tuple[int, str, int | None]]:
-    """The clock of each part."""
-    return [(part["clock"]["origin"], part["clock"]["source"], part["clock"]["delay_frames"])
-            for part in json.loads(case.read("out.json"))["parts"]]
+    return [(FIRST + EACH * at, FIRST + EACH * at + LASTS) for at in range(count)]
 
 
 class Clocks(Case):
     """Recordings that are late, as a whole or from somewhere on."""
 
-    def test_says_that_a_clock_was_fitted(self) -> None:
-        """All is ten seconds late: accepted where nothing else knows the time, which is said."""
-        frames = evenly(20)
-        stl = made_of(self, "own.stl", frames)
-        data = moved(sent(self, frames), lambda _, pts: pts + 250 * TICKS)
-        done = judged(self, stl, data, "-o", "out")
-        self.must("accepted", done.status == 0 and lines_of(done)[-2:] == [
-            FITTED, "accepted 2436 frames 118 transmissions"], done)
-        self.must("the object", clocks(self) == [(250 * TICKS, "recording", None)]
-                  and FITTED in json.loads(self.read("out.json"))["notes"])
-        self.must("the report", FITTED in self.read("out/own.html").decode())
-        done = judged(self, stl, data, "--origin", "0", "-o", "out")
-        self.must("refused by an origin", done.status == 1 and FITTED not in lines_of(done)
-                  and "qc: all subtitles are 250 frames late" in done.told, done)
-        self.must("its object", clocks(self) == [(0, "given", 250)], clocks(self))
-        report = self.read("out/own.html").decode()
-        self.must("its report", "all subtitles are 250 frames late" in report and FITTED not in
-                  report)
-        for by, said in ((2, "2 frames late"), (-1, "1 frame early")):
-            done = judged(self, stl, moved(data, lambda _, pts: pts + (by - 250) * TICKS),
-                          "--origin",
-                          "0")
-            self.must(said, done.status == 1 and f"qc: all subtitles are {said}" in done.told
-                      and clocks(self) == [(0, "given", by)], done)
-        done = judged(self, stl, sent(self, frames), "--origin", "0")
-        self.must("on time", (done.status, done.told) == (0, []) and FITTED not in lines_of(done)
-                  and clocks(self) == [(0, "given", 0)], done)
+    def setUp(self) -> None:
+        super().setUp()
+        self.frames = evenly(20)
+        self.stl = programme(self, self.frames)
+        self.sent = sendings(self, self.stl)
 
-    def test_refuses_what_is_late_from_the_middle_on(self) -> None:
-        """All is judged with the clock of the first part, and it is said from when on it is late.
-        """
-        frames = evenly(40)
-        stl = made_of(self, "own.stl", frames)
-        for by, late in ((250, "10.00 s (250 frames) late"), (1, "0.04 s (1 frame) late")):
-            line = f"qc: from {time_of(frames[20][0])} on subtitles are {late}; " \
-                "if the programme has a break there, say --breaks 1"
-            without: list[str] = []
-            for words in (without, ["--origin", "5000"]):
-                data = sent(self, later(frames, 20, by), *words)
-                done = judged(self, stl, data, *words)
-                self.must(f"{late} {words}", done.status == 1 and line in done.told
-                          and lines_of(done)[-1].startswith("refused "), (line, done))
-                done = judged(self, stl, data, *words, "--breaks", "1")
-                self.must(f"a break, {late} {words}", done.status == 0 and
-                          lines_of(done)[-1].endswith(" in 2 parts"), done)
-        done = judged(self, stl, sent(self, later(later(frames, 10, 50), 30, -50)))
-        self.must("and on time again", done.status == 1 and done.told == [
-            f"qc: from {time_of(frames[10][0])} on subtitles are 2.00 s (50 frames) late",
-            f"qc: from {time_of(frames[30][0])} on subtitles are on time"], done)
+    def judge(self, sent: Sent, *words: str) -> Judged:
+        return judged(self, self.stl, self.write("one.pes", joined(sent)), *WORDS, *words)
 
-    def test_refuses_what_is_later_and_later(self) -> None:
-        """2.5 seconds more each five subtitles, up to 48: no break was said."""
-        frames = evenly(100)
-        stl = made_of(self, "own.stl", frames)
-        late = frames
-        for first in range(5, 100, 5):
-            late = later(late, first, 63)
-        data = sent(self, late)
-        done = judged(self, stl, data)
-        self.must("refused", done.status == 1 and lines_of(done)[-1].startswith("refused ")
-                  and done.told[-1] ==
-                  f"qc: from {time_of(frames[95][0])} on subtitles are 47.88 s "
-                  "(1197 frames) late; if the programme has breaks there, say --breaks 19", done)
-        for count in (1, 18, 20):
-            done = judged(self, stl, data, "--breaks", str(count))
-            self.must(f"{count} breaks", done.status == 2
-                      and lines_of(done)[-1].startswith("origin: ")
-                      and f"qc: 19 breaks found, where --breaks {count} is said" in done.told
-                      and done.told[-1].endswith(" --breaks 19"), done)
+    def test_fitted(self) -> None:
+        """All is late: accepted where nothing else knows the time, which is said; with an origin it
+        is refused, and said how late all is."""
+        clock = "clock", "delay_frames"
+        for by, words in ((250, "250 frames late"), (2, "2 frames late"), (-1, "1 frame early"),
+                          (0, "")):
+            sent = late(by)(self.sent)
+            found = self.judge(sent)
+            self.must(f"{by}", found.word == "accepted" and FITTED in found.said and
+                      found.parts("origin", "clock") == [(by * TICKS % CLOCK, {
+                          "origin": by * TICKS % CLOCK, "source": "recording",
+                          "delay_frames": None})], found.said)
+            found = self.judge(sent, "--origin", "0")
+            told = [line for line in found.told if line.startswith("all subtitles")]
+            self.must(f"{by}: given", (found.word == "refused") == bool(by) and
+                      told == [f"all subtitles are {words}"][:bool(by)] and FITTED not in found.said
+                      and found.result["parts"][0][clock[0]][clock[1]] == by, found.said)
 
-    def test_judges_subtitles_that_adjoin_at_a_break(self) -> None:
+    def test_late_from_one_on(self) -> None:
+        """All is judged with the clock of the first part, and it is said from when on it is late;
+        of a feed too."""
+        line = f"from {time_of(self.frames[10][0])} on subtitles are "
+        at = self.frames[10][0] * TICKS
+        for by, words in ((250, "10.00 s (250 frames) late"), (1, "0.04 s (1 frame) late")):
+            for origin in (0, 5000)[by == 1:]:
+                sent = [(pts + origin, some) for pts, some in late(by, at)(self.sent)]
+                given = ["--origin", "5000"] * (origin > 0)
+                more = "; if the programme has a break there, say --breaks 1"
+                found = self.judge(sent, *given)
+                self.must(f"{by} {origin}", found.word == "refused" and
+                          line + words + more in found.told, found.said)
+                found = self.judge(sent, *given, "--breaks", "1")
+                self.must(f"{by} {origin}: a break", found.word == "accepted" and
+                          found.said[-1].endswith(" in 2 parts"), found.said)
+        feed = in_pipe(self, joined(late(1, at)(self.sent)))
+        found = judged(self, self.stl, feed, *WORDS, "--origin", "0")
+        self.must("a feed", found.word == "refused" and line + words + more in found.told,
+                  found.said)
+        both = late(50, at, self.frames[15][0] * TICKS - 1)(self.sent)
+        self.must("on time again", self.judge(both).told == [
+            line + "2.00 s (50 frames) late",
+            f"from {time_of(self.frames[15][0])} on subtitles are on time"])
+        found = judged(self, self.stl, in_pipe(self, joined(self.sent)), *WORDS, "--origin", "7200")
+        self.must("a feed that is early", found.told[0] == "all subtitles are 2 frames early")
+
+    def test_later_and_later(self) -> None:
+        """2.5 seconds more each five subtitles: no break was said, or too few, or too many."""
+        sent = self.sent
+        for at in range(5, 20, 5):
+            sent = late(63, sent[next(number for number, (pts, _) in enumerate(self.sent)
+                                      if pts == self.frames[at][0] * TICKS)][0])(sent)
+        found = self.judge(sent)
+        self.must("refused", found.word == "refused" and found.told[-1] ==
+                  f"from {time_of(self.frames[15][0])} on subtitles are 7.56 s (189 frames) late; "
+                  "if the programme has breaks there, say --breaks 3", found.told)
+        for count in (1, 2, 4):
+            found = self.judge(sent, "--breaks", str(count))
+            self.must(f"{count}", found.word == "not judged" and f"3 breaks found, where --breaks "
+                      f"{count} is said" in found.told and
+                      found.told[-1].endswith(" --breaks 3"), found.told)
+
+    def test_parts_that_adjoin(self) -> None:
         """The last one is erased where the file's clock stops, and the next comes when it goes on.
         """
-        frames = evenly(20)
-        frames[9] = frames[9][0], frames[10][0]
-        stl = made_of(self, "own.stl", frames)
+        frames = [*self.frames[:9], (self.frames[9][0], self.frames[10][0]), *self.frames[10:]]
+        stl = programme(self, frames)
         for first, second in ((0, 4500 * TICKS), (3_000_000_000, 77_000)):
-            data = sent(self, frames[:10], "--origin", str(first)) + \
-                sent(self, frames[10:], "--origin", str(second), numbers=range(10, 20))
-            done = judged(self, stl, data, "--breaks", "1")
-            parts = [f"part {number}, from {time_of(begin)} to {time_of(end)}: accepted" for
-                     number, begin, end in ((1, frames[0][0], frames[9][1]),
-                                            (2, frames[10][0], frames[19][1]))]
-            self.must(f"{second}", done.status == 0 and [
-                line.partition(" accepted")[0] + " accepted" for line in lines_of(done)[-4:-2]] ==
-                parts, done)
-            self.must(f"{second}: its parts", [one[0] for one in clocks(self)] == [first, second])
-            done = judged(self, stl, data, "--breaks", "1", "--origin", str(first))
-            self.must(f"{second}: an origin", done.status == 0 and clocks(self) == [
-                (first, "given", 0), (second, "recording", None)], done)
-            done = judged(self, stl, data)
-            self.must(f"{second}: none is said", done.status == 1
-                      and ("where PTS go back" in done.told[0]) == (second < first), done)
+            sent = [(pts + origin, some) for some_frames, number, origin in (
+                (frames[:10], 1, first), (frames[10:], 11, second)) for pts, some in sendings(
+                    self, programme(self, some_frames, first=number, name="sent.stl"))]
+            path = self.write("one.pes", joined(sent))
+            for given in (False, True):
+                words = ["--origin", str(first)] * given
+                sources = ["given" if given else "recording", "recording"]
+                found = judged(self, stl, path, *WORDS, "--breaks", "1", *words)
+                self.must(f"{second} {words}", found.parts("from", "to", "origin", "verdict") == [
+                    (time_of(frames[0][0]), time_of(frames[9][1]), first, "accepted"),
+                    (time_of(frames[10][0]), time_of(frames[19][1]), second, "accepted")],
+                    found.said)
+                self.must(f"{second} {words}: clocks", [part["clock"]["source"] for part in
+                                                        found.result["parts"]] == sources)
+            found = judged(self, stl, path, *WORDS)
+            self.must(f"{second}: none is said", found.word == "refused" and
+                      ("where PTS go back" in found.told[0]) == (second < first), found.told)
 
-    def test_says_lines_that_can_be_typed(self) -> None:
+    def test_lines_that_can_be_typed(self) -> None:
         """Where PTS go back each line with a + answers the same."""
-        frames = evenly(20)
-        stl = made_of(self, "own.stl", frames)
-        data = sent(self, frames[:10], "--origin", "3000000000") + \
-            sent(self, frames[10:], numbers=range(10, 20))
-        done = judged(self, stl, data, "--breaks", "1", "-o", "out")
+        sent = [(pts + 3_000_000_000 * (pts < self.frames[10][0] * TICKS), some)
+                for pts, some in self.sent]
+        done = qc(self, self.stl, self.write("sent.pes", joined(sent)), *WORDS, "--breaks", "1",
+                  "-o", "out")
         answers: dict[str, list[str]] = {}
         for line in lines_of(done):
             if line.startswith("+ "):
@@ -173,73 +144,197 @@ class Clocks(Case):
             told = [re.sub("^(origin|cut|part): ", "", one) for one in again.told]
             self.must(line, again.out.decode().splitlines() + told == answer, again)
 
-    def test_judges_a_run_that_is_said(self) -> None:
-        """The programme is there twice: neither is judged; of a feed the first one is."""
-        frames = evenly(20)
-        stl = made_of(self, "own.stl", frames)
-        for name, origin in (("later", 3600 * 25 * TICKS), ("the same PTS", 0), ("wrong", 1)):
-            data = sent(self, frames) + sent(self, frames, "--origin", str(origin))
-            if name == "wrong":
-                data = sent(self, frames) + sent(self, later(frames, 15, 10), "--origin",
-                                                 str(3600 * 25 * TICKS))
-            done = judged(self, stl, data)
-            self.must(name, done.status == 2 and done.told[0] ==
-                      "qc: the programme is there 2 times"
-                      and [line.split()[-1] for line in done.told[-2:]] == ["1", "2"]
-                      and "--run 1" in done.told[-2] and "--run 2" in done.told[-1], done)
-            for run in (1, 2):
-                done = judged(self, stl, data, "--run", str(run))
-                self.must(f"{name}: run {run}", done.status == int(name == "wrong" and run == 2),
-                          done)
-            done = judged(self, stl, data, "--run", "3")
-            self.must(f"{name}: run 3", done.status == 2, done)
-            done = qc(self, stl, "-", "--every", "25", "--no-complete", data=data)
-            self.must(f"{name}: a feed", done.status == 0 and any(
-                line.endswith("of a feed the first run is judged") for line in done.told), done)
+    def test_runs(self) -> None:
+        """The programme is there twice: neither is judged but one that is said; of a feed the
+        first one is."""
+        hour = 3600 * 25 * TICKS
+        wrong = late(10, self.frames[15][0] * TICKS)(self.sent)
+        for name, origin, second in (("later", hour, self.sent), ("the same PTS", 0, self.sent),
+                                     ("wrong", hour, wrong)):
+            both = [*self.sent, *((pts + origin, some) for pts, some in second)]
+            found = self.judge(both)
+            self.must(name, found.word == "not judged" and found.told[0] ==
+                      "the programme is there 2 times" and [
+                          line.split()[-2:] for line in found.told[-2:]] == [
+                              ["--run", "1"], ["--run", "2"]], found.told)
+            for run, word in ((1, "accepted"), (2, "refused" if name == "wrong" else "accepted"),
+                              (3, "not judged")):
+                found = self.judge(both, "--run", str(run))
+                self.must(f"{name} {run}", found.word == word, found.said)
+            found = judged(self, self.stl, in_pipe(self, joined(both)), *WORDS)
+            self.must(f"{name}: a feed", found.word == "accepted" and any(
+                line.endswith("of a feed the first run is judged") for line in found.told),
+                found.said)
 
-    def test_tells_the_first_and_the_last_where_they_are_wrong(self) -> None:
-        """A first subtitle and a last erasing that are late; 63 and 74 where a recording is short.
-        """
-        frames = [(FIRST - 1000, FIRST - 900), *evenly(10), (FIRST + 3000, FIRST + 3100)]
-        stl = made_of(self, "own.stl", evenly(10), range(1, 11))
-        data = sent(self, frames)
-        begin, end = evenly(10)[0][0], evenly(10)[-1][1]
+    def test_first_and_last(self) -> None:
+        """A first subtitle and a last erasing that are late or early; 63 and 74 where a recording
+        is short."""
+        begin, end = (self.frames[at][at] for at in (0, -1))
+        around = programme(self, [(begin - 1000, begin - 900), *self.frames, (end + 3000, end
+                                                                              + 3100)], first=0,
+                           name="sent.stl")
+        data = sendings(self, around)
 
-        def at(frame: int, by: int) -> bytes:
-            """The sending of a frame, late by some frames."""
-            some = [moved(one, lambda _, pts: pts + by * TICKS) if pts_in(one) == frame * TICKS
-                    else one
-                    for one in packets(data)]
-            return b"".join(sorted(some, key=lambda one: pts_in(bytes(one))))
+        def at(frame: int, by: int) -> Sent:
+            return sorted(late(by, frame * TICKS, frame * TICKS)(data), key=lambda one: one[0])
 
-        def of(low: int, high: int) -> bytes:
-            """The sendings of some frames."""
-            return b"".join(one for one in packets(data) if low <= pts_in(one) // TICKS <= high)
+        def of(low: int, high: int) -> Sent:
+            return [one for one in data if low <= one[0] // TICKS <= high]
 
-        for name, recorded, wanted in (
-                ("all", data, "accepted"), ("late", at(begin, 8), f"refused 72 Content frame "
-                                            f"{time_of(begin)} "),
+        for name, sent, wanted in (
+                ("all", data, "accepted"),
+                ("late", at(begin, 8), f"refused 72 Content frame {time_of(begin)} "),
                 ("early", at(begin, -8), f"refused 72 Content frame {time_of(begin - 8)} "),
                 ("not erased", at(end, 9), f"refused 72 Content frame {time_of(end)} "),
                 ("begins late", of(begin + 1, end + 500), "refused 63 Early "),
                 ("begins there", of(begin, end + 500), "accepted "),
                 ("ends there", of(begin - 500, end), "accepted "),
                 ("ends early", of(begin - 500, end - 1), "refused 74 Late ")):
-            done = judged(self, stl, recorded, "--origin", "0")
-            self.must(name, lines_of(done)[-1].startswith(wanted), (wanted, done))
+            found = self.judge(sent, "--origin", "0")
+            self.must(name, found.said[-1].startswith(wanted), (wanted, found.said))
 
-    def test_judges_a_feed_by_its_first_clock(self) -> None:
-        """It is said at the end from when on subtitles were late, and how late all of them are."""
-        frames = evenly(20)
-        stl = made_of(self, "own.stl", frames)
-        data = sent(self, later(frames, 10, 50))
-        done = qc(self, stl, "-", "--every", "25", "--no-complete", "--origin", "0", data=data)
-        self.must("late", done.status == 1 and "qc: from 10:00:50:00 on subtitles are 2.00 s (50 "
-                  "frames) late; if the programme has a break there, say --breaks 1" in done.told,
-                  done)
-        done = qc(self, stl, "-", "--every", "25", "--no-complete", "--origin", "7200",
-                  data=sent(self, frames))
-        self.must("all are early", done.status == 1 and done.told[0] ==
-                  "qc: all subtitles are 2 frames early", done)
-        done = qc(self, stl, "-", "--every", "25", "--no-complete", "--breaks", "1", data=data)
-        self.must("a break", done.status == 0 and lines_of(done)[-1].endswith(" in 2 parts"), done)
+
+class Starts(Case):
+    """The clock by the first picture."""
+
+    def judge(self, data: bytes, *words: str, stl: str = STORY) -> Judged:
+        return judged(self, stl, self.write("one.ts", data), *words)
+
+    def test_first_picture(self) -> None:
+        """In each kind of video, wherever PTS begin again; two frames late."""
+        for kind in (MPEG_2, H_264, HEVC):
+            for shift in (0, CLOCK - (BEGIN - 40) * TICKS):
+                pes = moved(example_bytes("story.pes"), lambda _, pts: pts + shift)
+                first = (FIRST_PTS + shift) % CLOCK
+                data = stream_with(pes, first, kind).data
+                found = self.judge(data, "--start", STARTED)
+                self.must(f"{kind} {shift}", found.word == "accepted" and any(
+                    line.startswith(f"the first picture has PTS {first}, ") and
+                    "3 PES packets of video before it skipped" in line for line in found.said),
+                    found.said)
+                found = self.judge(data, "--start", time_of(BEGIN - EARLIER - 2))
+                clock = found.result["parts"][0]["clock"]
+                self.must(f"{kind} {shift}: late", found.word == "refused" and clock == {
+                    "origin": (shift + 2 * TICKS) % CLOCK, "source": "start", "delay_frames": -2},
+                    clock)
+
+    def test_of_a_feed(self) -> None:
+        """As soon as the first picture is known; and with a break, the first part."""
+        data = stream_with(example_bytes("story.pes"), FIRST_PTS).data
+        found = judged(self, STORY, in_pipe(self, data), "--start", STARTED)
+        self.must("a feed", found.word == "accepted", found.said)
+        stl, pes = in_two_parts(self)
+        data = stream_with(pes, 1000 + (900_000 - EARLIER) * TICKS).data
+        found = self.judge(data, "--start", time_of(900_000 - EARLIER), "--breaks", "1", stl=stl)
+        self.must("a break", found.word == "accepted" and [
+            (part["clock"]["source"], part["clock"]["origin"]) for part in found.result["parts"]] ==
+                  [("start", 1000), ("recording", 1000 + 4500 * TICKS)], found.said)
+
+    def test_what_there_is(self) -> None:
+        """No picture, two in a PES packet, half a frame: not judged; PTS that are off are moved."""
+        pes = example_bytes("story.pes")
+        double = stream_with(pes, FIRST_PTS, MPEG_2, mpeg_2_picture() * 2).data
+        half = stream_with(moved(pes, lambda _, pts: pts + 1800), FIRST_PTS).data
+        for path, words, is_typed in (
+                (self.write("two.ts", double), "has 2 pictures", True),
+                (self.write("half.ts", half), "half a frame", False),
+                (example("story.pes"), "have no pictures", True)):
+            found = judged(self, STORY, path, "--start", STARTED)
+            self.must(words, found.word == "not judged" and words in found.told[0] and
+                      ("--origin T" in found.told[-1]) == is_typed and
+                      "--start" not in found.told[-1], found.told)
+        for ticks, way in ((12, "forward"), (-12, "back"), (1799, "forward"), (-1799, "back")):
+            data = stream_with(moved(pes, lambda _, pts: pts + ticks), FIRST_PTS).data
+            found = self.judge(data, "--start", STARTED)
+            self.must(f"{ticks}", found.word == "accepted" and any(line.endswith(
+                f"moved by {abs(ticks)} ticks {way} to the PTS of the Teletext")
+                for line in found.said), found.said)
+
+    def test_start_of_the_programme(self) -> None:
+        """The TCP of the GSI block; subtitles outside of the recording are told."""
+        data = stream_with(example_bytes("story.pes"), FIRST_PTS).data
+        stl = bytearray(example_bytes("story.stl"))
+        for code, words in (
+                (STARTED.replace(":", ""), ""),
+                ("20150100", "comes at 20:15:00:00, before its TCP 20:15:01:00"),
+                ("20000000", "goes at 20:15:09:00, and by the TCP the recording ends at"),
+                *((code, "has no time as TCP") for code in ("        ", "2015000a", "25000000",
+                                                            "20150025"))):
+            stl[256:264] = code.encode()
+            found = self.judge(data, "--start", "tcp", stl=self.write("two.stl", stl))
+            self.must(code, found.word == ("not judged" if words else "accepted") and
+                      words in "".join(found.told[:1]), found.said)
+            self.must(f"{code}: clock", words or
+                      found.result["parts"][0]["clock"]["source"] == "tcp")
+
+
+SECONDS = 8  # of the streams that ffmpeg makes
+PARTS = (0, 3, 20, 45)  # of a hundred, at which these are cut
+ENCODERS = {"mpeg2video": ["-bf", "2", "-g", "15"],
+            "mpeg2video closed": ["-bf", "2", "-g", "15", "-flags", "+cgop", "-sc_threshold",
+                                  "1000000000"],
+            "libx264": ["-bf", "2", "-g", "25", "-x264-params", "open-gop=1:scenecut=0"],
+            "libx264 closed": ["-bf", "2", "-g", "25"],
+            "libx264 fields": ["-bf", "2", "-g", "25", "-x264-params", "tff=1"],
+            "libx265": ["-bf", "2", "-g", "25"],
+            "libx265 closed": ["-bf", "2", "-g", "25", "-x265-params", "open-gop=0"]}
+
+
+def compare(case: Case, name: str, stl: str, data: bytes, is_closed: bool) -> None:
+    """Compares the first picture of a stream with what ffprobe reads."""
+    path = case.write("cut.ts", data)
+    done = qc(case, stl, path, "--start", "00:00:00:00")
+    packets_of = table(case, path, "packet=pts,flags")
+    keys = [number for number, row in enumerate(packets_of) if "K" in row[1]]
+    if not case.must(f"{name}: groups", len(keys) > 1, packets_of):
+        return
+    group = [int(row[0]) for row in packets_of[keys[0]:keys[1]]]
+    line = next((line for line in lines_of(done) if line.startswith("the first picture")), "")
+    case.must(f"{name}: the smallest PTS", line.startswith(
+        f"the first picture has PTS {min(group)}, "), (line, min(group), done.told))
+    case.must(f"{name}: passed over", f"; {keys[0]} PES packet" in line, (line, keys))
+    if is_closed:
+        shown = [int(row[1]) for row in table(case, path, "frame=key_frame,pts") if row[0] == "1"]
+        case.must(f"{name}: the first that is shown", shown[:1] == [min(group)], (shown, line))
+
+
+def table(case: Case, path: str, entries: str) -> list[list[str]]:
+    """What ffprobe prints of the video, a row a line."""
+    done = subprocess.run(["ffprobe", "-v", "quiet", "-select_streams", "v", "-show_entries",
+                           entries, "-of", "csv=p=0", path], stdout=subprocess.PIPE, check=False)
+    rows = [line.split(",") for line in done.stdout.decode().split("\n")]
+    return [row for row in rows if len(row) > 1 and row[0] not in ("", "N/A")
+            and row[1] not in ("", "N/A")]
+
+
+class OfFfprobe(Case):
+    """Streams of ffmpeg, and what ffprobe reads of them."""
+
+    def test_agrees_with_ffprobe(self) -> None:
+        """Streams of ffmpeg, cut within a group of pictures, hold the smallest PTS of the first
+        whole group; where no group needs the one before, that is the first picture which ffprobe
+        shows."""
+        if not (shutil.which("ffmpeg") and shutil.which("ffprobe")):
+            self.skipTest("streams of MPEG-2, H.264 and HEVC, since there is no ffmpeg")
+        stl = self.write("own.stl", gsi_block(b"Own", 3, 3) + b"".join(
+            subtitle_blocks(number, begin, begin + 30, 20, 2, boxed(b"Number %d" % number))
+            for number, begin in enumerate(range(60, 161, 50))))
+        self.schedule(stl, "own.pes", "--every", "25")
+        self.write("own.ts", self.tool("pes2ts", self.path("own.pes"), "0x101").out)
+        known = self.call(["ffmpeg", "-v", "quiet", "-encoders"]).out.decode()
+        for name, words in ENCODERS.items():
+            codec = name.split()[0]
+            if f" {codec} " not in known:
+                self.bench.over.append(f"streams of {codec}, which ffmpeg lacks")
+                continue
+            path = self.path(name.replace(" ", "-") + ".ts")
+            done = self.call(["ffmpeg", "-v", "error", "-f", "lavfi", "-i", "testsrc=size=176x144:"
+                              f"rate=25:duration={SECONDS}", "-i", "own.ts", "-map", "0:v", "-map",
+                              "1:s", "-c:s", "copy", "-c:v", codec, "-pix_fmt", "yuv420p", *words,
+                              path])
+            self.must(f"{name}: made", done.status == 0, done)
+            with open(path, "rb") as file:
+                data = file.read()
+            for part in PARTS:
+                at = len(data) // TS * part // 100
+                compare(self, f"{name} from TS packet {at}", stl, data[TS * at:], "closed" in name)

@@ -68,6 +68,12 @@ class Clone:
         with open(self.path(name), "a", encoding="utf-8") as file:
             file.write(text)
 
+    def build(self) -> None:
+        """Puts the program where the toolchain builds it."""
+        folder = self.path("crates", "subttx", "out")
+        os.makedirs(folder)
+        shutil.copy(self.case.bench.program, os.path.join(folder, "subttx"))
+
     def give(self, name: str, text: str) -> None:
         """Puts a script beside rt."""
         self.write(os.path.join("bin", name), text)
@@ -205,9 +211,7 @@ class Clones(Case):
     def test_release_takes_what_was_proved(self) -> None:
         """From a log of rt ci into dist/, also where a part is kept; and not without all lines."""
         clone = Clone(self)
-        built = os.path.join("crates", "subttx", "out", "subttx")
-        os.makedirs(os.path.dirname(clone.path(built)))
-        shutil.copy(self.bench.program, clone.path(built))
+        clone.build()
         os.remove(clone.path("dist", "PROVED"))
         first, *others = clone.crates
         clone.write("log", a_log(clone, kept=[first]))
@@ -235,9 +239,7 @@ class Clones(Case):
         """A line of dist/PROVED is kept for the crate whose sources are the same, and for no other.
         """
         clone = Clone(self)
-        built = os.path.join("crates", "subttx", "out", "subttx")
-        os.makedirs(os.path.dirname(clone.path(built)))
-        shutil.copy(self.bench.program, clone.path(built))
+        clone.build()
         clone.add_to(SOURCE, "// changed\n")
         clone.write("log", a_log(clone, kept=clone.crates))
         clone.release("--note", clone.path("log"))

@@ -4,54 +4,43 @@ from __future__ import annotations
 import argparse
 import contextlib
 import io
-import itertools
 import os
 from dataclasses import replace
-from typing import Any, Sequence
+from typing import Sequence
 
 from subtitles.calls.batch import words_of
 from subtitles.calls.machine import asked_words, total
-from subtitles.calls.objects import causes_in, hint_in
+from subtitles.calls.objects import hint_in
 from subtitles.calls.pairs import of_folder
 from subtitles.calls.watching import Seen, Watch
 from subtitles.core.pes import pes_packet
 from subtitles.core.programme import Subtitle
-from subtitles.core.stl import gsi_block, subtitle_blocks, tti_block
-from subtitles.core.teletext import packet
+from subtitles.core.stl import gsi_block, tti_block
 from subtitles.core.times import TICKS
 from subtitles.core.words import Words
 from subtitles.qc.asked import add_pair_options, asked_of_line
-from subtitles.qc.clock import START, Clock
-from subtitles.qc.delays import frames_of, frames_until
-from subtitles.qc.due_pages import DuePages, due_pages_of
+from subtitles.qc.clock import GIVEN, RECORDING, START, Clock
+from subtitles.qc.delays import frames_until
 from subtitles.qc.fitting import Found, refuse, with_delay
 from subtitles.qc.held import Held, Near, Span
 from subtitles.qc.names import Names
-from subtitles.qc.naming import Causes
 from subtitles.qc.pair import Pair
 from subtitles.qc.progress import Progress
 from subtitles.qc.severity import Severity
 from subtitles.qc.speech import Speech
-from subtitles.qc.steps import Done, Steps, Stretch
+from subtitles.qc.steps import Done, Steps
+from subtitles.qc.sums import File
 from subtitles.qc.subtitle_file import NamedSubtitle, SubtitleFile
 from subtitles.qc.typed import Typed
 from subtitles.qc.unclear import Unclear
 from subtitles.qc.verdict import Verdict
 from subtitles.qc.warned import of_page
-from subtitles.reading.finding import Origin
+from subtitles.reading.finding import Agreement, Origin
 from subtitles.reading.programmes import Announced
 from subtitles.reading.receiver import BLANK_PAGE, Rows
 from .bench import Case
+from .judged import Heard
 from .parts import CLOSING, HEADER, PAGE, asked_for, row
-
-NAMES = (b"first", b"second", b"third")
-
-
-def sent(frames: Sequence[tuple[int, bytes | None]]) -> bytes:
-    """PES packets at frames: of a page with a text, of a blank one, or of no page."""
-    return b"".join(pes_packet(TICKS * frame, [CLOSING] if text is None else
-                               [HEADER, *([row(20, text)] if text else []), CLOSING])
-                    for frame, text in frames)
 
 
 class Objects(Case):
@@ -64,15 +53,6 @@ class Objects(Case):
             ([3, None, 5], None), ([3, 4, None], None), ([0], 0)]
         for numbers, wanted in of_numbers:
             self.must(f"{numbers}", total(numbers) == wanted, total(numbers))
-
-    def test_causes(self) -> None:
-        """Faults without a cause are counted by number: the second and the third of one too."""
-        faults = [{"number": 38, "name": "UnitLength", "cause": None}] * 3 + \
-            [{"number": 72, "name": "Content", "cause": {"cause": "late"}},
-             {"number": 70, "name": "Repeat", "cause": None}]
-        found = causes_in({"faults": faults, "cause_counts": {"late": 2, "early": 0}})
-        self.must("all", found == {"late": 2, "38 UnitLength": 3, "70 Repeat": 1}, found)
-        self.must("none", causes_in({}) == {} == causes_in({"faults": None}))
 
     def test_hint(self) -> None:
         """Of the fault that the line names, by its whole number; also where it is waived."""
@@ -89,6 +69,7 @@ class Objects(Case):
     def test_words_of_a_call(self) -> None:
         """A pair as words, read again, asks the same: with each option by itself, and with all."""
         options = [["--page", "150"], ["--every", "50"], ["--option", "german"], ["--origin", "7"],
+                   ["--origin", "0"],
                    ["--within", "3"], ["--breaks", "2"], ["--run", "2"], ["--pid", "0x101"],
                    ["--start", "10:00:00:00"], ["--severity", "file"], ["--no-complete"],
                    ["--allow-lost"]]
@@ -253,6 +234,19 @@ class Fitted(Case):
             self.must(f"{away} {status}", found == clock._replace(delay_frames=wanted) and lines ==
                       ([f"all subtitles are {said}"] if said else []), (found, lines))
 
+    def test_of_which(self) -> None:
+        """All of the subtitles, or most; up to the first break, or to where they are later."""
+        all_of, most = (Agreement(5, 5, 5, 5, are_all) for are_all in (True, False))
+        for agreement, shifted, printed, words in (
+                (all_of, None, 1, "all"), (most, None, 1, "most"), (None, None, 1, "all"),
+                (all_of, None, 2, "up to the first break all"),
+                (most, None, 3, "up to the first break most"), (most, 50, 1, "up to 00:00:02:00"),
+                (all_of, 50, 2, "up to 00:00:02:00"), (all_of, 0, 1, "up to 00:00:00:00")):
+            origin = Origin(0, away=TICKS, agreement=agreement, shifted_from=shifted,
+                            printed=["--origin 5"] * printed)
+            self.must(words, with_delay(Clock(5, START), origin)[1] ==
+                      [f"{words} subtitles are 1 frame late"])
+
     def test_not_clear(self) -> None:
         """With several runs, or other breaks than were said, the lines alone are the reason."""
         for runs, breaks, is_alone in ((1, None, False), (2, None, True), (1, 0, True),
@@ -265,13 +259,6 @@ class Fitted(Case):
 class Pages(Case):
     """Pages that are held, and after how many frames those that are due are."""
 
-    def programme(self) -> DuePages:
-        """Three subtitles, at 100, 200 and 300, each for 50 frames."""
-        blocks = [subtitle_blocks(number, 100 * number, 100 * number + 50, 20, 2, text)
-                  for number, text in enumerate(NAMES, 1)]
-        stl = self.write("one.stl", gsi_block(b"", 3, 3, 100) + b"".join(blocks))
-        return due_pages_of(self.bench.program, stl, PAGE, "english")
-
     def held(self, data: bytes, near: Near | None = None) -> Held:
         """What is held of PES packets."""
         made = Held(self.write("held.pes", data), PAGE, 0, near)
@@ -280,7 +267,7 @@ class Pages(Case):
 
     def test_closed_before_it_goes(self) -> None:
         """Where complete pages are asked for, one that is closed at its TCO was never whole."""
-        one = self.programme().subtitles[0]
+        one = Subtitle(1, 1, 100, 150, 20, 2, b"a")
         for closed, wanted in ((100, 0), (101, 1), (149, 49), (150, None), (170, None)):
             data = pes_packet(TICKS * 100, [HEADER, row(20, b"a"), *[CLOSING] * (closed == 100)])
             more = [pes_packet(TICKS * closed, [CLOSING])] * (closed > 100)
@@ -288,54 +275,6 @@ class Pages(Case):
             for is_complete, frames in ((True, wanted), (False, 0)):
                 found = frames_until(one, held.page_at(100), held, is_complete)
                 self.must(f"{closed} {is_complete}", found == frames, found)
-
-    def caused(self, programme: DuePages, sendings: Sequence[tuple[int, Rows]]) \
-            -> dict[int, tuple[str, int | None, str]]:
-        """The cause of each subtitle that is not held as it is due, where pages are sent so."""
-        def units(rows: Rows) -> list[bytes]:
-            return [packet(0, number, (), text) for number, text in enumerate(rows, 1)
-                    if text.strip()]
-
-        held = self.held(b"".join(pes_packet(TICKS * frame, [HEADER, *units(rows), CLOSING])
-                                  for frame, rows in sendings))
-        causes = Causes(programme, held, list, lambda: None)
-        wrong = [frame for frame in range(360) if not causes.namer.is_due(frame)]
-        for frame in wrong:
-            if frame - 1 not in wrong:
-                causes.add(frame, next(last for last in itertools.count(frame)
-                                       if last + 1 not in wrong))
-        causes.settle(True)
-        return {place: (one.name, one.frames, one.words) for place, one in causes.named.items()}
-
-    def test_causes_of_subtitles(self) -> None:
-        """Of the first subtitle, the second and the third: each cause, and by how much."""
-        programme = self.programme()
-        pages = programme.pages
-        strange = (*pages[0][:22], b"%-40s" % b"strange", b" " * 40)
-        for place in range(3):
-            begin, end, other = 100 + 100 * place, 150 + 100 * place, (place + 1) % 3
-            on_time = {0: BLANK_PAGE, **{100 + 100 * at: pages[at] for at in range(3)},
-                       **{150 + 100 * at: BLANK_PAGE for at in range(3)}, 900: BLANK_PAGE}
-            gone = {frame: rows for frame, rows in on_time.items() if frame != begin}
-            of_causes: list[tuple[str, dict[int, Rows], tuple[str, int | None, str] | None]] = [
-                ("on time", on_time, None),
-                *((f"late by {by}", {**gone, begin + by: pages[place]}, ("late", by, ""))
-                  for by in (1, 8, 49)),
-                ("early", {**gone, begin - 5: pages[place]}, ("early", 5, "")),
-                ("never", gone, ("never sent", None, "")),
-                ("another", {**gone, begin: pages[other]}, ("another subtitle's text", None, "")),
-                ("strange", {**gone, begin: strange}, ("wrong text", None, "")),
-                *((f"erased {by} later", {**{frame: rows for frame, rows in on_time.items()
-                                             if frame != end}, end + by: BLANK_PAGE},
-                   ("not erased", None, f"gone {by} frame{'s' * (by > 1)} later"))
-                  for by in (1, 7))]
-            for name, sendings, wanted in of_causes:
-                found = self.caused(programme, sorted(sendings.items()))
-                self.must(f"{place} {name}", found == ({place: wanted} if wanted else {}), found)
-            twice = {**gone, begin - 40: pages[place], begin - 35: BLANK_PAGE,
-                     begin + 2: pages[place]}
-            found = self.caused(programme, sorted(twice.items()))
-            self.must(f"{place} late, and sent before", found[place] == ("late", 2, ""), found)
 
     def test_closed(self) -> None:
         """The first frame from one on at whose end the page is not open."""
@@ -363,50 +302,70 @@ class Pages(Case):
                 is_seen = not any(one.first <= last and first <= one.last for one in wanted)
                 self.must(f"{numbers}: {first} to {last}", held.is_seen(first, last) == is_seen)
 
+    def test_files(self) -> None:
+        """A file that grows, wherever it was cut before; and some PES packets of one."""
+        pes = [pes_packet(TICKS * 10 * at, [
+            HEADER, row(20, b"%d" % at), *[row(22, b"x")] * (at % 3), CLOSING]) for at in range(9)]
+        data, begins = b"".join(pes), [len(b"".join(pes[:at])) for at in range(10)]
+        whole = self.held(data)
+        self.must("whole", (list(whole.frames), whole.count) == ([*range(0, 90, 10)], 9))
+        for cuts in ((100,), (begins[1], begins[2] - 1, begins[5] + 1), (0, 0, 1), (46, 700),
+                     range(0, len(data), 50)):
+            held = Held(self.write("grows.pes", b""), PAGE, 0)
+            for count in (*cuts, len(data)):
+                self.write("grows.pes", data[:count])
+                held.follow()
+            self.must(f"{cuts}", (held.frames, held.pages, held.count) ==
+                      (whole.frames, whole.pages, 9), held.frames)
+        for first, last in ((0, 8), (0, 3), (2, 5), (8, 8)):
+            held = Held(self.path("grows.pes"), PAGE, 0, place=(begins[first], begins[last + 1]))
+            held.follow()
+            self.must(f"{first} to {last}", list(held.frames) ==
+                      [*range(10 * first, 10 * last + 1, 10)], held.frames)
+
+    def test_pages_of_one_frame(self) -> None:
+        """The last page of a frame is held at its end; one that is held already is no change."""
+        a, b = (((text.ljust(40),) * 24) for text in (b"a", b"b"))
+        rows: list[tuple[list[tuple[int, Rows]], list[int], list[Rows]]] = [
+            ([(5, a), (10, b)], [5, 10], [a, b]), ([(5, a), (10, a)], [5], [a]),
+            ([(5, a), (10, b), (10, a)], [5], [a]), ([(5, a), (5, b)], [5], [b]),
+            ([(5, a), (10, b), (10, BLANK_PAGE), (11, b)], [5, 10, 11], [a, BLANK_PAGE, b])]
+        for changes, frames, pages in rows:
+            held = Held(os.devnull, PAGE, 0)
+            for frame, page in changes:
+                held.change(frame, page)
+            self.must(f"{frames}", (list(held.frames), held.pages) == (frames, pages), held.frames)
+            self.must(f"{frames}: when", {page: list(some) for page, some in held.when.items()
+                                          if some} == {page: [
+                frame for frame, one in zip(frames, pages) if one == page] for page in pages})
+
+    def test_pauses(self) -> None:
+        """More than two frames without a PES packet, of what sends one in each but few."""
+        steady = [*range(90), *range(93, 120), *range(124, 200)]
+        for frames, wanted in (([*range(50), *range(52, 99)], []), (steady, [Span(90, 92),
+                                                                            Span(120, 123)])):
+            held = self.held(b"".join(pes_packet(TICKS * frame, [HEADER, CLOSING])
+                                      for frame in frames))
+            self.must(f"{wanted}", held.pauses == wanted and held.count == len(frames), held.pauses)
+        for frame, pause in ((89, None), (90, 0), (92, 0), (93, None), (119, None), (120, 1),
+                             (123, 1), (124, None)):
+            self.must(f"{frame}", held.pause_at(frame) == (None if pause is None else
+                                                           held.pauses[pause]))
+        held.count = 39
+        self.must("not steady", held.pause_at(91) is None)
+
     def test_frames_that_go_back(self) -> None:
         """Before what is due all is forgotten; in it nothing more is heard."""
         near = Near(Span(300, 400), 25)
         for frames, pages, is_lost in (
                 ([100, 200, 310, 350], 4, False), ([200, 250, 150, 310, 350], 3, False),
                 ([200, 310, 305, 350], 2, True), ([310, 350, 320], 2, True)):
-            held = self.held(sent([(frame, b"%d" % frame) for frame in frames]), near)
+            held = self.held(b"".join(pes_packet(TICKS * frame, [
+                HEADER, row(20, b"%d" % frame), CLOSING]) for frame in frames), near)
             self.must(f"{frames}", (len(held.pages), held.is_lost) == (pages, is_lost),
                       (held.frames, held.is_lost))
-
-    def test_whole_after(self) -> None:
-        """Each of three subtitles by itself: at once, later, and never."""
-        programme = self.programme()
-        self.must("three", [one.begin for one in programme.subtitles] == [100, 200, 300])
-        text = {100 * number: name for number, name in enumerate(NAMES, 1)}
-        for late, wanted in (((0, 0, 0), [0, 0, 0]), ((2, 0, 0), [2, 0, 0]),
-                             ((0, 3, 0), [0, 3, 0]), ((0, 0, 4), [0, 0, 4]),
-                             ((49, 49, 49), [49, 49, 49]), ((0, 50, 0), [0, None, 0])):
-            moved = [(begin + by, text[begin]) for begin, by in zip((100, 200, 300), late)]
-            held = self.held_as_due(programme, moved)
-            found = frames_of(programme, held, False)
-            self.must(f"{late}", found == wanted, found)
-
-    def held_as_due(self, programme: DuePages, moved: list[tuple[int, bytes]]) -> Held:
-        """What is held where each subtitle's page comes at another frame, and goes at its TCO."""
-        held = self.held(sent([(0, b"")]))
-        for one, page, (frame, _) in zip(programme.subtitles, programme.pages, moved):
-            blank = held.pages[0]
-            if frame < one.end:
-                held.change(frame, page)
-            held.change(one.end, blank)
-            held.last = one.end
-        return held
-
-    def test_nobody_heard_before(self) -> None:
-        """Where nothing was heard before a TCI nobody knows when its page came."""
-        programme = self.programme()
-        held = self.held_as_due(programme, [(100, b""), (200, b""), (300, b"")])
-        for first, wanted in ((0, [0, 0, 0]), (100, [0, 0, 0]), (101, [None, 0, 0]),
-                              (140, [None, 0, 0]), (201, [None, None, 0]),
-                              (500, [None, None, None])):
-            held.first = first
-            found = frames_of(programme, held, False)
-            self.must(f"from {first}", found == wanted, found)
+            self.must(f"{frames}: seen", [held.is_seen(300, held.last + more) for more in (0, 1)]
+                      == [True, not is_lost])
 
 
 class Asking(Steps):
@@ -433,36 +392,68 @@ class Asking(Steps):
 
 
 class Cutting(Case):
-    """What is cut out of a recording and of a subtitle file."""
+    """What is cut out of a subtitle file, and drawn."""
+
+    def test_reports(self) -> None:
+        """A report that was not made is told, whatever ended the tool; without a folder there is
+        none."""
+        rows: list[tuple[int, list[str], str | None, str | None]] = [
+            (0, ["a"], "out", None), (1, ["a"], "out", None), (2, ["a", "b"], "out", "a; b"),
+            (-9, [], "out", "status -9"), (2, [], None, None)]
+        for status, told, out, why in rows:
+            steps = Asking(self, Done(status, [], told), False)
+            names = Names("one", self.folder, out)
+            try:
+                steps.draw(names, [], [], Clock(7, START), [], [], [])
+                found = None
+            except Unclear as reason:
+                found = reason.reason
+            self.must(f"{status}", found == (why and f"no report was made: {why}"), found)
+            self.must(f"{status}: called", len(steps.calls) == 2 * bool(out))
 
     FOUND = Found(0, 9, Clock(7, START), (3, 5))
 
-    def test_recording(self) -> None:
-        """The PES packets of the time of the subtitles, by their numbers; as it is asked, and as it
-        is typed."""
-        stl = self.write("here.stl", gsi_block(b"One", 1, 1) + subtitle_blocks(
-            1, 100, 200, 20, 2, b"Text"))
-        sent = [pes_packet(7 + TICKS * frame, [HEADER, CLOSING])
-                for frame in (10, 50, 100, 150, 200, 210)]
-        for name, data, packets, wanted in (
-                ("all", b"".join(sent), None, (1, 4)), ("some", b"".join(sent), (2, 3), (2, 3)),
-                ("cut", b"".join(sent)[:-1], None, (1, 4)),
-                ("none", b"".join(sent), (0, 0), None), ("no packet", b"no PES packet", None, None)):
-            asked = asked_for(stl, "one.pes", "--every", "50", "--page", "888")
-            steps = Asking(self, Done(0, [], []), True)
-            steps.asked = asked
-            recording: Any = argparse.Namespace(path=self.write("here.pes", data), shown="one.pes")
-            names = Names("one", self.folder, None)
-            found = Found(100, 200, Clock(7, START), packets)
-            try:
-                pieces = steps.cut(recording, Stretch("one.stl", stl, names, found))
-            except Unclear:
-                pieces = None
-            self.must(name, (pieces and (pieces.first, pieces.last)) == wanted, pieces)
-            said = " ".join(steps.speech.commands)
-            more = [f"--pes {packets[0]}-{packets[1]}"] if packets else []
-            self.must(f"{name}, typed", all(one in said for one in (
-                "cut one.pes --stl one.stl", "--every 50", "--origin 7", *more)), said)
+    def test_words_of_a_report(self) -> None:
+        """As they are given and as they are typed: what is lost and noted, the verdict, the clock,
+        the recording, which a person can read again where it is a file, the part, and around it."""
+        here = self.write("one.ts", b"")
+        asked = ["--page", "150", "--every", "50", "--complete", "--within", "2"]
+        rows: list[tuple[Clock, list[str]]] = [
+            (Clock(0, GIVEN), []), (Clock(7, GIVEN), ["--origin", "7"]),
+            (Clock(7, RECORDING), ["--origin", "7", "--fitted"]),
+            (Clock(7, START), ["--origin", "7", "--clock", "origin 7, by the first picture"])]
+        for clock, of_clock in rows:
+            for name in (here, "feed"):
+                steps = Asking(self, Done(0, [], []), False)
+                names = Names("one", self.folder, "out")
+                steps.draw(names, ["a.stl", "a.pes"], ["t.stl", "t.pes"], clock, ["x", "y"],
+                           ["z"], ["--verdict", "lost"], File(name, 5, "sum"),
+                           ["--pes", "3-9", "--part", "2", "3"], (["--around", "a"], ["--around",
+                                                                                     "t"]))
+                words, typed = steps.calls
+                more = [*asked, *of_clock[:2], "--lost", "x", "--lost", "y", "--note", "z",
+                        "--verdict", "lost", *of_clock[2:], "--pes", "3-9", "--part", "2", "3"]
+                sums = ["--recording", name, "5", "sum"]
+                file = ["-p", self.bench.program, "-o", names.report]
+                self.must(f"{clock} {name}", words == [
+                    "a.stl", "a.pes", *more, *sums, "--around", "a", *file], words)
+                self.must(f"{clock} {name}: typed", typed == [
+                    "t.stl", "t.pes", *more, *sums[:2 if name == here else 4], "--around", "t",
+                    *file], typed)
+
+    def test_tools(self) -> None:
+        """How one ended, what it printed, and what it told without its name; that is said."""
+        heard = Heard()
+        names = Names("one", self.folder, "out")
+        typed = Typed("tools/qc", self.bench.program)
+        steps = Steps(asked_for("one.stl", "one.pes"), typed, names, heard)
+        path = os.path.join(self.folder, "a")
+        vars(typed)["call"] = lambda name: [
+            "sh", "-c", f"echo printed {path}; echo x: told: $0 $1 >&2; exit 3"]
+        done = steps.tool("part", ["p", "q"], ["t"])
+        self.must("done", done == Done(3, ["printed out/a"], ["told: p q"]), done)
+        self.must("said", heard.lines == ["+ tools/part t", "printed out/a", "part: told: p q"],
+                  heard.lines)
 
     def test_subtitles_in_no_part(self) -> None:
         """Each subtitle has to be in a part, once and as it is: of three parts, nine are."""

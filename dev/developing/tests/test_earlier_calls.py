@@ -1,22 +1,33 @@
 """State that an earlier call left, in a folder or in a value: nothing old is taken for new."""
 from __future__ import annotations
 
+import argparse
+import contextlib
 import dataclasses
+import io
 import json
 import os
 from typing import Any
 
-from subtitles.calls.batch import Calls, kept_rows
 from subtitles.calls.machine import FORMAT, asked_words
-from subtitles.calls.objects import found, is_current, object_at
+from subtitles.calls.objects import (
+    Row, found, found_at, has_had_its_turn, is_current, left_by_call, may_take, object_at,
+    objects_in, row_of, unjudged)
 from subtitles.calls.pairs import Item
+from subtitles.calls.watching import Stopping, Watch, refuse_folders
+from subtitles.core.words import Stop
+from subtitles.qc.asked import Asked
 from subtitles.qc.made_with import Program, program_at
 from subtitles.qc.names import Names
 from subtitles.qc.stall import Stall
 from subtitles.qc.typed import Typed
 from .bench import Case, example_bytes
 from .parts import asked_for
+from .test_channel_tables import defaults
+from .test_many_pairs import known, row
 
+FAULT = {"line": "x", "number": 5, "name": "X", "cause": None, "subtitle": None, "due": None,
+         "held": None}
 PROGRAM = Program("1", "ab" * 32, None)
 # What is asked otherwise than by the earlier call, each by itself.
 OTHERS: dict[str, object] = {
@@ -82,53 +93,22 @@ class EarlierCalls(Case):
                     os.utime(path, ns=(about.st_atime_ns, about.st_mtime_ns))
                 self.must(f"{name} {what}", not is_current(known, asked, PROGRAM))
 
-    def test_resumed(self) -> None:
-        """An object is kept that tells a verdict of the same pair; no other one is."""
-        asked, known = self.known()
-        typed = Typed("tools/qc", self.bench.program)
-        known["program"] = program_at(typed.program_path)._asdict()
-        item = Item("one", asked, None)
-        of_objects: list[tuple[str, dict[str, Any], bool]] = [
-            ("accepted", {}, True), ("refused", {"verdict": "refused", "status": 1}, True),
-            ("not judged", {"verdict": "not judged", "status": 2, "reason": "x"}, False),
-            ("another format", {"format": FORMAT - 1}, False), ("no words", {"asked": None}, False),
-            ("no files", {"found": None}, False)]
-        for name, changed, is_kept in of_objects:
-            self.write("one.json", json.dumps({**known, **changed}).encode())
-            rows = kept_rows(Calls(typed, self.folder, self.folder, False), [item])
-            self.must(name, ("one" in rows) == is_kept, rows)
-        for name, text in (("empty", ""), ("cut", "{"), ("a list", "[]"), ("a number", "1")):
-            self.write("one.json", text.encode())
-            rows = kept_rows(Calls(typed, self.folder, self.folder, False), [item])
-            self.must(name, not rows, rows)
-        self.must("no pair", not kept_rows(Calls(typed, self.folder, self.folder, False),
-                                           [Item("one", None, "no pair")]))
-
-    def test_objects_that_are_none(self) -> None:
-        for text, wanted in (("", "not judged"), ("{", "not judged"), ("[]", None), ("{}", None),
-                             ('{"verdict": "accepted"}', "not judged"),
-                             ('{"verdict": "accepted", "format": 1}', "not judged"),
-                             (json.dumps({"verdict": "accepted", "format": FORMAT}), "not judged"),
-                             (json.dumps({"verdict": "accepted", "format": FORMAT, "status": 1,
-                                          "line": "accepted"}), "not judged"),
-                             (json.dumps({"verdict": "accepted", "format": FORMAT, "status": 0,
-                                          "line": "accepted"}), "accepted")):
-            found_there = object_at(self.write("one.json", text.encode()))
-            self.must(text, (found_there and found_there["verdict"]) == wanted, found_there)
-        gone = object_at(self.path("none.json"))
-        self.must("no file", gone is not None and gone["verdict"] == "not judged", gone)
-
     def test_files_of_a_pair_in_a_folder(self) -> None:
         """Those of the pair and of all its parts are its own; those of others stay."""
         own = ["one.cut.pes", "one.recording.pes", "one.txt", "one.html", "one.json", "one.1.stl",
-               "one.2.cut.pes", "one.3.txt", "one.12.html"]
-        others = ["one.two.html", "one.0.txt", "one.1.json", "one.1.2.html", "two.html",
-                  "two.one.1.html", "one.1.pes", "one.stl", "one.pes", "xone.html", "one.1x.html"]
+               "one.1.txt", "one.2.cut.pes", "one.3.txt", "one.12.html"]
+        others = ["one.two.html", "one.0.txt", "one.1.2.html", "two.html", "two.one.1.html",
+                  "one.1.pes", "one.stl", "one.pes", "xone.html", "one.1x.html",
+                  # Somebody's own subtitle file, and what was made of a pair of such a name.
+                  "one.4.stl", "one.5.stl", "one.5.txt", "one.5.html", "one.5.json"]
         for name in own + others:
             self.write(name, b"")
         names = Names("one", self.folder, self.folder)
         found_there = {os.path.basename(path) for path in names.kept()}
         self.must("its own", found_there == {*own}, found_there ^ {*own})
+        written = {os.path.basename(path) for path in names.written()} - {*own}
+        self.must("may be written", written == {"one.4.stl", "one.5.stl", "one.5.txt",
+                                                "one.5.html"}, written)
         judged = {os.path.basename(path) for path in names.judged()}
         self.must("what was judged", judged == {"one.cut.pes", "one.2.cut.pes"}, judged)
 
@@ -154,3 +134,165 @@ class EarlierCalls(Case):
         self.must("twice", said == [
             "nothing has come for 10 seconds", "the feed goes on, after 12 seconds",
             "nothing has come for 10 seconds", "the feed goes on, after 21 seconds"], said)
+
+
+class Objects(Case):
+    """Objects of earlier calls."""
+
+    def test_rows(self) -> None:
+        """All that a table takes of an object, and what stands there where it has none of it."""
+        faults = [{"line": f"refused {number}", "number": 5, "name": "X", "cause": None}
+                  for number in range(120)]
+        causes = {"late": 2, "early": 1}
+        found_row = row_of(known(faults=faults, fault_count=7, seconds=1.5,
+                                 cause_counts={**causes, "never": 0}, hints=["72: a hint"]), "name")
+        self.must("all", found_row == Row(
+            "name", "one.stl one.ts", "refused", 1, "refused 72 Content", 7,
+            {**causes, "5 X": 120}, [f"refused {number}" for number in range(100)], 1.5, "a hint"),
+            found_row)
+        self.must("none", row_of(unjudged("name", "why"), "name") == Row(
+            "name", "name", "not judged", 2, "why", 0, {}, [], 0.0, ""))
+        none: dict[str, Any] = {"format": 3, "verdict": "not judged", "status": 2, "name": "a",
+                                "reason": "why"}
+        self.must("not judged", unjudged("a", "why") == none and
+                  unjudged("a", "why", True) == {**none, "open": True})
+        self.must("reason first", row_of(known("refused", reason="why"), "x").line == "why")
+        self.must("judged", row_of(known(), "x").is_judged and not row_of(
+            unjudged("x", "why"), "x").is_judged)
+
+    def test_shape(self) -> None:
+        """An object of another format or shape is not judged; something else is no object."""
+        path = self.path("one.json")
+        changes: list[tuple[dict[str, Any], str]] = [
+                ({}, "refused"), ({"format": 2}, "not judged"), ({"format": None}, "not judged"),
+                ({"status": 0}, "not judged"), ({"status": True}, "not judged"),
+                ({"verdict": "accepted"}, "not judged"), ({"verdict": 5}, "not judged"),
+                ({"line": 5}, "not judged"), ({"line": ""}, "not judged"),
+                ({"line": None}, "not judged"), ({"reason": 5}, "not judged"),
+                ({"asked": []}, "not judged"), ({"asked": None}, "refused"),
+                ({"faults": {}}, "not judged"), ({"faults": [5]}, "not judged"),
+                ({"faults": [{"line": "x"}]}, "not judged"), ({"hints": {}}, "not judged"),
+                ({"faults": [FAULT, FAULT]}, "refused"), ({"faults": [FAULT, {}]}, "not judged"),
+                ({"cause_counts": []}, "not judged"), ({"fault_count": 1.5}, "not judged"),
+                ({"seconds": "x"}, "not judged"), ({"seconds": 5}, "refused"),
+                ({"verdict": "not judged", "status": 2}, "not judged")]
+        for change, wanted in changes:
+            self.write("one.json", json.dumps({**known(), **change}).encode())
+            got = object_at(path)
+            self.must(f"{change}", got is not None and got["verdict"] == wanted, got)
+            if "format" in change:
+                self.must("why", got == unjudged("one", "its JSON result is of format "
+                                                 f"{change['format']}: judge it again"), got)
+            elif change and got and "asked" not in got:
+                self.must("why", got == unjudged("one", "its JSON result is none that qc writes: "
+                                                 "judge it again"), got)
+        for text, is_one in ((b"[]", False), (b"{}", False), (b"{", True), (b"\xff", True)):
+            self.write("one.json", text)
+            self.must(f"{text!r}", (object_at(path) is not None) == is_one)
+        self.must("not there", (object_at(self.path("none.json")) or {}).get("name") == "none")
+
+    def test_of_a_folder(self) -> None:
+        """In the order of their names; other files, hidden ones and folders are passed over."""
+        for name in ("b.json", "a.json", ".c.json", "d.txt", "e.jsonl"):
+            self.write(name, json.dumps(known()).encode())
+        os.mkdir(self.path("f.json"))
+        names = [os.path.basename(path) for path, _ in objects_in(self.folder)]
+        self.must("names", names == ["a.json", "b.json"], names)
+
+    def test_has_had_its_turn(self) -> None:
+        """By its subtitle file as it is now; what was not judged by its own account."""
+        stl = self.write("one.stl", b"1")
+        asked, other = asked_for(stl, None), asked_for(self.write("two.stl", b"1"), None)
+        for path in (stl, other.stl):  # alike but for the name
+            os.utime(path, ns=(5, 1_700_000_000_123_456_789))
+        self.must("of a file", found_at(stl) == {
+            "size": 1, "modified": "2023-11-14T22:13:20.123456789Z"}, found_at(stl))
+        self.must("of none", found_at(None) is None and found_at(self.folder) is None)
+        one: dict[str, Any] = {"asked": {"stl": stl}, "found": found(asked)}
+        rows: list[tuple[str, dict[str, Any], Asked | None, bool]] = [
+                ("judged", one, asked, True), ("of another file", one, other, False),
+                ("no programme now", one, None, False),
+                ("nothing found", {**one, "found": None}, asked, False),
+                ("another size", {**one, "found": {"stl": {"size": 2}}}, asked, False),
+                ("no pair", {}, asked, True), ("open", {"open": True}, asked, False)]
+        for name, have, of, wanted in rows:
+            self.must(name, has_had_its_turn(have, of) == wanted)
+
+    def test_left_by_a_call(self) -> None:
+        """An object counts with the status that the call ended with; else what it told last."""
+        path = self.path("one.json")
+        for verdict, ended, is_its in (("refused", 1, True), ("refused", 0, False),
+                                       ("accepted", 0, True), ("accepted", 2, False),
+                                       ("waived", 0, True), ("accepted", -9, False)):
+            self.write("one.json", json.dumps(known(verdict)).encode())
+            got = left_by_call(path, "one", ended, ["qc: first", "qc: last: more"])
+            self.must(f"{verdict} {ended}", (got["verdict"] == verdict) == is_its, got)
+            if not is_its:
+                self.must("why", got["reason"] == ("last: more" if ended >= 0 else
+                                                   "it did not end by itself"), got)
+        os.unlink(path)
+        self.must("none", left_by_call(path, "one", 2, [])["reason"] == "it did not end by itself")
+
+    def test_may_be_replaced(self) -> None:
+        """An object, an empty file and what is not there; nothing else."""
+        for data, wanted in ((b"{", True), (b"", True), (b"GSI", False), (b" {", False),
+                             (b'{"a', True)):
+            self.must(f"{data!r}", may_take(self.write("x", data)) == wanted)
+        self.must("not there", may_take(self.path("none")) and may_take("/dev/zero"))
+
+
+class Watched(Case):
+    """A folder that is watched."""
+
+    is_alone = True  # it takes what is printed
+
+    def words(self, **more: Any) -> argparse.Namespace:
+        words = argparse.Namespace(**vars(defaults()))
+        vars(words).update({"watch": self.path("in"), "out": self.path("out"), "settled": 0,
+                            "is_kept": False, **more})
+        return words
+
+    def test_folders(self) -> None:
+        """Both are there, and two; that for objects is made."""
+        self.assertRaises(Stop, refuse_folders, self.words(out=None))
+        self.assertRaises(Stop, refuse_folders, self.words())
+        os.mkdir(self.path("in"))
+        refuse_folders(self.words())
+        self.must("made", os.path.isdir(self.path("out")))
+        self.assertRaises(Stop, refuse_folders, self.words(out=self.path("in")))
+
+    def test_verdicts(self) -> None:
+        """A line for each, and the page over all, also of what an earlier call left; what has an
+        object as it is now is not judged again."""
+        for name in ("in", "out"):
+            os.mkdir(self.path(name))
+        self.write("out/old.json", json.dumps(known("accepted")).encode())
+        self.write("out/x.json", b"[]")
+        watch = Watch(self.words(), Typed("tools/qc", self.bench.program))
+        self.must("rows", list(watch.rows) == ["old"])
+        out = io.StringIO()
+        with contextlib.redirect_stdout(out):
+            watch.end(Item("b", None, ""), row("b", "accepted", "accepted 5"))
+            watch.end(Item("a", None, ""), row("a", "refused", "refused 72 X", "a hint"))
+        self.must("lines", [line[21:] for line in out.getvalue().splitlines()] ==
+                  ["b  accepted", "a  refused: 72 X: a hint"], out.getvalue())
+        page = self.read("out/index.html").decode()
+        self.must("page", "3 pairs" in page and page.index("<td>a<") < page.index("<td>b<"))
+        stl, ts = self.write("in/a.stl", b"1"), self.write("in/a.ts", b"1")
+        item = Item("a", asked_for(stl, ts), None)
+        program = program_at(watch.calls.typed.program_path)
+        have = {**known(), "asked": asked_words(item.asked or asked_for(stl, ts)),
+                "found": found(item.asked or asked_for(stl, ts)),
+                "program": {"sha256": program.sha256, "version": program.version}}
+        other: dict[str, Any] = {"found": {}}
+        for change, is_new in ((dict[str, Any](), False), (other, True), (other, False)):
+            self.write("out/a.json", json.dumps({**have, **change}).encode())
+            self.must(f"{change}", watch.is_new(item) == is_new)
+
+    def test_signals(self) -> None:
+        """The first asks for the end, the second ends at once."""
+        stopping = Stopping.__new__(Stopping)
+        stopping.is_asked = False
+        stopping.take(15, None)
+        self.must("asked", stopping.is_asked)
+        self.assertRaises(KeyboardInterrupt, stopping.take, 15, None)

@@ -3,24 +3,24 @@ from __future__ import annotations
 
 import contextlib
 import csv
+import itertools
 import json
 import os
 import subprocess
 import sys
-import tempfile
 import unittest
 import xml.etree.ElementTree as tree
-from typing import Any, Callable, NamedTuple, TypeVar
+from typing import Any, NamedTuple
 from unittest import mock
 
-from subtitles.calls.main import json_in, main
+from subtitles.calls.main import main
 from subtitles.core.built import TOP
+from subtitles.core.files import whole_bytes
 from subtitles.core.words import Stop, run
+from .bench import Case, example, tool_path
 
-Test = TypeVar("Test", bound=Callable[..., None])
-EXAMPLES, TOOLS = os.path.join(TOP, "examples"), os.path.join(TOP, "tools")
-QC = os.path.join(TOOLS, "qc")
-HELLO = [os.path.join(EXAMPLES, name) for name in ("hello.stl", "hello.pes")]
+QC = tool_path("qc")
+HELLO = [example("hello.stl"), example("hello.pes")]
 ACCEPTED = "accepted 51 frames 2 transmissions"
 CONTROL = "refused 67 Control frame 10:00:00:00 packet 0"
 FULL = "/dev/full"
@@ -35,7 +35,7 @@ esac
 """
 
 
-class Done(NamedTuple):
+class Ended(NamedTuple):
     """How a call ended, what it printed, and its lines on standard error."""
 
     status: int
@@ -43,44 +43,26 @@ class Done(NamedTuple):
     told: list[str]
 
 
-def alone(test: Test) -> Test:
-    """A test that calls tools in this process, and so runs while no other one does."""
-    setattr(test, "is_alone", True)
-    return test
-
-
-class Story(unittest.TestCase):
+class Story(Case):
     """Calls of qc in this process, in a folder of their own."""
 
-    def setUp(self) -> None:
-        folder = tempfile.TemporaryDirectory()
-        self.addCleanup(folder.cleanup)
-        self.folder = folder.name
+    is_alone = True  # threads share what is printed, and the folder in which the process is
 
-    def path(self, name: str) -> str:
-        return os.path.join(self.folder, name)
-
-    def write(self, name: str, data: str) -> str:
-        with open(self.path(name), "w", encoding="utf-8") as file:
-            file.write(data)
-        return self.path(name)
-
-    def read(self, name: str) -> str:
-        with open(self.path(name), encoding="utf-8") as file:
-            return file.read()
+    def text(self, name: str) -> str:
+        return self.read(name).decode()
 
     def object(self, name: str = "one.json") -> Any:
         return json.loads(self.read(name))
 
-    def program(self, *lines: str, then: str = "exit 0") -> str:
+    def saying(self, *lines: str, then: str = "exit 0") -> str:
         """A program that says these lines of a recording."""
         quoted = " ".join(f"'{line}'" for line in lines)
         said = f"printf '%s\\n' {quoted}; {then}" if lines else then
-        path = self.write("program", PROGRAM.replace("{said}", said))
+        path = self.write("program", PROGRAM.replace("{said}", said).encode())
         os.chmod(path, 0o755)
         return path
 
-    def qc(self, *words: str, out: str = "out.txt") -> Done:
+    def qc(self, *words: str, out: str = "out.txt") -> Ended:
         """Calls qc; what it prints goes into a file."""
         before = os.getcwd()
         os.chdir(self.folder)
@@ -96,19 +78,18 @@ class Story(unittest.TestCase):
                     raise AssertionError(f"it ended by {reason!r}") from reason
                 with contextlib.suppress(OSError):  # of a disk that is full
                     printed.close()
-            lines = [] if out == FULL else self.read(out).splitlines()
-            return Done(status, lines, self.read("told.txt").splitlines())
+            lines = [] if out == FULL else self.text(out).splitlines()
+            return Ended(status, lines, self.text("told.txt").splitlines())
         finally:
             os.chdir(before)
 
-    def judge(self, program: str, *words: str) -> Done:
+    def judge(self, program: str, *words: str) -> Ended:
         return self.qc(*HELLO, "--origin", "0", "-p", program, *words)
 
 
 class Programs(Story):
     """What a program says, and how it ends."""
 
-    @alone
     def test_only_an_answer_is_a_verdict(self) -> None:
         rows: list[tuple[list[str], str, int]] = [
             ([ACCEPTED], "exit 0", 0), ([CONTROL, "1 faults"], "exit 1", 1),
@@ -119,7 +100,7 @@ class Programs(Story):
             (["something else", ACCEPTED], "exit 0", 2), ([ACCEPTED, ""], "exit 0", 2)]
         for lines, then, status in rows:
             with self.subTest(lines=lines, then=then):
-                done = self.judge(self.program(*lines, then=then), "--json", "one.json")
+                done = self.judge(self.saying(*lines, then=then), "--json", "one.json")
                 self.assertEqual(done.status, status, done)
                 known = self.object()
                 self.assertEqual((known["status"], known["line"] is None), (status, status == 2))
@@ -128,37 +109,57 @@ class Programs(Story):
                     self.assertTrue(known["reason"].startswith("check was not answered: "), done)
                     self.assertEqual(done.told, [f"qc: {known['reason']}"])
 
-    @alone
+    def test_only_answers_lead_to_one(self) -> None:
+        """Of the subtitle file, and of a recording: a call that says nothing, or is killed, or
+        answers with another status."""
+        written, empty = "echo 'written 7 pes {} gaps'; exit {}", "echo 'refused 60 Empty'; exit {}"
+        for when, several in (
+                ("check*null", ("exit 0", "kill -9 $$")), ("show*", ("exit 0", "exit 1",
+                                                                     "kill -9 $$")),
+                ("extract*", ("exit 0", "exit 1", "kill -9 $$", "cat >/dev/null; kill -9 $$",
+                              *(written.format(*one) for one in ((0, 1), (0, 0), (9, 0))),
+                              *map(empty.format, (0, 1)), "echo 'fault 42 Write'; exit 2"))):
+            for does in several:
+                program = self.program_but(when, does)
+                with self.subTest(when=when, does=does):
+                    self.write("one.json", b"{as it was")
+                    done = self.qc(example("story.stl"), example("recording.ts"), "-p", program,
+                                   "--json", "one.json")
+                    known = self.object()
+                    self.assertEqual((done.status, known["status"], known["verdict"],
+                                      known.get("line")), (2, 2, "not judged", None), done)
+                    self.assertTrue(known["reason"] and done.told and not any(
+                        line.startswith("accepted") for line in done.printed[-1:]), done)
+                    self.assertTrue(all(line.startswith("qc: ") for line in done.told), done)
+
     def test_no_packet_is_accepted(self) -> None:
         """A program that accepts the subtitle file without PES packets is not believed."""
-        self.program(ACCEPTED)
-        text = self.read("program").replace(
+        self.saying(ACCEPTED)
+        text = self.text("program").replace(
             "printf '%s\\n' 'refused 60 Empty' '1 faults'; exit 1", f"echo '{ACCEPTED}'")
-        done = self.judge(self.write("program", text))
+        done = self.judge(self.write("program", text.encode()))
         self.assertEqual((done.status, len(done.told)), (2, 1), done)
 
-    @alone
     def test_waived(self) -> None:
         """A file that names all faults warnings: status 0, and never accepted."""
-        program = self.program(CONTROL, "1 faults", then="exit 1")
-        named = self.write("named", "67 warning\n")
+        program = self.saying(CONTROL, "1 faults", then="exit 1")
+        named = self.write("named", b"67 warning\n")
         done = self.judge(program, "--severity", named, "--json", "one.json", "--csv", "one.csv",
                           "--junit", "one.xml")
         known, line = self.object(), f"waived: {CONTROL}"
         self.assertEqual((done.status, done.printed[-1]), (0, line), done)
         self.assertEqual((known["verdict"], known["status"], known["line"]), ("waived", 0, line))
-        rows = list(csv.DictReader(self.read("one.csv").splitlines()))
+        rows = list(csv.DictReader(self.text("one.csv").splitlines()))
         self.assertEqual({(row["verdict"], row["status"]) for row in rows}, {("waived", "0")})
         suite = tree.fromstring(self.read("one.xml"))
         self.assertEqual((suite.get("failures"), suite.get("errors")), ("0", "0"))
         self.assertIn(line, "".join(suite.itertext()))
-        self.assertEqual(self.judge(program, "--severity", self.write("no", "73 warning\n")).status,
-                         1)
+        other = self.write("no", b"73 warning\n")
+        self.assertEqual(self.judge(program, "--severity", other).status, 1)
 
-    @alone
     def test_strict(self) -> None:
         """A clock that was fitted counts where warnings do; one that was given does not."""
-        program = self.program(ACCEPTED)
+        program = self.saying(ACCEPTED)
         fitted = self.qc(*HELLO, "-p", program, "--strict", "--json", "one.json")
         line = f"not accepted, since warnings count (fitted): {ACCEPTED}"
         self.assertEqual((fitted.status, fitted.printed[-1]), (1, line), fitted)
@@ -170,7 +171,6 @@ class Programs(Story):
 class Words(Story):
     """Usage errors, and what stands in the way of a verdict."""
 
-    @alone
     def test_object_of_wrong_words(self) -> None:
         for words in ((*HELLO, "--every", "x"), (*HELLO, "--none"), (HELLO[0], "none.ts"), (),
                       ("none.stl",), (*HELLO, "more"), (*HELLO, "-p", "none"), ("--page", "8ff"),
@@ -178,48 +178,58 @@ class Words(Story):
                       ("--watch", "none"), (*HELLO, "--jobs", "2"), (*HELLO, "--csv", "none/one")):
             for asked in (("--json", "one.json"), ("--json=one.json",)):
                 with self.subTest(words=words, asked=asked):
-                    self.write("one.json", '{"format": 2, "verdict": "accepted", "status": 0}')
+                    self.write("one.json", b'{"format": 2, "verdict": "accepted", "status": 0}')
                     done = self.qc(*asked, *words)
                     known = self.object()
                     self.assertEqual((done.status, len(done.told)), (2, 1), done)
                     self.assertEqual((known["verdict"], known["status"]), ("not judged", 2))
                     self.assertEqual(done.told, [f"qc: {known['reason']}"])
 
-    @alone
     def test_object_on_standard_output(self) -> None:
         done = self.qc("--none", "--json", "-")
         self.assertEqual((done.status, json.loads("".join(done.printed))["status"]), (2, 2), done)
 
-    @alone
     def test_no_input_is_replaced(self) -> None:
-        """Whatever is wrong with words, a file that holds no object stays."""
+        """Whatever is wrong with words, a file that holds no object stays; and where nothing is, no
+        file that is read is written to."""
         for name in ("one.stl", "one.pes", "list"):
-            self.write(name, "an input")
+            self.write(name, b"an input")
             for words in (["one.stl", "one.pes", "--every", "x"], ["one.stl", "--none"],
                           ["--batch", "list", "--every", "x"], ["--severity", "list", "one.stl"]):
                 done = self.qc(*words, "--json", name)
-                self.assertEqual((done.status, self.read(name)), (2, "an input"), (name, words))
-
-    def test_which_file(self) -> None:
-        rows: list[tuple[list[str], str | None]] = [
-            ([], None), (["--json", "a"], "a"), (["--json=a"], "a"), (["--json"], None),
-            (["--json", "--csv"], None), (["--json", "-"], "-"), (["--json="], None),
-            (["--json", "a", "--json", "b"], "b"), (["--", "--json", "a"], None),
-            (["a.stl", "--json", "b", "--", "c"], "b")]
-        for line, path in rows:
-            with self.subTest(line=line):
-                self.assertEqual(json_in(line), path)
+                self.assertEqual((done.status, self.read(name)), (2, b"an input"), (name, words))
+        program = self.saying(ACCEPTED)
+        os.mkdir(self.path("in"))
+        for name, data in (("list", f"{HELLO[0]} {self.path('in/one.pes')}\n".encode()),
+                           ("in/one.stl", whole_bytes(HELLO[0])), ("severity", b"67 warning\n"),
+                           ("in/one.pes", whole_bytes(HELLO[1]))):
+            self.write(name, data)
+        pair = ["in/one.stl", "in/one.pes", "--severity", "severity", "--origin", "0"]
+        self.assertEqual(self.qc(*pair, "-p", program, "--json", "in/one.json").status, 0)
+        kept = self.read("in/one.json")
+        batch = ["--severity", "severity", "--batch"]
+        calls = [(pair, ["in/one.stl", "in/one.pes", "severity"]),
+                 ([*batch, "list"], ["list", "in/one.pes", "severity"]),
+                 ([*batch, "in"], ["in/one.stl", "in/one.pes", "severity"]),
+                 (["--collect", "in"], ["in/one.json"])]
+        for words, names in calls:
+            for option, name in itertools.product(("--json", "--csv", "--junit"), names):
+                before = self.read(name)
+                more = [] if "--collect" in words else ["-p", program]
+                done = self.qc(*words, option, name, *more)
+                self.assertEqual((done.status, done.told, self.read(name)),
+                                 (2, [f"qc: {name} is an input too"], before), (words, option))
+        self.assertEqual(kept, self.read("in/one.json"))
 
 
 class Outputs(Story):
     """Files that can't be written: what stands in the others, and the status."""
 
-    @alone
     def test_each_output(self) -> None:
         """One that fails, and the others tell it."""
         if not os.path.exists(FULL):
             self.skipTest(f"there is no {FULL}")
-        program = self.program(ACCEPTED)
+        program = self.saying(ACCEPTED)
         for failing in ("--json", "--csv", "--junit"):
             with self.subTest(failing):
                 others = {option: f"one.{option.strip('-')}" for option in
@@ -233,32 +243,19 @@ class Outputs(Story):
                                      ("not judged", 2, None))
                     self.assertIn(FULL, known["reason"])
                 if "--csv" in others:
-                    rows = list(csv.DictReader(self.read("one.csv").splitlines()))
+                    rows = list(csv.DictReader(self.text("one.csv").splitlines()))
                     self.assertEqual([row["verdict"] for row in rows], ["not judged"])
                 if "--junit" in others:
                     suite = tree.fromstring(self.read("one.junit"))
                     self.assertEqual(suite.get("errors"), "1")
 
-    @alone
     def test_standard_output(self) -> None:
         """A disk that is full under what is said."""
         if not os.path.exists(FULL):
             self.skipTest(f"there is no {FULL}")
-        done = self.qc(*HELLO, "--origin", "0", "-p", self.program(ACCEPTED), "--json", "one.json",
+        done = self.qc(*HELLO, "--origin", "0", "-p", self.saying(ACCEPTED), "--json", "one.json",
                        out=FULL)
         self.assertEqual((done.status, self.object()["status"]), (2, 2), done)
-
-    @alone
-    def test_collected(self) -> None:
-        """The object over many pairs knows that another file could not be written."""
-        if not os.path.exists(FULL):
-            self.skipTest(f"there is no {FULL}")
-        os.mkdir(self.path("out"))
-        self.judge(self.program(ACCEPTED), "--json", "out/hello.json")
-        for words, status in (((), 0), (("--csv", FULL), 2), (("--junit", FULL), 2)):
-            done = self.qc("--collect", "out", "--json", "all.json", *words)
-            self.assertEqual((done.status, self.object("all.json")["status"]), (status, status),
-                             done)
 
 
 class Mistakes(Story):
@@ -269,7 +266,7 @@ class Mistakes(Story):
         if os.path.exists(self.path("one.json")):
             os.unlink(self.path("one.json"))
         with mock.patch(f"subtitles.{place}", side_effect=error):
-            done = self.judge(self.program(ACCEPTED), "--json", "one.json")
+            done = self.judge(self.saying(ACCEPTED), "--json", "one.json")
         known = self.object()
         self.assertEqual((done.status, len(done.told)), (2, 1), done)
         self.assertEqual((known["verdict"], known["status"]), ("not judged", 2), known)
@@ -277,7 +274,6 @@ class Mistakes(Story):
         self.assertEqual(done.told, [f"qc: {known['reason']}"])
         self.assertIn(str(error).strip("'"), known["reason"])
 
-    @alone
     def test_each_step(self) -> None:
         """An error of any kind in the first step."""
         for error in (ValueError("odd"), KeyError("none"), RecursionError(), MemoryError(),
@@ -289,7 +285,6 @@ class Mistakes(Story):
             with self.subTest(place):
                 self.failing(place, ValueError("odd"))
 
-    @alone
     def test_what_is_outside_of_the_steps(self) -> None:
         """An error before judging, while words are read, and while a file is made."""
         for place in ("calls.main.parser_of", "calls.single.asked_of", "calls.single.Typed",
@@ -302,7 +297,7 @@ class Mistakes(Story):
         """Python's own status would be that of a refusal."""
         done = subprocess.run(
             [sys.executable, "-c", "import sys; sys.path.insert(0, sys.argv[1]); "
-             "import subtitles; import subtitles.core.nothing", TOOLS],
+             "import subtitles; import subtitles.core.nothing", os.path.join(TOP, "tools")],
             capture_output=True, encoding="utf-8", check=False)
         self.assertEqual((done.returncode, len(done.stderr.splitlines())), (2, 1), done)
 

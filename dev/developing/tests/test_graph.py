@@ -1,27 +1,15 @@
 """Tests dev/graph on small repositories that are written here."""
 from __future__ import annotations
 
-import importlib.machinery
-import importlib.util
 import os
 import tempfile
 import unittest
 from typing import Any
 
 from subtitles.core.words import Stop
-from .. import DEV
+from .bench import script
 
-
-def loaded() -> Any:
-    loader = importlib.machinery.SourceFileLoader("graph", os.path.join(DEV, "graph"))
-    spec = importlib.util.spec_from_loader("graph", loader)
-    assert spec
-    made = importlib.util.module_from_spec(spec)
-    loader.exec_module(made)
-    return made
-
-
-graph = loaded()
+graph = script("graph")
 
 FILES = {
     # `app` stands on `low`, which has its line after it.
@@ -134,8 +122,6 @@ fn main() {
     let mut reader = Reader::new();
     reader.read(1);
 }
-
-pub fn forgotten() {}
 """,
 }
 
@@ -196,25 +182,22 @@ class GraphTest(unittest.TestCase):
     def test_what_nothing_reaches(self) -> None:
         self.assertEqual({it.name for it in self.graph.unreached()}, {"unused", "dead"})
 
-    def test_what_nothing_calls(self) -> None:
-        self.assertEqual([it.title() for it in self.graph.uncalled()], ["app/forgotten"])
-
     def test_a_function_ends_where_its_body_does(self) -> None:
         self.assertEqual(self.one("helper").lines, 5)
         self.assertEqual(self.one("declared").lines, 2)
-        self.assertEqual(len([it for it in self.graph.functions if it.crate == "low"]), 3)
+        self.assertEqual(len([it for it in self.graph.functions if it.file.crate == "low"]), 3)
 
     def test_crates_below(self) -> None:
         self.assertEqual(self.graph.below, {"low": [], "app": ["low"]})
 
     def test_tables(self) -> None:
-        self.assertEqual(graph.by_crate(self.graph).split("\n")[-1].split(),
-                         ["all", "5", "10", "8", "18", "2", "4"])
+        self.assertEqual([graph.listed(self.graph.unreached(crate)).split("\n")[-1]
+                          for crate in ("", "low", "app")],
+                         ["2 with 4 lines", "2 with 4 lines", "0 with 0 lines"])
         rows = [row.split() for row in graph.by_promise(self.graph, "").split("\n")]
         self.assertIn(["app/law_of_words", "2", "2"], rows)
         self.assertEqual(graph.by_promise(self.graph, "app").split("\n")[0].split(),
                          ["promise", "alone", "shared"])
-        self.assertTrue(graph.listed(self.graph.unreached(), "app").endswith("0 with 0 lines"))
 
     def test_about_a_name(self) -> None:
         text = graph.about(self.graph, self.one("outer"))
@@ -223,6 +206,6 @@ class GraphTest(unittest.TestCase):
 
 class WordsTest(unittest.TestCase):
     def test_wrong_words(self) -> None:
-        for words in (["--promises", "nowhere"], ["no_such_name_at_all"]):
+        for words in ([], ["--promises", "nowhere"], ["no_such_name_at_all"]):
             with self.assertRaises(Stop):
                 graph.main(words)

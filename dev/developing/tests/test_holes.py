@@ -14,9 +14,9 @@ from subtitles.reading.listing import Listing
 from subtitles.reading.multiplex import head
 from subtitles.reading.transport import PACKET, Piece, Reader
 from .bench import Case, packets
+from .judged import judged
 from .muxed import (
     AHEAD, MPEG_2, PRIVATE, TELETEXT_PID, VIDEO_PID, Maker, in_frames, teletext_descriptor)
-from .test_qc import lines_of, qc
 
 SECOND = 90_000
 AUDIO_PID, NULL_PID = 0x201, 0x1FFF
@@ -155,87 +155,66 @@ class Holes(Case):
 
     def test_of_whole_streams(self) -> None:
         """No loss and no jump: rates, PCR each 20 to 100 ms, with null packets, a pause of the
-        PCR, and a jump that is announced."""
+        PCR, and a jump that is announced; at 40 Mbit/s a hole of 16 packets is seen."""
         pes = self.programme()
-        for shape in (Shape(), Shape(700), Shape(4000, 1800), Shape(700, 9000), Shape(1000, 1800),
-                      Shape(2000, 3600, True), Shape(pause=(60, 100)), Shape(700, 9000, True),
+        for shape in (Shape(), Shape(4000, 1800), Shape(700, 9000, True), Shape(pause=(60, 100)),
                       Shape(jump=(60, 500_000), is_announced=True)):
-            for size in (1 << 20, 5000):
-                carrier = self.heard(sent_of(pes, shape), size)
-                self.must(f"{shape} {size}", not carrier.places() and not carrier.holes.jumps,
-                          (carrier.places(), carrier.holes.jumps))
-
-    def test_of_fast_streams(self) -> None:
-        """At 40 Mbit/s nothing is seen where nothing is missing, and a hole of 16 packets is."""
-        pes = self.programme()
-        made = b"".join(in_frames(pes, pts_in(pes[0]), 120))
+            carrier = self.heard(sent_of(pes, shape), 5000)
+            self.must(f"{shape}", not carrier.places() and not carrier.holes.jumps,
+                      (carrier.places(), carrier.holes.jumps))
+        made = b"".join(in_frames(pes, pts_in(pes[0]), 80))
         own = [at for at in range(0, len(made), PACKET)
                if made[at + 1] & 0x1F == TELETEXT_PID >> 8 and made[at + 2] == TELETEXT_PID & 255]
-        torn = made[:own[60]] + made[own[76] - 5 * PACKET:]
+        torn = made[:own[40]] + made[own[56] - 5 * PACKET:]
         for name, data, count in (("whole", made, 0), ("torn", torn, 1)):
-            carrier = self.heard([Sent(data[at:at + PACKET], 0)
-                                  for at in range(0, len(data), PACKET)])
+            carrier = self.heard([Sent(data, 0)])
             self.must(name, (len(carrier.places()), len(carrier.holes.jumps)) == (count, 0),
                       (carrier.places(), carrier.holes.jumps))
 
     def test_of_holes(self) -> None:
-        """16 packets of the PID and more lost: between which PTS, whatever the pieces are."""
+        """16 packets of the PID and more lost: between which PTS, whatever the pieces are; jumps
+        are told too, and a loss where the clock jumps forward is a hole."""
         pes = self.programme()
-        for shape in (Shape(), Shape(4000, 1800), Shape(2000, 3600, True)):
+        for shape in (Shape(4000, 1800), Shape(2000, 3600, True)):
             made = sent_of(pes, shape)
-            own = sum(one.pid == TELETEXT_PID for one in made)
-            self.must("a packet for each", own == len(pes), (own, len(pes)))
-            for count in (16, 32, 64):
-                for size in (1 << 20, 5000):
-                    carrier = self.heard(without(made, 70, count), size)
-                    known = [(one.before, one.after) for one in carrier.places()]
-                    first, last = known[0] if known else (None, None)
-                    self.must(f"{shape} {count} {size}", len(known) == 1 and first is not None
-                              and last is not None and
-                              pts_in(pes[66]) <= first <= pts_in(pes[69]) and
-                              pts_in(pes[70 + count]) <= last <= pts_in(pes[74 + count]), known)
-            carrier = self.heard(without(made, 70, 17))
-            self.must("by its counter", [one.lost for one in carrier.losses.places] == [1])
-
-    def test_of_jumps(self) -> None:
-        """Forward and back, also over the end of the clock."""
-        pes = self.programme()
-        for ticks in (8641 * SECOND, SECOND, -SECOND, CLOCK // 2 - 10 * SECOND):
-            carrier = self.heard(sent_of(pes, Shape(jump=(60, ticks))))
+            for count, size in ((16, 5000), (64, 1 << 20)):
+                carrier = self.heard(without(made, 70, count), size)
+                known = [(one.before, one.after) for one in carrier.places()]
+                first, last = known[0] if known else (None, None)
+                self.must(f"{shape} {count}", len(known) == 1 and first is not None
+                          and last is not None and pts_in(pes[66]) <= first <= pts_in(pes[69])
+                          and pts_in(pes[70 + count]) <= last <= pts_in(pes[74 + count]), known)
+        carrier = self.heard(without(made, 70, 17))
+        self.must("by its counter", [one.lost for one in carrier.losses.places] == [1])
+        for ticks in (8641 * SECOND, -SECOND, CLOCK // 2 - 10 * SECOND):
+            made = sent_of(pes, Shape(jump=(60, ticks)))
+            carrier = self.heard(made)
             found = [one.ticks for one in carrier.holes.jumps]
             self.must(f"{ticks}", len(found) == 1 and abs(found[0] - ticks) < 400
                       and not carrier.places(), (found, carrier.places()))
-
-    def test_of_jumps_where_packets_are_lost(self) -> None:
-        """Forward it is a hole; back nobody can tell, and it is neither."""
-        pes = self.programme()
-        for ticks, count in ((SECOND, 1), (20 * SECOND, 1), (-SECOND, 0), (-20 * SECOND, 0)):
-            made = sent_of(pes, Shape(jump=(60, ticks)))
             number = [at for at, one in enumerate(made) if one.pid == TELETEXT_PID][60]
             carrier = self.heard(made[:number - 40] + made[number + 5:])
-            found = [one.missing > 0 for one in carrier.holes.places]
-            self.must(f"{ticks}", found == [True] * count and not carrier.holes.jumps,
-                      (carrier.holes.places, carrier.holes.jumps))
+            self.must(f"{ticks}: a loss", [one.missing > 0 for one in carrier.holes.places] ==
+                      [True] * (ticks > 0) and not carrier.holes.jumps, carrier.holes.places)
 
     def test_is_judged(self) -> None:
-        """A hole of 2.56 s, in which nothing that is due changed for the repeat bound."""
+        """A hole of 0.64 s is told, and a jump; a PID without a PCR is, where holes may be."""
         pes = self.programme()
         made = sent_of(pes, Shape())
-        words = [self.path("story.stl"), "one.ts", "--origin", "0"]
-        self.write("one.ts", b"".join(one.data for one in made))
-        done = qc(self, *words)
-        self.must("whole", done.status == 0, done)
-        blank = b"".join(one.data for one in without(made, 21, 16))
-        self.write("one.ts", blank)
-        done = qc(self, *words)
-        self.must("a hole", done.status == 1 and any(
-            "s are missing, by the PCR and the counters of other PIDs" in line
-            for line in done.told), done)
-        done = qc(self, *words, "--allow-lost")
-        self.must("as check says", lines_of(done)[-1].split()[0] in ("accepted", "refused"), done)
-        jumped = b"".join(one.data for one in sent_of(pes, Shape(jump=(60, 8641 * SECOND))))
-        self.write("one.ts", jumped)
-        done = qc(self, *words, "-o", "out")
-        self.must("a jump", any("warning: the clock jumps by 2:24:01 at 10:00:02:" in line and
-                                line.endswith("an encoder that was started anew? --breaks 1")
-                                for line in done.told), done)
+        words = [self.path("story.stl"), self.path("one.ts"), "--origin", "0"]
+        own = [one for one in made if one.pid == TELETEXT_PID]
+        jumped = sent_of(pes, Shape(jump=(60, 8641 * SECOND)))
+        hole = "s are missing, by the PCR and the counters of other PIDs"
+        for name, sent, word, more, line in (
+                ("whole", made, "accepted", "--pid=0x101", ""),
+                ("a hole", without(made, 27, 16), "lost", "--page=888", hole),
+                ("allowed", without(made, 27, 16), "accepted", "--allow-lost", hole),
+                ("a jump", jumped, "accepted", "--page=888", "the clock jumps by 2:24:01 at "
+                 "10:00:02:08: an encoder that was started anew? --breaks 1"),
+                ("alone", own, "accepted", "--pid=0x101", "there is no PCR of the programme of ")):
+            self.write("one.ts", b"".join(one.data for one in sent))
+            found = judged(self, *words, more)
+            told = [one for one in found.told if one.startswith("warning: the clock") or
+                    one.startswith("there is no PCR") or hole in one]
+            self.must(name, found.word == word and len(told) == bool(line) and
+                      line in "".join(told), found.said)

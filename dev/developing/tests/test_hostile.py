@@ -3,13 +3,13 @@ transport streams that begin as something else."""
 from __future__ import annotations
 
 import csv
-import fcntl
 import json
 import os
 import shutil
 import subprocess
 import xml.etree.ElementTree as tree
 
+from subtitles.calls.claim import claimed
 from .bench import Case, Done, example, example_bytes, tool_path
 from .muxed import teletext_descriptor
 from .test_qc import ACCEPTED, RECORDING, STORY, in_two_parts, lines_of, qc
@@ -128,18 +128,10 @@ class Hostile(Case):
         self.must("not clear", done.status == 2 and not controls("".join(done.told).encode()), done)
 
     def test_says_that_a_folder_is_in_use(self) -> None:
-        """Two runs into one folder: the second one is refused; a third, later, is not."""
-        os.mkdir(self.path("out"))
-        with open(self.path("out/.story.lock"), "wb") as file:
-            fcntl.flock(file, fcntl.LOCK_EX)
+        with claimed(self.path("out"), "story"):
             done = qc(self, STORY, RECORDING, "-o", "out")
-            self.must("two", done.status == 2 and done.told == [
-                "qc: another call is writing the files of story in out"], done)
-            done = qc(self, example("hello.stl"), example("hello.pes"), "-o", "out")
-            self.must("another pair", done.status == 0, done)
-        done = qc(self, STORY, RECORDING, "-o", "out")
-        self.must("later", done.status == 0 and ".story.lock" not in os.listdir(self.path("out")),
-                  done)
+        self.must("two", done == Done(2, b"", [
+            "qc: another call is writing the files of story in out"]), done)
 
     def test_says_that_a_folder_can_not_be_written_to(self) -> None:
         if os.geteuid() != 0:

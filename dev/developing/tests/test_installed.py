@@ -130,13 +130,6 @@ class Installed(Case):
         text = without_dead_links("![a](x.png) [`b`](y.md#z) [c](http://d) [e](f.md)", self.folder)
         self.must("their words", text == "a `b` [c](http://d) e", text)
 
-    def test_refuses_a_dash(self) -> None:
-        """A word that begins with a dash is no folder, also after `--`."""
-        for words in (["-x"], ["--", "-x"], ["--prefix"]):
-            done = self.tool("install", "-p", self.bench.program, *words)
-            self.must(" ".join(words), done.status == 2 and len(done.told) == 1
-                      and not os.listdir(self.folder), done)
-
     def test_completes(self) -> None:
         """Commands, and the options of each command that the manual names; those of a tool."""
         if not shutil.which("bash"):

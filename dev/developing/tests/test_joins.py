@@ -1,11 +1,10 @@
-"""Marks among PES packets, ranges of these, and what the counters tell of a PID: the first one, the
-second and the last."""
+"""What a mark is, and what the counters tell of a PID: the first loss, the second and the last."""
 from __future__ import annotations
 
 from typing import Sequence
 
 from subtitles.core.pes import MARK, has_pts, is_mark, pes_packet, pts_in, pts_or_none
-from subtitles.core.pieces import Gap, Gaps, Pieces, gaps_in, pieces_of
+from subtitles.core.pieces import Gap
 from subtitles.core.times import CLOCK, TICKS
 from subtitles.reading.losses import Losses, Place, line_of, of_gaps, overlap, what_of
 from subtitles.reading.transport import PACKET, Piece
@@ -64,48 +63,6 @@ class Marks(Case):
             self.must(name, is_mark(data) == is_one)
         self.must("its PTS", not has_pts(MARK) and pts_or_none(MARK) is None and has_pts(sent))
 
-    def test_have_pts_around(self) -> None:
-        """Of each mark the PTS before and after, whatever comes in one step."""
-        pes = sendings(CLOCK - 2 * TICKS, 4)
-        untimed = pes[0][:7] + b"\0" + pes[0][8:]
-        pts = list(map(pts_in, pes))
-        rows: list[tuple[str, list[bytes], list[Gap]]] = [
-                ("none", pes, []),
-                ("one", [pes[0], MARK, pes[1]], [Gap(1, pts[0], pts[1])]),
-                ("the last", [pes[0], MARK], [Gap(1, pts[0], None)]),
-                ("the first", [MARK, pes[0]], [Gap(0, None, pts[0])]),
-                ("two in a row", [pes[0], MARK, MARK, pes[1]],
-                 [Gap(1, pts[0], pts[1]), Gap(2, pts[0], pts[1])]),
-                ("each second", [pes[0], MARK, pes[1], MARK, pes[2], MARK, pes[3]],
-                 [Gap(1, pts[0], pts[1]), Gap(3, pts[1], pts[2]), Gap(5, pts[2], pts[3])]),
-                ("beside what has no PTS", [pes[0], untimed, MARK, untimed, pes[1]],
-                 [Gap(2, pts[0], pts[1])])]
-        for name, row_of, wanted in rows:
-            made = gaps_in(self.write("some.pes", b"".join(row_of)))
-            self.must(name, made == wanted, made)
-            gaps, found = Gaps(), list[Gap]()
-            for one in row_of:
-                found += gaps.take(one, (0, len(one)))
-            self.must(f"{name}, one by one", [*found, *gaps.waiting] == wanted, found)
-            self.must(f"{name}, counted", gaps.count == len(row_of))
-
-
-class Ranges(Case):
-    """PES packets by their numbers."""
-
-    def test_are_read(self) -> None:
-        row_of = [*sendings(0, 3), MARK, *sendings(9 * TICKS, 2)]
-        path = self.write("some.pes", b"".join(row_of) + b"rest")
-        for first, last in ((0, 0), (0, 5), (1, 3), (3, 3), (5, 5), (2, 9), (6, 6), (9, 12)):
-            pieces = pieces_of(path, first, last)
-            with pieces.open() as file:
-                data = b"".join(iter(lambda: file.read(100), b""))
-            self.must(f"{first}-{last}", data == b"".join(row_of[first:last + 1]), len(data))
-            self.must(f"{first}-{last}, words", pieces.words() == ["--pes", f"{first}-{last}"])
-        with Pieces(path).open() as file:
-            self.must("all", file.read() == b"".join(row_of) + b"rest")
-        self.must("all, words", Pieces(path).words() == [] and Pieces(path).name is None)
-
 
 class Counts(Case):
     """What is counted of a PID, between which PTS."""
@@ -116,44 +73,36 @@ class Counts(Case):
         self.pts = list(map(pts_in, self.pes))
         self.ts = carried(self.pes, counter=9)  # so do counters
 
-    def test_whole(self) -> None:
-        for at_a_time in (1, 2, 3, 5, 16):
-            losses = heard(self.ts, at_a_time)
-            self.must(f"{at_a_time}", (losses.places, losses.count, losses.first, losses.before)
-                      == ([], 2 * COUNT, self.pts[0], self.pts[-1]), losses.places)
-
     def test_places(self) -> None:
-        """Each place has the PTS before and after it, and how many are lost there."""
-        pts = self.pts
-        rows: list[tuple[tuple[int, ...], list[Place]]] = [
-                ((3,), [Place(pts[1], pts[2], 1)]), ((2,), [Place(pts[0], pts[2], 1)]),
-                ((2, 3), [Place(pts[0], pts[2], 2)]), ((2, 4), [Place(pts[0], pts[3], 2)]),
-                ((3, 4), [Place(pts[1], pts[3], 2)]),
-                ((1, 15), [Place(pts[0], pts[1], 1)]),
-                ((3, 9, 13), [Place(pts[at], pts[at + 1], 1) for at in (1, 4, 6)]),
-                ((2, 14), [Place(pts[0], pts[2], 1), Place(pts[6], None, 1)]), ((0,), [])]
-        for lost, wanted in rows:
-            ts = [one for number, one in enumerate(self.ts) if number not in lost]
-            for at_a_time in (1, 3, 16):
-                losses = heard(ts, at_a_time)
-                self.must(f"{lost}, {at_a_time}", losses.places == wanted, losses.places)
-                self.must(f"{lost}, {at_a_time}, in all",
-                          losses.total().lost == sum(one.lost for one in wanted))
+        """Each place has the PTS before and after it, and how many are lost or scrambled there."""
+        pts, ts = self.pts, self.ts
 
-    def test_others(self) -> None:
-        """Scrambled ones, wrong ones, repeats, a jump that is announced."""
-        rows: list[tuple[str, list[bytes], int, int]] = [
-                ("scrambled", changed(changed(self.ts, 3, 3, 0x80), 9, 3, 0x40), 0, 2),
-                ("a beginning that is", changed(self.ts, 2, 3, 0xC0), 0, 1),
-                ("wrong", changed(self.ts, 5, 1, 0x80), 1, 0),
-                ("each twice", [one for one in self.ts for _ in range(2)], 0, 0),
-                ("ten lost", self.ts[:4] + self.ts[14:], 10, 0)]
-        for name, ts, lost, scrambled in rows:
-            for at_a_time in (1, 3, 64):
-                losses = heard(ts, at_a_time)
-                total = losses.total()
-                self.must(f"{name}, {at_a_time}", (total.lost, total.scrambled) ==
-                          (lost, scrambled), losses.places)
+        def left(*lost: int) -> list[bytes]:
+            return [one for number, one in enumerate(ts) if number not in lost]
+
+        rows: list[tuple[list[bytes], list[Place]]] = [
+            (ts, []), (left(3), [Place(pts[1], pts[2], 1)]), (left(2), [Place(pts[0], pts[2], 1)]),
+            (left(2, 3), [Place(pts[0], pts[2], 2)]), (left(2, 4), [Place(pts[0], pts[3], 2)]),
+            (left(3, 4), [Place(pts[1], pts[3], 2)]), (left(1, 15), [Place(pts[0], pts[1], 1)]),
+            (left(3, 9, 13), [Place(pts[at], pts[at + 1], 1) for at in (1, 4, 6)]),
+            (left(2, 14), [Place(pts[0], pts[2], 1), Place(pts[6], None, 1)]), (left(0), []),
+            (left(*range(4, 14)), [Place(pts[1], pts[7], 10)]),
+            (changed(changed(ts, 3, 3, 0x80), 9, 3, 0x40),
+             [Place(pts[at], pts[at + 1], 0, 1) for at in (1, 4)]),
+            (changed(ts, 2, 3, 0xC0), [Place(pts[0], pts[2], 0, 1)]),
+            (changed(changed(left(2), 2, 3, 0xC0), 3, 3, 0xC0), [Place(pts[0], pts[3], 1, 2)]),
+            (changed(ts, 5, 1, 0x80), [Place(pts[2], pts[3], 1)]),
+            ([one for one in ts for _ in range(2)], [])]
+        for sent, wanted in rows:
+            for at_a_time in (1, 2, 3, 5, 64):
+                losses = heard(sent, at_a_time)
+                self.must(f"{wanted} {at_a_time}", losses.places == wanted, losses.places)
+                self.must(f"{wanted}: in all", losses.total() == Place(
+                    None, None, sum(one.lost for one in wanted),
+                    sum(one.scrambled for one in wanted)) and losses.count == len(sent))
+                self.must(f"{wanted}: ends", (losses.first, losses.before) == (
+                    pts[sent[0] not in ts[:1]], pts[6 if wanted[-1:] == [
+                        Place(pts[6], None, 1)] else 7]), (losses.first, losses.before))
 
     def test_each_pid_has_its_own(self) -> None:
         """Of two PIDs one after the other, and packet by packet."""
@@ -178,15 +127,34 @@ class Counts(Case):
                 ("elsewhere", [Gap(3, pts[2], pts[3])], [Place(pts[2], pts[3], mark=3)]),
                 ("all", [Gap(1, pts[0], pts[2]), Gap(4, pts[3], pts[5]), Gap(6, pts[5], None)],
                  [Place(pts[0], pts[2], 1, mark=1), Place(pts[3], pts[5], 4, mark=4),
-                  Place(pts[5], None, 0, 2, mark=6)])]
+                  Place(pts[5], None, 0, 2, mark=6)]),
+                ("two at one", [Gap(1, pts[0], pts[5])], [Place(pts[0], pts[5], 5, mark=1)]),
+                ("three at one", [Gap(1, pts[0], None)], [Place(pts[0], None, 5, 2, mark=1)]),
+                ("two of the second", [Gap(1, pts[0], pts[1]), Gap(4, pts[2], None)],
+                 [Place(pts[0], pts[1], mark=1), Place(pts[2], None, 4, 5, mark=4)])]
+        more = Place(pts[6], pts[7], 0, 3)
         for name, gaps, wanted in rows:
-            made = of_gaps(gaps, counts)
+            made = of_gaps(gaps, [*counts[1:], more] if "second" in name else counts)
             self.must(name, made == wanted, made)
         for one, other, is_one in ((Place(1, 5), Place(5, 9), False),
-                                   (Place(1, 5), Place(4, 9), True), (Place(None, 5), Place(5, None), False),
+                                   (Place(1, 5), Place(4, 9), True),
+                                   (Place(None, 5), Place(5, None), False),
                                    (Place(3, None), Place(1, 4), True),
+                                   (Place(CLOCK - 5, 9), Place(9, 20), False),
+                                   (Place(CLOCK - 5, 9), Place(8, 20), True),
                                    (Place(None, None), Place(1, 2), True)):
             self.must(f"{one} and {other}", overlap(one, other) == overlap(other, one) == is_one)
+
+    def test_go_with_marks_of_days(self) -> None:
+        """Hours apart no PTS tells which of two is the later one: their order does."""
+        for hours in (1, 13, 14, 20, 26):  # the half of 2^33 is 13.26 hours
+            gaps = [Gap(at, hours * at * 324_000_000 % CLOCK + at, hours * at * 324_000_000 % CLOCK
+                        + at + 9) for at in range(5)]
+            every = [Place(one.before, one.after, 1 + one.number) for one in gaps]
+            for left_out in ((), (0,), (1, 3), (2,), (4,)):
+                some = [one for at, one in enumerate(every) if at not in left_out]
+                self.must(f"{hours} hours, {left_out}", [one.lost for one in of_gaps(gaps, some)] ==
+                          [0 if at in left_out else 1 + at for at in range(5)])
 
     def test_words(self) -> None:
         for place, words in (
@@ -200,4 +168,11 @@ class Counts(Case):
                 (Place(None, 7200, 1), "before PTS 7200, 00:00:00:02 on"),
                 (Place(3600, None, 1), "after PTS 3600, 00:00:00:01 on")):
             self.must(words, line_of(place, 0) == f"{words}: 1 TS packet lost", line_of(place, 0))
+        words = f"between PTS {CLOCK - 3600} and 3600, 00:00:00:01 and 00:00:00:03 on: "
+        for first, last in ((CLOCK - 7200, 3600), (CLOCK - 7201, 3599)):
+            said = line_of(Place(CLOCK - 3600, last, 1, 2), first)
+            self.must(f"{first}", said == words.replace(" 3600", f" {last}") +
+                      "1 TS packet lost, 2 TS packets scrambled", said)
+        self.must("no first", line_of(Place(None, 3600, 0), None) ==
+                  "before PTS 3600, 00:00:00:01 on: a break in the stream")
         self.must("nowhere", line_of(Place(None, None, 1), None) == "1 TS packet lost")

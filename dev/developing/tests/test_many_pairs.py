@@ -6,49 +6,51 @@ import contextlib
 import io
 import json
 import os
-import sys
+import socket
 import time
-import unittest
 from typing import Any
 from unittest import mock
 
-from subtitles.calls import collecting
-from subtitles.calls.batch import Calls, all_rows, kept_rows, progress_line
+from subtitles.calls import batch, collecting
+from subtitles.calls.batch import Calls, all_rows, kept_rows, progress_line, words_of
 from subtitles.calls.machine import asked_words
-from subtitles.calls.main import jobs_word, json_in, minutes_word, name_in, seconds_word
-from subtitles.calls.objects import (
-    Row, found, has_had_its_turn, is_current, left_by_call, may_take, object_at, objects_in,
-    row_of, unjudged)
-from subtitles.calls.pairs import Item, no_file, pairs_at
-from subtitles.calls.watching import Stopping, Watch, refuse_folders
+from subtitles.calls.main import parser_of
+from subtitles.calls.objects import Row, found, object_at, row_of, unjudged
+from subtitles.calls.pairs import Item, OwnNames, no_file, pairs_at
 from subtitles.core.words import Stop
-from subtitles.qc.asked import Asked
-from subtitles.qc.made_with import Program, program_at
+from subtitles.qc.asked import asked_of
+from subtitles.qc.made_with import program_at
 from subtitles.qc.typed import Typed
 from .bench import Case, alone
 from .parts import asked_for
 from .test_channel_tables import defaults
 
-# A call that writes the object of its pair, with the verdict that its subtitle file names.
-CALL = """
-import json, os, sys
-words = sys.argv[1:]
-name = next(word[7:] for word in words if word.startswith("--name="))
-path = words[words.index("--json") + 1] if "--json" in words else \\
-    os.path.join(words[words.index("-o") + 1], name + ".json")
-kind = open(words[words.index("--") + 1]).read()
-status = {"accepted": 0, "refused": 1, "not judged": 2}.get(kind, 0)
-print("qc: one", "qc: told last", sep="\\n", file=sys.stderr)
-if kind == "changes":
-    open(words[words.index("--") + 1], "a").write("d")
-if kind != "silent":
-    open(path, "w").write(json.dumps({"format": 3, "verdict": kind if status or kind == "accepted"
-        else "accepted", "status": status, "line": "line of " + name, "reason": "why",
-        "asked": {"stl": name}, "words": words}))
-sys.exit(9 if kind == "another status" else status)
+# A call that writes the object of its pair, with the verdict that its subtitle file names, and ends
+# with its status.
+CALL = """#!/bin/sh
+words="$*" out= object= files="$(readlink /proc/$$/fd/0) $(readlink /proc/$$/fd/1)"
+while [ $# -gt 0 ]; do
+    case $1 in
+        --name=*) name=${1#*=} ;; --json) object=$2 ;; -o) out=$2 ;; --) stl=$2 ;;
+    esac
+    shift
+done
+kind=$(cat "$stl")
+[ "$kind" = waits ] && exec sleep 9
+[ "$kind" = changes ] && echo more >>"$stl"
+case $kind in
+    accepted | changes | other | silent) status=0 ;; refused) status=1 ;; *) status=2 ;;
+esac
+case $kind in other | changes) kind=accepted ends=9 ;; *) ends=$status ;; esac
+echo "qc: one" >&2; echo "qc: told last" >&2
+session=$(cut -d ' ' -f 6 /proc/$$/stat)
+[ "$kind" = silent ] || cat >"${object:-$out/$name.json}" <<END
+{"format": 3, "verdict": "$kind", "status": $status, "line": "line of $name", "reason": "why",
+ "asked": {}, "words": "$words", "own": $((session == $$)),
+ "files": "$files"}
+END
+exit $ends
 """
-
-
 def known(verdict: str = "refused", **more: Any) -> dict[str, Any]:
     """An object of a pair."""
     status = {"accepted": 0, "waived": 0, "not judged": 2}.get(verdict, 1)
@@ -78,10 +80,13 @@ class Lists(Case):
                  "{0}/two.stl {0}/one.ts\n"
                  "{0}/one.stl {0}/one.ts\n\"\n{0}/one.stl\n{0}/one.stl {0}/folder\n"
                  "{0}/none.stl {0}/one.ts\n{0}/one.stl {0}/pipe\n{0}/x.stl -\n"
-                 "{0}/x.stl /dev/null --within 2").format(self.folder)
-        items = pairs_at(self.write("list", lines.encode()), defaults())
+                 "{0}/x.stl /dev/null --within 2\n{0}/x.stl {0}/socket\n").format(self.folder)
+        with socket.socket(socket.AF_UNIX) as made:
+            made.bind(self.path("socket"))
+        items = pairs_at(self.write("list", lines.encode() + b"caf\xe9.stl x.ts"), defaults())
         self.must("names", [item.name for item in items] == [
-            "one", "two", "one-2", "line 6", "line 7", "one-3", "none", "one-4", "line 11", "x"],
+            "one", "two", "one-2", "line 6", "line 7", "one-3", "none", "one-4", "line 11", "x",
+            "x-2", "caf\\xe9"],
             [item.name for item in items])
         self.must("options", [item.asked.every for item in items if item.asked] == [50, 250, 250])
         reasons = [item.reason for item in items if item.reason]
@@ -90,133 +95,41 @@ class Lists(Case):
                 f"{self.path('folder')} is a folder",
                 f"{self.path('none.stl')}: No such file or directory",
                 f"{self.path('pipe')} is a pipe",
-                f"{self.path('list')}, line 11: - is no recording", "/dev/null is a device")):
+                f"{self.path('list')}, line 11: - is no recording", "/dev/null is a device",
+                f"{self.path('socket')} is no file", "caf\udce9.stl: No such file")):
             self.must(words, reason.startswith(words), reason)
-        self.must("reasons", len(reasons) == 7, reasons)
+        self.must("reasons", len(reasons) == 9, reasons)
         self.must("a file", no_file(self.path("one.stl")) is None)
         for path in (self.write("empty", b"# none\n"), self.path("folder")):
             with self.assertRaises(Stop):
                 pairs_at(path, defaults())
 
+    def test_names(self) -> None:
+        """Each has its own, also where a number makes it that of another one."""
+        for given, wanted in (("a a a b", "a a-2 a-3 b"), ("a a a-2 a-2", "a a-2 a-2-2 a-2-3"),
+                              ("a-2 a a a", "a-2 a a-3 a-4")):
+            names = OwnNames()
+            self.must(given, [names.of(name) for name in given.split()] == wanted.split())
+
     def test_folder(self) -> None:
         """Names, what lacks its other half, what is more than one, in the order of the names."""
-        for name in ("B.STL", "b.TS", "c.stl", "c.ts", "c.pes", "d.m2t", "e.stl", "e.txt"):
+        for name in ("B.STL", "b.TS", "c.stl", "c.ts", "c.pes", "d.m2t", "e.stl", "e.txt", "F.pes",
+                     "f.stl", "f.trp", "G.stl", "g.MTS", "g.stl", "h\x1b.m2ts", "h\x1b.stl"):
             self.write(f"folder/{name}", b"")
         items = pairs_at(self.path("folder"), defaults())
         at = self.path("folder")
         self.must("items", [(item.name, item.reason) for item in items] == [
             ("B", None),
+            ("F", f"{at}/F.pes: no subtitle file of that name"), ("f", None),
+            ("G", f"{at}/G.stl: no recording of that name"), ("g", None),
             ("c", f"more than one pair is possible: {at}/c.stl, {at}/c.pes, {at}/c.ts"),
             ("d", f"{at}/d.m2t: no subtitle file of that name"),
-            ("e", f"{at}/e.stl: no recording of that name")],
+            ("e", f"{at}/e.stl: no recording of that name"), ("h\\x1b", None)],
             [(item.name, item.reason) for item in items])
-        asked = items[0].asked
-        self.must("files", asked and (asked.stl, asked.recording) == (f"{at}/B.STL", f"{at}/b.TS"))
-
-
-class Objects(Case):
-    """Objects of earlier calls."""
-
-    def test_rows(self) -> None:
-        """All that a table takes of an object, and what stands there where it has none of it."""
-        faults = [{"line": f"refused {number}", "number": 5, "name": "X", "cause": None}
-                  for number in range(120)]
-        found_row = row_of(known(faults=faults, fault_count=7, seconds=1.5,
-                                 cause_counts={"late": 2}, hints=["72: a hint"]), "name")
-        self.must("all", found_row == Row(
-            "name", "one.stl one.ts", "refused", 1, "refused 72 Content", 7,
-            {"late": 2, "5 X": 120}, [f"refused {number}" for number in range(100)], 1.5, "a hint"),
-            found_row)
-        self.must("none", row_of(unjudged("name", "why"), "name") == Row(
-            "name", "name", "not judged", 2, "why", 0, {}, [], 0.0, ""))
-        self.must("reason first", row_of(known("refused", reason="why"), "x").line == "why")
-        self.must("judged", row_of(known(), "x").is_judged and not row_of(
-            unjudged("x", "why"), "x").is_judged)
-
-    def test_shape(self) -> None:
-        """An object of another format or shape is not judged; something else is no object."""
-        path = self.path("one.json")
-        changes: list[tuple[dict[str, Any], str]] = [
-                ({}, "refused"), ({"format": 2}, "not judged"), ({"format": None}, "not judged"),
-                ({"status": 0}, "not judged"), ({"status": True}, "not judged"),
-                ({"verdict": "accepted"}, "not judged"), ({"verdict": 5}, "not judged"),
-                ({"line": 5}, "not judged"), ({"line": ""}, "not judged"),
-                ({"line": None}, "not judged"), ({"reason": 5}, "not judged"),
-                ({"asked": []}, "not judged"), ({"asked": None}, "refused"),
-                ({"faults": {}}, "not judged"), ({"faults": [5]}, "not judged"),
-                ({"faults": [{"line": "x"}]}, "not judged"), ({"hints": {}}, "not judged"),
-                ({"cause_counts": []}, "not judged"), ({"fault_count": 1.5}, "not judged"),
-                ({"seconds": "x"}, "not judged"), ({"seconds": 5}, "refused"),
-                ({"verdict": "not judged", "status": 2}, "not judged")]
-        for change, wanted in changes:
-            self.write("one.json", json.dumps({**known(), **change}).encode())
-            got = object_at(path)
-            self.must(f"{change}", got is not None and got["verdict"] == wanted, got)
-        for text, is_one in ((b"[]", False), (b"{}", False), (b"{", True), (b"\xff", True)):
-            self.write("one.json", text)
-            self.must(f"{text!r}", (object_at(path) is not None) == is_one)
-        self.must("not there", (object_at(self.path("none.json")) or {}).get("name") == "none")
-
-    def test_of_a_folder(self) -> None:
-        """In the order of their names; other files, hidden ones and folders are passed over."""
-        for name in ("b.json", "a.json", ".c.json", "d.txt", "e.jsonl"):
-            self.write(name, json.dumps(known()).encode())
-        os.mkdir(self.path("f.json"))
-        names = [os.path.basename(path) for path, _ in objects_in(self.folder)]
-        self.must("names", names == ["a.json", "b.json"], names)
-
-    def test_has_had_its_turn(self) -> None:
-        """By its subtitle file as it is now; what was not judged by its own account."""
-        stl = self.write("one.stl", b"1")
-        asked, other = asked_for(stl, None), asked_for(self.write("two.stl", b"1"), None)
-        one: dict[str, Any] = {"asked": {"stl": stl}, "found": found(asked)}
-        rows: list[tuple[str, dict[str, Any], Asked | None, bool]] = [
-                ("judged", one, asked, True), ("of another file", one, other, False),
-                ("no programme now", one, None, False),
-                ("nothing found", {**one, "found": None}, asked, False),
-                ("another size", {**one, "found": {"stl": {"size": 2}}}, asked, False),
-                ("no pair", {}, asked, True), ("open", {"open": True}, asked, False)]
-        for name, have, of, wanted in rows:
-            self.must(name, has_had_its_turn(have, of) == wanted)
-
-    def test_is_current(self) -> None:
-        """The same words, files, program and version: each other one is judged again."""
-        asked = asked_for(self.write("one.stl", b"1"), self.write("one.ts", b"1"))
-        program = Program("1.0", "abc", None)
-        whole = {"asked": asked_words(asked), "found": found(asked),
-                 "program": {"sha256": "abc", "version": "1.0"}}
-        self.must("as it is", is_current(whole, asked, program))
-        for name in whole:
-            self.must(f"without {name}", not is_current({**whole, name: None}, asked, program))
-        for name in ("sha256", "version"):
-            changed: dict[str, Any] = {**whole["program"], name: "x"}
-            self.must(name, not is_current({**whole, "program": changed}, asked, program))
-        for words in (["--within", "1"], ["--strict"], ["--page", "150"]):
-            other = asked_for(asked.stl, asked.recording, *words)
-            self.must(f"{words}", not is_current(whole, other, program))
-        self.write("one.ts", b"12")
-        self.must("another recording", not is_current(whole, asked, program))
-
-    def test_left_by_a_call(self) -> None:
-        """An object counts with the status that the call ended with; else what it told last."""
-        path = self.path("one.json")
-        for verdict, ended, is_its in (("refused", 1, True), ("refused", 0, False),
-                                       ("accepted", 0, True), ("accepted", 2, False),
-                                       ("waived", 0, True), ("accepted", -9, False)):
-            self.write("one.json", json.dumps(known(verdict)).encode())
-            got = left_by_call(path, "one", ended, ["qc: first", "qc: last: more"])
-            self.must(f"{verdict} {ended}", (got["verdict"] == verdict) == is_its, got)
-            if not is_its:
-                self.must("why", got["reason"] == ("last: more" if ended >= 0 else
-                                                   "it did not end by itself"), got)
-        os.unlink(path)
-        self.must("none", left_by_call(path, "one", 2, [])["reason"] == "it did not end by itself")
-
-    def test_may_be_replaced(self) -> None:
-        """An object, an empty file and what is not there; nothing else."""
-        for data, wanted in ((b"{", True), (b"", True), (b"GSI", False), (b" {", False)):
-            self.must(f"{data!r}", may_take(self.write("x", data)) == wanted)
-        self.must("not there", may_take(self.path("none")))
+        self.must("files", [(item.asked.stl, item.asked.recording) for item in items if item.asked]
+                  == [(f"{at}/{one}", f"{at}/{two}") for one, two in (
+                      ("B.STL", "b.TS"), ("f.stl", "f.trp"), ("g.stl", "g.MTS"),
+                      ("h\x1b.stl", "h\x1b.m2ts"))])
 
 
 class Judged(Case):
@@ -224,9 +137,9 @@ class Judged(Case):
 
     def setUp(self) -> None:
         super().setUp()
-        script = self.write("call.py", CALL.encode())
+        os.chmod(self.write("call", CALL.encode()), 0o755)
         self.typed = Typed("tools/qc", self.bench.program)
-        vars(self.typed)["call"] = lambda name: [sys.executable, script]
+        vars(self.typed)["call"] = lambda name: [self.path("call")]
         os.mkdir(self.path("temporary"))
         os.mkdir(self.path("out"))
         self.write("one.ts", b"1")
@@ -236,34 +149,61 @@ class Judged(Case):
         stl = self.write(f"{name}.stl", kind.encode())
         return Item(name, asked_for(stl, self.path("one.ts"), *words), None)
 
-    def test_one(self) -> None:
-        """The row by its object; where that is another call's, or files changed, none."""
+    def test_words(self) -> None:
+        """Of the call for a pair: where its object goes, what is asked; the name as it is shown."""
         for out, is_kept in ((None, False), (self.path("out"), False), (self.path("out"), True)):
             calls = Calls(self.typed, self.path("temporary"), out, is_kept)
-            for kind, verdict, line in (
-                    ("accepted", "accepted", "why"), ("refused", "refused", "why"),
-                    ("not judged", "not judged", "why"), ("silent", "not judged", "told last"),
-                    ("another status", "not judged", "told last"),
-                    ("changes", "not judged", "a file was written to while it was judged")):
-                item = self.item(kind)
-                found_row = calls.judge(item)
-                self.must(f"{kind} {out}", (found_row.verdict, found_row.line) == (verdict, line),
-                          found_row)
-                path = calls.path(item)
-                have = object_at(path)
-                self.must("its object", have is not None and have["verdict"] == verdict, have)
-                self.must("where", os.path.dirname(path) == (out or self.path("temporary")))
-                if kind == "accepted" and have:
-                    words = have["words"]
-                    kept = ["-o", out, *["--keep"] * is_kept] if out else ["--json", path]
-                    self.must("words", words[:len(kept) + 3] == [
-                        "--name=one", *kept, "-p", self.typed.program_path], words)
-            none = calls.judge(Item("two", None, "no pair"))
-            self.must("no pair", (none.verdict, none.line) == ("not judged", "no pair"))
-            calls.stop()
-            calls.leave(Item("three", None, "x"), "stopped")
-            self.must("nothing is written when it is stopped", not os.path.exists(calls.path(
-                Item("three", None, "x"))))
+            item = self.item("refused", "one", "--every", "50")._replace(name="pair")
+            path = os.path.join(out or self.path("temporary"), "pair.json")
+            self.must("row", calls.judge(item).name == "pair" and calls.path(item) == path)
+            have = object_at(path)
+            kept = f"-o {out}{' --keep' * is_kept}" if out else f"--json {path}"
+            self.must("words", have and have["words"].startswith(
+                f"--name=pair {kept} -p {self.typed.program_path} --page 888 --every 50 ") and
+                have["words"].endswith(f" -- {self.path('one.stl')} {self.path('one.ts')}")
+                and have["own"] == 1
+                and have["files"].split() == [os.devnull, os.devnull] and not calls.running, have)
+            shown = calls.path(Item("a\x1b", None, ""))
+            self.must("as it is shown", shown.endswith("/a\\x1b.json"))
+
+    def test_all_words(self) -> None:
+        """What is asked of a pair is asked of its call, also where it is 0."""
+        for words in ("", "--origin 0 --pid 0", "--start tcp", "--origin 5 --pid 257 --within 3",
+                      "--strict --allow-lost --no-complete --severity file --breaks 2 --run 1",
+                      "--page 1A0 --every 7 --option german"):
+            asked = asked_for("a.stl", "a.ts", *words.split())
+            again = asked_of(parser_of("").parse_args(words_of(asked)))
+            self.must(words, again == asked, again)
+
+    def test_one(self) -> None:
+        """The row by its object; where that is another call's, or files changed, none, and nothing
+        is left of an earlier call."""
+        calls = Calls(self.typed, self.path("temporary"), self.path("out"), False)
+        for kind, verdict, line in (
+                ("accepted", "accepted", "why"), ("refused", "refused", "why"),
+                ("not judged", "not judged", "why"), ("silent", "not judged", "told last"),
+                ("other", "not judged", "told last"),
+                ("changes", "not judged", "a file was written to while it was judged")):
+            item = self.item(kind)
+            self.write("out/one.json", json.dumps(known("accepted")).encode())
+            found_row = calls.judge(item)
+            self.must(kind, (found_row.name, found_row.verdict, found_row.line) == (
+                "one", verdict, line), found_row)
+            have = object_at(calls.path(item))
+            self.must("its object", have is not None and have["verdict"] == verdict, have)
+        none = calls.judge(Item("two", None, "no pair"))
+        self.must("no pair", (none.name, none.verdict, none.line) == (
+            "two", "not judged", "no pair") and object_at(self.path("out/two.json")) == unjudged(
+                "two", "no pair"))
+        vars(self.typed)["call"] = lambda name: [self.path("none")]
+        gone = calls.judge(self.item("accepted"))
+        self.must("no call", gone.line == f"{self.path('none')}: No such file or directory", gone)
+        running = [mock.Mock(), mock.Mock()]
+        calls.running |= {*running}
+        calls.stop()
+        self.must("all are ended", [one.terminate.call_count for one in running] == [1, 1])
+        calls.leave(Item("three", None, "x"), "stopped")
+        self.must("nothing is written then", not os.path.exists(self.path("out/three.json")))
 
     def test_all(self) -> None:
         """Each once, what is kept not again; the words of each are its own."""
@@ -279,25 +219,56 @@ class Judged(Case):
                              for one in items[:2]] == [False, True])
         self.must("not called", not os.path.exists(calls.path(items[2])))
 
+    @alone
+    def test_stopped(self) -> None:
+        """A signal ends the calls that run, and no other is begun: what was judged is kept. What
+        else ends them is told."""
+        kinds = ("accepted", "waits", "waits", "waits")
+        for reason in (KeyboardInterrupt(), ValueError("odd")):
+            calls = Calls(self.typed, self.path("temporary"), self.path("out"), False)
+            items = [self.item(kind, f"name{at}") for at, kind in enumerate(kinds)]
+            lines: list[str] = []
+
+            def show(progress: object, line: str) -> None:
+                lines.append(line)
+                if line.startswith("1 of 4 pairs: 1 accepted"):
+                    raise reason
+
+            with mock.patch("subtitles.qc.progress.Progress.show", show), \
+                    mock.patch.object(batch, "ignore_signals") as ignored:
+                if isinstance(reason, KeyboardInterrupt):
+                    rows = all_rows(calls, items, {}, 2)
+                    self.must("rows", list(rows) == ["name0"], rows)
+                else:
+                    self.assertRaises(ValueError, all_rows, calls, items, {}, 2)
+            self.must("ended", calls.is_stopped and not calls.running and lines and
+                      ignored.called == isinstance(reason, KeyboardInterrupt))
+            self.must("objects", os.listdir(self.path("out")) == ["name0.json"])
+
     def test_kept(self) -> None:
-        """What an earlier call has judged as it would be judged now; not what it did not judge."""
+        """What an earlier call has judged as it would be judged now; not what it did not judge, and
+        no object of another program, or that is none."""
         calls = Calls(self.typed, self.path("temporary"), self.path("out"), False)
-        items = [self.item("accepted", name) for name in ("one", "two", "three", "four")]
+        items = [self.item("accepted", name) for name in (
+            "one", "two", "three", "four", "six", "seven", "eight")]
         items.append(Item("five", None, "no pair"))
         program = program_at(self.typed.program_path)
         mores: list[dict[str, Any]] = [
-            {}, {}, {"program": {"sha256": "x", "version": program.version}}, {}]
-        for item, verdict, more in zip(items, ("refused", "not judged", "accepted", "waived"),
-                                       mores):
+            {}, {}, {"program": {"sha256": "x", "version": program.version}}, {}, {"format": 2},
+            {"found": None}, {"asked": None}]
+        verdicts = ("refused", "not judged", "accepted", "waived", *["accepted"] * 3)
+        for item, verdict, more in zip(items, verdicts, mores):
             assert item.asked
             have = {**known(verdict), "asked": asked_words(item.asked), "found": found(item.asked),
                     "program": {"sha256": program.sha256, "version": program.version},
                     "reason": "why" if verdict == "not judged" else None, **more}
             self.write(f"out/{item.name}.json", json.dumps(have).encode())
         self.write("out/five.json", json.dumps(known()).encode())
-        rows = kept_rows(calls, items)
-        self.must("kept", {name: one.verdict for name, one in rows.items()} ==
-                  {"one": "refused", "four": "waived"}, rows)
+        for text in (b"", b"{", b"[]"):
+            self.write("out/eight.json", text)
+            rows = kept_rows(calls, items)
+            self.must("kept", {name: one.verdict for name, one in rows.items()} ==
+                      {"one": "refused", "four": "waived"}, rows)
 
     @alone
     def test_progress(self) -> None:
@@ -311,6 +282,85 @@ class Judged(Case):
             said = progress_line(rows, 9, 3, 100.0)
         self.must("left", said == "5 of 9 pairs: 1 accepted, 1 waived, 2 refused, 1 not judged; "
                   "20 seconds left", said)
+
+
+class Batches(Case):
+    """A whole call for many pairs, in which a test stands for the judging."""
+
+    is_alone = True  # it takes what is printed
+    seen: Any = None  # how the judging was called
+
+    def batch(self, judged: str, *, is_stopped: bool = False, **more: Any) \
+            -> tuple[int, list[str], list[str]]:
+        """The status, the lines of the table, and what is told, where the pairs of a list have
+        these verdicts by and by."""
+        words = argparse.Namespace(**{**vars(defaults()), "batch": self.write("list", "".join(
+            f"{self.path(name)}.stl {self.path('one.ts')}\n" for name in ("one", "two", "three")
+        ).encode()), "out": None, "program": self.bench.program, "is_kept": False, "jobs": None,
+            "is_resumed": False, "json": None, "csv": None, "junit": None, **more})
+
+        def all_rows(calls: Calls, items: list[Item], kept: dict[str, Row], jobs: int) \
+                -> dict[str, Row]:
+            self.seen = calls, [item.name for item in items], kept, jobs
+            self.must("folders", os.path.isdir(words.out or calls.folder) and
+                      (calls.out, calls.is_kept) == (words.out, words.is_kept))
+            rows = {}
+            for item, verdict in reversed(list(zip(items, judged.split(", ")))):
+                with open(calls.path(item), "w", encoding="ascii") as file:
+                    json.dump(known(verdict, line=item.name, reason=item.name), file)
+                rows[item.name] = row(item.name, verdict, item.name)
+            calls.is_stopped = is_stopped
+            return rows
+
+        out, told = io.StringIO(), io.StringIO()
+        with mock.patch.object(batch, "all_rows", all_rows), contextlib.redirect_stdout(out), \
+                contextlib.redirect_stderr(told):
+            status = batch.judge(words, "tools/qc")
+        return status, out.getvalue().splitlines(), told.getvalue().splitlines()
+
+    def setUp(self) -> None:
+        super().setUp()
+        for name in ("one.stl", "two.stl", "three.stl", "one.ts"):
+            self.write(name, b"")
+
+    def test_status(self) -> None:
+        """The worst of all, in the order of the list; 2 where a signal left some."""
+        for judged, status in (("accepted, accepted, waived", 0), ("lost, accepted, accepted", 1),
+                               ("accepted, accepted, refused", 1),
+                               ("refused, not judged, accepted", 2)):
+            for jobs, wanted in ((None, os.cpu_count()), (3, 3)):
+                found_status, lines, told = self.batch(judged, jobs=jobs, json=self.path("all"))
+                self.must(judged, (found_status, told) == (status, []) and [
+                    line.split()[0] for line in lines[1:]] == ["one", "two", "three", "3"], lines)
+                self.must("at a time", self.seen[1:] == (["one", "two", "three"], {}, wanted))
+                have = json.loads(self.read("all"))
+                self.must("objects", ([one["line"] for one in have["pairs"]], have["status"]) == (
+                    ["one", "two", "three"], status))
+                self.must("the folder went", not os.path.exists(self.seen[0].folder))
+        for out, more in ((None, ""), (self.path("out"), "; --resume judges the others")):
+            stopped = self.batch("accepted, accepted", is_stopped=True, out=out)
+            self.must("stopped", (stopped[0], len(stopped[1]), [line.partition(": ")[2] for line in
+                                                                stopped[2]]) == (
+                2, 4, [f"stopped when 2 of 3 pairs were judged{more}"]), stopped)
+        self.must("page", b"2 pairs: 2 accepted" in self.read("out/index.html")
+                  and ".lock" not in os.listdir(self.path("out")))
+
+    def test_goes_on(self) -> None:
+        """With what is there of an earlier call, where that is asked; which needs a folder."""
+        earlier = {"two": row("two", "lost")}
+        with mock.patch.object(batch, "kept_rows", lambda calls, items: earlier):
+            for is_resumed, kept in ((False, []), (True, ["two"])):
+                self.batch("accepted, accepted, accepted", out=self.path("out"),
+                           is_resumed=is_resumed, is_kept=True)
+                self.must(f"{is_resumed}", [*self.seen[2]] == kept, self.seen)
+        refused: list[dict[str, Any]] = [
+            {"is_resumed": True}, {"csv": self.path("none/x")}, {"csv": self.path("list")},
+            {"junit": self.path("three.stl")}, {"json": self.path("one.ts")}]
+        for more in refused:
+            self.seen = None
+            with self.assertRaises(Stop):
+                self.batch("accepted", **more)
+            self.must(f"{more}", self.seen is None)
 
 
 class Collected(Case):
@@ -364,6 +414,21 @@ class Collected(Case):
         self.must("lines", len(self.read("lines").splitlines()) == 6)
         self.must("cases", self.read("cases").count(b"<testcase") == 4)
 
+    def test_reader_that_leaves(self) -> None:
+        """Who reads the table may want no more: all is written, with its status."""
+        class Gone(io.StringIO):
+            """A pipe that nobody reads any more."""
+
+            def write(self, text: str) -> int:
+                raise BrokenPipeError
+
+        words = argparse.Namespace(csv=self.path("lines"), junit=None, json=None)
+        with mock.patch.object(collecting, "silence") as silenced, \
+                contextlib.redirect_stdout(Gone()) as out:
+            status = collecting.end(words, self.ROWS[:2], [self.path("a"), self.path("b")])
+        self.must("status", status == 1 and os.path.exists(self.path("lines")) and
+                  silenced.call_args == mock.call(out), silenced)
+
     def test_collects(self) -> None:
         """The objects of a folder, whatever else is in it; the status is the worst."""
         words = argparse.Namespace(csv=None, junit=None, json=None, collect=self.path("in"))
@@ -400,88 +465,3 @@ class Collected(Case):
         self.write("gone.json", b'{"format": 3, "verdict": "accepted", "status": 0,  "line": "x"}')
         self.must("as it stands", collecting.text_of(path, self.ROWS[0]) == self.read("gone.json"))
         self.must("lines", len(b"".join(collecting.lines_of([path, path])).splitlines()) == 3)
-
-
-class Watched(Case):
-    """A folder that is watched."""
-
-    is_alone = True  # it takes what is printed
-
-    def words(self, **more: Any) -> argparse.Namespace:
-        words = argparse.Namespace(**vars(defaults()))
-        vars(words).update({"watch": self.path("in"), "out": self.path("out"), "settled": 0,
-                            "is_kept": False, **more})
-        return words
-
-    def test_folders(self) -> None:
-        """Both are there, and two; that for objects is made."""
-        self.assertRaises(Stop, refuse_folders, self.words(out=None))
-        self.assertRaises(Stop, refuse_folders, self.words())
-        os.mkdir(self.path("in"))
-        refuse_folders(self.words())
-        self.must("made", os.path.isdir(self.path("out")))
-        self.assertRaises(Stop, refuse_folders, self.words(out=self.path("in")))
-
-    def test_verdicts(self) -> None:
-        """A line for each, and the page over all, also of what an earlier call left; what has an
-        object as it is now is not judged again."""
-        for name in ("in", "out"):
-            os.mkdir(self.path(name))
-        self.write("out/old.json", json.dumps(known("accepted")).encode())
-        self.write("out/x.json", b"[]")
-        watch = Watch(self.words(), Typed("tools/qc", self.bench.program))
-        self.must("rows", list(watch.rows) == ["old"])
-        out = io.StringIO()
-        with contextlib.redirect_stdout(out):
-            watch.end(Item("b", None, ""), row("b", "accepted", "accepted 5"))
-            watch.end(Item("a", None, ""), row("a", "refused", "refused 72 X", "a hint"))
-        self.must("lines", [line[21:] for line in out.getvalue().splitlines()] ==
-                  ["b  accepted", "a  refused: 72 X: a hint"], out.getvalue())
-        page = self.read("out/index.html").decode()
-        self.must("page", "3 pairs" in page and page.index("<td>a<") < page.index("<td>b<"))
-        stl, ts = self.write("in/a.stl", b"1"), self.write("in/a.ts", b"1")
-        item = Item("a", asked_for(stl, ts), None)
-        program = program_at(watch.calls.typed.program_path)
-        have = {**known(), "asked": asked_words(item.asked or asked_for(stl, ts)),
-                "found": found(item.asked or asked_for(stl, ts)),
-                "program": {"sha256": program.sha256, "version": program.version}}
-        other: dict[str, Any] = {"found": {}}
-        for change, is_new in ((dict[str, Any](), False), (other, True), (other, False)):
-            self.write("out/a.json", json.dumps({**have, **change}).encode())
-            self.must(f"{change}", watch.is_new(item) == is_new)
-
-    def test_signals(self) -> None:
-        """The first asks for the end, the second ends at once."""
-        stopping = Stopping.__new__(Stopping)
-        stopping.is_asked = False
-        stopping.take(15, None)
-        self.must("asked", stopping.is_asked)
-        self.assertRaises(KeyboardInterrupt, stopping.take, 15, None)
-
-
-class Words(unittest.TestCase):
-    """Words of a command line, whatever else is wrong with it."""
-
-    def test_json(self) -> None:
-        paths: list[tuple[list[str], str | None]] = [
-                           (["--json", "x"], "x"), (["--json=x"], "x"), (["--json", "-"], "-"),
-                           (["--json", "--csv"], None), (["--json"], None), (["--json="], None),
-                           (["--", "--json", "x"], None), (["a", "--json", "x", "--", "b"], "x"),
-                           (["--json", "a", "--json", "b"], "b"), (["--jsonx", "a"], None),
-                           (["--json=a", "--json", "b"], "b"), ([], None)]
-        for line, path in paths:
-            self.assertEqual(json_in(line), path, line)
-        names: list[tuple[list[str], str]] = [
-            (["a.STL", "b.ts"], "a"), (["--x", "dir/one.stl"], "one"), ([], ""), (["b.ts"], ""),
-            (["one.stl", "two.stl"], "one")]
-        for line, name in names:
-            self.assertEqual(name_in(line), name, line)
-
-    def test_numbers(self) -> None:
-        for read, good, bad in (
-                (jobs_word, ("1", "9999"), ("0", "10000", "-1", "", "x", "\u00b2")),
-                (seconds_word, ("0", "99999"), ("100000", "-1", "", "1.5", "\u0663")),
-                (minutes_word, ("1", "1440"), ("0", "1441", "", "10000", "-1"))):
-            self.assertEqual([read(word) for word in good], list(map(int, good)))
-            for word in bad:
-                self.assertRaises(argparse.ArgumentTypeError, read, word)

@@ -1,17 +1,26 @@
 """Which option of tools/qc goes with what: the parser, the refusals and the manual say the same."""
 from __future__ import annotations
 
+import argparse
 import os
+import unittest
+from types import ModuleType
+from unittest import mock
 
-from subtitles.calls.main import parser_of
+from subtitles.calls import (
+    awaited, batch, channel, channel_feed, collecting, feed_clock, index_page, machine, main,
+    objects, queue, ring, running, single, watching)
+from subtitles.calls.main import (
+    jobs_word, json_in, minutes_word, name_in, parser_of, seconds_word)
 from subtitles.calls.modes import (
     ALONE, BATCH, CHANNEL, CHANNEL_LINE, COLLECT, LINE, MODES, PAIR, TAKEN_BY, WATCH, Mode,
     mode_of, refuse_options)
 from subtitles.calls.planned import Planned
+from subtitles.core import files
 from subtitles.core.built import TOP
 from subtitles.core.words import Stop
 from subtitles.qc.asked import asked_of_line
-from .bench import Case
+from .bench import Case, alone
 from .test_channel_tables import defaults
 
 CALLS: dict[Mode, list[str]] = {
@@ -58,6 +67,57 @@ class Modes(Case):
                 is_right = said is None if mode in taken_by else said is not None and name in said
                 self.must(f"{name} and {mode.words}", is_right, said)
 
+    def test_options_that_come_twice(self) -> None:
+        """The last one counts; each is refused where it does not go with what is asked for."""
+        for words, name, value in (
+                ("--every 25 --every 50", "every", 50), ("--json a --json b", "json", "b"),
+                ("--no-complete --complete", "is_complete", True),
+                ("--complete --no-complete", "is_complete", False), ("-o a -o b", "out", "b"),
+                ("--page 801 --page 8A2", "page", (0, 0xA2))):
+            found = vars(parser_of("").parse_args(["a.stl", "a.ts", *words.split()]))
+            self.must(words, found[name] == value, found)
+        for words, mode, said in (
+                ("--every 25 --every 50", COLLECT, "--every goes with"),
+                ("--complete --no-complete", ALONE, "--complete goes with"),
+                ("--no-complete --complete", COLLECT, "--complete goes with"),
+                ("--jobs 2 --settled 3", BATCH,
+                 "--settled goes with --watch, and not with --batch"),
+                ("--resume --patience 5 --breaks 1", CHANNEL, "--breaks goes with")):
+            with self.assertRaises(Stop) as refused:
+                refuse_options(parser_of(""), [*CALLS[mode], *words.split()], mode)
+            self.must(words, str(refused.exception).startswith(said), refused.exception)
+        for words in ("--batch a --collect b", "--watch a --channel b -", "--channel a",
+                      "--channel a b c", "--batch a b.stl"):
+            with self.assertRaises(Stop):
+                mode_of(parser_of("").parse_args(words.split()))
+
+    @alone
+    def test_what_is_called(self) -> None:
+        """Each call by its own function, with what is taken where nothing is said, and 0 as it is.
+        """
+        rows: list[tuple[list[str], ModuleType, str, dict[str, object]]] = [
+            (CALLS[PAIR], single, "judge", {"recording": "a.ts", "out": None}),
+            (CALLS[ALONE], single, "judge", {"stl": "a.stl", "recording": None}),
+            ([*CALLS[PAIR], "-o", "x", "--keep"], single, "judge",
+             {"out": "x", "is_kept": True}),
+            ([*CALLS[PAIR], "-o@x"], single, "judge", {"out": "./@x"}),
+            (CALLS[BATCH], batch, "judge", {"batch": "in"}),
+            (CALLS[COLLECT], collecting, "collect", {"collect": "in"}),
+            (CALLS[WATCH], watching, "watch", {"settled": 5}),
+            ([*CALLS[WATCH], "--settled", "0"], watching, "watch", {"settled": 0}),
+            (CALLS[CHANNEL], channel, "judge", {"patience": 60, "stall": 10}),
+            ([*CALLS[CHANNEL], "--patience", "1"], channel, "judge", {"patience": 1})]
+        for line, module, name, wanted in rows:
+            with mock.patch.object(module, name, return_value=7) as called:
+                self.must(f"{line}", main.answer("", "tools/qc", line) == 7)
+            words, *others = called.call_args.args
+            self.must(f"{line}: words", {one: vars(words)[one] for one in wanted} == wanted and
+                      others == ["tools/qc"] * (module is not collecting), words)
+        nothing: list[str] = []
+        for line in (nothing, [*CALLS[PAIR], "--keep"]):
+            with self.assertRaises(Stop):
+                main.answer("", "tools/qc", line)
+
     def test_names_all_options(self) -> None:
         """The table has each option that the parser has."""
         names = {name for action in parser_of("")._actions for name in action.option_strings}
@@ -102,3 +162,62 @@ class Modes(Case):
             self.must(" ".join(words), done.status == 2 and len(done.told) == 1
                       and words[2] in done.told[0] + words[2] and " goes with " in done.told[0],
                       done)
+
+
+class Numbers(unittest.TestCase):
+    """Numbers that nothing else tells: what is taken where nothing is asked for, and how long
+    something is waited for, in ticks where no unit is named."""
+
+    OWN: dict[ModuleType, dict[str, object]] = {
+        awaited: {"IN_A_ROW": 5, "BEFORE": 12, "NEAR": 1800}, batch: {"WAIT": 0.2},
+        channel: {"GAP": 5_400_000, "LATER": 10_800_000, "ENOUGH": 4},
+        channel_feed: {"BEFORE": 50, "ENDS": 2, "NO_PAGE": (0, 0x88)},
+        feed_clock: {"BACK": 45_000, "ANEW": 324_000_000}, index_page: {"MOST_CAUSES": 6},
+        machine: {"FORMAT": 3}, main: {"SETTLED": 5, "PATIENCE": 60}, objects: {"LINES": 100},
+        queue: {"AT_ONCE": 4, "LOOK": 1.0}, ring: {"PARTS": 20}, running: {"VERDICT": 60.0},
+        single: {"SUMMED": 100, "SIGNALS": (2, 15, 1)}, watching: {"LOOK": 1.0, "DONE": ".done"},
+        files: {"PIECE": 1 << 20, "OWN_OUTPUT": {"-", "/dev/stdout", "/dev/fd/1",
+                                                 "/proc/self/fd/1"}}}
+    NONE = ("batch", "channel", "collect", "csv", "json", "junit", "jobs", "name", "origin", "out",
+            "patience", "pid", "program", "recording", "run", "settled", "severity", "start", "stl",
+            "watch")
+    FALSE = ("is_fitted", "is_kept", "is_loss_allowed", "is_resumed", "is_strict")
+
+    def test_own(self) -> None:
+        for module, numbers in self.OWN.items():
+            for name, value in numbers.items():
+                self.assertEqual(getattr(module, name), value, f"{module.__name__}.{name}")
+
+    def test_of_a_call_without_options(self) -> None:
+        self.assertEqual(vars(parser_of("").parse_args([])), {
+            **dict.fromkeys(self.NONE), **dict.fromkeys(self.FALSE, False), "page": (0, 0x88),
+            "every": 250, "option": "english", "is_complete": True, "within": 0, "breaks": 0,
+            "stall": 10})
+
+
+class Words(unittest.TestCase):
+    """Words of a command line, whatever else is wrong with it."""
+
+    def test_json(self) -> None:
+        paths: list[tuple[list[str], str | None]] = [
+                           (["--json", "x"], "x"), (["--json=x"], "x"), (["--json", "-"], "-"),
+                           (["--json", "--csv"], None), (["--json"], None), (["--json="], None),
+                           (["--", "--json", "x"], None), (["a", "--json", "x", "--", "b"], "x"),
+                           (["--json", "a", "--json", "b"], "b"), (["--jsonx", "a"], None),
+                           (["--json=a", "--json", "b"], "b"), ([], None)]
+        for line, path in paths:
+            self.assertEqual(json_in(line), path, line)
+        names: list[tuple[list[str], str]] = [
+            (["a.STL", "b.ts"], "a"), (["--x", "dir/one.stl"], "one"), ([], ""), (["b.ts"], ""),
+            (["one.stl", "two.stl"], "one")]
+        for line, name in names:
+            self.assertEqual(name_in(line), name, line)
+
+    def test_numbers(self) -> None:
+        for read, good, bad in (
+                (jobs_word, ("1", "9999"), ("0", "10000", "-1", "", "x", "\u00b2")),
+                (seconds_word, ("0", "99999"), ("100000", "-1", "", "1.5", "\u0663")),
+                (minutes_word, ("1", "1440"), ("0", "1441", "", "10000", "-1"))):
+            self.assertEqual([read(word) for word in good], list(map(int, good)))
+            for word in bad:
+                self.assertRaises(argparse.ArgumentTypeError, read, word)

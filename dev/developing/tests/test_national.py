@@ -41,6 +41,13 @@ class Table(unittest.TestCase):
                 self.assertIn(option, options_with(text))
         self.assertEqual(count, 658)
 
+    def test_characters_that_no_text_has(self) -> None:
+        """As libzvbi 0.2.41 has them in its Latin set, by `vbi_teletext_unicode`."""
+        for option in OPTIONS:
+            self.assertEqual(letters(option.bits)[0x7F], "\u25a0")
+        self.assertEqual("".join(letters(ENGLISH.bits)[code] for code in b"[\\]^`{|}~"), "←½→↑—¼‖¾÷")
+        self.assertEqual(letters(GERMAN.bits)[0x5E:0x60], ["^", "_"])
+
     def test_nothing_else_has_a_cell(self) -> None:
         known = {(row["option"], bytes.fromhex(row["stl"])) for row in rows_of("options.tsv")}
         for option in OPTIONS:

@@ -17,33 +17,17 @@ from subtitles.qc.checking import Answer
 from subtitles.qc.clock import FITTED, GIVEN, RECORDING, Clock
 from subtitles.qc.names import Names
 from subtitles.qc.severity import Severity
-from subtitles.qc.speech import Speech
-from subtitles.qc.progress import Progress
 from subtitles.qc.typed import Typed
 from subtitles.qc.unclear import Unclear
 from subtitles.qc.verdict import Gap, Part, Verdict
 from subtitles.qc.warned import Warned
 from subtitles.reading.losses import Place
 from .bench import Case, example
+from .judged import Heard
 from .parts import answer, asked_for, part_with
 
 REFUSED = ["refused 72 Content frame 00:00:01:00 row 1 column 2", "refused 68 Parity frame "
            "00:00:02:00 packet 1", "2 faults"]
-
-
-class Heard(Speech):
-    """What is said and told, in its order."""
-
-    def __init__(self) -> None:
-        super().__init__(Progress())
-        self.lines: list[str] = []
-
-    def say(self, line: str) -> None:
-        self.last = line
-        self.lines.append(line)
-
-    def tell(self, line: str) -> None:
-        self.lines.append(f"! {line}")
 
 
 def gap(is_judged: bool, mark: int | None = None) -> Gap:
@@ -197,6 +181,14 @@ class Writes(Case):
             with self.assertRaises(Stop):
                 self.files(self.verdict(), **{name: example("story.stl")}).prepare()
         self.files(self.verdict(), json=self.path("new.json")).prepare()
+        for name in ("one.cut.pes", "one.recording.pes", "one.json", "one.2.stl"):
+            for at in ("stl", "recording"):
+                verdict, path = self.verdict(), self.write(f"out/{name}", b"input")
+                setattr(verdict.asked, at, path)
+                with self.assertRaises(Stop):
+                    self.files(verdict, out=self.path("out")).prepare()
+                self.must(f"{name} as {at}", self.read(f"out/{name}") == b"input")
+                os.unlink(path)
 
     def test_sums(self) -> None:
         """They are needed for a folder, an object and lines of CSV, not for a CI."""
@@ -239,6 +231,27 @@ class Writes(Case):
                 self.must(f"{name}: lines", b"not judged" in self.read(f"{name}.csv"))
             if name != "junit":
                 self.must(f"{name}: case", b"<error" in self.read(f"{name}.junit"))
+
+    def test_order(self) -> None:
+        """What can't be written once more comes last, when all that failed is known."""
+        pipe = self.path("pipe")
+        os.mkfifo(pipe)
+        reader = os.open(pipe, os.O_RDONLY | os.O_NONBLOCK)
+        files = self.files(self.verdict(), csv=pipe, junit=self.path("no/where"))
+        files.write()
+        text = os.read(reader, 1 << 16).decode()
+        os.close(reader)
+        self.must("once", text.count("recording") == 1 and "not judged" in text, text)
+
+    def test_what_was_judged(self) -> None:
+        """Of a feed, and of all parts, it goes unless it is to be kept."""
+        for is_kept in (True, False):
+            names = ["one.cut.pes", "one.1.cut.pes", "one.2.cut.pes", "two.cut.pes"]
+            for name in names:
+                self.write(f"out/{name}", b"")
+            self.files(self.verdict(), out=self.path("out"), is_kept=is_kept).leave()
+            self.must(f"{is_kept}", sorted(os.listdir(self.path("out"))) ==
+                      sorted(names if is_kept else names[3:]))
 
     def test_object_that_fails(self) -> None:
         """An object that says why stands for it; of other outputs, and where no file can be
@@ -295,6 +308,15 @@ class Writes(Case):
             have = json.loads(self.read("one.json"))
             self.must("object", reason in have["reason"] and have["commands"] == ["typed"] and
                       0 <= have["seconds"] < 60, have)
+
+    def test_hints(self) -> None:
+        """Parts may have the same: each stands there once, in their order."""
+        verdict = self.verdict()
+        pair: Any = argparse.Namespace(verdict=verdict, judge=lambda: None,
+                                       speech=argparse.Namespace(commands=[]))
+        with mock.patch("subtitles.calls.single.hints_of", return_value=["b", "a", "b"]):
+            judge_pair(pair, self.files(verdict))
+        self.must("once", verdict.hints == ["b", "a"], verdict.hints)
 
     def test_end_that_fails(self) -> None:
         """Where the verdict can't be said it is not judged, in the object too."""

@@ -1,23 +1,21 @@
 """What tools/origin says, in process: lengths of time, parts, what is as good, where it begins."""
 from __future__ import annotations
 
+import random
 import unittest
 from types import SimpleNamespace
 from typing import Any, Sequence
 
-from subtitles.core.pes import pes_packet
-from subtitles.core.teletext import packet
-from subtitles.core.times import CLOCK, FRAMES_OF_A_DAY, TICKS
-from subtitles.reading.listing import SHOWN, Listing, Tables, Teletext
+from subtitles.core.times import CLOCK, FRAMES_OF_A_DAY, TICKS, ticks_between
 from subtitles.reading.origin_words import (
-    NAMED, apart_words, as_good, break_before, break_lines, frames_words, is_clear, late_words,
-    lateness_lines, length_of, length_words, part_lines, seconds_words, time_at)
+    apart_words, as_good, break_before, break_lines, drift_of, frames_words, is_clear, late_words,
+    lateness_lines, length_of, length_words, part_lines, run_lines, seconds_words, shift_lines,
+    time_at)
 from subtitles.reading.parts import Part
+from subtitles.reading.runs import Run
 from subtitles.reading.sent import SentInBase
-from subtitles.reading.transport import Piece
-from subtitles.reading.votes import Apart, Edge, Fit
-from .parts import CLOSING, HEADER, row
-from .test_tables_of_streams import in_packets, pat, pmt
+from subtitles.reading.tracks import Stretch
+from subtitles.reading.votes import Apart, Edge, Fit, best_first
 
 SECOND = 25 * TICKS
 
@@ -73,6 +71,7 @@ class Times(unittest.TestCase):
         for late, wanted in (([0, 0], "no edge is late"),
                              ([0, 3, 1], "edges are 0 to 3 frames late, 1 in the middle"),
                              ([2, 2], "edges are 2 frames late, 2 in the middle"),
+                             ([2, 0, 0], "edges are 0 to 2 frames late, 0 in the middle"),
                              ([4, 1, 3, 2], "edges are 1 to 4 frames late, 3 in the middle")):
             self.assertEqual(late_words(late), wanted)
         for apart, wanted in (
@@ -86,6 +85,8 @@ class Times(unittest.TestCase):
         parts = [part(fit(start=0), begin=0)]
         for origin, base, words in (
                 (1000 + 3 * TICKS, 0, "after a break of 00:00:00:03"),
+                (1001, 0, "after a break of 00:00:00:00 and 1 ticks"),
+                (999, 0, "where the recording lacks 00:00:00:00 and 1 ticks"),
                 (1000 - 3 * TICKS - 5, 0, "where the recording lacks 00:00:00:03 and 5 ticks"),
                 (5, 1, "where PTS go back")):
             one = part(fit()._replace(origin=origin), begin=75, base=base)
@@ -93,9 +94,95 @@ class Times(unittest.TestCase):
             self.assertEqual(list(break_lines([parts[0], one, one]))[0],
                              f"part 2 begins at 00:00:03:00, {words}")
         bases = [SentInBase(CLOCK - TICKS, 9 * TICKS, [], (0, 9)),
-                 SentInBase(0, 5 * TICKS, [], (10, 19))]
-        self.assertEqual([length_of(place, bases) for place in ((0, 3), (1, 3))],
-                         ["00:00:00:03", "00:00:00:13"])
+                 SentInBase(0, 5 * TICKS, [], (10, 19)), SentInBase(7, 7, [], (20, 29))]
+        self.assertEqual([length_of(place, bases) for place in ((0, 3), (1, 3), (2, 3))],
+                         ["00:00:00:03", "00:00:00:13", "00:00:00:18"])
+
+    def test_runs(self) -> None:
+        """Where each begins and ends, in PTS and after the first header, and in which PES packets
+        where there are several time bases."""
+        bases = [SentInBase(CLOCK - TICKS, 9 * TICKS, [], (0, 9)),
+                 SentInBase(100, 5 * TICKS, [], (10, 19))]
+        track: Any = None
+        self.assertEqual(list(run_lines([Run((0, 1), (0, 4), track), Run((0, 5), (1, 3), track)],
+                                        bases)), [
+            f"run 1 is sent from PTS 0 to PTS {3 * TICKS}, in PES packets 0 to 9, from 00:00:00:01 "
+            "to 00:00:00:04 after the first header",
+            f"run 2 is sent from PTS {4 * TICKS} to PTS {100 + 3 * TICKS}, in PES packets 0 to 9, "
+            "from 00:00:00:05 to 00:00:00:13 after the first header"])
+        self.assertEqual(list(run_lines([Run((0, 1), (0, 4), track)], bases[:1])), [
+            f"run 1 is sent from PTS 0 to PTS {3 * TICKS}, from 00:00:00:01 to 00:00:00:04 after "
+            "the first header"])
+
+    def test_drift(self) -> None:
+        """A frame or two each, in times that differ by no more than the double from all; the first
+        step is only small. What is asked: frames from a part to the next, and ticks."""
+        one, day = TICKS, FRAMES_OF_A_DAY
+        rows: list[tuple[list[tuple[int, int]], int | None]] = [
+            ([], None), ([(10_000, one)], None), ([(10_000, one)] * 2, 100),
+            ([(10_000, -one)] * 5, -100), ([(1000, one)] * 3, 1000), ([(999, one)] * 3, None),
+            ([(20_000, 2 * one)] * 2, 100), ([(20_000, 2 * one + 1)] * 2, None),
+            ([(20_000, -2 * one)] * 2, -100), ([(20_000, -2 * one - 1)] * 2, None),
+            ([(10_000, 3 * one), (10_000, one)], None), ([(10_000, -one), (10_000, one)], None),
+            ([(10_000, 0), (10_000, one)], None), ([(5, one), (10_000, one)], 100),
+            ([(10_000, one), (10_000, one), (10_000, -one), (10_000, one)], None),
+            ([(10_000, one), (10_000, one), (10_000, 0)], None),
+            ([(9, one), (10_000, one), (30_000, one)], 50),
+            ([(9, one), (10_000, one), (30_001, one)], None),
+            ([(9, one), (20_000, one), (13_333, 2 * one), (16_667, 2 * one)], 100),
+            ([(9, one), (20_001, one), (13_333, 2 * one), (16_666, 2 * one)], None),
+            ([(9, one), (0, one), (10_000, one)], None), ([(9, one), (-9, one)], None),
+            ([(9, one), (5, one), (-5, one)], None), ([(9, one), (day, one)], None),
+            ([(9, one), (day - 200_000, one)], 1)]
+        for steps, wanted in rows:
+            for begin in (0, CLOCK - one, CLOCK - 2 * one - 1):
+                parts = [(0, begin)]
+                for frames, ticks in steps:
+                    parts.append((parts[-1][0] + frames, (parts[-1][1] + ticks) % CLOCK))
+                with self.subTest(steps=steps, begin=begin):
+                    self.assertEqual(drift_of(parts), wanted)
+
+    def test_shifts(self) -> None:
+        """From when on, by how much, whether PTS go back; of more than twenty the last one, and how
+        many are left out; what to say of breaks, or that PTS drift."""
+        edges = [Edge(25 * at, b"", True) for at in range(999)]
+
+        def said(*origins: int, bases: Sequence[int] = (), known: int = 0,
+                 step: int = 250) -> list[str]:
+            parts = [part(fit()._replace(origin=origin % CLOCK), begin=step * at, base=base
+                          )._replace(end=(step + 99) * at)
+                     for at, (origin, base) in enumerate(zip(origins, bases or [0] * 99))]
+            tracks: Any = [SimpleNamespace(base=one.base, edges=edges, start=ticks_between(
+                one.origin, 0) // TICKS) for one in parts]
+            return shift_lines([Stretch(one, 10 * at, 10 * at + 10)
+                                for at, one in enumerate(tracks)], parts, known)
+
+        once = "; if the programme has a break there, say --breaks 1"
+        more = "; if the programme has breaks there, say --breaks "
+        at = "from 00:00:{}:00 on subtitles are {}".format
+        two, three = "0.08 s (2 frames)", "0.12 s (3 frames)"
+        rows: list[tuple[list[str], list[str]]] = [
+            (said(0, 2 * TICKS), [at(10, two + " late") + once]),
+            (said(0, -2 * TICKS), [at(10, two + " early")]),
+            (said(5, 5 + 2 * TICKS, 5, known=5), [at(10, two + " late"), at(20, "on time")]),
+            (said(0, TICKS, known=1), [at(10, "on time") + once]),
+            (said(0, 3 * TICKS, 5 * TICKS, known=3 * TICKS), [
+                at(10, "on time"), at(20, two + " late") + more + "2"]),
+            (said(9, 3 * TICKS, bases=(0, 1)), [
+                "from 00:00:10:00 on, where PTS go back, subtitles are " + three + " late" + once]),
+            (said(0, TICKS, 2 * TICKS, 3 * TICKS)[-1:], [
+                at(30, three + " late") + more + "3"])]
+        for found, wanted in rows:
+            self.assertEqual(found, wanted)
+        for count, left in ((20, ""), (21, "and so on, 1 time more"), (23, "and so on, 3 times "
+                                                                       "more")):
+            found = said(*(TICKS * 3 * at for at in range(count + 1)))
+            self.assertEqual((len(found), found[-2] == left), (20 + bool(left), bool(left)))
+            self.assertTrue(found[-1].endswith(f"{count * 12 / 100:.2f} s ({3 * count} frames) late"
+                                               f"{more}{count}"), found)
+        found = said(*(TICKS * at for at in range(4)), step=10_000)
+        self.assertEqual(found[-2:], [at(20, two + " late"), at(30, three + " late") +
+                                      "; PTS drift by 100 ppm against whole frames"])
 
 
 class Parts(unittest.TestCase):
@@ -121,6 +208,16 @@ class Parts(unittest.TestCase):
             with self.subTest(best=best, others=others, own=own):
                 self.assertEqual((len(as_good(one, own)), is_clear(one)), (equal, clear))
 
+    def test_order(self) -> None:
+        """The best first: by edges, where those with letters count twice, then by texts, then by
+        the start; none with which nothing agrees."""
+        wanted = [fit(10, 8, 2, start=9), fit(8, 8, 4, start=7), fit(8, 8, 3, start=1),
+                  fit(9, 7, 3, start=2), fit(9, 7, 3, start=5), fit(9, 6, 9, start=0)]
+        for seed in range(9):
+            some = [*wanted, fit(0, 0, 0, start=-1)]
+            random.Random(seed).shuffle(some)
+            self.assertEqual(best_first(some), wanted)
+
     def test_lines(self) -> None:
         """How many agree, among how many, which is next; what else there is to know."""
         def said(one: Part, count: int = 10) -> list[str]:
@@ -135,85 +232,15 @@ class Parts(unittest.TestCase):
                           apart=None))
         self.assertEqual(words[1:3], ["edges are 0 to 2 frames late, 2 in the middle",
                                       "the first edge that does not agree is 00:00:01:00"])
+        self.assertEqual(len(said(part(fit(5, 5, among=10)))), 1)
+        self.assertTrue(said(part(fit(), [fit(9, start=9), fit(8, start=8)]))[0].endswith(
+            "; next best: --origin 1009 with 9"))
         self.assertTrue(words[3].startswith("1 of them only to the nearest frame: "), words)
         self.assertIn("fewer than half of the edges agree with --origin 1000", words[4])
-        self.assertIn("all ends are 3 frames late compared with the beginnings", said(
-            part(fit(4, 4, among=9), apart=Apart(False, 3, 5, 5))))
-        for count in (1, NAMED, NAMED + 2):
-            line = next(line for line in said(part(fit(), [
-                fit(start=number) for number in range(1, count + 1)])) if "not unique" in line)
-            self.assertEqual((line.count("--origin"), line.endswith(" and 2 more")),
-                             (1 + min(count, NAMED), count > NAMED))
-
-
-class Listed(unittest.TestCase):
-    """What is heard of tables and pages."""
-
-    def pieces(self, packets: Sequence[bytes], size: int) -> list[Piece]:
-        return [Piece(b"".join(packets[at:at + size]), 0, len(packets[at:at + size]), 188)
-                for at in range(0, len(packets), size)]
-
-    def test_sections(self) -> None:
-        """Each once, over packets and several in one, behind what is torn; none that is wrong."""
-        long = pmt(3, 0x200, [(0x200 + at, 6, b"\x0a\x04eng\0" * 3) for at in range(12)])
-        short = pmt(1, 0x200, [(0x101, 6, b"")])
-        wrong = short[:-1] + bytes([short[-1] ^ 1])
-        other = pmt(2, 0x200, [(0x102, 6, b"")])
-        both = short + other[1:]
-        pointed = bytes([3]) + long[-3:] + short[1:]
-        for name, data, wanted in (
-                ("one", [short], [short[1:]]), ("twice", [short, short], [short[1:]]),
-                ("long", [long], [long[1:]]), ("wrong", [wrong], []),
-                ("two in one", [both], [short[1:], other[1:]]),
-                ("two", [short, other, short], [short[1:], other[1:]]),
-                ("wrong, then right", [wrong, short], [short[1:]]),
-                ("long, then one", [long, short, long], [long[1:], short[1:]])):
-            packets: list[bytes] = []
-            for one in data:
-                packets += in_packets(0x20, one, len(packets))
-            for size in (1, 2, 9):
-                tables = Tables(0x20)
-                with self.subTest(name, size=size):
-                    self.assertEqual([one for piece in self.pieces(packets, size)
-                                      for one in tables.new_sections(piece)], wanted)
-        tables = Tables(0x20)
-        self.assertEqual([one for piece in self.pieces(in_packets(0x20, pointed), 1)
-                          for one in tables.new_sections(piece)], [short[1:]])
-
-    def test_pages(self) -> None:
-        """Headers of all pages that are sent, those with the subtitle bit apart, wherever PES
-        packets are cut; the twelfth is shown, of more how many."""
-        pages = [packet(0, 0, [8, 8, 0, 8, 0, 8, 1, 0], b" " * 32),
-                 packet(1, 0, [0, 5, 0, 8, 0, 0, 1, 0], b" " * 32), CLOSING, row(20, HEADER[2:10])]
-        data = [pes_packet(TICKS * at, [pages[at % 4]] * 3) for at in range(6)]
-        packets = [one for at, pes in enumerate(data) for one in in_packets(0x101, pes, at)]
-        for size in (1, 2, 9):
-            stream = Teletext(0x101)
-            for piece in self.pieces(packets, size):
-                stream.take(piece)
-            self.assertEqual(stream.pages(), ["888"])
-        one = Teletext(0x101)
-        one.take(self.pieces(packets, 99)[0])
-        self.assertEqual(one.heard, {(0, 0x88), (1, 0x50), (0, 0xFF)})
-        for count, words in ((SHOWN, "811"), (SHOWN + 2, "811 and 2 more")):
-            one.sent = {(0, 0x10 * (at // 10) + at % 10) for at in range(count)}
-            self.assertTrue(one.line().endswith(f" {words}"), one.line())
-        self.assertIn("announced nothing; subtitle pages sent: none", Teletext(5).line())
-
-    def test_programmes(self) -> None:
-        """Of PAT and PMT the numbers; programme 0 is none; video is known by its PES packets."""
-        listing = Listing()
-        tables = [*in_packets(0, pat({0: 0x10, 7: 0x20})), *in_packets(0x20, pmt(7, 0x200, [
-            (0x101, 6, b"")])), *in_packets(0x10, pmt(9, 0x200, [(0x102, 6, b"")]))]
-        head = b"\0\0\1%b\0\0\x80\0\0"
-        sent = [*in_packets(0x200, head % b"\xe0" + b"x" * 90),
-                *in_packets(0x201, head % b"\xef" + b"x" * 90),
-                *in_packets(0x202, head % b"\xf0" + b"x" * 90),
-                *in_packets(0x203, head % b"\xc0" + b"x" * 90),
-                *in_packets(0x204, b"\0\0\2\xe0" + b"x" * 90),
-                *in_packets(0x205, pes_packet(0, [HEADER]))]
-        for piece in self.pieces([*tables, *sent], 3):
-            listing.take(piece)
-        self.assertEqual(([one.number for one in listing.programmes], listing.videos,
-                          sorted(listing.others), sorted(listing.streams)),
-                         ([7], [0x200, 0x201], [0x200, 0x201, 0x202, 0x203], [0x205]))
+        found = said(part(fit(4, 4, among=9), apart=Apart(False, 3, 5, 5)))
+        self.assertEqual(found[1:], ["all ends are 3 frames late compared with the beginnings"])
+        for count in (1, 5, 7):
+            line = said(part(fit(), [fit(start=at) for at in range(1, count + 1)]))[1]
+            names = ", ".join(f"--origin {1000 + at}" for at in range(1, min(count, 5) + 1))
+            self.assertEqual(line, "it is not unique: as good as --origin 1000 are " + names +
+                             " and 2 more" * (count > 5))

@@ -1,260 +1,298 @@
-"""tools/origin: the origin that a transmission was given is found again."""
+"""tools/origin, in process: the origin of transmissions that are known, what is said of them."""
 from __future__ import annotations
 
-import collections
+import argparse
 import random
+from typing import Sequence
 
-from subtitles.core.batch import with_headers
-from subtitles.core.pes import data_field, pes_packet, pts_in, teletext_packets
-from subtitles.core.stl import gsi_block, subtitle_blocks
-from subtitles.core.times import CLOCK, TICKS
-from subtitles.core.units import Units, header_in
-from subtitles.reading.votes import differences
-from .bench import Case, example, example_bytes, moved, packets, random_subtitles
+from subtitles.core.pes import (
+    MARK, START, data_field, pes_packet, pts_in, teletext_packets)
+from subtitles.core.stl import boxed, gsi_block, subtitle_blocks
+from subtitles.core.teletext import packet
+from subtitles.core.times import CLOCK, TICKS, time_of
+from subtitles.core.words import Stop
+from subtitles.reading.finding import (
+    Agreement, Origin, find, is_sent, main, read_words, sent_in, subtitles_of)
+from subtitles.reading.sent import Sent
+from .at_random import in_process
+from .bench import Case, alone, example, example_bytes, moved, packets, random_subtitles
+from .parts import CLOSING, HEADER, PAGE, row
 
-SEEDS = range(12)
-
-
-def origin_of(case: Case, stl: str, data: bytes,
-              *words: str) -> tuple[int, int | None, list[str]]:
-    """Status, the origin that is printed, and the lines beside it."""
-    done = case.tool("origin", stl, case.write("asked.pes", data), *words)
-    printed = done.out.decode().split()
-    return done.status, int(printed[1]) if printed else None, done.told
-
-
-def late_by(data: bytes, ticks: int) -> bytes:
-    """A file of PES packets with later PTS."""
-    return moved(data, lambda _, pts: pts + ticks)
+FIRST, COUNT = 1_000_000, 12  # the frame of the first subtitle; how many there are
+Times = Sequence[tuple[int, int, bytes]]  # subtitles: when they come, when they go, their texts
 
 
-def broken_somewhere(chance: random.Random, whole: bytes) -> bytes:
-    """A PES packet with another byte, or without some of its data units; most are as they were."""
-    data, way = bytearray(whole), chance.random()
-    if way < 0.1:
-        data[chance.randrange(6, len(data))] = chance.randrange(256)
-    elif way < 0.15:
-        data = data[:chance.randrange(6, len(data))]
-    return bytes(data)
+def each(count: int, step: int, lasts: int, text: bytes = b"Number %d", begin: int = 0) -> Times:
+    """Subtitles with the same time from one to the next."""
+    return [(begin + step * at, begin + step * at + lasts, text % at if b"%" in text else text)
+            for at in range(count)]
 
 
 class Origins(Case):
-    """Transmissions whose origin is known."""
+    """What is found."""
 
-    def test_finds_that_of_the_examples(self) -> None:
+    def stl(self, times: Times, name: str = "one.stl") -> str:
+        """A subtitle file."""
+        blocks = [subtitle_blocks(at, begin, end, 20, 2, boxed(text))
+                  for at, (begin, end, text) in enumerate(times)]
+        return self.write(name, gsi_block(b"One", len(blocks), len(blocks)) + b"".join(blocks))
+
+    def planned(self, stl: str, *words: str) -> list[bytes]:
+        """The program's own PES packets of a subtitle file."""
+        self.schedule(stl, "own.pes", *words)
+        return packets(self.read("own.pes"))
+
+    def find(self, stl: str, pes: Sequence[bytes], *words: str) -> Origin:
+        """What is found of a subtitle file and PES packets."""
+        path = self.write("one.pes", b"".join(pes))
+        return find(read_words("", [*words, "--", stl, path]), path)
+
+    def test_of_the_examples(self) -> None:
+        """Of each origin, also where PTS begin again."""
         for name, *words in (["hello"], ["story"], ["german", "--option", "german"]):
             for given in (0, 2029060592, CLOCK - 1, 813_000_017):
-                data = late_by(example_bytes(name + ".pes"), given)
-                found = origin_of(self, example(name + ".stl"), data, *words)
-                self.must(f"{name}, {given}", found[:2] == (0, given), found)
+                data = moved(example_bytes(name + ".pes"), lambda _, pts: pts + given)
+                found = self.find(example(name + ".stl"), [data], *words)
+                self.must(f"{name} {given}", (found.status, found.printed) == (
+                    0, [f"--origin {given}"]), found)
 
-    def test_finds_that_of_transmissions_at_random(self) -> None:
-        """Also where the PTS begin again, and in a part of the recording; `check` accepts with it.
-        """
-        for seed in SEEDS:
+    def test_of_transmissions_at_random(self) -> None:
+        """Of all, of a third, of two thirds of what is sent, and with PTS that are a little off;
+        PTS may begin again in their midst."""
+        for seed in range(8):
             chance = random.Random(seed)
             data, edges = random_subtitles(seed)
             stl = self.write("random.stl", data)
-            wraps = (CLOCK - TICKS * edges[len(edges) // 2]) % CLOCK
-            given = chance.choice([chance.randrange(CLOCK), wraps])
-            page, every = chance.choice(["888", "12A", "701"]), str(chance.randrange(5, 500))
-            pes = self.schedule(stl, "random.pes", "--page", page, "--every", every,
-                                "--origin", str(given))
-            whole = self.read("random.pes")
-            found = origin_of(self, stl, whole, "--page", page)
-            self.must(f"seed {seed}", found[:2] == (0, given), found)
-            status, lines = self.program("check", stl, pes, "--page", page, "--every", every,
-                                         "--origin", str(found[1]))
-            self.must(f"seed {seed}: check", status == 0, lines)
-            some = packets(whole)
-            part = b"".join(some[len(some) // 3:2 * len(some) // 3])
-            found = origin_of(self, stl, part, "--page", page)
-            self.must(f"seed {seed}, a part", found[:2] == (0, given), found)
+            given = chance.choice([chance.randrange(CLOCK),
+                                   -TICKS * edges[len(edges) // 2] % CLOCK])
+            page = chance.choice(["888", "12A", "701"])
+            pes = self.planned(stl, "--page", page, "--origin", str(given), "--every",
+                               str(chance.randrange(5, 500)))
+            lost = [one for one in pes if chance.random() < 0.67]
+            shaken = [moved(one, lambda _, pts: pts + chance.randrange(-250, 251)) for one in pes]
+            for name, some in (("all", pes), ("a third", pes[len(pes) // 3:2 * len(pes) // 3]),
+                               ("lost", lost), ("shaken", shaken)):
+                found = self.find(stl, some, "--page", page)
+                away = abs(found.parts[0].origin - given) if found.parts else CLOCK
+                self.must(f"{seed} {name}", found.status == 0 and
+                          away <= 100 * (name == "shaken"), (found, given))
 
-    def test_finds_it_where_sendings_are_lost(self) -> None:
-        """With a third of the PES packets lost, and letters that another inserter leaves out."""
-        for seed in SEEDS:
-            chance = random.Random(seed)
-            data, _ = random_subtitles(seed)
-            stl = self.write("lost.stl", data)
-            self.schedule(stl, "lost.pes", "--origin", "90000", "--every", "1500")
-            kept = [one for one in packets(self.read("lost.pes")) if chance.random() < 0.67]
-            found = origin_of(self, stl, b"".join(kept))
-            self.must(f"seed {seed}", found[:2] == (0, 90000), found)
-
-    def test_tells_that_all_is_late(self) -> None:
-        late = moved(example_bytes("story.pes"), lambda _, pts: pts + 2 * TICKS)
-        found = origin_of(self, example("story.stl"), late)
-        self.must("beside 0", found[:2] == (0, 7200)
-                  and "origin: that is 2 frames late compared with --origin 0" in found[2], found)
-        early = moved(example_bytes("story.pes"), lambda _, pts: pts + 5_000_000_000 - TICKS)
-        found = origin_of(self, example("story.stl"), early, "--origin", "5000000000")
-        self.must("beside one that is known", found[:2] == (0, 4_999_996_400) and
-                  "origin: that is 1 frame early compared with --origin 5000000000" in found[2],
-                  found)
-
-    def test_tells_that_ends_are_late(self) -> None:
-        data, edges = random_subtitles(3)
-        stl = self.write("ends.stl", data)
-        self.schedule(stl, "ends.pes", "--every", "1500")
-        begins = {TICKS * frame for frame in edges[::2]}
-        late = moved(self.read("ends.pes"), lambda _, pts: pts if pts in begins else pts
-                     + 3 * TICKS)
-        found = origin_of(self, stl, late)
-        self.must("three frames", found[:2] == (0, 0)
-                  and "origin: all ends are 3 frames late compared with the beginnings"
-                  in found[2], found)
-
-    def test_tells_that_rows_are_late(self) -> None:
-        """Each header erases the page, and the rows come in the next frame."""
-        data, _ = random_subtitles(5)
-        stl = self.write("rows.stl", data)
-        self.schedule(stl, "rows.pes", "--every", "1500")
-        made = b""
-        for one in packets(self.read("rows.pes")):
-            sent = teletext_packets(data_field(one))
-            made += pes_packet(pts_in(one), sent[:1])
-            if len(sent) > 2:
-                made += pes_packet(pts_in(one) + TICKS, sent[1:])
-        found = origin_of(self, stl, made)
-        self.must("one frame", found[:2] == (0, TICKS)
-                  and "origin: all ends are 1 frame early compared with the beginnings"
-                  in found[2], found)
-
-    def test_tells_that_rows_of_any_number_are_late(self) -> None:
-        """The same where no subtitles adjoin, of one subtitle, and where a sending is lost."""
+    def test_of_rows_that_are_late(self) -> None:
+        """Each header erases the page, and the rows come in the next frame: the origin is that of
+        the rows, with any number of subtitles, and where a sending is lost."""
         for count in (1, 2, 3, 20):
-            blocks = [subtitle_blocks(number, 100 * number, 100 * number + 60, 22, 2,
-                                      b"Subtitle %d" % number) for number in range(count)]
-            stl = self.write("rows.stl", gsi_block(b"Rows", count, count) + b"".join(blocks))
-            self.schedule(stl, "rows.pes", "--every", "1500")
+            stl = self.stl(each(count, 100, 60))
             made = []
-            for one in packets(self.read("rows.pes")):
-                sent = teletext_packets(data_field(one))
-                made.append(pes_packet(pts_in(one), sent[:1]))
-                if len(sent) > 2:
-                    made.append(pes_packet(pts_in(one) + TICKS, sent[1:]))
-            for name, some in (("all", made), ("one lost", made[:7] + made[8:])):
-                if name == "all" or count == 20:
-                    found = origin_of(self, stl, b"".join(some))
-                    which = "all" if name == "all" else "19 of 20"
-                    self.must(f"{count}, {name}", found[:2] == (0, TICKS)
-                              and f"origin: {which} ends "
-                              "are 1 frame early compared with the beginnings" in found[2], found)
+            for one in self.planned(stl, "--every", "1500"):
+                header, *rest = teletext_packets(data_field(one))
+                made.append(pes_packet(pts_in(one), [header]))
+                made += [pes_packet(pts_in(one) + TICKS, rest)] * (len(rest) > 1)
+            for some, which in ((made, "all"), (made[:7] + made[8:], "19 of 20"))[:count // 10 + 1]:
+                found = self.find(stl, some)
+                self.must(f"{count} {which}", found.printed == [f"--origin {TICKS}"] and
+                          f"{which} ends are 1 frame early compared with the beginnings"
+                          in found.told, found)
 
-    def test_tells_that_pes_packets_have_no_pts(self) -> None:
-        own = packets(example_bytes("story.pes"))
-        without = [one[:7] + b"\0" + one[8:] for one in own]
-        found = origin_of(self, example("story.stl"), b"".join(without))
-        self.must("none", found[:2] == (1, None) and found[2][0].endswith(
-            " has a PTS: check refuses them as 34") and len(found[2]) == 1, found)
-        found = origin_of(self, example("story.stl"), b"".join([*own[:2], without[2], *own[3:]]))
-        self.must("one has none", found[:2] == (0, 0)
-                  and "origin: 1 of 5 PES packets have no PTS, and are skipped here: check "
-                  "refuses "
-                  "them as 34" in found[2], found)
+    def test_of_few_edges(self) -> None:
+        """One subtitle of two seconds, and recordings in which others last as long; subtitles that
+        are all alike."""
+        one = self.stl([(100, 150, b"Own")])
+        rows: list[tuple[list[bytes], int | None]] = [
+            ([b"Other"], 0), ([b"Other", b"Another"], None), ([b"Own", b"Other"], 0),
+            ([b"Other", b"Own"], 200 * TICKS), ([b"Own", b"Own"], None)]
+        for texts, wanted in rows:
+            pes = self.planned(self.stl([(200 * at + 100, 200 * at + 150, text)
+                                         for at, text in enumerate(texts)], "sent.stl"))
+            found = self.find(one, pes)
+            is_told = any("not unique" in line for line in found.told)
+            self.must(f"{texts}", ([part.origin for part in found.parts], is_told) == (
+                [wanted][:wanted is not None], wanted is None), found)
+        pes = self.planned(self.stl([(100, 150, b"Other"), (300, 350, b"Own")], "sent.stl"))
+        for some, printed in ((pes[2:3], [f"--origin {200 * TICKS}"]), (pes[1:2], [])):
+            for run in range(2):
+                found = self.find(one, some, *["--run", "1"] * run)
+                self.must("one sending", found.printed == printed, found)
+        for words, line in (["--run", "2"], "there is no run 2 of the programme but one"), (
+                ["--page", "100"], f"there is no header of page 100 in {self.path('one.pes')}; "
+                "other subtitle pages: 888"):
+            found = self.find(one, pes, *words)
+            self.must(line, (found.status, found.told, found.parts) == (1, [line], []), found)
+        alike = self.stl(each(30, 100, 50, b"Again"))
+        pes = self.planned(alike)
+        for some, printed in ((pes, ["--origin 0"]), (pes[10:20], [])):
+            self.must("alike", self.find(alike, some).printed == printed)
 
-    def test_tells_jitter(self) -> None:
-        data, _ = random_subtitles(4)
-        stl = self.write("jitter.stl", data)
-        self.schedule(stl, "jitter.pes")
-        chance = random.Random(4)
-        shaken = moved(self.read("jitter.pes"), lambda _, pts: pts + chance.randrange(-250, 251))
-        status, found, told = origin_of(self, stl, shaken)
-        away = CLOCK if found is None else min(found, CLOCK - found)
-        self.must("milliseconds", status == 0 and away < 100
-                  and any("refused as 61" in line for line in told), (found, told))
+    def test_of_parts_that_adjoin(self) -> None:
+        """The last subtitle before a break is erased at its TCO, which is the TCI of the next one;
+        two subtitles alone are no part, nor late."""
+        for count, frames in ((12, 4500), (3, 4500), (12, 250), (40, 300)):
+            times = [*each(2 * count, 100, 60, begin=FIRST)]
+            times[count - 1] = (*times[count - 1][:1], times[count][0], b"Last")
+            stl, parts = self.stl(times), [times[:count], times[count:]]
+            pes = [one for at, part in enumerate(parts) for one in self.planned(
+                self.stl(part, "sent.stl"), "--origin", str(77_000 + at * frames * TICKS))]
+            found = self.find(stl, pes, "--breaks", "1")
+            self.must(f"{count} {frames}", found.printed == [
+                f"--from {time_of(part[0][0])} --to {time_of(part[-1][1])} --origin {77_000 + late}"
+                for part, late in zip(parts, (0, frames * TICKS))] and
+                      not any("reaches into" in line for line in found.told) and
+                      found.told[0] == f"2 parts: {4 * count} of {4 * count} edges agree", found)
+        times = [*each(20, 70, 40), (1500, 1520, b"One"), (1600, 1650, b"Two")]
+        pes = self.planned(self.stl(times[:20], "sent.stl")) + self.planned(
+            self.stl(times[20:], "sent.stl"), "--origin", str(900 * TICKS))
+        found = self.find(self.stl(times), pes)
+        self.must("two", found.printed == ["--origin 0"] and not found.shifts, found)
 
-    def test_tells_what_is_not_unique(self) -> None:
-        """Subtitles that are all alike, of which the recording has some."""
-        blocks = [subtitle_blocks(number, 100 * number, 100 * number + 50, 22, 2, b"Again")
-                  for number in range(30)]
-        stl = self.write("alike.stl", gsi_block(b"Alike", 30, 30) + b"".join(blocks))
-        self.schedule(stl, "alike.pes")
-        some = packets(self.read("alike.pes"))
-        status, _, told = origin_of(self, stl, b"".join(some[10:20]))
-        self.must("some of them", status == 1 and any("not unique" in line for line in told), told)
-        status, found, told = origin_of(self, stl, b"".join(some))
-        self.must("all of them", (status, found) == (0, 0), told)
+    def sent(self, begin: int, late: Sequence[int] = (0,) * COUNT) -> list[bytes]:
+        """The PES packets of a programme from a PTS on, some later by so many frames."""
+        return [pes_packet((begin + TICKS * (70 * number + frame + by)) % CLOCK, [
+            HEADER, *[row(20, b"Number %d" % number)] * (not frame), CLOSING])
+            for number, by in enumerate(late) for frame in (0, 40)]
 
-    def test_tells_that_a_few_edges_fit_elsewhere(self) -> None:
-        """One subtitle of two seconds, and recordings in which others last as long."""
-        def sent_as(texts: list[bytes]) -> bytes:
-            blocks = [subtitle_blocks(number, 200 * number + 100, 200 * number + 150, 22, 2, text)
-                      for number, text in enumerate(texts)]
-            stl = self.write("sent.stl", gsi_block(b"Sent", len(texts), len(texts))
-                             + b"".join(blocks))
-            self.schedule(stl, "sent.pes")
-            return self.read("sent.pes")
+    def own(self) -> str:
+        """Its subtitle file."""
+        return self.stl(each(COUNT, 70, 40, begin=FIRST))
 
-        one = self.write("one.stl", gsi_block(b"One", 1, 1)
-                         + subtitle_blocks(0, 100, 150, 22, 2, b"Own"))
-        for name, texts, wanted in (
-                ("one other text", [b"Other"], 0),  # nothing else fits
-                ("two other texts", [b"Other", b"Another"], None),
-                ("its text and another", [b"Own", b"Other"], 0),
-                ("another and its text", [b"Other", b"Own"], 200 * TICKS),
-                ("its text twice", [b"Own", b"Own"], None)):
-            status, found, told = origin_of(self, one, sent_as(texts))
-            self.must(name, (status, found) == (int(wanted is None), wanted)
-                      and any("not unique" in line for line in told) == (wanted is None),
-                      (found, told))
-        blank, begin = packets(sent_as([b"Other", b"Own"]))[1:3]
-        status, found, told = origin_of(self, one, begin)
-        self.must("its beginning alone", (status, found) == (0, 200 * TICKS), (found, told))
-        status, found, told = origin_of(self, one, blank)
-        self.must("an erased page alone", (status, found) == (1, None), (found, told))
-        status, found, told = origin_of(self, example("comments.stl"), example_bytes("hello.pes"))
-        self.must("two edges of other letters, or an erased page", (status, found) == (1, None)
-                  and "origin: it is not unique: as good as --origin 0 are --origin 8589574592" in
-                  told,
-                  (found, told))
+    def test_runs(self) -> None:
+        """The one that is said; a number that there is not, or none where there are several."""
+        gap = TICKS * 70 * (COUNT + 20)
+        for runs in (1, 2, 3):
+            pes = [one for number in range(runs) for one in self.sent(gap * number)]
+            for run in (None, 1, 2, 3, 4):
+                found = self.find(self.own(), pes, *([] if run is None else ["--run", str(run)]))
+                is_clear = run is not None and run <= runs or run is None and runs == 1
+                with self.subTest(runs=runs, run=run):
+                    self.assertEqual((found.status, found.runs), (int(not is_clear), runs))
+                    if is_clear:
+                        origin = (gap * ((run or 1) - 1) - TICKS * FIRST) % CLOCK
+                        self.assertEqual(found.printed, [f"--origin {origin}"])
+                    elif run is None:
+                        self.assertEqual(found.told[-1], f"say which one: --run 1 to --run {runs}")
+                    else:
+                        self.assertEqual(found.told[-1], f"there is no run {run} of the programme"
+                                         + " but one" * (runs == 1))
 
-    def test_tells_what_does_not_fit(self) -> None:
-        other = self.write("other.stl", random_subtitles(7)[0])
-        data, _ = random_subtitles(8)
-        self.schedule(self.write("own.stl", data), "own.pes")
-        status, _, told = origin_of(self, other, self.read("own.pes"))
-        self.must("another subtitle file", status == 1 and "fewer than half" in told[-2], told)
-        status, found, told = origin_of(self, self.path("own.stl"), self.read("own.pes"), "--page",
-                                        "100")
-        self.must("another page", (status, found) == (1, None) and told[0].endswith("pages: 888"),
-                  told)
+    def test_late_from_one_on(self) -> None:
+        """From when on, and by how much; how late the first is of what is known."""
+        late = [0] * 6 + [50] * 6
+        origin = (5000 - TICKS * FIRST) % CLOCK
+        for known, away in ((None, None), (origin, 0), ((origin - 7200) % CLOCK, 7200)):
+            found = self.find(self.own(), self.sent(5000, late),
+                              *([] if known is None else ["--origin", str(known)]))
+            with self.subTest(known=known):
+                self.assertEqual((found.status, found.shifted_from, found.away),
+                                 (0, FIRST + 70 * 6, away))
+                frames = 50 + (away or 0) // TICKS
+                self.assertIn(f"{frames / 25:.2f} s ({frames} frames) late", found.shifts[0])
+                self.assertEqual(found.parts[0].origin, origin)
+                agreed = found.agreement
+                self.assertTrue(agreed and (agreed.agree, agreed.among, agreed.edges,
+                                            agreed.are_all) == (12, 12, 12, True), agreed)
+        whole = self.find(self.own(), self.sent(5000))
+        self.assertTrue(whole.agreement and whole.agreement.are_all and not whole.shifts
+                        and whole.shifted_from is None)
+        self.assertIn("subtitles due from 11:06:40:00 to 11:07:12:10, page sent from 11:06:40:00 "
+                      "to 11:07:12:10", whole.told)
 
-    def test_goes_on_with_damaged_files(self) -> None:
-        cut = example_bytes("story.pes")[:-1]
-        status, found, told = origin_of(self, example("story.stl"), cut)
-        self.must("a cut PES packet", (status, found) == (0, 0) and "PES packet 4 is cut" in
-                  told[0],
-                  told)
-        first = example_bytes("story.pes")
-        without = first[:7] + b"\0" + first[8:]
-        status, found, told = origin_of(self, example("story.stl"), without)
-        self.must("a PES packet without a PTS", (status, found) == (0, 0), told)
+    def test_ends_that_are_late(self) -> None:
+        """All agree, as all ends are late by as much; of some it is not so."""
+        for late, are_all in (([3] * COUNT, True), ([3] * 6 + [9] * 6, False),
+                              ([3] * (COUNT - 1) + [9], False)):
+            pes = [pes_packet(TICKS * (70 * number + frame), [
+                HEADER, *[row(20, b"Number %d" % number)] * (not frame), CLOSING])
+                for number, by in enumerate(late) for frame in (0, 40 + by)]
+            found = self.find(self.own(), pes)
+            self.must(f"{late}", found.agreement is not None and
+                      found.agreement.are_all == are_all, found.agreement)
 
-    def test_counts_all_pairs(self) -> None:
-        """The votes are those of each pair of an edge and a change, counted one by one."""
-        for seed in SEEDS:
-            chance = random.Random(seed)
-            frames = sorted(chance.sample(range(4000), chance.randrange(1, 200)))
-            others = sorted(chance.sample(range(3000), chance.randrange(1, 150)))
-            least = frames[0] - others[-1]
-            size = frames[-1] - least + 1
-            counts = collections.Counter(frame - other for frame in frames for other in others[::2])
-            found = differences(frames, others[::2], least, size)
-            self.must(f"seed {seed}", list(found) == [counts[least + at] for at in range(size)])
+    def test_agreement(self) -> None:
+        """How many edges agree, among how many, with how many letters, of how many: where a text is
+        another one, where less is sent, and where an edge is not."""
+        pes, count = self.sent(5000), 2 * COUNT
+        pes[6] = pes_packet(5000 + TICKS * 210, [HEADER, row(20, b"Another"), CLOSING])
+        for some, wanted in (
+                (pes, Agreement(count, count, count - 1, count, True)),
+                (pes[:-3], Agreement(count - 3, count - 3, count - 4, count, True)),
+                (pes[:10] + pes[11:], Agreement(count - 2, count, count - 3, count, False))):
+            found = self.find(self.own(), some)
+            self.must(f"{wanted}", found.agreement == wanted, found)
 
-    def test_asks_many_in_one_step(self) -> None:
-        """Which PES packets may have a header is the same as where each is asked by itself."""
-        def is_wanted(coded: bytes) -> bool:
-            return header_in(coded) is not None
+    def test_breaks(self) -> None:
+        """As many as are said, each part with its frames; else how many there are."""
+        late = [0] * 6 + [1600] * 6
+        for said, status, breaks in ((1, 0, None), (2, 1, 1)):
+            found = self.find(self.own(), self.sent(0, late), "--breaks", str(said))
+            self.must(f"{said}", (found.status, found.breaks) == (status, breaks) and (
+                "1 break found, where --breaks 2 is said" in found.told) == (said == 2), found)
+        found = self.find(self.own(), self.sent(0, late), "--breaks", "1")
+        self.must("parts", [one.frames for one in found.parts] == [
+            (FIRST, FIRST + 70 * 5 + 40), (FIRST + 70 * 6, FIRST + 70 * 11 + 40)], found.parts)
+        found = self.find(self.own(), self.sent(0), "--breaks", "1")
+        self.must("none", found.told[0] == "no break found, where --breaks 1 is said", found.told)
 
-        for seed in SEEDS:
-            chance = random.Random(seed)
-            self.schedule(self.write("own.stl", random_subtitles(seed)[0]), "own.pes")
-            some = packets(self.read("own.pes"))
-            for them in (some, [broken_somewhere(chance, one) for one in some]):
-                one_by_one = [number for number, one in enumerate(them)
-                              if any(map(is_wanted, Units(one).coded_headers()))]
-                found = list(with_headers(them, is_wanted))
-                self.must(f"seed {seed}", found == one_by_one, (found, one_by_one))
+    @alone
+    def test_prints(self) -> None:
+        """All lines of all parts, each told one behind the name of the tool."""
+        pes = self.sent(0, [0] * 6 + [1600] * 6)
+        found = self.find(self.own(), pes, "--breaks", "1")
+        words = ["origin", "--breaks", "1", self.own(), self.write("one.pes", b"".join(pes))]
+        status, out, told = in_process(lambda line: main("", line), words)
+        self.must("all", (status, out.splitlines(), told.splitlines()) == (
+            0, found.printed, [f"origin: {line}" for line in found.told]) and
+                  (len(found.printed), len(found.told)) == (2, 4), (out, told))
+
+    def test_what_is_sent(self) -> None:
+        """What has no PTS, marks, another page: each is told, with how many they are."""
+        good = self.sent(0)[:3]
+        bare = good[0][:7] + b"\0" + good[0][8:]
+        other = [pes_packet(number, [packet(0, 0, [7, 8, 0, 8, 0, 8, 1, 0], b" " * 32), CLOSING,
+                                     *[row(1, b"%d" % number)]]) for number in range(2)]
+        rows: list[tuple[str, list[bytes], bool, list[str]]] = [
+                ("good", good, True, []),
+                ("bare", [bare, bare], False, ["none of 2 PES packets in a.pes has a PTS: "]),
+                ("marks", [*good, MARK], True, ["1 mark of what is missing "]),
+                ("some", [*good, MARK, bare, MARK], True, [
+                    "2 marks of what is missing ", "1 of 6 PES packets have no PTS, "]),
+                ("another page", other, False, ["there is no header of page 888 in a.pes; other "
+                                                "subtitle pages: 887"]),
+                ("other pages", [pes_packet(number, [packet(0, 0, [
+                    one, 8, 0, 8, 0, 8, 1, 0], b" " * 32), CLOSING, row(1, b"%d" % number)])
+                    for number, one in enumerate((1, 2, 3, 3, 2, 2, 4, 5, 4, 6))], False, [
+                        "there is no header of page 888 in a.pes; other subtitle pages: 882, 883, "
+                        "884, 881, 885"]),
+                ("no page", [pes_packet(0, [CLOSING])], False, [
+                    "there is no header of page 888 in a.pes; other subtitle pages: none"])]
+        for name, pes, is_page, told in rows:
+            sent, found = Sent(PAGE), list[str]()
+            sent.take_all(pes)
+            asked = argparse.Namespace(pes="a.pes", page=PAGE)
+            self.must(name, is_sent(sent, asked, found) == is_page and len(found) == len(told)
+                      and all(one.startswith(words) for one, words in zip(found, told)), found)
+
+    def test_files(self) -> None:
+        """A recording that is cut is read up to there, one that is none is not; subtitles that come
+        and go within a day."""
+        told: list[str] = []
+        data = b"".join(self.sent(0))
+        sent = sent_in(self.write("cut.pes", data[:-1]), "a.pes", PAGE, told)
+        self.must("cut", sent.bases.count == 2 * COUNT - 1 and told == [
+            f"a.pes: PES packet {2 * COUNT - 1} is cut; what stands before is used"], told)
+        with self.assertRaises(Stop):
+            sent_in(self.write("none.pes", START[:2] + b"x" * 99), "a.pes", PAGE, told)
+        times = [(10, 20), (30, 30), (50, 40), (60, 61)]
+        blocks = b"".join(subtitle_blocks(at, begin, end, 20, 2, b"A b")
+                          for at, (begin, end) in enumerate(times))
+        found = subtitles_of(self.write("x.stl", gsi_block(b"", 4, 4) + blocks), "english")
+        self.must("subtitles", [(one.begin, one.end, one.letters) for one in found] ==
+                  [(10, 20, b"Ab"), (60, 61, b"Ab")], found)
+        with self.assertRaises(Stop):
+            subtitles_of(self.write("y.stl", gsi_block(b"", 0, 0)), "english")
+
+    def test_reads_standard_input(self) -> None:
+        """A transport stream, as it reads it from a file."""
+        words = "--pid", "0x101", "-p", self.bench.program
+        name, data = example("recording.ts"), example_bytes("recording.ts")
+        done = self.tool("origin", example("story.stl"), name, *words)
+        self.must("a file", (done.status, done.out) == (0, b"--origin 5000000000\n"), done)
+        self.must("standard input", self.tool("origin", example("story.stl"), "-", *words,
+                                              data=data) == done)

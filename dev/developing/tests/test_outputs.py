@@ -4,6 +4,7 @@ from __future__ import annotations
 import argparse
 import contextlib
 import csv
+import dataclasses
 import io
 import json
 import unittest
@@ -12,7 +13,7 @@ from xml.etree import ElementTree
 
 from subtitles.calls import collecting
 from subtitles.calls.junit import TestCase, text_of as junit_of
-from subtitles.calls.machine import file_words, gap_words, part_words
+from subtitles.calls.machine import asked_words, file_words, gap_words, part_words
 from subtitles.calls.objects import Row
 from subtitles.calls.table import cell_words, of_part, said, text_of as csv_of
 from subtitles.core.pieces import Pieces
@@ -22,7 +23,7 @@ from subtitles.qc.sums import File
 from subtitles.qc.verdict import Gap
 from subtitles.reading.losses import Place
 from .bench import Case
-from .parts import part_with
+from .parts import asked_for, part_with
 
 ASKED = {"stl": "one.stl", "recording": "one.ts"}
 NO_CELL = {"code": "00", "character": ""}
@@ -111,6 +112,21 @@ class Testcases(unittest.TestCase):
                     for verdict, status in self.CASES[:count]])
 
 
+    def test_words(self) -> None:
+        """The name, the seconds, and of what is not accepted its line and the first of its list."""
+        for verdict, status, tag in (("refused", 1, "failure"), ("not judged", 2, "error"),
+                                     ("waived", 0, "system-out"), ("accepted", 0, None)):
+            suites = ElementTree.fromstring(junit_of([TestCase(
+                "a\x1bb", verdict, status, "a\ufffe\nline", ["one", "two"], 1.25)], "2026T10:00Z"))
+            self.assertEqual((suites[0].get("timestamp"), suites[0].get("skipped")),
+                             ("2026T10:00", "0"))
+            self.assertEqual(suites[0][0].attrib, {"classname": "subttx", "name": "a\\x1bb",
+                                                   "time": "1.250"})
+            told = [(one.tag, one.text, one.attrib) for one in suites[0][0]]
+            words = {"message": "a\ufffd\nline", "type": verdict} if status else {}
+            self.assertEqual(told, [(tag, "a\ufffd\nline\none\ntwo", words)] * (tag is not None))
+
+
 class Statuses(Case):
     """The status of many pairs."""
 
@@ -157,6 +173,20 @@ class Members(unittest.TestCase):
                     "pes": 7, "ts_packets": 3, "scrambled": 2, "missing": 4,
                     "judged": is_judged})
 
+    def test_asked(self) -> None:
+        """Each option under its own name."""
+        own = asked_for("a.stl", "a.ts", *(
+            "--page 8A1 --every 7 --option german --origin 9 --no-complete --pid 0x101 --breaks 3 "
+            "--run 4 --within 5 --severity file --allow-lost").split())
+        own = dataclasses.replace(own, start="tcp")
+        words = {"stl": "a.stl", "recording": "a.ts", "page": "8A1", "every": 7, "option": "german",
+                 "origin": 9, "complete": False, "pid": 257, "allow_lost": True,
+                 "severity": "file", "breaks": 3, "run": 4, "start": "tcp", "within": 5,
+                 "strict": False}
+        for asked in (own, dataclasses.replace(own, is_loss_allowed=False, is_strict=True)):
+            self.assertEqual(asked_words(asked), {**words, "strict": asked.is_strict,
+                                                  "allow_lost": not asked.is_strict})
+
     def test_part(self) -> None:
         """What is judged of a recording, and by which clock; what was judged of a feed has a name
         where it is kept."""
@@ -178,8 +208,9 @@ class Members(unittest.TestCase):
 
     def test_columns_of_parts(self) -> None:
         """What is judged, of the only part, or of that with a fault; of several a pair has none."""
-        parts: list[dict[str, Any]] = [{"part": number, "pid": pid, "pes": f"{number}-9", "packet_size": 188}
-                 for number, pid in ((1, 0x101), (2, None))]
+        parts: list[dict[str, Any]] = [
+            {"part": number, "pid": pid, "pes": f"{number}-9", "packet_size": 188}
+            for number, pid in ((1, 0x101), (2, None))]
         first, second = ({"pid": pid, "range": f"{number}-9", "packet_size": 188}
                          for number, pid in ((1, "0x101"), (2, None)))
         nothing: dict[str, object] = {}

@@ -4,8 +4,9 @@ from __future__ import annotations
 import unittest
 from typing import Any
 
+from subtitles.core.national import ENGLISH
 from subtitles.preview.drawing import (
-    LOW_ROWS, Span, cut_of, differences, empty_picture, frames_of, is_boxed, picture, row_drawing,
+    LOW_ROWS, Span, cut_of, differences, frames_of, is_boxed, picture, row_drawing,
     spans_of, text_of_code, words_of)
 from subtitles.reading.receiver import BLANK_PAGE, HIT, OLD, Rows
 
@@ -57,6 +58,23 @@ class Attributes(unittest.TestCase):
             with self.subTest(row=row):
                 self.assertEqual({name: getattr(found, name) for name in own}, own)
 
+    def test_rows(self) -> None:
+        """Rows that ffmpeg and libzvbi draw the same: of each cell the ink, the paper, and whether
+        it is in a box, flashes, and is of double height."""
+        for codes, *wanted in (
+                ("0b 0b 03 1d 61 04 62 1c 63 0a 0a 64", "777333444444", "000333300000",
+                 " bbbbbbbbb  ", " " * 12, " " * 12),
+                ("0d 01 0b 0b 08 61 09 62 0c 63 0a 62", "771111111111", "0" * 12, "   bbbbbbbbb",
+                 "     f      ", " ddddddd    "),
+                ("0b 61 0a 62 0b 0b 02 1d 07 61 0a 0a", "777777722777", "000000022222",
+                 "     bbbbbb ", " " * 12, " " * 12)):
+            cells = [one for one in spans_of(bytes.fromhex(codes), 20, ENGLISH.bits, True)
+                     for _ in one.letters]
+            found = ["".join(letters) for letters in zip(*(
+                (str(cell.ink), str(cell.paper), " b"[cell.boxed], " f"[cell.flash],
+                 " d"[cell.double]) for cell in cells))]
+            self.assertEqual(found, wanted)
+
     def test_mosaics(self) -> None:
         """From a colour of mosaics on, up to one of letters; capital letters stay."""
         for row, letters in ((b"\x11a", "\u2592"), (b"\x11A", "A"), (b"\x11 ", " "),
@@ -67,41 +85,25 @@ class Attributes(unittest.TestCase):
 class Rowed(unittest.TestCase):
     """Rows and pages as SVG."""
 
-    def test_row(self) -> None:
-        """Grounds of boxes alone, letters where they stand, marks of cells nobody sent."""
-        drawn, is_tall = row_drawing(b"\x0b\x0b\1Red  x".ljust(40), 20, 0, True)
-        self.assertIn('<g transform="translate(0 285)">', drawn)
-        self.assertIn('<rect class="p0" x="12" width="468" height="15"/>', drawn)
-        self.assertIn('<text class="i1" x="36" y="11.8" textLength="72"', drawn)
-        self.assertIn(">Red  x</text>", drawn)
-        self.assertFalse(is_tall)
-        drawn, is_tall = row_drawing(b"\x0dA".ljust(40), 20, 0, False)
-        self.assertTrue(is_tall)
-        self.assertIn('height="30"', drawn)
-        self.assertIn(' transform="scale(1 2)"', drawn)
-        outside = row_drawing(b"\x08A<".ljust(40), 20, 0, True)[0]
-        self.assertIn('class="i7 f u"', outside)
-        self.assertIn("A&lt;", outside)
-        self.assertNotIn("<rect", outside)
+    def test_picture(self) -> None:
+        """Rows in use, none that is below one of double height; letters in boxes and outside, frames
+        and the place."""
+        rows = page(r20=b"\x0b\x0b\x0dtall", r21=b"\x0b\x0bhidden", r22=b"\x0b\x0b\1seen <")
+        drawn = picture(rows, SUBTITLE_HEADER, "label", (19, 23), [(22, 3), (22, 4)], (20, 5))
+        self.assertEqual(("tall" in drawn, "hidden" in drawn, "seen &lt;</text>" in drawn),
+                         (True, False, True))
+        for part, count in (('class="n"', 2), ('<rect class="p0" x="12" width="468" height="30"/>',
+                            1), ('<g transform="translate(0 315)"><rect class="p0" x="12"', 1),
+                            ('class="i1" x="36"', 1), ('transform="scale(1 2)"', 1),
+                            ('<rect class="d1" x="36" y="315" width="24" height="15"/>', 1),
+                            ('<rect class="d1" x="56" y="281" width="20" height="38"/>', 1),
+                            ("M66 279l-6 -9h12z", 1)):
+            self.assertEqual(drawn.count(part), count, part)
+        for header, count in ((PLAIN_HEADER, 3), (SUBTITLE_HEADER, 1)):
+            self.assertEqual(picture(rows, header, "", (18, 20)).count('class="n"'), count)
         marked = row_drawing(bytes([OLD] * 3 + [0x41, HIT, HIT]).ljust(40), 20, 0, True)[0]
         self.assertIn('<rect class="old" x="1" y="1" width="34" height="13"/>', marked)
         self.assertIn('<rect class="hit" x="49" y="1" width="22" height="13"/>', marked)
-
-    def test_picture(self) -> None:
-        """Rows in use, none that is below one of double height; frames and the place."""
-        rows = page(r20=b"\x0b\x0b\x0dtall", r21=b"\x0b\x0bhidden", r22=b"\x0b\x0bseen")
-        drawn = picture(rows, SUBTITLE_HEADER, "label", (19, 23), [(22, 3), (22, 4)], (20, 5))
-        self.assertEqual(("tall" in drawn, "hidden" in drawn, "seen" in drawn),
-                         (True, False, True))
-        self.assertEqual(drawn.count('class="n"'), 2)
-        self.assertIn('<rect class="d1" x="36" y="315" width="24" height="15"/>', drawn)
-        self.assertIn('<rect class="d1" x="56" y="281" width="20" height="38"/>', drawn)
-        self.assertIn("M66 279l-6 -9h12z", drawn)
-        self.assertEqual(picture(rows, PLAIN_HEADER, "", (18, 20)).count('class="n"'), 3)
-        self.assertEqual(picture(rows, SUBTITLE_HEADER, "", (18, 20)).count('class="n"'), 1)
-        self.assertIn('viewBox="-2 ', picture(rows, PLAIN_HEADER, "", (1, 2), kind="page small"))
-        self.assertIn('viewBox="-22 284 504 47"', picture(rows, PLAIN_HEADER, "", (20, 22)))
-        self.assertIn(">why &lt;</text>", empty_picture("why <", (20, 22)))
         self.assertEqual([is_boxed(bytes([8, 8, 0, 0, 0, bits, 1, 0])) for bits in (0, 4, 8, 12)],
                          [False, True, True, True])
 
@@ -136,12 +138,15 @@ class Rowed(unittest.TestCase):
 
     def test_words(self) -> None:
         """What a cell holds, and a page for people who hear it."""
+        names = dict(enumerate("black red green yellow blue magenta cyan white flash steady".split()))
+        names |= {0x0A: "end box", 0x0B: "start box", 0x0C: "normal height", 0x0D: "double height",
+                  0x18: "conceal", 0x1C: "black background", 0x1D: "new background"}
+        for code in range(32):
+            words = f"code {code:02X}" + (f" ({names[code]})" if code in names else "")
+            self.assertEqual([text_of_code(one, 0) for one in (code, code + 0x80)], [words] * 2)
         for byte, words in ((0x41, "<code>A</code>"), (0x20, "a space"), (OLD,
                             "nothing that was sent"), (HIT, "a space for a byte of even parity"),
-                            (0x01, "code 01 (red)"), (0x0B, "code 0B (start box)"),
-                            (0x1E, "code 1E"), (0x81, "code 01 (red)"), (0x3C, "<code>&lt;</code>"),
-                            (0x00, "code 00 (black)"), (0x07, "code 07 (white)"),
-                            (0x18, "code 18 (conceal)")):
+                            (0x3C, "<code>&lt;</code>")):
             self.assertEqual(text_of_code(byte, 0), words)
         self.assertEqual(text_of_code(0x5B, 4), "<code>\u00c4</code>")
         for rows, words in ((BLANK_PAGE, "blank"), (page(r20=b"\x0b\x0b"), "blank"),

@@ -9,14 +9,13 @@ from typing import Sequence
 
 from subtitles.core.pes import (
     MARK, data_field, has_pts, pes_packet, pts_in, teletext_packets)
-from subtitles.core.stl import gsi_block, groups_in, subtitle_blocks, subtitles_in, tti_block
+from subtitles.core.stl import gsi_block, subtitle_blocks
 from subtitles.core.teletext import address_of, header_of, is_odd, packet, page_in
 from subtitles.core.times import CLOCK, FRAMES_OF_A_DAY, TICKS, ticks_between, time_of
 from subtitles.core.words import Stop, counted
 from subtitles.reading.cutting import Cut, cut_out, times_of_file
-from subtitles.reading.repeat import longest_gap, measured, sendings
+from subtitles.reading.repeat import sendings
 from subtitles.reading.sent import Sent, SentInBase
-from .bench import Case
 from .parts import CLOSING, HEADER, PAGE, row
 
 # Headers: of page 888 without C4, of others of its magazine and of another one, with C6 and C11.
@@ -130,7 +129,7 @@ class Changes(unittest.TestCase):
                  packet(0, 20, (), b" " * 40), packet(0, 21, (), b"X!".ljust(40)),
                  packet(0, 0, [8, 8, 0, 8, 0, 0, 1, 0], b" " * 32),
                  row(1, b"even")[:-1] + b"A", bytes([HEADER[0] ^ 6]) + HEADER[1:]]
-        for seed in range(300):
+        for seed in range(60):
             chance, pts, pes = random.Random(seed), CLOCK - 9 * TICKS, list[bytes]()
             for _ in range(40):
                 pts += chance.choice([TICKS, TICKS, TICKS, 5, -20 * TICKS])
@@ -156,23 +155,6 @@ class Changes(unittest.TestCase):
                     for first, last in sent.bases.ranges()
                     if (headers := [one for one in sent.headers if first <= one.number <= last])
                     and (changes := [one for one in sent.changes if first <= one.number <= last])])
-
-    def test_repeats(self) -> None:
-        """The frames from a repeat to the next, at most times; none that has an edge since the
-        sending before the first, or up to five frames behind the second; three have to be left."""
-        for seed in range(400):
-            chance = random.Random(seed)
-            frames = [chance.randrange(120) for _ in range(chance.choice([0, 3, 5, 9, 20]))]
-            edges = sorted(chance.randrange(130) for _ in range(chance.choice([0, 0, 1, 3])))
-            known = sorted(set(frames))
-            gaps = [known[at + 1] - known[at] for at in range(1, len(known) - 1)
-                    if not any(known[at - 1] < edge <= known[at + 1] + 5 for edge in edges)]
-            times = [gap for gap in sorted(gaps) for _ in range(gap)]
-            with self.subTest(seed=seed):
-                self.assertEqual(measured(frames, edges),
-                                 times[(len(times) - 1) // 2] if len(gaps) > 2 else None)
-                self.assertEqual(longest_gap(frames), max([0, *(
-                    after - one for one, after in zip(known, known[1:]))]))
 
     def test_sendings(self) -> None:
         """Of each PES packet with a header of the page, however often, wherever in it; not of what
@@ -205,6 +187,8 @@ class Cuts(unittest.TestCase):
             ("blank, then a text", [blank, other], text, 0),
             ("a text, then blank", [other, blank], text, 1),
             ("blank, then none of the page", [blank, closing, closing], text, 3),
+            ("two headers, one erases", [[NOT_ERASING, HEADER, CLOSING]], text, 1),
+            ("two headers, the first erases", [[HEADER, NOT_ERASING, CLOSING]], text, 1),
             ("blank, a text, blank, others", [blank, other, blank, closing], text, 2),
             ("not known to be blank", [[NOT_ERASING, CLOSING]], text, 0),
             ("the same text", [blank, text], text, 2)]
@@ -235,16 +219,20 @@ class Cuts(unittest.TestCase):
 
     def test_ends_reading(self) -> None:
         """With the first PES packet behind the last sending, or else the second."""
-        for every, frames, read, is_over in (
-                (50, (100, 200, 210, 220), 3, True), (None, (100, 200, 210, 220), 3, True),
-                (None, (100, 199, 210, 220, 230), 4, True),
-                (50, (100, 199, 210, 260, 270), 4, True), (50, (100, 150), 2, False),
-                (50, (300, 310, 320), 3, False), (None, (10, 300, 310, 320), 4, False)):
+        for every, within, frames, read, is_over in (
+                (50, 0, (100, 200, 210, 220), 3, True), (None, 0, (100, 200, 210, 220), 3, True),
+                (None, 0, (100, 199, 210, 220, 230), 4, True),
+                (50, 0, (100, 199, 210, 260, 270), 4, True), (50, 0, (100, 150), 2, False),
+                (50, 0, (300, 310, 320), 3, False), (None, 0, (10, 300, 310, 320), 4, False),
+                (50, 2, (100, 150, 202, 210, 220), 4, True),
+                (50, 2, (100, 201, 203, 204, 205), 4, True),
+                (50, 2, (100, 201, 202, 204), 4, True), (50, 2, (100, 199, 260, 270), 4, True)):
             pes = [pes_packet(TICKS * frame, [HEADER, A, CLOSING]) for frame in frames]
-            cut = Cut(100, 200, PAGE, 0, every)
+            cut = Cut(100, 200, PAGE, 0, every, None, within)
             cut.taken(pes)
-            with self.subTest(every=every, frames=frames):
+            with self.subTest(every=every, within=within, frames=frames):
                 self.assertEqual((cut.read, cut.is_over), (read, is_over))
+                self.assertEqual(cut.came, 100 if frames[0] == 100 else None)
                 none = f"none of {read} PES packets is of these"
                 self.assertEqual(cut.told()[0].startswith(none), frames[-1] > 300)
 
@@ -296,13 +284,17 @@ class Cuts(unittest.TestCase):
         ("90h 90r 100t 200b", 50, 0, None, (0, 3)), ("90h 90r 100t 200b", 50, 1, None, (2, 3)),
         ("90b 91c 100t 200b", 50, 1, None, (0, 3)), ("90b 100t 150t 200b", 50, 0, (1, 2), (1, 2)),
         ("90b 100t 150t 200b", 50, 0, (0, 0), None), ("90b 100t 150t 200b", 50, 0, (2, 9), (2, 3)),
+        *((" ".join(["100t 150t 200b"] * 3), 50, 0, some, some)
+          for some in ((0, 2), (3, 5), (6, 8))), ("90b 100t 150t 200b", 50, 0, (2, 2), (2, 2)),
+        ("100t 300t 110t 120t", None, 0, None, (0, 3)),
         ("90b 100t 200b", 50, 0, (0, 2), (0, 2)), ("90o 95b 100t 200b", 50, 0, None, (1, 3)),
-        ("90b 95o 100o 200b", 50, 0, None, (0, 3)), ("90b 95t 101t 200b", 50, 0, None, (0, 3))]
+        ("90b 95o 100o 200b", 50, 0, None, (0, 3)), ("90b 95t 101t 200b", 50, 0, None, (0, 3)),
+        ("90b 95u 101t 200b", 50, 0, None, (0, 3)), ("90b 95u 100t 200b", 50, 0, None, (2, 3))]
 
     def test_bounds(self) -> None:
         """At each bound, and one frame before or behind it, wherever PTS begin again."""
         kinds = {"b": [HEADER, CLOSING], "t": [HEADER, A, CLOSING], "h": [HEADER], "c": [CLOSING],
-                 "o": [HEADER, A], "r": [A]}
+                 "o": [HEADER, A], "r": [A], "u": [HEADER, B, CLOSING]}
         for origin in (0, CLOCK - 100 * TICKS, CLOCK - 200 * TICKS):
             for sent, every, within, packets, wanted in self.OF_BOUNDS:
                 words = sent.split()
@@ -351,24 +343,24 @@ class Cuts(unittest.TestCase):
         """What is read in long runs is the same as PES packet by PES packet: with marks, wrong PTS,
         gaps, other lengths, and what has no PTS, at random places."""
         text, blank = [HEADER, A, CLOSING], [HEADER, CLOSING]
-        for seed in range(60):
-            chance = random.Random(seed)
-            pes = [pes_packet(TICKS * frame % CLOCK, blank if frame % 25 else text)
-                   for frame in range(40, 700)]
+        frames = [pes_packet(TICKS * frame, blank if frame % 25 else text)
+                  for frame in range(80, 300)]
+        for seed in range(120):
+            chance, pes = random.Random(seed), list(frames)
             for _ in range(chance.randrange(6)):
                 at = chance.randrange(len(pes))
                 pes[at:at + chance.randrange(1, 3)] = [chance.choice([
-                    MARK, pes_packet(TICKS * chance.randrange(900), text),
-                    MARK[:4] + b"\0\3" + MARK[:3], pes_packet(TICKS * 300, [HEADER] + [A] * 9),
-                    pes[at][:7] + b"\0" + pes[at][8:]])]
-            words = (100, 600, PAGE, 0, chance.choice([None, 50]),
-                     chance.choice([None, (50, 500)]), chance.choice([0, 0, 2]))
+                    MARK, pes_packet(TICKS * chance.randrange(400) + chance.randrange(-9, 9), text),
+                    MARK[:4] + b"\0\3" + MARK[:3], pes_packet(TICKS * 200, [HEADER] + [A] * 9),
+                    pes[at][:7] + b"\0" + pes[at][8:], pes[at][:7] + b"\x7f" + pes[at][8:]])]
+            words = (100, 250, PAGE, 0, chance.choice([None, 50]),
+                     chance.choice([None, None, (10, 150)]), chance.choice([0, 0, 2]))
             cuts = Cut(*words), Cut(*words)
             for one in pes:
                 cuts[0].taken([one])
             pieces, _ = cut_out(cuts[1], "a.pes", InRuns(b"".join(pes), chance))
             known = [(cut.number, cut.kept, cut.begins_at, cut.ends_at, cut.first, cut.last,
-                      cut.is_over) for cut in cuts]
+                      cut.is_over, cut.read) for cut in cuts]
             with self.subTest(seed):
                 self.assertEqual(known[0], known[1])
                 self.assertTrue(pieces)
@@ -383,40 +375,3 @@ class InRuns:
     def read(self, size: int, /) -> bytes:
         """Some bytes."""
         return self.file.read(min(size, 184 * self.chance.randrange(1, 9)))
-
-
-class Blocks(Case):
-    """Blocks of subtitle files: user data and comments before, between and after."""
-
-    def test_groups(self) -> None:
-        """A subtitle of two blocks with a comment between them, and one after it."""
-        one = [tti_block(1, 25, 50, 20, 2, b"a", 0), tti_block(1, 25, 50, 20, 2, b"b")]
-        comment = tti_block(9, 0, 0, 20, 2, b"note", comment=1)
-        user = tti_block(9, 0, 0, 20, 2, b"user", 0xFE)
-        two = [tti_block(257, 75, 99, 20, 2, b"c")]
-        for name, blocks, texts, sizes in (
-                ("plain", [*one, *two], [b"ab", b"c"], [2, 1]),
-                ("before", [comment, *one, *two], [b"ab", b"c"], [1, 2, 1]),
-                ("within", [one[0], comment, user, one[1], *two], [b"ab", b"c"], [4, 1]),
-                ("between", [*one, user, *two, comment], [b"ab", b"c"], [2, 1, 1, 1]),
-                ("none", [comment, user], [], [1, 1])):
-            data = gsi_block(b"", 1, 1) + b"".join(blocks)
-            self.must(name, [found.text for found in subtitles_in(data)] == texts)
-            groups = list(groups_in(data))
-            self.must(f"{name}: groups", [len(group.blocks) for group in groups] == sizes, groups)
-            self.must(f"{name}: blocks", [block for group in groups for block in group.blocks] ==
-                      blocks)
-
-    def test_blocks_of_others(self) -> None:
-        """A block that goes on another subtitle, by its low or its high number or its group."""
-        first = tti_block(5, 25, 50, 20, 2, b"a", 0)
-        for number, group, is_right in ((5, 0, True), (6, 0, False), (261, 0, False),
-                                        (5, 1, False)):
-            data = gsi_block(b"", 1, 1) + first + tti_block(number, 25, 50, 20, 2, b"b",
-                                                            group=group)
-            try:
-                found = [one.text for one in subtitles_in(data)]
-            except Exception as reason:
-                found = []
-                self.must(f"{number} {group}: why", "of another subtitle" in str(reason), reason)
-            self.must(f"{number} {group}", (found == [b"ab"]) == is_right, found)

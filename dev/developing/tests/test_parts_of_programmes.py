@@ -7,15 +7,15 @@ from typing import Sequence
 
 from subtitles.core.stl import gsi_block, subtitle_blocks, tti_block
 from subtitles.core.times import CLOCK, FRAMES_A_SECOND, TICKS, time_of
-from subtitles.reading.finding import Finding, OfPart, Origin
-from subtitles.reading.origin_words import break_lines, run_lines, shift_lines
+from subtitles.reading.finding import Agreement, Finding, OfPart, Origin
+from subtitles.reading.origin_words import run_lines
 from subtitles.reading.parting import Taken
-from subtitles.reading.parts import LACKED, Part, by_breaks, elections_of, parts_of
+from subtitles.reading.parts import Part, by_breaks, elections_of, parts_of
 from subtitles.reading.runs import find_runs, of_run
 from subtitles.reading.sent import Change, SentInBase
 from subtitles.reading.tracks import Stretch, Track, find_row, points_of
 from subtitles.reading.votes import (
-    Apart, Change as VotedChange, Edge, Election, Shown, differences, edges_of, least_pause,
+    LONG, Apart, Change as VotedChange, Edge, Election, Shown, differences, edges_of, least_pause,
     summed)
 
 COUNT = 36  # subtitles, twelve in each part
@@ -51,17 +51,22 @@ def parted(parts: Sequence[Part]) -> list[tuple[int, int, int, int, int]]:
     return [(one.begin, one.end, one.origin, one.base, one.best.agree) for one in parts]
 
 
-class ThreeParts(unittest.TestCase):
+class InThirds(unittest.TestCase):
     """A programme in three parts, each with twelve subtitles."""
 
     def setUp(self) -> None:
         self.all = subtitles()
         self.thirds = [self.all[at:at + 12] for at in (0, 12, 24)]
 
+
+class ThreeParts(InThirds):
+    """Where the parts are, and by which origins."""
+
     def parts(self, bases: Sequence[SentInBase], within: int = 0) -> list[Part]:
-        """The parts that are found."""
-        elections = elections_of(self.all, bases, within)
-        return parts_of(self.all, elections, by_breaks(find_row(elections)))
+        """The parts that are found, of subtitles in any order."""
+        some = self.all[::-1]
+        elections = elections_of(some, bases, within)
+        return parts_of(some, elections, by_breaks(find_row(elections)))
 
     def wanted(self, origins: Sequence[int],
                bases: Sequence[int]) -> list[tuple[int, int, int, int, int]]:
@@ -127,29 +132,6 @@ class ThreeParts(unittest.TestCase):
             with self.subTest(edge=edge, change=change):
                 self.assertEqual(points_of(edge, change), wanted)
 
-    def test_lines(self) -> None:
-        """What is said of the second part and the third, wherever PTS begin again."""
-        times = [time_of(some[0].begin) for some in self.thirds]
-        for shift in (0, CLOCK - TICKS * (FIRST + 3000)):
-            for away, breaks in (
-                    ((25 * SECOND, 25 * SECOND + 3), ["00:00:25:00", "00:00:00:03"]),
-                    ((3, 60 * SECOND), ["00:00:00:03", "00:00:59:22"])):
-                origins = [(shift + TICKS * frames) % CLOCK for frames in (0, *away)]
-                elections = elections_of(self.all, [base_of([
-                    change for some, origin in zip(self.thirds, origins)
-                    for change in changes_of(some, origin)])], 0)
-                row = find_row(elections)
-                parts = parts_of(self.all, elections, row)
-                with self.subTest(shift=shift, away=away):
-                    self.assertEqual(list(break_lines(parts)), [
-                        f"part {number} begins at {time}, after a break of {length}"
-                        for number, time, length in zip((2, 3), times[1:], breaks)])
-                    said = shift_lines(row, parts, shift)
-                    self.assertEqual([line.partition(";")[0] for line in said], [
-                        f"from {time} on subtitles are {frames / 25:.2f} s ({frames} frames) late"
-                        for time, frames in zip(times[1:], away)])
-                    self.assertTrue(said[-1].endswith(" --breaks 2"))
-
     def test_subtitle_over_a_break(self) -> None:
         """One that comes before a break and goes after it is in neither part, and told: of the
         first break, and of the second."""
@@ -158,15 +140,20 @@ class ThreeParts(unittest.TestCase):
             last, after = self.thirds[number][-1], self.thirds[number + 1][0]
             long = last._replace(end=after.begin + 1)
             own = [one if one != last else long for one in self.all]
-            elections = elections_of(own, [base_of([
-                change for some, origin in zip(self.thirds, origins)
-                for change in changes_of(some, origin)])], 0)
-            found = parts_of(own, elections, by_breaks(find_row(elections)))
+            sent = [base_of([change for some, origin in zip(self.thirds, origins)
+                             for change in changes_of(some, origin)])]
+            finding = Finding(own, sent, elections_of(own, sent, 0), None, Origin())
+            found = finding.parts(by_breaks(finding.row))
+            finding.find_parts(2)
+            told = [line for line in finding.origin.told if "reaches into" in line]
             with self.subTest(number=number):
                 self.assertEqual([part.over for part in found],
                                  [[long] if at == number else [] for at in range(3)])
                 self.assertEqual([part.begin for part in found],
                                  [some[0].begin for some in self.thirds])
+                self.assertEqual(told, [
+                    f"the subtitle from {time_of(long.begin)} to {time_of(long.end)} reaches into "
+                    "the next part, and is in none"])
 
     def test_breaks_among_stretches(self) -> None:
         """A stretch goes with the one before unless the clock stood still, PTS go back, or the
@@ -180,8 +167,8 @@ class ThreeParts(unittest.TestCase):
         for starts, ends in (
                 ([(0, 0), (0, -1), (0, -2)], [10, 20, 30]), ([(0, 0), (0, 1), (0, 2)], [30]),
                 ([(0, 0), (0, -1), (0, 0)], [10, 30]), ([(0, 0), (0, 1), (0, -1)], [20, 30]),
-                ([(0, 0), (0, LACKED), (0, LACKED)], [10, 30]),
-                ([(0, 0), (0, LACKED - 1), (0, LACKED)], [20, 30]),
+                ([(0, 0), (0, 1500), (0, 1500)], [10, 30]),
+                ([(0, 0), (0, 1499), (0, 1500)], [20, 30]),
                 ([(0, 0), (1, 0), (1, 0)], [10, 30]), ([(0, 0), (1, 5), (2, 5)], [10, 20, 30]),
                 ([(0, 0), (0, 5), (1, 5)], [20, 30])):
             with self.subTest(starts=starts):
@@ -217,31 +204,35 @@ class TakenOut(unittest.TestCase):
 
     def test_groups_and_others(self) -> None:
         """The groups of what is taken are counted; comments go by their own times, what has none
-        with what is before; what can't be read on ends it."""
-        note = tti_block(9, 30, 40, 20, 2, b"note", comment=1)
-        bare = tti_block(9, 0, 0, 20, 2, b"user", 0xFE)
-        bare = bare[:5] + b"\xff" * 8 + bare[13:]
-        blocks = [tti_block(1, 10, 20, 20, 2, b"a", group=1), bare, note,
-                  tti_block(2, 30, 40, 20, 2, b"b", group=2), bare,
-                  tti_block(3, 50, 60, 20, 2, b"c", group=2), bare[:90]]
+        with what is before, the blocks of a subtitle by its first; what can't be read on ends it.
+        """
+        def timeless(block: bytes, first: int, count: int) -> bytes:
+            return block[:first] + b"\xff" * count + block[first + count:]
+
+        note, user, own = (tti_block(9, 30, 40, 20, 2, b"text", ebn, comment)
+                           for ebn, comment in ((0xFF, 1), (0xFE, 0), (0xFF, 0)))
+        over = tti_block(9, 20, 35, 20, 2, b"over an edge", comment=1)
+        bare, half, other = timeless(user, 5, 8), timeless(own, 5, 4), timeless(own, 9, 4)
+        two = tti_block(3, 50, 60, 20, 2, b"c", 0, group=2) + tti_block(3, 10, 20, 20, 2, b"d",
+                                                                        group=2)
+        blocks = [bare, half, tti_block(1, 10, 20, 20, 2, b"a", group=1), bare, other, note,
+                  tti_block(2, 30, 40, 20, 2, b"b", group=2), bare, half, two,
+                  tti_block(4, 65, 55, 20, 2, b"back", group=4), over, bare[:90]]
         for begin, end, taken, count, groups in (
-                (0, 99, (0, 1, 2, 3, 4, 5), 3, 2), (0, 25, (0, 1), 1, 1), (30, 40, (2, 3, 4), 1, 1),
-                (30, 99, (2, 3, 4, 5), 2, 1), (70, 99, (), 0, 0)):
+                (0, 99, range(2, 12), 6, 4), (0, 25, (2, 3, 4), 2, 2), (30, 40, (5, 6, 7, 8), 2, 2),
+                (30, 99, (5, 6, 7, 8, 9, 10), 4, 3), (70, 99, (), 0, 0), (50, 60, (9,), 1, 1)):
             found = Taken(gsi_block(b"", 7, 3) + b"".join(blocks), begin, end)
             with self.subTest(begin=begin, end=end):
-                self.assertEqual(found.file()[1024:], b"".join(blocks[at] for at in taken))
-                self.assertEqual((found.count, found.read, len(found.groups)), (count, 3, groups))
-                self.assertEqual(str(found.damage), "block 7 is cut")
+                wanted = b"".join(blocks[at] for at in taken)
+                self.assertEqual(found.file()[1024:], wanted)
+                self.assertEqual((found.count, found.read, len(found.groups)), (count, 7, groups))
+                self.assertEqual(str(found.damage), "block 14 is cut")
                 self.assertEqual(found.file()[238:251], b"%05d%05d%03d" % (
-                    len(taken), count, groups))
+                    len(wanted) // 128, count, groups))
 
 
-class Findings(unittest.TestCase):
+class Findings(InThirds):
     """What is found of three parts, as the tool says it."""
-
-    def setUp(self) -> None:
-        self.all = subtitles()
-        self.thirds = [self.all[at:at + 12] for at in (0, 12, 24)]
 
     def finding(self, origins: Sequence[int], bases: Sequence[int], unclear: int | None = None,
                 known: int | None = None) -> Finding:
@@ -267,15 +258,46 @@ class Findings(unittest.TestCase):
             with self.subTest(bases=bases):
                 self.assertEqual((finding.origin.status, finding.origin.parts), (0, wanted))
                 self.assertEqual(len(finding.origin.printed), 3)
+                told = finding.origin.told
+                self.assertEqual(told[0], "3 parts: 72 of 72 edges agree")
+                self.assertEqual([line.partition(", ")[0] for line in told[1:3]], [
+                    f"part {at} begins at {time_of(self.thirds[at - 1][0].begin)}"
+                    for at in (2, 3)])
+                self.assertEqual(sum(line.startswith("24 of 24 edges agree, 24 with the letters "
+                                                     "that are due; this part has 24; next best: ")
+                                     for line in told), 3)
 
-    def test_other_breaks(self) -> None:
-        """How many there are, where others were said."""
-        for said, wanted in ((1, 2), (2, None), (3, 2)):
-            finding = self.finding((0, 6_000_000, 16_000_000), (0, 0, 0))
-            finding.find_parts(said)
-            with self.subTest(said=said):
-                self.assertEqual((finding.origin.breaks, finding.origin.status),
-                                 (wanted, int(said != 2)))
+    def test_one_of_several(self) -> None:
+        """Where one is to be found: that of the first part, and its PES packets where the programme
+        is in one of several time bases; when it was sent by that base; none where nothing fits."""
+        third = self.thirds[0]
+        other = changes_of([one._replace(letters=b"x") for one in subtitles(9, 4)], 17)
+        own = changes_of(third, 9_000_000)
+        last = time_of(third[-1].end)
+        for bases, packets, begin in (
+                ([own], "", third[0].begin), ([other, own], "--pes 1000-1999 ", third[0].begin),
+                ([own, other, other], "--pes 0-999 ", third[0].begin)):
+            sent = [base_of(one, number) for number, one in enumerate(bases)]
+            finding = Finding(third, sent, elections_of(third, sent, 0), 8_996_400, Origin())
+            finding.find_one()
+            found = finding.origin
+            with self.subTest(bases=len(bases)):
+                self.assertEqual((found.status, found.printed, found.away, found.shifts), (
+                    0, [f"{packets}--origin 9000000"], 3600, []))
+                self.assertEqual(found.agreement, Agreement(24, 24, 24, 24, True))
+                self.assertEqual(found.told[-1], f"subtitles due from {time_of(begin)} to {last}, "
+                                 f"page sent from {time_of(begin)} to {last}")
+        finding = self.finding((3_000_000_000, 70_000, 9), (0, 1, 2))
+        finding.find_one()
+        self.assertEqual(finding.origin.printed, ["--origin 3000000000"])
+        self.assertEqual((finding.origin.shifted_from, len(finding.origin.shifts)),
+                         (self.thirds[1][0].begin, 2))
+        self.assertEqual(finding.origin.told[-3:-1], finding.origin.shifts)
+        sent = [base_of([Change(5, b"", 0)])]
+        finding = Finding(third[:1], sent, elections_of(third[:1], [
+            sent[0]._replace(changes=[])], 0), None, Origin())
+        finding.find_one()
+        self.assertEqual(finding.origin.told, ["no edge agrees with any origin"])
 
     def test_one_part_is_not_clear(self) -> None:
         """Of the first, the second and the last: then none is told."""
@@ -294,6 +316,12 @@ class Findings(unittest.TestCase):
             finding.find_parts(2)
             with self.subTest(origin=origin, known=known):
                 self.assertEqual(finding.origin.away, wanted)
+        for origin, words in ((7200, "2 frames late"), (CLOCK - 3605, "1 frame and 5 ticks early")):
+            finding = self.finding([(origin + away) % CLOCK for away in (0, 6_000_000, 16_000_000)],
+                                   (0, 0, 0))
+            finding.find_parts(2)
+            self.assertEqual([line for line in finding.origin.told if "compared" in line],
+                             [f"that is {words} compared with --origin 0"])
 
 
 class ThreeRuns(unittest.TestCase):
@@ -322,6 +350,8 @@ class ThreeRuns(unittest.TestCase):
                                  [len(sent) > 1] * 3)
                 for number in range(len(runs)):
                     own = of_run(elections, runs, number + 1)
+                    self.assertEqual([len(one.changes) for one in own], [
+                        20 * (base == bases[number]) for base in range(len(own))])
                     [part] = parts_of(some, own, find_row(own))
                     self.assertEqual((part.origin, part.best.agree, part.base),
                                      (number * gap, 20, bases[number]))
@@ -337,6 +367,11 @@ class ThreeRuns(unittest.TestCase):
                 changes += changes_of(some, number * gap)[:2 * kept]
             with self.subTest(kept=kept):
                 self.assertEqual(len(find_runs(elections_of(some, [base_of(changes)], 0))), count)
+        for first, second, count in ((10, 6, 2), (12, 6, 2), (12, 7, 1), (8, 6, 1)):
+            changes = changes_of(some, 0)[:2 * first] + changes_of(some, gap)[2 * second:]
+            with self.subTest(first=first, second=second):
+                self.assertEqual(len(find_runs(elections_of(some, [base_of(changes)], 0))), count)
+        self.assertEqual(find_runs([]), [])
 
 
 class Votes(unittest.TestCase):
@@ -360,16 +395,19 @@ class Votes(unittest.TestCase):
 
     def test_all_pairs(self) -> None:
         """The quick count of differences is that of all pairs, of few edges and of many."""
-        for seed in range(30):
+        for seed in range(12):
             chance = random.Random(seed)
-            frames = sorted(chance.sample(range(2000), chance.randrange(1, 60)))
-            others = sorted(chance.sample(range(2000), chance.randrange(1, 60)))
+            frames = sorted(chance.sample(range(900), chance.randrange(1, 30)))
+            others = sorted(chance.sample(range(900), chance.randrange(1, 30)))
             least, most = frames[0] - others[-1], frames[-1] - others[0]
             wanted = [sum(frame - other == one for frame in frames for other in others)
                       for one in range(least, most + 1)]
             found = differences(frames, others, least, most - least + 1)
+            long = differences(frames, others, least, LONG + 1) if seed < 3 else found
             with self.subTest(seed=seed):
                 self.assertEqual(list(found), wanted)
+                self.assertEqual(list(long[:len(wanted)]), wanted)
+                self.assertEqual(sum(long), len(frames) * len(others))
 
     def test_sums_within(self) -> None:
         for within, wanted in ((0, [1, 0, 2, 0, 0, 4]), (1, [1, 1, 2, 2, 0, 4]),
@@ -388,23 +426,6 @@ class Votes(unittest.TestCase):
                 (edges((0, b"a"), (9, b""), (10, b"b"), (20, b"")), 6), (edges(), 6)):
             with self.subTest(some=some):
                 self.assertEqual(least_pause(some), wanted)
-
-    def test_apart(self) -> None:
-        """All ends, or all beginnings, late by the same number of frames."""
-        some = subtitles(2, 12)
-        for begins, ends, wanted in ((0, 0, None), (0, 3, Apart(False, 3, 12, 12)),
-                                     (0, -4, Apart(False, -4, 12, 12)),
-                                     (0, 50, Apart(False, 50, 12, 12)), (0, 51, None)):
-            late = [one._replace(begin=one.begin + begins, end=one.end + ends) for one in some
-                    ] if abs(ends) < 9 else [one._replace(end=one.end + ends) for one in some]
-            spread = [one._replace(begin=one.begin + 100 * number, end=one.end + 100 * number)
-                      for number, one in enumerate(late)]
-            due = [one._replace(begin=one.begin + 100 * number, end=one.end + 100 * number)
-                   for number, one in enumerate(some)]
-            changes = changes_of(spread, 0)
-            election = Election(edges_of(due), changes, changes[0].pts, changes[-1].pts)
-            with self.subTest(ends=ends):
-                self.assertEqual(election.apart(election.fits()[0]), wanted)
 
     def test_some_are_apart(self) -> None:
         """Nine of ten ends have to be late by as many frames."""
@@ -432,18 +453,6 @@ class Votes(unittest.TestCase):
             own = whole.limited(edges_of(half), -1, whole.length + 1)
             with self.subTest(half=half[0]):
                 self.assertEqual(own.apart(fit), wanted)
-
-    def test_first_that_does_not_agree(self) -> None:
-        """Of several edges that do not, the first."""
-        some = subtitles(7, 10)
-        for left_out in ((), (5,), (5, 9), (2, 3, 17)):
-            changes = [change for number, change in enumerate(changes_of(some, 0))
-                       if number not in left_out]
-            fit = Election(edges_of(some), changes, changes[0].pts, changes[-1].pts).fits()[0]
-            with self.subTest(left_out=left_out):
-                self.assertEqual((fit.agree, fit.first_other),
-                                 (20 - len(left_out),
-                                  edges_of(some)[left_out[0]].frame if left_out else None))
 
     def test_best(self) -> None:
         """Other texts at the same frames are worse than the same texts a little later."""

@@ -2,7 +2,6 @@
 """
 from __future__ import annotations
 
-import itertools
 import os
 from types import SimpleNamespace
 from typing import Any, Sequence
@@ -20,19 +19,18 @@ from subtitles.qc.faults import Ends
 from subtitles.qc.feed import is_enough
 from subtitles.qc.fitting import Found
 from subtitles.qc.names import Names
-from subtitles.qc.pair import Begun, Pair
+from subtitles.qc.pair import Begun, Pair, gap_of
 from subtitles.qc.progress import Progress
 from subtitles.qc.severity import ERROR, OTHERS, REFUSALS, WARNING, Severity
 from subtitles.qc.speech import Speech
 from subtitles.qc.steps import Stretch
 from subtitles.qc.typed import Typed
-from subtitles.qc.verdict import Part, Verdict
+from subtitles.qc.verdict import Gap, Part, Verdict
 from subtitles.qc.within import FIXED, OF_ENDS, OF_FRAMES, OF_PACKETS, Trying
-from subtitles.reading.cutting import Cut
 from subtitles.reading.finding import Agreement
 from subtitles.reading.losses import Place
 from .bench import Case, alone
-from .parts import CLOSING, HEADER, PAGE, answer, asked_for, part_with, row
+from .parts import CLOSING, HEADER, answer, asked_for, part_with
 
 REFUSED = ("refused 72 Content frame 00:00:05:00 row 20 column 1", "1 faults")
 OTHER = ("refused 38 UnitLength pes 7", "refused 70 Repeat frame 00:00:09:00", "2 faults")
@@ -51,22 +49,43 @@ class Verdicts(Case):
         return [part_with(100 * at, 100 * at + 99, 5, answer(REFUSED if at in refused else
                           ("accepted 10 frames 2 transmissions",)), at + 1) for at in range(3)]
 
-    def test_line(self) -> None:
-        """The one of the first part that is refused, wherever that is; else the sums of all."""
-        for count in (0, 1, 2, 3):
-            for refused in itertools.combinations(range(3), count):
-                parts = self.three(*refused)
-                verdict = verdict_of(parts)
-                wanted = REFUSED[0] if refused else "accepted 30 frames 6 transmissions in 3 parts"
-                self.must(f"{refused}", verdict.line == wanted and verdict.faults == count,
-                          verdict.line)
-                self.must(f"{refused}: lines", [line.rpartition(": ")[2] for line in
-                                                verdict.lines()] ==
-                          [part.answer.line for part in parts], verdict.lines())
-        two = [part_with(0, 9, 5, answer(OTHER)), part_with(10, 19, 5, answer(REFUSED), 2)]
-        self.must("the first that is refused", verdict_of(two).line == OTHER[0])
-        self.must("the second", verdict_of(two[::-1]).line == REFUSED[0])
-        self.must("faults of both", verdict_of(two).faults == 3)
+    def test_reasons(self) -> None:
+        """Whatever is said of the parts, a reason and an output that failed are not judged."""
+        places: list[tuple[int, ...]] = [(), (0,), (2,)]
+        values: list[tuple[str, Any]] = [("reason", "why"), ("failed", ["full", "broken"])]
+        for refused in places:
+            for name, value in values:
+                verdict = verdict_of(self.three(*refused))
+                setattr(verdict, name, value)
+                self.must(f"{refused} {name}", (verdict.word, verdict.status, verdict.line) ==
+                          ("not judged", 2, None) and verdict.why_not ==
+                          ("why" if name == "reason" else "full\nbroken"), verdict.why_not)
+
+    def test_what_is_lost_alone(self) -> None:
+        """Of one part, and of two: each number counts, whatever order they are in."""
+        lost, other = "refused 45 Lost pes 3", "refused 38 UnitLength pes 7"
+        content = REFUSED[0]
+        rows: list[tuple[list[tuple[str, ...]], bool]] = [
+            ([(lost,)], True), ([(lost, lost)], True), ([(lost, other)], False),
+            ([(other, lost)], False), ([(content, lost)], False), ([(other,)], False),
+            ([(lost,), (lost,)], True), ([(lost,), (other,)], False),
+            ([(content,), (lost,)], False)]
+        for several, is_alone in rows:
+            verdict = verdict_of([part_with(0, 9, 0, answer([*lines, f"{len(lines)} faults"]))
+                                  for lines in several])
+            self.must(f"{several}", verdict.is_lost_alone == is_alone)
+
+    def test_sentence_of_losses(self) -> None:
+        """The first place that is judged, and how many more there are."""
+        rows: list[tuple[tuple[bool, ...], str]] = [
+            ((True,), "between 1 and 9: 0 lost;"), ((False, True), "between 1 and 9: 1 lost;"),
+            ((True, False, True, True), "between 1 and 9: 0 lost, and in 2 more places;")]
+        for judged, words in rows:
+            verdict = verdict_of(self.three())
+            verdict.gaps = [Gap("1", "9", f"{at} lost", Place(1, 2, 3), one)
+                            for at, one in enumerate(judged)]
+            self.must(f"{judged}", verdict.sentence.startswith(f"Not accepted: {words}"),
+                      verdict.sentence)
 
     def test_errors(self) -> None:
         """A fault that is an error counts in each part, and beside warnings."""
@@ -120,6 +139,22 @@ class Verdicts(Case):
             pair.note_gaps([Place(TICKS * frame, TICKS * (frame + 1), 1)])
             gap = pair.verdict.gaps[0]
             self.must(f"{frame}", (gap.after, gap.before) == times, gap)
+
+    def test_times_of_losses(self) -> None:
+        """To the frame before a PTS; of none, and of one before the day or behind it, nothing."""
+        for before, after, words in (
+                (TICKS * 25, TICKS * 51 - 1, "between 00:00:01:00 and 00:00:02:00"),
+                (None, TICKS, "between the beginning and 00:00:00:01"),
+                (TICKS, None, "between 00:00:00:01 and the end"),
+                (-1, 0, "between the beginning and 00:00:00:00"),
+                (TICKS * 2_159_999, TICKS * 2_160_000, "between 23:59:59:24 and the end")):
+            for origin in (0, CLOCK - 40 * TICKS):
+                first, second = (None if pts is None else (origin + pts) % CLOCK
+                                 for pts in (before, after))
+                place = Place(first, second, 3)
+                found = gap_of(place, origin, True)
+                self.must(f"{words} {origin}", found.line() == f"{words}: 3 TS packets lost" and
+                          found.is_judged and found.place is place, found)
 
     @alone
     def test_promises_nothing_of_what_is_lost(self) -> None:
@@ -316,52 +351,3 @@ class Severities(Case):
         found = [ends.of(index) for index in range(5)]
         self.must("ends", found == [("00:00:02:00", None), (None, 9), (None, None), (None, None),
                                     ("00:00:05:00", None)], found)
-
-
-class Cuts(Case):
-    """What is cut out for a part: 100 to 200 is due, and the page is repeated each ten frames."""
-
-    def cut(self, frames: Sequence[int], every: int | None, packets: tuple[int, int] | None,
-            within: int = 0, blank: Sequence[int] = ()) -> list[int]:
-        """The frames of the sendings that are taken; some leave the page blank."""
-        all_of = [pes_packet(TICKS * frame, [HEADER, *([] if frame in blank else
-                                                       [row(20, b"text")]), CLOSING])
-                  for frame in frames]
-        cut = Cut(100, 200, PAGE, 0, every, packets, within)
-        found: list[int] = []
-        for frame, data in zip(frames, all_of):
-            found += [frame] if not cut.is_over and data in cut.taken([data]) else []
-        return found
-
-    def test_ends(self) -> None:
-        """The first sending from the last TCO on is the last, if it is near enough: one late."""
-        for late in (0, 1, 24, 25, 26):
-            frames = [*range(100, 200, 10), 200 + late, 210 + late, 400, 410]
-            wanted = [*range(100, 200, 10), *([200 + late] if late <= 25 else [])]
-            self.must(f"late by {late}", self.cut(frames, 25, None) == wanted)
-        frames = list(range(100, 231, 10))
-        self.must("without a bound", self.cut(frames, None, None) == list(range(100, 201, 10)))
-
-    def test_ranges(self) -> None:
-        """The first and the last of a range of PES packets are of it."""
-        frames = list(range(100, 200, 10))
-        for first, last in ((0, 9), (0, 8), (1, 9), (3, 3), (3, 5), (0, 99)):
-            found = self.cut(frames, None, (first, last))
-            self.must(f"{first} to {last}", found == frames[first:last + 1], found)
-
-    def test_ranges_in_which_pts_go_back(self) -> None:
-        """Of each of three time bases with the same frames, its own."""
-        frames = [*range(100, 200, 10)] * 3
-        all_of = [pes_packet(TICKS * frame, [HEADER, row(20, b"%d" % number), CLOSING])
-                  for number, frame in enumerate(frames)]
-        for first, last in ((0, 9), (10, 19), (20, 29)):
-            cut = Cut(100, 200, PAGE, 0, 25, (first, last))
-            found = [data for one in all_of for data in cut.taken([one])]
-            self.must(f"{first} to {last}", found == all_of[first:last + 1], len(found))
-
-    def test_one_wrong_pts_does_not_end_it(self) -> None:
-        """Two in a row after the last frame do."""
-        for frames, wanted in (([100, 500, 110, 120], [100, 110, 120]),
-                               ([100, 500, 110, 500, 120], [100, 110, 120]),
-                               ([100, 500, 600, 110], [100]), ([50, 100, 110], [100, 110])):
-            self.must(f"{frames}", self.cut(frames, None, None) == wanted)

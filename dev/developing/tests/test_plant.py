@@ -26,14 +26,15 @@ OF_TEXTS = {
         "for b in __import__('itertools').islice(a, 1):\n        b.first = any(b)",
         "for b in a:\n        pass", "for b in a:\n        b.first = all(b)"},
     "def f(a: 3) -> 4:\n    raise g(5)": set[str](),
-    "def f(a):\n    return f'{a + 1}'": set[str]()}
+    "def f(a):\n    return f'1{a + 1}'": {
+        "return f'1{a - 1}'", "return f'1{a + 2}'", "return f'1{a + 0}'"}}
 
 
 class Bugs(Case):
     """What is planted, and where."""
 
     def test_kinds(self) -> None:
-        """Each bug of a small function; nothing in a type, in a printed word, in what is raised."""
+        """Each bug of a small function; nothing in a type, in what is raised."""
         for text, wanted in OF_TEXTS.items():
             found = [bug.text.split("\n    ", 1)[1] for bug in bugs_in(text)]
             self.must(text, sorted(found) == sorted(wanted), found)

@@ -8,25 +8,25 @@ import re
 import tempfile
 import unittest
 from types import SimpleNamespace
-from typing import Any, Iterator, Sequence
+from typing import Any, Callable, Iterator, Sequence
 
 from subtitles.core.batch import Batch, of_packets
 from subtitles.core.pes import pes_packet
 from subtitles.core.pieces import Pieces, pieces_of
 from subtitles.core.programme import Programme
-from subtitles.core.teletext import packet
+from subtitles.core.teletext import mirrored, packet
 from subtitles.core.times import CLOCK, FRAMES_OF_A_DAY, NO_FRAME, TICKS
 from subtitles.core.units import Units
 from subtitles.preview.faults import Faults, Spans, joined
 from subtitles.preview.fits import Fits
 from subtitles.preview.headers import Found, Headers
-from subtitles.preview.listening import Changes, Heard
+from subtitles.preview.listening import Changes, Heard, Kinds
 from subtitles.preview.passed import Passed, packets_at
 from subtitles.preview.places import around, marked_bytes, units_table
 from subtitles.preview.program import NoReport, Program, Verdict, verdict_of
 from subtitles.preview.reasons import lost_spans
 from subtitles.qc.held import Span
-from subtitles.reading.receiver import BLANK_PAGE, Receiver, Rows, State
+from subtitles.reading.receiver import Receiver, Rows, State
 from .bench import Case
 from .parts import CLOSING, HEADER, PAGE, row
 
@@ -40,6 +40,26 @@ def changes(*known: tuple[int, Rows]) -> Changes:
     for frame, rows in known:
         made.add(frame, rows)
     return made
+
+
+class HeaderKinds(unittest.TestCase):
+    """Which headers are of a page, erase it, or close it."""
+
+    def test_kinds(self) -> None:
+        """In serial mode a header of any magazine closes all pages."""
+        kinds, seen = Kinds((0, 0x88)), list[bytes]()
+        for magazine, page, erase, serial, wanted in (
+                (0, 0x88, True, False, (True, True, False)),
+                (0, 0x88, False, True, (True, False, True)),
+                (0, 0x89, True, True, (False, False, True)), (0, 0xFF, True, False, (False,) * 3),
+                (1, 0x00, False, True, (False, False, True)), (1, 0x88, True, False, (False,) * 3)):
+            numbers = [page & 15, page >> 4, 0, 8 * erase, 0, 8, 1, int(serial)]
+            coded = mirrored(packet(magazine, 0, numbers, [0x20] * 32))[:10]
+            seen.append(coded)
+            kinds.learn(seen)
+            with self.subTest(magazine=magazine, page=page, serial=serial):
+                self.assertEqual((coded in kinds.own, coded in kinds.erasing,
+                                  coded in kinds.closing), wanted)
 
 
 class PassedOver(unittest.TestCase):
@@ -94,23 +114,6 @@ class WhatFits(unittest.TestCase):
     def fits(self, due: Changes, held: Changes, frame: int, pages: tuple[Rows, Rows]) -> Fits:
         return Fits(due, held, {frame: pages})
 
-    def test_late_and_early(self) -> None:
-        """The due page comes later, or what is held is due later, or both; none in its own time."""
-        due = changes((10, ONE), (20, TWO), (30, THREE), (40, ONE))
-        for held, frame, pages, wanted in (
-                (changes((13, ONE)), 10, (ONE, BLANK_PAGE), (13, None)),
-                (changes((20, ONE)), 10, (ONE, BLANK_PAGE), (None, None)),
-                (changes((13, ONE), (25, THREE), (33, ONE)), 25, (TWO, THREE), (None, 30)),
-                (changes((25, THREE), (33, TWO)), 25, (TWO, THREE), (33, 30)),
-                (changes((25, THREE), (35, TWO)), 25, (TWO, THREE), (35, 30)),
-                (changes((5, ONE)), 5, (BLANK_PAGE, ONE), (None, 10)),
-                (changes((5, ONE)), 6, (BLANK_PAGE, ONE), (None, None)),
-                (changes((5, ONE), (15, BLANK_PAGE), (16, ONE)), 15, (ONE, BLANK_PAGE),
-                 (16, None))):
-            fits = self.fits(due, held, frame, pages)
-            with self.subTest(frame=frame, held=list(held.frames)):
-                self.assertEqual((fits.late(frame), fits.early(frame)), wanted)
-
     def test_words(self) -> None:
         """The nearer of both; what comes where another page is due fits nowhere; else the last
         before."""
@@ -135,6 +138,13 @@ class WhatFits(unittest.TestCase):
                 found = self.fits(due, held, frame, pages).words(frame)
                 self.assertEqual(found, wanted)
                 self.assertEqual(self.fits(due, held, frame, pages).words(frame + 1), "")
+
+
+    def test_changes(self) -> None:
+        """Of several pages of a frame the last one is held; from when to when each is."""
+        made = changes((3, ONE), (10, TWO), (10, ONE), (10, THREE), (20, ONE))
+        self.assertEqual([made.held([page])[hash(page)] for page in PAGES], [
+            [(3, 9), (20, FRAMES_OF_A_DAY - 1)], [], [(10, 19)]])
 
 
 class Places(unittest.TestCase):
@@ -297,6 +307,15 @@ class Held(unittest.TestCase):
             self.assertEqual([few.states.get(at) and few.states[at].rows for at in asked],
                              [held.states.get(at) and held.states[at].rows for at in asked])
 
+    def test_to_the_end_of_the_day(self) -> None:
+        """What is held at last is held then too, where the file is whole."""
+        for status in (0, 1):
+            listed: Any = Listed([[pes_packet(0, [HEADER, CLOSING])]], status)
+            last = FRAMES_OF_A_DAY - 1
+            held = Heard(listed, [0, 1, last], PAGE, 0)
+            self.assertEqual([held.state_at(frame) is not None for frame in (0, 1, last)],
+                             [True, not status, not status])
+
     def test_around_what_is_passed_over(self) -> None:
         """The frames before and after, and those of which nothing is trusted."""
         spans = Spans([(2, 3), (6, 6), (9, 12)])
@@ -377,14 +396,17 @@ class Asking(Case):
 
     def test_answers(self) -> None:
         """What is no answer makes no report."""
+        def is_answered(call: Callable[[], bool]) -> bool:
+            try:
+                return call()
+            except NoReport:
+                return False
+
         for lines, status, is_one in (("ok", 0, True), ("refused 5 X", 1, True), ("", 0, False),
                                       ("fault 41 Read", 2, False), ("ok", 3, False)):
             program = self.program_that(lines, status)
-            try:
-                is_answered = program.packet("00") == [lines]
-            except NoReport:
-                is_answered = False
-            self.must(f"{lines} {status}", is_answered == is_one)
+            self.must(f"{lines} {status}",
+                      is_answered(lambda: program.packet("00") == [lines]) == is_one)
         for lines, status, is_one in (
                 ("accepted 5 frames 2 transmissions", 0, True),
                 ("accepted 5 frames 2 transmissions", 1, False),
@@ -392,22 +414,15 @@ class Asking(Case):
                 ("refused 74 End", 1, False), ("refused 74 End\\n1 faults", 0, False),
                 ("", 1, False)):
             program = self.program_that(lines, status)
-            try:
-                verdict = program.check("a", Pieces("b"), lambda told: Faults(
-                    told, Programme([])))[0]
-                is_answered = verdict.line == lines.split("\\n")[0] and verdict.status == status
-            except NoReport:
-                is_answered = False
-            self.must(f"check {lines} {status}", is_answered == is_one)
+            self.must(f"check {lines} {status}", is_answered(lambda: program.check(
+                "a", Pieces("b"), lambda told: Faults(told, Programme([])))[0][:2] == (
+                    lines.split("\\n")[0], status)) == is_one)
         for lines, status, count, is_one in (("pes 0\\nrefused 38 X pes 5", 1, 5, True),
                                              ("pes 0\\nrefused 38 X pes 5", 1, 4, False),
                                              ("fault 41 X pes 5", 2, 5, False)):
             program = self.program_that(lines, status)
-            try:
-                is_answered = program.refusal_of_packets(Pieces("b"), count).pes == 5
-            except NoReport:
-                is_answered = False
-            self.must(f"packets {lines} {count}", is_answered == is_one)
+            self.must(f"packets {lines} {count}", is_answered(
+                lambda: program.refusal_of_packets(Pieces("b"), count).pes == 5) == is_one)
 
     def test_listing(self) -> None:
         """All that is listed, up to the first that is not, of a range by the file's numbers."""
@@ -434,3 +449,19 @@ class Asking(Case):
             except NoReport:
                 found = []
             self.must(f"{ending}", found == [*good[:4], *good[5:7]] * is_right)
+
+    def test_listing_at_random(self) -> None:
+        """Of a file with a wrong bit those that `packets` lists, and what that says at last."""
+        program = Program("subttx", self.bench.program, "888", "25", "0", "english", False)
+        for seed in range(60):
+            chance = random.Random(seed)
+            data = bytearray(b"".join(pes_packet(TICKS * at, chance.choices(
+                Held.PARTS, k=chance.randrange(4))) for at in range(4)))
+            place = chance.choice([*range(12), 13, 45, *range(46, 50), *range(138, 142)])
+            data[184 * chance.randrange(4) + place] ^= 1 << chance.randrange(8)
+            path = self.write("one.pes", data)
+            listing = program.packets(Pieces(path))
+            count, lines = sum(map(len, listing)), self.program("packets", path)[1]
+            last = lines[-1] if lines[-1].startswith("refused ") else ""
+            self.must(f"{seed}", (count, listing.last.line) == (
+                sum(line.startswith("pes ") for line in lines), last), lines[-1])

@@ -1,17 +1,37 @@
 """tools/qc --channel: programmes one after another out of a feed that does not end."""
 from __future__ import annotations
 
+import argparse
+import contextlib
+import io
 import json
 import os
 import signal
 import subprocess
+import sys
 import time
-from typing import Sequence
+from typing import Callable, Sequence
+from unittest import mock
 
+from subtitles.calls import channel as channels
+from subtitles.calls.channel import ENDED
+from subtitles.calls.channel_feed import PesFeed, Taken, TransportFeed, feed_of, unpacked
+from subtitles.calls.objects import found
+from subtitles.calls.planned import PlannedProgramme
+from subtitles.calls.running import Running
+from subtitles.core.files import Damaged
 from subtitles.core.pes import pts_bytes
 from subtitles.core.stl import boxed, gsi_block, subtitle_blocks
 from subtitles.core.times import CLOCK, FRAMES_A_SECOND, TICKS
+from subtitles.core.words import Stop
+from subtitles.qc.carriers import NoTeletext
+from subtitles.qc.clock import FITTED_SHORT
+from subtitles.qc.source import Source
 from .bench import Case, packets, tool_path
+from .muxed import TELETEXT_PID, Maker, components
+from .parts import PAGE, asked_for
+from .test_channel_steps import TEXTS, Judging, sent
+from .test_channel_tables import FIRST, defaults, programme
 
 SECOND = TICKS * FRAMES_A_SECOND
 BEGIN = CLOCK - 30 * SECOND  # of the feed, so that PTS begin again soon
@@ -81,7 +101,7 @@ class Channels(Case):
     """Feeds of several programmes."""
 
     def test_judges_three_programmes(self) -> None:
-        """One that is missing and a gap are told; the same out of a transport stream."""
+        """One that is missing and a gap are told."""
         feed = b"".join(three(self))
         wanted = [f"one  {ACCEPTED}",
                   "lost  not judged: not seen: two, which is behind it in the list, is sent",
@@ -98,39 +118,6 @@ class Channels(Case):
                                 "three.json"} <= kept, kept)
         clock = json.loads(self.read("out/one.json"))["parts"][0]["clock"]
         self.must("its clock", clock["source"] == "recording", clock)
-        self.write("feed.pes", feed)
-        stream = self.tool("pes2ts", "feed.pes", "0x101")
-        done = self.tool("qc", "--channel", "list", "-", "--patience", "2", "-p",
-                         self.bench.program,
-                         data=stream.out)
-        lines = verdicts(done.out.decode().splitlines())
-        self.must("a transport stream", [line for line in lines if "came" not in line] == wanted,
-                  done)
-
-    def test_goes_on_behind_another_clock(self) -> None:
-        """An encoder that begins anew is told; what was judged ends there, and the next is judged.
-        """
-        parts = three(self)
-        cut = b"".join(packets(parts[0])[:8])
-        self.write("list", b"one.stl\nthree.stl\n")
-        anew = CLOCK - SECOND * 40_000  # earlier than the feed began
-        later = make_programme(self, "three", 900_000, "Red Green Blue White", anew)
-        done = self.tool("qc", "--channel", "list", "-", "-p", self.bench.program,
-                         data=cut + later + blank(later, anew + SECOND * 12, 20))
-        lines = verdicts(done.out.decode().splitlines())
-        self.must("lines", len(lines) == 3 and lines[0].startswith("an encoder begins anew: PTS ")
-                  and lines[1].startswith("one  refused 7") and lines[2] == f"three  {ACCEPTED}",
-                  done)
-        self.must("status", done.status == 1, done)
-
-    def test_refuses_what_it_can_not_do(self) -> None:
-        """Words that do not fit."""
-        self.write("list", b"one.stl\n")
-        for words in (["--channel", "none", "-"], ["--channel", "list"],
-                      ["--channel", "list", "-", "--patience", "0"], ["one.stl", "--patience", "5"],
-                      ["--channel", "list", "-", "--json", "x.json"]):
-            done = self.tool("qc", *words, "-p", self.bench.program)
-            self.must(" ".join(words), done.status == 2 and len(done.told) == 1, done)
 
     def test_reads_a_list_that_grows(self) -> None:
         """A feed that stands still, a line that comes late, and a signal."""
@@ -194,3 +181,141 @@ class Channels(Case):
                   lines)
         self.must("memory, and temporary files", all(
             later <= before * 1.1 for before, later in zip(*seen)), seen)
+
+
+@mock.patch.object(channels, "Running", Judging)
+class Ends(Case):
+    """A whole call, whose feed ends otherwise each time."""
+
+    is_alone = True  # it takes what is printed, and the signals
+
+    def ends(self, reason: BaseException | None, lines: str, *, out: str | None = None,
+             is_resumed: bool = False) -> tuple[int, list[str], list[str]]:
+        """The status, what is said without the time, and what is told."""
+        words = argparse.Namespace(**{
+            **vars(defaults()), "channel": self.write("list", lines.encode()), "patience": 2,
+            "out": out, "is_kept": False, "is_resumed": is_resumed, "stall": 5,
+            "program": self.bench.program, "stl": self.write("feed", b"")})
+        closed: list[bool] = []
+        os.makedirs(self.path("temporary"), exist_ok=True)
+
+        def follow(take: Callable[[Taken], None]) -> None:
+            for data in sent(TEXTS, 900_000):
+                take(Taken(data, [data]))
+            if reason:
+                raise reason
+
+        feed = argparse.Namespace(follow=follow, unpacked=unpacked,
+                                  close=lambda: closed.append(True))
+        before = {one: signal.getsignal(one) for one in (signal.SIGTERM, signal.SIGINT,
+                                                         signal.SIGHUP)}
+        printed, told = io.StringIO(), io.StringIO()
+        try:
+            with mock.patch.object(channels, "feed_of", lambda *_: feed), \
+                    mock.patch("tempfile.tempdir", self.path("temporary")), \
+                    contextlib.redirect_stdout(printed), contextlib.redirect_stderr(told):
+                status = channels.judge(words, "tools/qc")
+            self.must("closed", closed == [True])
+        finally:
+            for one, heard in before.items():
+                signal.signal(one, heard)
+        return (status, [line[21:] for line in printed.getvalue().splitlines()],
+                [line.partition(": ")[2] for line in told.getvalue().splitlines()])
+
+    def test_reasons(self) -> None:
+        """What there is of a feed is judged, whatever ends it; the rest is not."""
+        one = programme(self, "one.stl", FIRST, TEXTS)
+        other = programme(self, "other.stl", FIRST, ["never"])
+        said = f"one  accepted 5 frames; {FITTED_SHORT}"
+        unread = "the feed can't be read any further: "
+        for reason, lines, status, wanted in (
+                (None, one, 0, [said]), (None, f"{one}\n{other}", 2, [
+                    said, f"other  not judged: {ENDED}"]), (None, "\n", 2, []),
+                (Damaged("odd"), one, 0, [unread + "odd", said]),
+                (NoTeletext("none"), f"{one}\n{other}", 2, [
+                    unread + "none", said, f"other  not judged: {ENDED}"]),
+                (KeyboardInterrupt(), f"{one}\n{other}\n", 2, [
+                    said, "other  not judged: stopped at 00:00:11:00 of the feed"]),
+                (KeyboardInterrupt(), f"{one}\n", 2, [said]), (KeyboardInterrupt(), "\n", 2, [])):
+            found_status, found_lines, told = self.ends(reason, lines)
+            self.must(f"{reason!r} {lines}", (found_status, found_lines) == (status, wanted),
+                      (found_status, found_lines))
+            is_none = not wanted and reason is None
+            self.must("told", told == [f"{self.path('list')} names no programme"] * is_none, told)
+        for error in (ValueError("odd"), Stop("two PIDs")):
+            with self.assertRaises(type(error)):
+                self.ends(error, one)
+        self.must("its folders went", os.listdir(self.path("temporary")) == [])
+
+    def test_goes_on(self) -> None:
+        """With --resume, which needs a folder, the verdicts of an earlier call count too."""
+        one = programme(self, "one.stl", FIRST, TEXTS)
+        other = programme(self, "other.stl", FIRST, ["never"])
+        out = self.path("out")
+        with self.assertRaises(Stop):
+            self.ends(None, one, is_resumed=True)
+        status, lines, _ = self.ends(None, f"{one}\n{other}\n", out=out)
+        self.must("at first", status == 2 and len(lines) == 2 and sorted(os.listdir(out)) == [
+            "index.html", "one.json", "other.json"], lines)
+        known = {"format": 3, "verdict": "refused", "status": 1, "line": "refused 72 X",
+                 "asked": {"stl": one}, "found": found(asked_for(one, None))}
+        self.write("out/one.json", json.dumps(known).encode())
+        for is_resumed, wanted in ((True, "1 programme of an earlier call kept"),
+                                   (False, f"one  accepted 5 frames; {FITTED_SHORT}")):
+            status, lines, _ = self.ends(None, f"{one}\n", out=out, is_resumed=is_resumed)
+            self.must(f"{is_resumed}", (status, lines) == (int(is_resumed), [wanted]), lines)
+
+
+class Kinds(Case):
+    """Feeds by their first bytes, and calls that are handed what comes."""
+
+    def test_feeds(self) -> None:
+        """PES packets one by one, which have no PID; else a transport stream, of which the last
+        PES packets are asked for too."""
+        pes = list(sent(TEXTS, 900_000))
+        took: list[Taken] = []
+        feed = feed_of(Source(self.write("feed.pes", b"".join(pes)), False), None, lambda: [PAGE],
+                       print, "none")
+        feed.follow(took.append)
+        self.must("PES", isinstance(feed, PesFeed) and took == [Taken(one, [one]) for one in pes])
+        self.must("kept", list(feed.unpacked([pes[0] + pes[1], b"", pes[2]])) == pes[:3])
+        with self.assertRaises(Stop):
+            feed_of(Source(self.path("feed.pes"), False), 0x101, lambda: [PAGE], print, "none")
+        maker = Maker(components())
+        maker.put_tables()
+        for one in pes:
+            maker.put(TELETEXT_PID, one)
+        path = self.write("feed.ts", maker.data)
+        for pid in (None, TELETEXT_PID):
+            took = []
+            source = Source(path, False)
+            feed = feed_of(source, pid, lambda: [PAGE], print, self.bench.program)
+            feed.follow(took.append)
+            feed.close()
+            self.must(f"{pid}", isinstance(feed, TransportFeed) and source.is_feed and
+                      [data for one in took for data in one.packets] == pes, took)
+
+    def test_calls(self) -> None:
+        """What is put is read by the call, and nothing more is wanted once it is over."""
+        planned = PlannedProgramme("one", None, None)
+        code = "import sys; data = sys.stdin.buffer.read(5); print('qc: got', len(data), " \
+            "file=sys.stderr); sys.exit(3)"
+        running = Running(planned, [sys.executable, "-c", code], self.folder, 7)
+        self.must("waits", not running.is_over() and running.end == 7 and os.readlink(
+            f"/proc/{running.process.pid}/fd/1") == os.devnull)
+        running.put(b"123")
+        running.put(b"45")
+        running.wait()
+        self.must("over", running.is_over() and running.process.returncode == 3 and
+                  running.lines() == ["qc: got 5"], running.lines())
+        running.put(b"more")
+        running.close()
+        waited = Running(planned, [sys.executable, "-c", code], self.folder, 7)
+        waited.put(b"1")
+        with mock.patch("subtitles.calls.running.VERDICT", 0.1):
+            waited.wait()
+        self.must("not for ever", waited.lines() == ["qc: got 1"], waited.lines())
+        closed = Running(planned, [sys.executable, "-c", code], self.folder, 7)
+        closed.put(b"12")
+        closed.close()
+        self.must("closed", closed.lines() == ["qc: got 2"], closed.lines())

@@ -2,6 +2,7 @@
 from __future__ import annotations
 
 import contextlib
+import itertools
 import json
 import os
 import queue
@@ -9,13 +10,20 @@ import signal
 import subprocess
 import threading
 import time
+import unittest
+from types import SimpleNamespace
+from typing import Any
 
 from subtitles.core.pes import pts_in
 from subtitles.core.stl import boxed, gsi_block, subtitle_blocks
 from subtitles.core.times import TICKS, time_of
 from subtitles.core.words import counted
+from subtitles.qc.carriers import Carrier, Carriers, NoTeletext
+from subtitles.qc.feed import Feed
+from subtitles.reading.extract import Extracted
 from .bench import Case, alone, example, example_bytes, moved, packets, tool_path
 from .muxed import PRIVATE, TELETEXT_PID, Maker, teletext_descriptor
+from .parts import PAGE
 from .test_qc import STORY, qc, stream
 
 SOON = 60.0  # seconds within which a verdict has to come, also on a machine that is busy
@@ -32,7 +40,7 @@ class Running:
         self.folder = case.path("temporary")
         os.makedirs(self.folder, exist_ok=True)
         self.process = subprocess.Popen(
-            [tool_path("qc"), *words, "-p", case.bench.program], cwd=case.folder,
+            [tool_path("qc"), "-p", case.bench.program, *words], cwd=case.folder,
             env={**os.environ, "TMPDIR": self.folder}, stdin=subprocess.PIPE,
             stdout=subprocess.PIPE, stderr=subprocess.PIPE)
         self.lines: list[str] = []
@@ -127,6 +135,57 @@ def is_told_once(case: Case, name: str, running: Running) -> None:
     case.must(f"{name}: one command", len(commands) == 1, running.lines)
 
 
+class Rests(unittest.TestCase):
+    """What comes back of a feed when the PCR has told that nothing more is needed."""
+
+    def test_after_the_end(self) -> None:
+        """All of the PID that is judged; nothing where a PES packet has told the end."""
+        kept: Any = SimpleNamespace(has_page=True, pcr=lambda: 7, late=lambda: 0, path="",
+                                    flush=lambda: None)
+        other: Any = SimpleNamespace(**{**vars(kept), "has_page": False})
+        rest = [(other, b"x"), (kept, b"d"), (other, b""), (kept, b"e")]
+        for last, wanted in ((b"", [b"b", b"c", b"d", b"e"]), (b"last", [b"b", b"c", b"last"])):
+            taken: list[bytes] = []
+            live: Any = SimpleNamespace(
+                put=taken.append, put_all=lambda path: None, is_over=lambda: b"last" in taken,
+                is_past=lambda pcr, late: b"c" in taken)
+            start: Any = lambda kept, at: live
+            finder: Any = None
+            feed = Feed(0, finder, start, None, 0, 25)
+            feed.follow(iter([(other, b"x"), (kept, b"a"), (kept, b"b"), (kept, b""),
+                              (kept, b"c"), (kept, last), (kept, b"never")]), lambda: None, rest)
+            self.assertEqual(taken, wanted)
+
+    def test_of_a_feed_that_stands_still(self) -> None:
+        """The PCR may have been read before anything came back that could be judged."""
+        for is_over, has_last, is_past in itertools.product((False, True), repeat=3):
+            live: Any = SimpleNamespace(is_over=lambda: is_over, has_last=lambda: has_last,
+                                        is_past=lambda pcr, late: is_past and (pcr, late) == (7, 3))
+            nothing: Any = None
+            feed = Feed(0, nothing, nothing, None, 0, 25)
+            kept: Any = SimpleNamespace(pcr=lambda: 7, late=lambda: 3)
+            feed.carrier, feed.live = kept, live
+            self.assertEqual(feed.is_settled(), is_over or has_last or is_past)
+
+    def test_of_all_pids(self) -> None:
+        """Each gives back what it still has, once; one that fails is told."""
+        source: Any = SimpleNamespace(is_feed=True)
+        for failure in (None, "extract was not answered"):
+            carriers = Carriers(source, PAGE, None, "", "none", False)
+            for pid in (1, 2):
+                call: Any = SimpleNamespace(end=lambda pid=pid: (
+                    [b"%d" % pid, b"more"], Extracted(2, 0, failure=failure if pid == 2 else None)))
+                carriers.by_pid[pid] = Carrier(pid, PAGE, os.devnull, carriers.listing, call)
+                self.addCleanup(carriers.by_pid[pid].close)
+            found: list[tuple[int, bytes]] = []
+            refused: Any = self.assertRaises(NoTeletext) if failure else contextlib.nullcontext()
+            with refused:
+                found += ((carrier.pid, data) for carrier, data in carriers.rest())
+            if not failure:
+                self.assertEqual(found, [(1, b"1"), (1, b"more"), (2, b"2"), (2, b"more")])
+                self.assertEqual(list(carriers.rest()), [])
+
+
 class Feeds(Case):
     """Feeds that do not end."""
 
@@ -164,7 +223,7 @@ class Feeds(Case):
                           str(ORIGIN))
         running.put(maker.data)
         self.must("not before", not running.waits_for("refused 74 Late", 3.0), running.lines)
-        maker.data = b""
+        whole, maker.data = maker.data, b""
         for frame in range(LAST + EVERY, LAST + EVERY + 10, 5):
             maker.put_pcr(ORIGIN + frame * TICKS)
         running.put(maker.data)
@@ -172,6 +231,37 @@ class Feeds(Case):
         self.must("the verdict", status == 1 and running.lines[-1].startswith("refused 7"),
                   (status, running.lines, running.told))
         is_told_once(self, "the verdict", running)
+        running.close()
+        # All of it has come before anything is judged.
+        running = Running(self, stl, "-", "--every", str(EVERY), "--no-complete", "--origin",
+                          str(ORIGIN))
+        running.put(whole + maker.data)
+        self.must("at once", running.ends() == 1, (running.lines, running.told))
+        running.close()
+
+    def test_takes_what_comes_back_later(self) -> None:
+        """The PCR is behind the last TCO before `extract` has given back what came before."""
+        self.program_but("extract*", f"""for last; do :; done; mkfifo late
+            {{ head -c 1000; until [ -e go ]; do sleep 0.1; done; cat; }} <late >"$last" &
+            '{self.bench.program}' extract "$2" "$3" -- /dev/stdin late
+            status=$?; wait; exit $status""")
+        stl, pes = subtitles(self)
+        running = Running(self, stl, "-", "--every", str(EVERY), "--no-complete", "--origin",
+                          str(ORIGIN), "-p", "./program")
+        maker = Maker([(TELETEXT_PID, PRIVATE, teletext_descriptor())], TELETEXT_PID)
+        maker.put_tables()
+        for number, one in enumerate(pes):
+            maker.put_pcr(pts_in(one) - 9000)
+            maker.put(TELETEXT_PID, one)
+            if number == 9:
+                running.put(maker.data)
+                maker.data = b""
+                self.must("it is judged", running.waits_for("+ "), running.told)
+        maker.put_pcr(ORIGIN + (LAST + EVERY + 5) * TICKS)
+        running.put(maker.data)
+        self.must("not before all is back", not running.waits_for("", 1.0), running.lines)
+        self.write("go", b"")
+        self.must("accepted", running.ends() == 0, (running.lines, running.told))
         running.close()
 
     def test_ends_after_the_last_part(self) -> None:
@@ -187,18 +277,6 @@ class Feeds(Case):
         status = running.ends()
         self.must("in two parts", status == 0 and running.lines[-1].endswith(" in 2 parts"),
                   (status, running.lines, running.told))
-        running.close()
-        running = Running(self, stl, "-", "--every", str(EVERY), "--no-complete", "--breaks", "1")
-        for number, one in enumerate([*parted[:-1], *(
-                moved(parted[-1], lambda _, pts: pts + number * TICKS) for number in range(5000))]):
-            try:
-                running.put(one)
-            except BrokenPipeError:
-                break  # it has its verdict
-            time.sleep(0.15 if number >= len(parted) else 0.0)
-        status = running.ends()
-        self.must("where others come", status in (0, 1) and " in 2 parts" in running.lines[-1]
-                  or running.lines[-1].startswith("refused "), (status, running.lines))
         running.close()
 
     @alone
@@ -229,14 +307,6 @@ class Feeds(Case):
                       and sorted(os.listdir(self.path("out"))) == ["own.json", "own.txt"],
                       (os.listdir(running.folder), os.listdir(self.path("out"))))
             running.close()
-        running = Running(self, stl, "-", "--json", "one.json")
-        running.put(half[0])
-        time.sleep(1.0)
-        os.kill(running.process.pid, signal.SIGTERM)
-        self.must("before anything is judged", running.ends() == 2 and json.loads(
-            self.read("one.json"))["reason"].startswith("stopped at "), running.told)
-        self.must("nothing is left", os.listdir(running.folder) == [], os.listdir(running.folder))
-        running.close()
 
     def test_tells_what_was_judged_of_a_file(self) -> None:
         """Where a signal comes while `check` judges a file: how far it had come, and what it told.
@@ -244,10 +314,8 @@ class Feeds(Case):
         for count, faults, up_to in ((0, 0, "nothing yet"), (1, 0, "all up to 20:15:00:24"),
                                      (2, 1, "all up to 20:15:01:00"),
                                      (4, 3, "all up to 20:15:03:00")):
-            script = (f"#!/bin/sh\ncase $* in check*--pes*--all*) '{self.bench.program}' \"$@\" "
-                      f"| head -n {count}; exec sleep 60 ;; esac\nexec '{self.bench.program}' "
-                      "\"$@\"\n")
-            os.chmod(self.write("program", script.encode()), 0o755)
+            self.program_but("check*--pes*--all*", f"'{self.bench.program}' \"$@\" | head -n "
+                             f"{count}; exec sleep 60")
             with subprocess.Popen([tool_path("qc"), STORY, example("five-faults.pes"), "--every",
                                    "25",
                                    "-o", "out", "-p", "./program"], cwd=self.folder,
@@ -297,13 +365,3 @@ class Feeds(Case):
         for word in ("x", "-1", "1.5"):
             done = qc(self, STORY, example("story.pes"), "--stall", word)
             self.must(f"--stall {word}", done.status == 2 and len(done.told) == 1, done)
-
-    def test_ends_where_later_pes_packets_come(self) -> None:
-        """Two of them after the last TCO, as a service sends them."""
-        stl, pes = subtitles(self)
-        later = b"".join(moved(pes[-1], lambda _, pts: pts + number * TICKS) for number in (1, 2))
-        running = Running(self, stl, "-", "--every", str(EVERY), "--no-complete", "--origin",
-                          str(ORIGIN))
-        running.put(b"".join(pes) + later)
-        self.must("accepted", running.ends() == 0, (running.lines, running.told))
-        running.close()

@@ -1,38 +1,33 @@
-"""Recordings read and written, in process: why nothing is given, what is handed on, the origin."""
+"""Recordings read and written, in process: why nothing is given, what is handed on, pictures."""
 from __future__ import annotations
 
-import argparse
 import io
 import random
 import unittest
 from typing import Optional, Sequence, Tuple
 from unittest import mock
 
-from subtitles.core.pes import MARK, START, pes_packet
-from subtitles.core.stl import boxed, gsi_block, subtitle_blocks
+from subtitles.core.pes import pes_packet
 from subtitles.core.teletext import packet
 from subtitles.core.times import CLOCK, TICKS
 from subtitles.core.told import told_of
-from subtitles.core.words import Stop
 from subtitles.reading import handed
 from subtitles.reading.codecs import MPEG_1, Bits, Counter
 from subtitles.reading.extract import Extracted
-from subtitles.reading.finding import Origin, find, is_sent, read_words, sent_in, subtitles_of
 from subtitles.reading.handed import Handed, from_piece
 from subtitles.reading.languages import names_of
-from subtitles.reading.listing import Listing, what_there_is
+from subtitles.reading.listing import Listing, Teletext, what_there_is
 from subtitles.reading.losses import Losses
 from subtitles.reading.multiplex import Multiplex
 from subtitles.reading.pictures import First, NoFirst, Video, Videos
 from subtitles.reading.programmes import ProgramMap
 from subtitles.reading.refused import packet_size_of, why_refused
-from subtitles.reading.sent import Sent
 from subtitles.reading.transport import Piece, Reader, Stream
 from .bench import Case, alone
 from .muxed import (
     H_264, HEVC, MPEG_2, VIDEO_PID, Maker, bits_of, components, h_264_picture, hevc_picture,
     mpeg_2_picture, spaced, video_packet)
-from .parts import CLOSING, HEADER, PAGE, row
+from .parts import HEADER, row
 from .test_ts_packets import Coming, ts
 
 PID = 0x101
@@ -88,16 +83,23 @@ class Written(Case):
         for number, pid in enumerate((0x10A, 0x101)):
             data = pes_packet(0, [packet(number, 0, [8, 8, 0, 8, 0, 8, 1, 0], b" " * 32)])
             listing.take(Piece(ts(0, pid, True, data=data), 0, 1, 188))
+        listing.streams[0x300], listing.streams[0x200] = Teletext(0x300), Teletext(0x200)
+        listing.streams[0x300].sent = {(1, 0x99), (0, 0x88), (1, 0x00)}
         for word, hint in (("101", ": did you mean 0x101?"), ("10A", ": did you mean 0x10A?"),
-                           ("10a", ": did you mean 0x10A?"), ("102", "")):
+                           ("10a", ": did you mean 0x10A?"), ("102", ""), ("1", ""), ("0x101", "")):
             said = what_there_is(listing, word)
-            self.must(word, said.startswith("Teletext is in PID 0x101 (") and
-                      said.endswith(hint) and ("did you" in said) == bool(hint), said)
+            self.must(word, said == "Teletext is in PID 0x101 (188), PID 0x10A (888), PID 0x200 "
+                      f"(no subtitle page), PID 0x300 (100 199 888){hint}", said)
 
     def test_languages(self) -> None:
-        for code, wanted in (("09", ["eng"]), ("08", ["deu", "ger"]), ("0A", ["spa"]), ("7f", []),
-                             ("0a", ["spa"]), ("x", []), ("", [])):
-            self.must(code, names_of(code) == wanted, names_of(code))
+        """EBU Tech 3264, appendix 3: those that national options are for, and others."""
+        for code, wanted in (
+                ("09", "eng"), ("08", "deu ger"), ("0A", "spa"), ("0a", "spa"), ("28", "swe"),
+                ("27", "fin"), ("15", "ita"), ("0F", "fra fre"), ("06", "ces cze"), ("1B", "hun"),
+                ("21", "por"), ("25", "slk slo"), ("07", "dan"), ("1D", "nld dut"), ("20", "pol"),
+                ("1E", "nor nob nno"), ("22", "ron rum"), ("26", "slv"), ("29", "tur"),
+                ("7f", ""), ("00", ""), ("x", ""), ("", "")):
+            self.must(code, names_of(code) == wanted.split(), names_of(code))
 
 
 class Refused(Case):
@@ -143,138 +145,6 @@ class Refused(Case):
                                       (4, 192, data), (7, 192, b"3456789"),
                                       (3, 192, b"\0" + data), (0, 192, b"\0\0\0\0" + data)):
             self.must(f"{start} {stride}", from_piece(Piece(data, start, 1, stride)) == wanted)
-
-FIRST = 1_000_000  # the frame of the first subtitle
-COUNT = 12
-
-
-class Origins(Case):
-    """What tools/origin finds, without a process."""
-
-    def programme(self, count: int = COUNT) -> str:
-        blocks = [subtitle_blocks(number, FIRST + 70 * number, FIRST + 70 * number + 40, 20, 2,
-                                  boxed(b"Number %d" % number)) for number in range(count)]
-        return self.write("one.stl", gsi_block(b"One", count, count) + b"".join(blocks))
-
-    def sent(self, begin: int, late: Sequence[int] = (0,) * COUNT) -> list[bytes]:
-        """The PES packets of the programme from a PTS on, some later by so many frames."""
-        made = []
-        for number, by in enumerate(late):
-            for frame in (0, 40):
-                rows = [row(20, b"Number %d" % number)] * (not frame)
-                pts = (begin + TICKS * (70 * number + frame + by)) % CLOCK
-                made.append(pes_packet(pts, [HEADER, *rows, CLOSING]))
-        return made
-
-    def find(self, pes: list[bytes], *words: str) -> Origin:
-        path = self.write("one.pes", b"".join(pes))
-        return find(read_words("", [*words, "--", self.programme(), path]), path)
-
-    def test_runs(self) -> None:
-        """The one that is said; a number that there is not, or none where there are several."""
-        gap = TICKS * 70 * (COUNT + 20)
-        for runs in (1, 2, 3):
-            pes = [one for number in range(runs) for one in self.sent(gap * number)]
-            for run in (None, 1, 2, 3, 4):
-                found = self.find(pes, *([] if run is None else ["--run", str(run)]))
-                is_clear = run is not None and run <= runs or run is None and runs == 1
-                with self.subTest(runs=runs, run=run):
-                    self.assertEqual((found.status, found.runs), (int(not is_clear), runs))
-                    if is_clear:
-                        origin = (gap * ((run or 1) - 1) - TICKS * FIRST) % CLOCK
-                        self.assertEqual(found.printed, [f"--origin {origin}"])
-                    elif run is None:
-                        self.assertEqual(found.told[-1], f"say which one: --run 1 to --run {runs}")
-                    else:
-                        self.assertEqual(found.told[-1], f"there is no run {run} of the programme"
-                                         + " but one" * (runs == 1))
-
-    def test_late_from_one_on(self) -> None:
-        """From when on, and by how much; how late the first is of what is known."""
-        late = [0] * 6 + [50] * 6
-        origin = (5000 - TICKS * FIRST) % CLOCK
-        for known, away in ((None, None), (origin, 0), ((origin - 7200) % CLOCK, 7200)):
-            found = self.find(self.sent(5000, late),
-                              *([] if known is None else ["--origin", str(known)]))
-            with self.subTest(known=known):
-                self.assertEqual((found.status, found.shifted_from, found.away),
-                                 (0, FIRST + 70 * 6, away))
-                frames = 50 + (away or 0) // TICKS
-                self.assertIn(f"{frames / 25:.2f} s ({frames} frames) late", found.shifts[0])
-                self.assertEqual(found.parts[0].origin, origin)
-                agreed = found.agreement
-                self.assertTrue(agreed and (agreed.agree, agreed.among, agreed.edges,
-                                            agreed.are_all) == (12, 12, 12, True), agreed)
-        whole = self.find(self.sent(5000))
-        self.assertTrue(whole.agreement and whole.agreement.are_all and not whole.shifts
-                        and whole.shifted_from is None)
-        self.assertIn("subtitles due from 11:06:40:00 to 11:07:12:10, page sent from 11:06:40:00 "
-                      "to 11:07:12:10", whole.told)
-
-    def test_ends_that_are_late(self) -> None:
-        """All agree, as all ends are late by as much; of some it is not so."""
-        for late, are_all in (([3] * COUNT, True), ([3] * 6 + [9] * 6, False),
-                              ([3] * (COUNT - 1) + [9], False)):
-            pes = [pes_packet(TICKS * (70 * number + frame), [
-                HEADER, *[row(20, b"Number %d" % number)] * (not frame), CLOSING])
-                for number, by in enumerate(late) for frame in (0, 40 + by)]
-            found = self.find(pes)
-            self.must(f"{late}", found.agreement is not None and
-                      found.agreement.are_all == are_all, found.agreement)
-
-    def test_breaks(self) -> None:
-        """As many as are said, each part with its frames; else how many there are."""
-        late = [0] * 6 + [1600] * 6
-        for said, status, breaks in ((1, 0, None), (2, 1, 1)):
-            found = self.find(self.sent(0, late), "--breaks", str(said))
-            self.must(f"{said}", (found.status, found.breaks) == (status, breaks), found)
-        found = self.find(self.sent(0, late), "--breaks", "1")
-        self.must("parts", [one.frames for one in found.parts] == [
-            (FIRST, FIRST + 70 * 5 + 40), (FIRST + 70 * 6, FIRST + 70 * 11 + 40)], found.parts)
-        found = self.find(self.sent(0), "--breaks", "1")
-        self.must("none", found.told[0] == "no break found, where --breaks 1 is said", found.told)
-
-    def test_what_is_sent(self) -> None:
-        """What has no PTS, marks, another page: each is told, with how many they are."""
-        good = self.sent(0)[:3]
-        bare = good[0][:7] + b"\0" + good[0][8:]
-        other = [pes_packet(number, [packet(0, 0, [7, 8, 0, 8, 0, 8, 1, 0], b" " * 32), CLOSING,
-                                     *[row(1, b"%d" % number)]]) for number in range(2)]
-        rows: list[tuple[str, list[bytes], bool, list[str]]] = [
-                ("good", good, True, []),
-                ("bare", [bare, bare], False, ["none of 2 PES packets in a.pes has a PTS: "]),
-                ("marks", [*good, MARK], True, ["1 mark of what is missing "]),
-                ("some", [*good, MARK, bare, MARK], True, [
-                    "2 marks of what is missing ", "1 of 6 PES packets have no PTS, "]),
-                ("another page", other, False, ["there is no header of page 888 in a.pes; other "
-                                                "subtitle pages: 887"]),
-                ("no page", [pes_packet(0, [CLOSING])], False, [
-                    "there is no header of page 888 in a.pes; other subtitle pages: none"])]
-        for name, pes, is_page, told in rows:
-            sent, found = Sent(PAGE), list[str]()
-            sent.take_all(pes)
-            asked = argparse.Namespace(pes="a.pes", page=PAGE)
-            self.must(name, is_sent(sent, asked, found) == is_page and len(found) == len(told)
-                      and all(one.startswith(words) for one, words in zip(found, told)), found)
-
-    def test_files(self) -> None:
-        """A recording that is cut is read up to there, one that is none is not; subtitles that come
-        and go within a day."""
-        told: list[str] = []
-        data = b"".join(self.sent(0))
-        sent = sent_in(self.write("cut.pes", data[:-1]), "a.pes", PAGE, told)
-        self.must("cut", sent.bases.count == 2 * COUNT - 1 and told == [
-            f"a.pes: PES packet {2 * COUNT - 1} is cut; what stands before is used"], told)
-        with self.assertRaises(Stop):
-            sent_in(self.write("none.pes", START[:2] + b"x" * 99), "a.pes", PAGE, told)
-        times = [(10, 20), (30, 30), (50, 40), (60, 61)]
-        blocks = b"".join(subtitle_blocks(at, begin, end, 20, 2, b"A b")
-                          for at, (begin, end) in enumerate(times))
-        found = subtitles_of(self.write("x.stl", gsi_block(b"", 4, 4) + blocks), "english")
-        self.must("subtitles", [(one.begin, one.end, one.letters) for one in found] ==
-                  [(10, 20, b"Ab"), (60, 61, b"Ab")], found)
-        with self.assertRaises(Stop):
-            subtitles_of(self.write("y.stl", gsi_block(b"", 0, 0)), "english")
 
 
 Sendings = Sequence[Tuple[Optional[int], int]]  # of pictures the PTS, and whether one has the flag
@@ -367,18 +237,23 @@ class Pictures(Case):
             ([], [], "no PMT names PID 0x101", False),
             ([{0x101: 6, 0x200: MPEG_2}], [0x200], None, False),
             ([{0x101: 6}], [0x200], "has no video: PID 0x101 stream_type 06", True),
-            ([{0x101: 6, 0x200: MPEG_2, 0x201: H_264}], [0x200], "has several video PIDs: ", True),
+            ([{0x101: 6, 0x200: MPEG_2, 0x201: H_264}], [0x200], "has several video PIDs: PID "
+             "0x101 stream_type 06, PID 0x200 MPEG-2, PID 0x201 H.264", True),
             ([{0x101: 6, 0x200: MPEG_2}, {0x101: 6, 0x201: H_264}], [0x200], "several video", True),
-            ([{0x101: 6, 0x200: 0x10}], [0x200], "are not read: PID 0x101", True),
+            *(([{0x101: 6, 0x200: kind}], [0x200], f"pictures of {name} are not read: PID 0x101 "
+               f"stream_type 06, PID 0x200 {name}", True) for kind, name in (
+                   (0x10, "MPEG-4 part 2"), (0x21, "JPEG 2000"), (0x33, "VVC"), (0xEA, "VC-1"))),
+            ([{0x101: 6, 0x200: MPEG_2}], [0x300, 0x200], None, False),
             ([{0x101: 6, 0x200: MPEG_2}], [0x201], "has no PES packets of video", False)]
         packets = self.stream([(0, 0), (0, 0), (5, 1), (3, 0), (9, 1)])
         for programmes, pids, words, is_hopeless in rows:
             listing = Listing()
             listing.programmes = [ProgramMap(1, None, kinds, {}) for kinds in programmes]
-            listing.videos = pids
+            listing.videos = pids[:1]
             videos = Videos(listing)
             self.must("not yet", not videos.is_known(0x101))
             for at, one in enumerate(packets):
+                listing.videos = pids[:1 + at]
                 videos.take(Piece(one, 0, 1, 188))
                 if words is None and at == 1:
                     passed = videos.by_pid[0x200].passed
@@ -421,14 +296,21 @@ class Codes(unittest.TestCase):
             self.assertEqual(Counter(MPEG_2).count(data), count, data)
             pictures = data.count(b"\0\0\1\0")
             self.assertEqual(Counter(MPEG_1).count(data), pictures, data)
-        self.assertEqual(list(Counter(MPEG_2).pictures(bare + first)), [False, True])
+        for data, fields in ((bare + first, [False, True]), (b"abc\x80\0\1" + bare, [False])):
+            self.assertEqual(list(Counter(MPEG_2).pictures(data)), fields)
 
     def test_h_264(self) -> None:
         """By the first macroblock, and by whether a field may be and is one: whatever a sequence
         has before that: colours, lists of scaling, the order of pictures, numbers of more bits."""
-        lists = ("1" + exp(0) * 15 + exp(15)) + "1" + "".join(map(exp, [0] * 2 + [16])) + "0" * 6
-        for profile, colours in ((66, ""), (100, exp(1) + exp(0) * 2 + "00"),
+        lists = ("1" + exp(0) * 15 + exp(15)) + "1" + "".join(map(exp, [0] * 2 + [16])) + "00" \
+            + "1" + exp(247) * 2 + "000"
+        high, long = exp(1) + exp(0) * 2 + "00", "1" + exp(0) * 64
+        for profile, colours in ((66, ""), (77, ""), *((one, high) for one in (
+                100, 122, 44, 83, 86, 118, 128, 138, 139, 134, 135)),
                                  (244, exp(3) + "1" + exp(0) * 2 + "00"),
+                                 (244, exp(3) + "1" + exp(0) * 2 + "01" + "0" * 11 + long),
+                                 (110, exp(1) + exp(0) * 2 + "01" + "0" * 6 + long + "0"),
+                                 (110, exp(1) + exp(0) * 2 + "01" + "0" * 7 + long),
                                  (110, exp(1) + exp(2) + exp(2) + "11"[:1] + "1" + lists)):
             for order in (exp(0) + exp(5), exp(2), exp(1) + "1" + exp(3) + exp(4) + exp(2)
                           + exp(6) + exp(7)):
@@ -445,6 +327,8 @@ class Codes(unittest.TestCase):
                         with self.subTest(profile=profile, order=order, first=first):
                             self.assertEqual(list(Counter(H_264).pictures(data)),
                                              [] if wanted is None else [wanted])
+        bare = b"\0\0\1\x41" + bits_of(exp(0) + exp(2) + exp(0) + "000011")
+        self.assertEqual(list(Counter(H_264).pictures(bare)), [False])
         fields = h_264_picture(0) + h_264_picture(1)
         self.assertEqual([Counter(H_264).count(data) for data in (
             fields, fields[:len(fields) // 2], h_264_picture() * 2, b"\0\0\1")], [1, 1, 2, 0])

@@ -5,17 +5,21 @@ import unittest
 from types import SimpleNamespace
 from typing import Any, Sequence
 
-from subtitles.core.programme import Subtitle
+from subtitles.core.programme import Programme, Subtitle
 from subtitles.core.stl import gsi_block, tti_block
-from subtitles.preview import blocks, places
-from subtitles.preview.figures import DIFFERENT, NOT_KNOWN, NOTHING, SAME, Figures
+from subtitles.preview import blocks
 from subtitles.preview.faults import Spans
-from subtitles.preview.passed import Passed
+from subtitles.preview.figures import DIFFERENT, NOT_KNOWN, NOTHING, SAME, Figures
 from subtitles.preview.program import verdict_of
-from subtitles.preview.timeline import FEW, MINUTE, Strip, Timeline, runs_of
-from subtitles.reading.receiver import BLANK_PAGE, TUNED, State
+from subtitles.preview.subtitles import Entries, Looked, looked_at
+from subtitles.preview.timeline import Strip, Timeline, runs_of
+from subtitles.reading.receiver import TUNED, State
 from .bench import Case
-from .test_report_words import SUBTITLES, at, faults
+from .test_report_faults import SUBTITLES, at, faults
+
+COUNT = 60
+MANY = [Subtitle(number + 1, number + 1, 100 * number, 100 * number + 50, 20, 2, b"x")
+        for number in range(COUNT)]
 
 
 class Strips(unittest.TestCase):
@@ -39,9 +43,9 @@ class Strips(unittest.TestCase):
     def test_units(self) -> None:
         """The shortest of which there are no more than 24 in use."""
         for count, step, called in ((1, 250, "ten seconds"), (24, 250, "ten seconds"),
-                                    (25, 250, "a minute"), (24, MINUTE, "ten seconds"),
+                                    (25, 250, "a minute"), (24, 1500, "ten seconds"),
                                     (25, 1000, "a minute"),
-                                    (25, MINUTE, "ten minutes"), (300, MINUTE, "an hour")):
+                                    (25, 1500, "ten minutes"), (300, 1500, "an hour")):
             some = [Subtitle(number + 1, 1, step * number, step * number + 9, 20, 2, b"")
                     for number in range(count)]
             with self.subTest(count=count, step=step):
@@ -56,10 +60,12 @@ class Strips(unittest.TestCase):
         self.assertEqual((overview.count('class="strip"'), overview.count("nothing from")), (4, 1))
         self.assertIn(f"nothing from {at(500)} to {at(750)}", overview)
 
-    def test_places(self) -> None:
-        strip = Strip(self.line(), 250, (250, 25, 50))
-        for frame, x in ((0, 0), (250, 0), (251, 4), (375, 500), (500, 1000), (999, 1000)):
-            self.assertEqual(strip.x(frame), x)
+    def test_close(self) -> None:
+        """On up to 300 strips of minutes what is nearer than 3 units is a block, on more than 8."""
+        for count, close in ((1, 3), (300, 3), (301, 8)):
+            some = [Subtitle(number + 1, 1, 1500 * number, 1500 * number + 9, 20, 2, b"")
+                    for number in range(count)]
+            self.assertEqual(self.line(some).close, close)
 
     def test_bars(self) -> None:
         """Of each subtitle that is due in the strip; links where it has a picture, its look; of
@@ -72,7 +78,7 @@ class Strips(unittest.TestCase):
             found = "".join(Strip(self.line(), begin, (250, 25, 50)).bars([]))
             self.assertEqual(found.count("<rect"), count, begin)
         self.assertEqual("".join(Strip(self.line(), 0, (75, 25, 50)).bars([])).count("<rect"), 1)
-        many = [Subtitle(one + 1, 1, 9 * one, 9 * one + 5, 20, 2, b"") for one in range(FEW + 1)]
+        many = [Subtitle(one + 1, 1, 9 * one, 9 * one + 5, 20, 2, b"") for one in range(5001)]
         found = "".join(Strip(self.line(many), 0, (250, 25, 50)).bars([]))
         self.assertEqual((found.count("<rect"), found.count("<path")), (1, 1))
 
@@ -148,73 +154,102 @@ class Looks(unittest.TestCase):
             with self.subTest(kind=kind, is_complete=is_complete):
                 self.assertEqual(self.figures(state, is_complete, is_after).kind_at(5), kind)
 
-    def test_due(self) -> None:
-        """The page that is due; blank where the schedule has not begun, or there is none."""
-        before = State(False, False, None, self.OTHER, None)
-        for due, rows in ((None, self.SAME), (before, BLANK_PAGE)):
-            self.assertEqual(self.figures(None, due=due).due_at(5), (rows, self.HEADER))
-        self.assertEqual(Figures(None, self.figures(None).held, b"x", "888", False).due_at(5),
-                         (BLANK_PAGE, b"x"))
 
-    def test_pictures(self) -> None:
-        """Two, or three with the screen; how many cells differ, and what is held of the page."""
-        for state, is_complete, wanted in (
-                (None, False, ["not known"]), (TUNED, False, ["no header of page 888 was heard"]),
-                (State(True, True, self.HEADER, self.SAME, None), False,
-                 ["no cell differs; still open for rows; C4 C6 C7"]),
-                (State(True, False, self.HEADER, self.OTHER, None), False,
-                 ["<b>1 cell differs</b>; not open; "]),
-                (State(True, False, bytes(8), self.SAME[:19] + (b"\xbf" * 40,) + self.SAME[20:],
-                       None), False, ["<b>40 cells differ</b>", "no control bit", "all of the page",
-                                      "dotted: never sent"]),
-                (State(True, True, self.HEADER, self.SAME, None), True,
-                 ["nothing yet", "shown no"]),
-                (TUNED, True, ["heard no"]), (None, True, ["not known"]),
-                (State(True, True, self.HEADER, self.SAME, (self.OTHER, self.HEADER)), True,
-                 ["1 cell differs</b>; complete pages alone; "])):
-            said = self.figures(state, is_complete).at(25)
-            with self.subTest(wanted=wanted):
-                self.assertEqual((said.count("<figure"), "pictures three" in said),
-                                 (2 + is_complete, is_complete))
-                for words in wanted:
-                    self.assertIn(words, said)
-                self.assertIn("Due at 00:00:01:00", said)
+class Pictured(unittest.TestCase):
+    """The subtitles that have pictures."""
 
-    def test_passed_over(self) -> None:
-        """What is known of PES packets that are named, one or some in a row."""
-        spans = Passed(Spans([(3, 5), (8, 8)]))
-        spans.pts = {3: 3600, 8: 3605}
+    def entries(self, kinds: dict[int, str], lines: Sequence[str] = (), size: int = 10,
+                window: tuple[int, int] = (0, 10 ** 6), broken: int | None = None,
+                subtitles: Sequence[Subtitle] = MANY) -> Entries:
+        """Sixty subtitles, some not as due by their numbers; each picture has so many bytes."""
+        looked = [looked_at(one, 0, 0) for one in subtitles]
+        by_frame = {look.frame: kinds.get(one.index, SAME)
+                    for one, look in zip(subtitles, looked)}
+        figures: Any = SimpleNamespace(
+            kind_at=by_frame.__getitem__, at=lambda frame: f"<large {frame}>" + "x" * size,
+            small_at=lambda frame: f"<small {frame}>" + "x" * size)
+        held: Any = SimpleNamespace(last_before=lambda pes: 10 * pes,
+                                    sendings_between=lambda first, end: (end - first) // 25)
+        made = faults(*lines)
+        made.programme = Programme(subtitles)
+        return Entries(figures, held, list(subtitles), looked, window, made, broken)
 
-        def words(line: str, until: int | None = None, within: int = 0, **more: Any) -> str:
-            held = {"passed": spans, "around": lambda span: (10, 20), "halt": None,
-                    "last_frame": 7, **more}
-            report: Any = SimpleNamespace(
-                held=SimpleNamespace(**held), passed=spans, origin=0,
-                asked=SimpleNamespace(within=within))
-            return places.pes_words(verdict_of(line, 1), until, report)
+    def test_need(self) -> None:
+        """Those by the broken place come first, then those that differ, then the others."""
+        made = self.entries({50: DIFFERENT, 55: DIFFERENT})
+        order = [one.index for one in made.by_need(MANY, 3000)]
+        near = list(range(19, 43))
+        self.assertEqual(order[:len(near)], near)
+        self.assertEqual(order[len(near):len(near) + 2], [50, 55])
+        self.assertEqual(order[len(near) + 2:], [one for one in range(1, 61)
+                                                 if one not in (50, 55)])
+        self.assertEqual([one.index for one in made.by_need(MANY, 0)][:12],
+                         list(range(1, 13)))
+        self.assertEqual([one.index for one in made.by_need(MANY, None)][:3], [50, 55, 1])
+        self.assertEqual(list(self.entries({1: NOT_KNOWN}).by_need(MANY[:1], 0)), [])
 
-        for said, wanted in (
-                (words("refused 38 UnitLength pes 3"),
-                 "PES packet 3 can't be read. PTS: 3600 (00:00:00:01). The last frame before it"),
-                (words("refused 38 UnitLength pes 3", 5), "PES packets 3 to 5 can't be read. PTS: "
-                 "3600 (00:00:00:01). The last frame before them"),
-                (words("refused 34 Pts pes 3"), "PES packet 3 can't be read. The last frame"),
-                (words("refused 41 X pes 3"), "PES packet 3 can't be read. The last frame"),
-                (words("refused 37 X pes 3"), "can't be read. PTS: 3600"),
-                (words("refused 40 X pes 3"), "can't be read. PTS: 3600"),
-                (words("refused 36 X pes 3"), "PES packet 3 can't be read. The last frame"),
-                (words("refused 61 OffFrame pes 8"),
-                 "PES packet 8: PTS 3605 (none: 00:00:00:01 is 5 ticks before)."),
-                (words("refused 61 OffFrame pes 9", halt=(9, 3605)), "PES packet 9 has the PTS "
-                 "3605. Its frame: none: 00:00:00:01 is 5 ticks before. That of the one before: "
-                 "00:00:00:07."),
-                (words("refused 61 OffFrame pes 9", halt=(9, 3605), last_frame=None),
-                 "5 ticks before.</p>"),
-                (words("refused 62 Order pes 9"), "PES packet 9 is not after that of the one"),
-                (words("refused 62 Order pes 9", within=1), "is before that of the one before"),
-                (words("refused 44 Cut pes 9"), "PES packet 9 can't be read, and nothing after")):
-            with self.subTest(wanted):
-                self.assertIn(wanted, said)
+    def test_most(self) -> None:
+        """Of those that differ the first 500."""
+        many = [Subtitle(number + 1, 1, 100 * number, 100 * number + 50, 20, 2, b"")
+                for number in range(503)]
+        made = self.entries({number: DIFFERENT for number in range(2, 504)}, subtitles=many)
+        self.assertEqual(sorted(made.drawn), list(range(1, 502)))
+
+    def test_room(self) -> None:
+        """As many as there is room for, to the last byte; others are counted."""
+        whole = self.entries({}, size=200_000)
+        self.assertEqual(sorted(whole.drawn), list(range(1, len(whole.drawn) + 1)))
+        used = [len(words.encode()) for words in whole.drawn.values()]
+        self.assertLessEqual(sum(used), 10_000_000)
+        self.assertGreater(sum(used) + used[-1] + 9, 10_000_000)
+        first = len(used) + 1
+        said = whole.left_out(MANY[first - 1:])
+        self.assertIn(f"Subtitles {first} to 60, {61 - first} of them: no pictures here. What is "
+                      f"held at the first frame: as due. <code>--from {at(100 * first - 100)} --to "
+                      f"{at(5900)}</code> draws them.", said)
+        self.assertIn("Subtitle 7: no pictures", whole.left_out(MANY[6:7]))
+        unknown = self.entries({4: NOT_KNOWN})
+        self.assertNotIn("draws them", unknown.left_out(MANY[3:4]))
+        self.assertIn("1 as due, 1 not known", unknown.left_out(MANY[3:5]))
+
+    def test_window(self) -> None:
+        """Of the frames that are asked for alone."""
+        for window, wanted in (((0, 0), [1]), ((49, 100), [1, 2]), ((50, 99), []),
+                               ((50, 100), [2]), ((149, 149), [2]), ((150, 250), [3])):
+            self.assertEqual(sorted(self.entries({}, window=window).drawn), wanted, window)
+
+    def test_words(self) -> None:
+        """When it is due, how often it is sent, and the first fault in its time."""
+        made = self.entries({2: DIFFERENT}, ["refused 68 Parity frame @149", "refused 69 Row frame "
+                                             "@320", "refused 38 Unit pes 42"])
+        self.assertEqual(made.entry_frames, [149, 320, 420])
+        self.assertIn('<a class="bad" href="#e1"><b>fault 1</b></a>', made.drawn[2])
+        self.assertNotIn("fault", made.drawn[1])
+        self.assertIn("Subtitle 2 <code>00:00:04:00</code> to <code>00:00:06:00</code>",
+                      made.drawn[2])
+        self.assertIn("row 20, justification 2; sent 2 times while it is due, whole after 0 frames",
+                      made.drawn[2])
+        self.assertIn('title="subtitle 1 to 00:00:02:00, row 20, sent 2 times, whole after 0 '
+                      'frames"', made.drawn[1])
+        for begin, end, index in ((0, 149, None), (0, 150, 1), (149, 150, 1), (150, 320, None),
+                                  (150, 321, 2), (400, 999, 3), (421, 999, None)):
+            found = made.entry_in(begin, end)
+            self.assertEqual(found and found.index, index, (begin, end))
+        two = self.entries({}, ["refused 68 Parity frame @149", "refused 69 Row frame @149"])
+        self.assertIn('href="#e1"><b>fault 1</b>', two.drawn[2])
+        made.faults.spans = Spans([(520, 530)])
+        self.assertEqual(made.faults_in(MANY[5]), ' <b class="bad">faults while it is due</b>')
+
+    def test_looked_at(self) -> None:
+        """A subtitle's pictures are of the frame at which it is whole, or the first that is late.
+        """
+        one = SUBTITLES[0]  # 25 to 50
+        for frames, within, wanted in ((0, 0, 25), (1, 0, 25), (None, 0, 25), (2, 2, 27),
+                                       (3, 2, 27), (None, 3, 28), (None, 99, 49)):
+            self.assertEqual(looked_at(one, frames, within), Looked(frames, wanted))
+        self.assertEqual([Looked(one, 0).words() for one in (None, 0, 1, 2)], [
+            "not seen whole while it is due", "whole after 0 frames", "whole after 1 frame",
+            "whole after 2 frames"])
 
 
 class Blocks(Case):
@@ -246,15 +281,31 @@ class Blocks(Case):
         self.must("passed over", passed and passed.number == 1, passed)
 
     def test_fields(self) -> None:
-        """The field that a fault is about, as it stands in the file."""
-        made = self.blocks()
-        for line, words in (("refused 14 Cct block 0", "CCT <mark>00</mark>"),
-                            ("refused 16 Cs block 2", "CS <mark>00</mark>"),
-                            ("refused 19 Vp block 2", "VP <mark>14</mark>"),
-                            ("refused 22 Sgn block 3", "SGN and SN <mark>000700</mark>"),
-                            ("refused 50 X block 2 at 1", ""), ("refused 14 Cct", "")):
-            found = made.field(verdict_of(line, 1))
-            self.must(line, found == words, found)
+        """The field that a fault is about, as it stands in the file; of no other fault one."""
+        path = self.write("two.stl", gsi_block(b"", 1, 1) + bytes(range(16)) + b"\x8f" * 112)
+        made = blocks.Blocks(path, ())
+        fields = {11: "DFC STL25.01", 12: "DFC STL25.01", 13: "DSC 1", 14: "CCT 00", 15: "EBN 03",
+                  16: "CS 04", 17: "CF 0F", 18: "JC 0E", 19: "VP 0D", 22: "SGN and SN 000102"}
+        for number in range(10, 60):
+            line = f"refused {number} X block {int(number > 14)}"
+            head, _, value = fields.get(number, "").rpartition(" ")
+            self.must(line, made.field(verdict_of(line)) == (
+                f"{head} <mark>{value}</mark>" if head else ""), made.field(verdict_of(line)))
+        self.must("no block", made.field(verdict_of("refused 14 Cct")) == "")
+
+    def test_ends(self) -> None:
+        """What ends reading a file; and after which faults a subtitle is as if it were not there."""
+        ends, gone = {10, 11, 12, 13, 14, 15, 17, 22, 23, 24, 25}, {16, 18, 19, 20, 21}
+        for number in (*range(10, 26), *range(50, 58)):
+            line = f"refused {number} Name block 2"
+            report: Any = SimpleNamespace(faults=SimpleNamespace(last_told=line))
+            said = blocks.end_of_reading(report, self.blocks())
+            self.must(line, said == (
+                f"<b>Reading ended at block 2</b>, with {number} Name: nothing is known of what "
+                "comes after it." if number in ends else
+                "The file was read to its end, 6 blocks."), said)
+            before = self.blocks(line).before(3)
+            self.must(f"{line}: before", (before is None) == (number in gone), before)
 
     def test_marks(self) -> None:
         """The byte or the line that a fault names, in a text and in tables."""
@@ -288,9 +339,9 @@ class Blocks(Case):
                 ("refused 56 X block 6", (f"<mark>{begin}</mark>", end)),
                 ("refused 57 X block 6", (f"<mark>{begin}</mark>", end)),
                 ("refused 20 X block 6", (begin, end)), ("refused 50 X block 6", (begin, end))):
-            self.must(line, blocks.times_of(made, one, [verdict_of(line, 1)]) == wanted)
+            self.must(line, blocks.times_of(one, [verdict_of(line, 1)]) == wanted)
         wrong = one._replace(begin="99:00:00:00")
-        self.must("no time", blocks.times_of(made, wrong, [verdict_of("refused 20 X block 6", 1)])
+        self.must("no time", blocks.times_of(wrong, [verdict_of("refused 20 X block 6", 1)])
                   == ("<mark>99:00:00:00</mark>", end))
         first, last = "00:00:03:00", "00:00:03:24"
         for line, words in (("refused 56 X block 6", f"<mark>{first}</mark></td><td>{last}"),

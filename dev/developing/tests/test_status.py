@@ -2,25 +2,23 @@
 from __future__ import annotations
 
 import itertools
-import os
 import tempfile
 import unittest
-from typing import Any, Sequence
+from typing import Sequence
 
-from subtitles.calls.objects import left_by_call, object_at, put, unjudged
 from subtitles.core.words import Stop
-from subtitles.qc.checking import Answer
 from subtitles.qc.severity import Severity
 from subtitles.qc.status import (
     ACCEPTED, LOST, NOT_JUDGED, REFUSED, STATUSES, UNREAD, UNSAID, WAIVED, WARNED, Decision, Said,
     Seen, decide, is_of_call, of_all, word_of)
-from subtitles.qc.unclear import Unclear
 
 ERROR, WARNING, NUMBER = 72, 67, 38  # of faults: the file below names the second a warning
 ENDS_READING, LOST_PACKETS = (30, 31, 32, 44), 45
 RIGHT = {
     "accepted": Said(0, is_accepted=True),
-    "refused": Said(1, faults=3, counted=3, numbers={ERROR, WARNING}),
+    "refused": Said(1, faults=3, counted=3, numbers=(WARNING, ERROR)),
+    "refused first": Said(1, faults=3, counted=3, numbers=(ERROR, WARNING)),
+    "refused between": Said(1, faults=3, counted=3, numbers=(WARNING, ERROR, WARNING)),
     "waived": Said(1, faults=2, counted=2, numbers={WARNING}),
     "accepted, not read": Said(0, is_accepted=True, is_read=False),
     "waived, not read": Said(1, faults=1, counted=1, numbers={WARNING}, is_read=False),
@@ -186,110 +184,14 @@ class Several(unittest.TestCase):
                 self.assertEqual(is_of_call(word, status, ended),
                                  STATUSES.get(word, 2) == status and status == ended)
 
-    def test_what_a_call_left(self) -> None:
-        """No object, one of another status than the call, a damaged one: not judged, and why."""
-        with tempfile.TemporaryDirectory() as folder:
-            path = os.path.join(folder, "one.json")
-            right = {**unjudged("one", ""), "verdict": ACCEPTED, "status": 0, "line": "accepted",
-                     "asked": {}}
-            rows: list[tuple[dict[str, Any] | None, int, list[str], str, str]] = [
-                (right, 0, [], ACCEPTED, ""), (right, 0, ["qc: warning"], ACCEPTED, ""),
-                (right, 2, ["qc: one.csv: full"], NOT_JUDGED, "one.csv: full"),
-                (right, 1, [], NOT_JUDGED, "it did not end by itself"),
-                (right, -9, ["qc: a note"], NOT_JUDGED, "it did not end by itself"),
-                (unjudged("one", "none"), 2, ["qc: none"], NOT_JUDGED, "none"),
-                (None, 0, [], NOT_JUDGED, "it did not end by itself"),
-                (None, 2, ["qc: first", "qc: last"], NOT_JUDGED, "last")]
-            for known, ended, told, verdict, reason in rows:
-                if os.path.exists(path):
-                    os.unlink(path)
-                if known:
-                    put(path, known)
-                found = left_by_call(path, "one", ended, told)
-                with self.subTest(known=known, ended=ended, told=told):
-                    self.assertEqual((found["verdict"], found["reason"]), (verdict, reason))
-
-    def test_objects_of_another_shape(self) -> None:
-        """An object that does not agree with itself, or lacks what is taken of it, is not judged.
-        """
-        line = {"line": "refused 67 Control", "number": 67, "name": "Control", "cause": None,
-                "subtitle": None, "due": None, "held": None}
-        right: dict[str, Any] = {
-            **unjudged("one", ""), "verdict": REFUSED, "status": 1, "line": line["line"],
-            "faults": [line], "fault_count": 1, "seconds": 0.5, "cause_counts": {}}
-        others: list[dict[str, Any]] = [
-            {}, {"status": 0}, {"status": True}, {"status": None}, {"verdict": "fine"},
-            {"verdict": ["refused"]}, {"line": None}, {"line": ""}, {"line": 5}, {"faults": {}},
-            {"faults": [5]}, {"faults": [{"line": "refused"}]}, {"fault_count": "1"},
-            {"seconds": "long"}, {"cause_counts": []}, {"asked": []}, {"format": 2}]
-        with tempfile.TemporaryDirectory() as folder:
-            path = os.path.join(folder, "one.json")
-            for change in others:
-                put(path, {**right, **change})
-                found = object_at(path)
-                with self.subTest(change=change):
-                    assert found
-                    self.assertEqual(found["verdict"], NOT_JUDGED if change else REFUSED)
-
-
-class Lines(unittest.TestCase):
-    """What `check --all` printed, line by line, and its status."""
-
-    def verdict(self, lines: Sequence[str], status: int) -> str:
-        """The verdict on these lines; what is no answer is told with a line of it."""
-        with tempfile.TemporaryDirectory() as folder:
-            answer = Answer(os.path.join(folder, "list"))
-            for line in lines:
-                answer.take(line)
-            try:
-                answer.end(status)
-            except Unclear as unclear:
-                self.assertIn(f"status {status}", unclear.reason)
-                self.assertEqual(answer.verdict, NOT_JUDGED)
-            return answer.verdict
-
-    def test_answers(self) -> None:
-        accepted, trusted = "accepted 51 frames 2 transmissions", \
-            "trusted frames 00:00:01:00 00:00:02:00"
-        control, gap = "refused 67 Control frame 00:00:01:00 packet 0", \
-            "refused 73 Gap frame 00:00:02:00"
-        rows: list[tuple[list[str], int, str]] = [
-            ([accepted], 0, ACCEPTED), ([trusted, accepted], 0, ACCEPTED),
-            ([control, "1 faults"], 1, REFUSED),
-            ([trusted, control, gap, "ended 73 Gap frame 00:00:02:24", "2 faults"], 1, REFUSED),
-            ([], 0, NOT_JUDGED), ([], 1, NOT_JUDGED), ([""], 0, NOT_JUDGED),
-            ([accepted], 1, NOT_JUDGED), ([accepted], 2, NOT_JUDGED),
-            ([accepted], -9, NOT_JUDGED), ([accepted, trusted], 0, NOT_JUDGED),
-            ([accepted, control, "1 faults"], 1, NOT_JUDGED),
-            ([accepted + " more"], 0, NOT_JUDGED), ([accepted.upper()], 0, NOT_JUDGED),
-            (["something else", accepted], 0, NOT_JUDGED),
-            ([control, accepted], 0, NOT_JUDGED), ([control, "1 faults"], 0, NOT_JUDGED),
-            ([control, "1 faults", accepted], 0, NOT_JUDGED),
-            ([control, "2 faults"], 1, NOT_JUDGED), ([control], 1, NOT_JUDGED),
-            ([control, gap, "1 faults"], 1, NOT_JUDGED), (["0 faults"], 1, NOT_JUDGED),
-            (["refused x Control", "1 faults"], 1, NOT_JUDGED),
-            (["refused", "1 faults"], 1, NOT_JUDGED),
-            (["refused 67", "1 faults"], 1, NOT_JUDGED),
-            ([control, "something else", "1 faults"], 1, NOT_JUDGED),
-            (["fault 91 Memory"], 2, NOT_JUDGED), (["fault 91 Memory"], 1, NOT_JUDGED)]
-        for lines, status, wanted in rows:
-            with self.subTest(lines=lines, status=status):
-                self.assertEqual(self.verdict(lines, status), wanted)
-
-    def test_no_answer_yet(self) -> None:
-        """What has not ended is none."""
-        with tempfile.TemporaryDirectory() as folder:
-            answer = Answer(os.path.join(folder, "list"))
-            answer.take("accepted 51 frames 2 transmissions")
-            answer.stop()
-            self.assertEqual(answer.verdict, NOT_JUDGED)
-
 
 class Severities(unittest.TestCase):
     """Lines of a severity file that are none."""
 
     def test_wrong_lines(self) -> None:
-        for line in ("72", "72 fatal", "x error", "75 warning", "others", "72 warning now"):
+        none = (0, 5, 9, 26, 29, 41, 43, 46, 49, 58, 59, 75, 78, 81, 83, 90, 100)
+        for line in ("72", "72 fatal", "x error", "others", "72 warning now", "warning 72",
+                     "٧٢ error", *(f"{number} warning" for number in none)):
             with self.subTest(line), self.assertRaises(Stop):
                 severity_of(line)
 

@@ -1,41 +1,50 @@
-"""What `check --all` answered, line by line, and what is advised of times that fall at midnight."""
+"""What `check --all` answered, line by line; what is advised of times that fall at midnight; what a
+line of a list asks.
+"""
 from __future__ import annotations
-
-from typing import Sequence
 
 from subtitles.core.stl import gsi_block, subtitle_blocks
 from subtitles.core.times import FRAMES_OF_A_DAY
 from subtitles.core.told import told_of
+from subtitles.core.words import Stop, Words
+from subtitles.qc.asked import add_pair_options, asked_of_line
 from subtitles.qc.checking import Answer
 from subtitles.qc.midnight import AT_MIDNIGHT, falls_at_midnight, midnight_words
 from subtitles.qc.subtitle_file import SubtitleFile
 from subtitles.qc.unclear import Unclear
 from .bench import Case
+from .parts import asked_for
 
 
 class Answers(Case):
     """What `check --all` answered, line by line."""
 
-    FIRST = "refused 72 Content frame 00:00:05:00 row 20 column 1"
+    FIRST, SECOND = "refused 72 Content frame 00:00:05:00 row 20 column 1", \
+        "refused 38 UnitLength pes 7"
+    GOOD, TRUSTED = "accepted 10 frames 2 transmissions", \
+        "trusted frames 00:00:06:00 00:00:07:00"
+    STRANGE = ("hello", GOOD + " more", "refused")
+    # Lists without a fault that are no answer, each with a status; more stand in test_helpers.
+    NONE: list[tuple[list[str], int]] = [
+        ([GOOD], 2), ([], 0), ([GOOD, TRUSTED], 0), ([GOOD, "hello"], 0), (["hello", GOOD], 0),
+        ([GOOD + " more"], 0), (["refused", "1 faults"], 1)]
+    # Lists: the status, the verdict or none, the line, how many faults there are and their numbers.
+    LISTS: list[tuple[list[str], int, str | None, str, int, set[int]]] = [
+        ([GOOD], 0, "accepted", GOOD, 0, set()), ([GOOD, GOOD], 0, "accepted", GOOD, 0, set()),
+        ([TRUSTED, GOOD], 0, "accepted", GOOD, 0, set()),
+        ([FIRST, "1 faults"], 1, "refused", FIRST, 1, {72}),
+        ([FIRST, SECOND, "2 faults"], 1, "refused", FIRST, 2, {72, 38}),
+        ([SECOND, "ended 38 UnitLength pes 9", FIRST, TRUSTED, "2 faults"], 1, "refused", SECOND, 2,
+         {72, 38}),
+        ([FIRST, "hello", "1 faults"], 1, None, "", 1, {72}),
+        ([GOOD, FIRST, "1 faults"], 1, None, "", 1, {72}),
+        ([FIRST, SECOND, "1 faults"], 1, None, "", 2, {72, 38}),
+        (["refused 67", "1 faults"], 1, None, "", 1, {67})]
 
     def test_answers(self) -> None:
         """Each kind of list: its verdict, its line, its numbers, or that it is none."""
-        good, second = "accepted 10 frames 2 transmissions", "refused 38 UnitLength pes 7"
-        of_lists: list[tuple[Sequence[str], int, str | None, str, int, set[int]]] = [
-            ([good], 0, "accepted", good, 0, set()), ([good], 1, None, "", 0, set()),
-            ([self.FIRST, "1 faults"], 1, "refused", self.FIRST, 1, {72}),
-            ([self.FIRST, second, "2 faults"], 1, "refused", self.FIRST, 2, {72, 38}),
-            ([second, "ended 38 UnitLength pes 9", self.FIRST, "trusted frames 00:00:06:00 "
-              "00:00:07:00", "2 faults"], 1, "refused", second, 2, {72, 38}),
-            ([self.FIRST, "2 faults"], 1, None, "", 1, {72}), ([self.FIRST], 1, None, "", 1, {72}),
-            ([self.FIRST, "1 faults"], 0, None, "", 1, {72}), ([], 0, None, "", 0, set()),
-            ([self.FIRST, good], 0, None, "", 1, {72}),
-            ([good, good], 0, "accepted", good, 0, set()),
-            (["hello", good], 0, None, "", 0, set()), ([good, "hello"], 0, None, "", 0, set()),
-            ([self.FIRST, "hello", "1 faults"], 1, None, "", 1, {72}),
-            (["0 faults"], 1, None, "", 0, set()), (["fault 91 Memory"], 2, None, "", 0, set()),
-            ([good, self.FIRST, "1 faults"], 1, None, "", 1, {72})]
-        for lines, status, verdict, line, count, numbers in of_lists:
+        rows = [*self.LISTS, *((*one, None, "", 0, set[int]()) for one in self.NONE)]
+        for lines, status, verdict, line, count, numbers in rows:
             made = Answer(self.path("list"))
             for one in lines:
                 made.take(one)
@@ -44,8 +53,8 @@ class Answers(Case):
                 found: str | None = made.verdict
             except Unclear as reason:
                 found = None
-                told = next((one for one in lines if one == "hello"), lines[-1] if lines else
-                            "it printed nothing")
+                told = next((one for one in lines if one in self.STRANGE), "".join(lines[-1:])) or \
+                    "it printed nothing"
                 self.assertEqual(reason.reason, f"check was not answered: {told}, status {status}")
             self.assertEqual((found, made.count, made.numbers), (verdict, count, numbers), lines)
             if found:
@@ -54,7 +63,7 @@ class Answers(Case):
             self.assertEqual([one.line for one in made.told()],
                              [one for one in lines if told_of(one)])
             self.assertEqual([one.first for one in made.trusted()],
-                             ["00:00:06:00"] * ("trusted frames 00:00:06:00 00:00:07:00" in lines))
+                             ["00:00:06:00"] * (self.TRUSTED in lines))
 
     def test_stopped(self) -> None:
         """Up to when it was told; what is accepted without a list; and where its file is then."""
@@ -112,3 +121,41 @@ class Nights(Case):
             told = told_of(line)
             assert told
             self.assertEqual(midnight_words(told, subtitles), AT_MIDNIGHT if is_told else "", line)
+        told = told_of("refused 56 Order block 2")
+        for begin, wanted in ((day - 90_001, ""), (day - 90_000, AT_MIDNIGHT)):
+            data = gsi_block(b"", 2, 2) + subtitle_blocks(1, begin, day - 100, 20, 2, b"a") + \
+                subtitle_blocks(2, 10, 60, 20, 2, b"b")
+            subtitles = SubtitleFile(self.write("two.stl", data))
+            self.assertEqual(told and midnight_words(told, subtitles), wanted)
+
+
+class Asked(Case):
+    """What is asked of a pair of a list."""
+
+    def test_clocks(self) -> None:
+        """A line that tells its origin, or its first picture, takes neither of the call; the other
+        options stay, where it has none of its own."""
+        parser = Words("")
+        add_pair_options(parser)
+        for call, line, wanted in (
+                ("", "", (None, None, 250)), ("--origin 7 --every 50", "", (7, None, 50)),
+                ("--origin 7", "--origin 9", (9, None, 250)),
+                ("--origin 7 --every 50", "--start 10:00:00:00", (None, "10:00:00:00", 50)),
+                ("--origin 7", "--start=tcp", (None, "tcp", 250)),
+                ("--start tcp --every 50", "--origin 9", (9, None, 50)),
+                ("--start tcp", "--origin=9 --every 25", (9, None, 25)),
+                ("--start tcp", "--every 25", (None, "tcp", 25))):
+            asked = asked_of_line(["a.stl", "a.ts", *line.split()], parser.parse_args(call.split()))
+            self.assertEqual((asked.origin, asked.start, asked.every), wanted, (call, line))
+        for words in (["a.stl", "-"], ["a.stl", "a.ts", "--origin", "1", "--start", "tcp"]):
+            self.assertRaises(Stop, asked_of_line, words, parser.parse_args([]))
+
+    def test_options_of_languages(self) -> None:
+        """`auto` takes the option of the LC of the GSI block; of none, and of no file, English."""
+        for code, word in ((b"08", "german"), (b"09", "english"), (b"  ", "english"),
+                           (b"0F", "french"), (b"ZZ", "english")):
+            stl = self.write("one.stl", gsi_block(b"", 0, 0, language=code))
+            self.assertEqual(asked_for(stl, "a.ts", "--option", "auto").option, word, code)
+            self.assertEqual(asked_for(stl, "a.ts", "--option", "czech").option, "czech")
+        for path in ("none.stl", self.folder, self.write("two.stl", b"850STL25.01100")):
+            self.assertEqual(asked_for(path, "a.ts", "--option", "auto").option, "english")

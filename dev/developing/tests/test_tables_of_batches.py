@@ -175,5 +175,6 @@ class Ranges(Case):
                             map(len, some))])
                     self.assertEqual([tuple(one) for one in [*found, *gaps.waiting]], wanted,
                                      (kinds, by))
+                    self.assertEqual(gaps.count, count)
         path = self.write("two.pes", pes.MARK + plain + inside + pes.MARK + plain[:99])
         self.assertEqual(pieces.gaps_in(path), [pieces.Gap(0, None, 0), pieces.Gap(3, 0, None)])

@@ -152,6 +152,9 @@ class Codes(unittest.TestCase):
                 for two in range(one):
                     wrong = word ^ 1 << one ^ 1 << two
                     self.assertIsNone(teletext.triplet_of(wrong.to_bytes(3, "little")), (one, two))
+            for low in range(8):  # three, whose checks name the places 24 to 31
+                wrong = word ^ 1 << 7 ^ 1 << 15 + low ^ 1 << 23
+                self.assertIsNone(teletext.triplet_of(wrong.to_bytes(3, "little")), low)
 
     def test_pages(self) -> None:
         """Names of pages, and what is none."""

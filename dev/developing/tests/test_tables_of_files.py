@@ -4,15 +4,21 @@ first, the second and the last.
 from __future__ import annotations
 
 import argparse
+import contextlib
 import itertools
+import os
 import shlex
+import shutil
+import sys
 import unittest
+from types import SimpleNamespace
 from typing import Any, Callable, Sequence
 from unittest import mock
 
-from subtitles.core import stl, told, words
+from subtitles.core import manual, stl, told, words
 from subtitles.core.characters import option_name
-from subtitles.core.files import Damaged, is_replaced, plain_name, whole_file
+from subtitles.core.files import (
+    Damaged, Input, is_replaced, naming, plain_name, temporary_folder, whole_file)
 from subtitles.core.gsi import titles_in
 from subtitles.core.letters import letters_of
 from subtitles.core.programme import Programme, Subtitle
@@ -335,6 +341,38 @@ class Words(Case):
                              ("+a", "./+a"), ("@a", "./@a"), ("a-", "a-"), ("/-a", "/-a")):
             self.assertEqual(plain_name(name), wanted)
 
+    def test_inputs(self) -> None:
+        """An error names what was typed alone; a pipe that answers at once is waited for."""
+        with self.assertRaises(OSError) as told, naming("typed"):
+            raise OSError(2, "No such file", "one", None, "two")
+        self.assertEqual((told.exception.filename, told.exception.filename2), ("typed", None))
+        came = [None, None, b"some"]
+        pipe: Any = SimpleNamespace(read=lambda size: came.pop(0), close=lambda: None)
+        with Input(os.devnull) as source, mock.patch("select.select") as waited:
+            source.file.close()
+            source.file = pipe
+            self.assertEqual((source.read(5), waited.call_count), (b"some", 2))
+        for code, status in ((3, 3), (None, 0), (0, 0)):
+            with mock.patch("sys.argv", ["tool", "word"]):
+                self.assertEqual(words.answer(lambda line: sys.exit(code)), status)
+                self.assertEqual(words.answer(len), 1)
+
+    def test_manual(self) -> None:
+        """A row of which the cure is that of the one before, as it is or with more."""
+        path = self.write("chapter", b"""# Refusals
+| Number | Name | Means | Do |
+|---|---|---|---|
+| 10 | One | first | mend it |
+| 11 | Two | second | the same |
+| 12 | Three | [a](b) | third | the same, twice |
+""")
+        with mock.patch.object(manual, "CHAPTER", path):
+            self.assertEqual(manual.meanings(), {
+                10: ("One", "first", "mend it"), 11: ("Two", "second", "mend it"),
+                12: ("Three", "third", "mend it, twice")})
+        with mock.patch.object(manual, "CHAPTER", self.path("none")):
+            self.assertEqual(manual.meanings(), {})
+
     def test_outputs(self) -> None:
         """What is written takes a name whole or not at all, and never that of an input."""
         one, two = self.write("one", b"old"), self.write("two", b"input")
@@ -349,12 +387,80 @@ class Words(Case):
             self.write("one", b"old")
             self.assertEqual((bool(refused(write)), self.read("one")),
                              (is_refused, b"old" if is_refused else b"new"))
+        os.symlink(one, self.path("link"))
+        for path in (self.path("link"), os.path.join(self.folder, ".", "one")):
+            self.assertTrue(refused(lambda: whole_file(path, [one]).__enter__()))
+        self.assertEqual(self.read("one"), b"new")
+        with whole_file(self.path("link"), []) as file:
+            file.write(b"linked")
+        self.assertEqual((self.read("one"), os.path.islink(self.path("link"))), (b"linked", True))
+        mask = os.umask(0o027)
+        for path in (one, self.path("new")):
+            with whole_file(path, []) as file:
+                file.write(b"new")
+            self.assertEqual(os.stat(path).st_mode & 0o777, 0o640)
+        os.umask(mask)
         with self.assertRaises(KeyError), whole_file(one, []) as file:
             file.write(b"half")
             raise KeyError
         self.assertEqual((self.read("one"), is_replaced(one), is_replaced("/dev/null"),
                           is_replaced(self.path("none")), is_replaced("-")),
                          (b"new", True, False, True, False))
+
+
+class Signals(Case):
+    """A signal while a file is written."""
+
+    @alone
+    def test_as_the_file_takes_its_name(self) -> None:
+        """Just before that the file stays as it was, just behind it the new one stands; either way
+        it is the signal that is told."""
+        for is_before in (True, False):
+            path = self.write("file", b"old")
+
+            def replaced(name: str, target: str) -> None:
+                if not is_before:
+                    os.rename(name, target)
+                raise KeyboardInterrupt
+
+            told: BaseException | None = None
+            try:
+                with mock.patch("subtitles.core.files.os.replace", replaced), \
+                        whole_file(path, []) as file:
+                    file.write(b"new")
+            except (KeyboardInterrupt, OSError) as reason:
+                told = reason
+            self.must("the signal", isinstance(told, KeyboardInterrupt), told)
+            self.must(f"{is_before}", self.read("file") == (b"old" if is_before else b"new"))
+            self.must("nothing is left", os.listdir(self.folder) == ["file"],
+                      os.listdir(self.folder))
+
+
+    @alone
+    def test_of_a_folder(self) -> None:
+        """Once it is made, among what is done in it, and while it goes: it is gone."""
+        for place in ("os.mkdir", "shutil.rmtree", ""):
+            def interrupted(path: str, *words: Any, **more: Any) -> None:
+                seen.append(path)
+                if place != "shutil.rmtree":
+                    made(path, *words, **more)
+                if len(seen) == 1:
+                    raise KeyboardInterrupt
+                made(path, *words, **more)
+
+            seen: list[str] = []
+            made: Any = os.mkdir if place == "os.mkdir" else shutil.rmtree
+            patched: Any = mock.patch(f"subtitles.core.files.{place}", interrupted) if place else \
+                contextlib.nullcontext()
+            with mock.patch("tempfile.tempdir", self.folder), self.assertRaises(KeyboardInterrupt):
+                with patched, temporary_folder("one-") as folder:
+                    self.must("there", os.path.dirname(folder) == self.folder and os.stat(
+                        folder).st_mode & 0o777 == 0o700)
+                    for name in ("one", "two"):
+                        os.mkdir(os.path.join(folder, name))
+                    if not place:
+                        raise KeyboardInterrupt
+            self.must(f"{place}: nothing is left", os.listdir(self.folder) == [])
 
 
 class Letters(unittest.TestCase):

@@ -21,8 +21,8 @@ from subtitles.qc.start import Grid, began, refuse_outside, said_of, start_frame
 from subtitles.qc.subtitle_file import SubtitleFile
 from subtitles.qc.unclear import Unclear
 from subtitles.qc.warned import (
-    SAID, Warned, length_words, of_counts, of_jumps, of_option, of_pauses, of_repeat, of_tables,
-    of_timing, there_are)
+    SAID, Warned, length_words, of_character_sets, of_counts, of_jumps, of_pauses,
+    of_repeat, of_tables, of_timing, there_are)
 from subtitles.qc.whole import of_end, of_growth
 from subtitles.qc.within import Trying, is_accepted, line_of
 from subtitles.reading.finding import OfPart, Origin
@@ -33,6 +33,7 @@ from subtitles.reading.timing import Sample, Strange
 from .bench import Case
 from .muxed import MPEG_2
 from .parts import CLOSING, HEADER, PAGE, asked_for, row
+from .test_character_sets import naming
 
 ACCEPTED = ("accepted 10 frames 2 transmissions", 0)
 LATER = ("refused 72 Content frame 00:00:01:00 row 20 column 1", 1)
@@ -216,18 +217,14 @@ class Warnings(Case):
             found = said(of_tables(listing, 0x101, asked))
             self.assertEqual([kind for kind, *_ in found], ["page"] * bool(words), pages)
             self.assertTrue(not found or found[0][1].endswith(words), found)
-        for words_of, option, words in (
-                ("", "english", ""), ("eng", "english", ""), ("ger", "english", "--option german"),
-                ("ger eng", "english", ""), ("pol", "english", "another region"),
-                ("ger fre", "english", "--option german and --option french"),
-                ("pol eng", "english", ""), ("xyz", "english", ""),
-                ("deu ger", "french", "--option german"), ("pol ger", "german", ""),
-                ("pol ger", "french", "another region and --option german")):
-            languages = words_of.split()
-            found = said(of_option(languages, asked_for(stl, "one.ts", "--option", option)))
-            self.assertEqual(bool(found), bool(words), (languages, option))
-            self.assertTrue(not found or f"which is of {words}; it was judged by --option {option}"
-                            in found[0][1], found)
+
+    def test_character_sets(self) -> None:
+        """Of two packets the first, the second, or each names another set."""
+        for sets, count in (((0,), 0), ((8,), 1), ((0, 8), 1), ((8, 0), 1), ((8, 9), 2)):
+            path = self.write("one.pes", pes_packet(0, [HEADER, *(
+                naming(number, one) for number, one in zip((29, 28), sets)), CLOSING]))
+            found = said(of_character_sets(path, asked_for("one.stl", "one.ts")))
+            self.assertEqual([one[0] for one in found], ["character_set"] * count, (sets, found))
 
     def test_counts(self) -> None:
         """The counts of a GSI block beside what is there: each one less, right, and one more."""
@@ -326,8 +323,11 @@ class Grids(Case):
         """From ten PTS that rise, up to a thousandth, more than it jitters: over half a frame too.
         """
         def drifting(count: int, ppm: float, jitter: int = 0, step: int = 90_000) -> Off | None:
-            return off_of([round(step * at * (1 + ppm / 1e6)) + jitter * (-1) ** at + 5
-                           for at in range(count)], 5)
+            found = [off_of([(round(step * at * (1 + ppm / 1e6)) + jitter * (-1) ** at + origin)
+                             % CLOCK for at in range(count)], origin)
+                     for origin in (5, CLOCK - 5 * step)]
+            self.assertEqual(found[0], found[1])
+            return found[0]
 
         for count, ppm, jitter, wanted in (
                 (10, 100, 0, 100), (9, 100, 0, None), (100, -100, 0, -100), (100, 1001, 0, 1000),
@@ -337,6 +337,8 @@ class Grids(Case):
                 (400, 0.4, 0, None)):
             found = drifting(count, ppm, jitter)
             self.assertEqual(found and found.drift, wanted, (count, ppm, jitter))
+            off = off_of([round(90_000 * at * (1 + 5e-5)) + 700 for at in range(50)], 0)
+            self.assertEqual(off and off.drift, 50)
         rising = [90_000 * at + 9 * at for at in range(20)]
         for several in (rising[:5] + rising[4:], rising[::-1],
                         rising[:5] + rising[6:7] + rising[5:6] + rising[7:]):

@@ -4,12 +4,12 @@ from __future__ import annotations
 import os
 import unittest
 from types import SimpleNamespace
-from typing import Any, Callable, Sequence
+from typing import Any, Callable
 from unittest import mock
 
-from subtitles.core.pes import MARK, pes_packet
+from subtitles.core.pes import pes_packet
 from subtitles.core.stl import gsi_block, tti_block
-from subtitles.core.times import CLOCK, FRAMES_OF_A_DAY, TICKS
+from subtitles.core.times import CLOCK, TICKS
 from subtitles.core.words import Stop
 from subtitles.qc.feed import LAST, At, Feed, Finder
 from subtitles.qc.hints import control_words
@@ -24,14 +24,8 @@ from subtitles.qc.stall import Stall
 from subtitles.qc.subtitle_file import SubtitleFile
 from subtitles.qc.sums import Files, Summing, file_of
 from subtitles.qc.typed import Typed, line_of
-from subtitles.qc.why import Heard, unseen
-from subtitles.qc.clock import GIVEN, Clock
-from subtitles.qc.fitting import Found
-from subtitles.qc.held import Span
-from subtitles.reading.bases import Bases
 from subtitles.reading.cutting import Cut
 from subtitles.reading.finding import Agreement, OfPart, Origin
-from subtitles.reading.losses import Place
 from subtitles.reading.receiver import BLANK_PAGE
 from subtitles.reading.repeat import FEWEST, longest_gap, measured
 from .bench import Case
@@ -72,9 +66,9 @@ class Named(Case):
         """Files of the pair and of its parts, and of no other pair."""
         out = self.path("out")
         os.mkdir(out)
-        own = ["one.1.stl", "one.12.cut.pes", "one.3.txt", "one.9.html"]
-        others = ["one.0.stl", "one.x.stl", "one.1x.stl", "two.1.stl", "one.1.json", "one.1.a.stl",
-                  "one.01.stl", "one.stl.1"]
+        own = ["one.1.stl", "one.1.txt", "one.12.cut.pes", "one.3.txt", "one.9.html"]
+        others = ["one.0.stl", "one.x.stl", "one.1x.stl", "two.1.stl", "one.1.a.stl", "one.01.stl",
+                  "one.stl.1", "one.4.stl", "one.5.html", "one.5.json"]
         for name in [*own, *others]:
             with open(os.path.join(out, name), "wb"):
                 pass
@@ -268,26 +262,6 @@ class Feeds(unittest.TestCase):
             live.cut.was_in, live.cut.has_end = was_in, has_end
             self.assertEqual(live.has_last(), was_in and has_end, (was_in, has_end))
 
-    def test_reach(self) -> None:
-        """Frames that the recording has, whole ones, and those of which something is lost."""
-        found = Found(100, 200, Clock(5, GIVEN))
-        for first, last, wanted in ((100, 200, Span(100, 200)), (90, 300, Span(90, 300))):
-            for off, more in ((0, (0, 0)), (1, (1, 0)), (-1, (0, -1))):
-                ends = [(5 + TICKS * frame + off) % CLOCK for frame in (first, last)]
-                carrier: Any = SimpleNamespace(reach=lambda: ends)
-                self.assertEqual(Heard("a", carrier).reach(found),
-                                 Span(wanted.first + more[0], wanted.last + more[1]))
-        self.assertIsNone(Heard("a", None).reach(found))
-        self.assertIsNone(Heard("a", carrier).reach(found._replace(packets=(0, 1))))
-        day = FRAMES_OF_A_DAY
-        for before, after, span in ((10, 20, Span(10, 20)), (None, 20, Span(0, 20)),
-                                    (10, None, Span(10, day)), (None, None, Span(0, day)),
-                                    (day, 20, Span(0, 20)), (day - 1, day, Span(day - 1, day))):
-            pts: Any = [None if one is None else (5 + TICKS * one) % CLOCK
-                        for one in (before, after)]
-            place = Place(*pts)
-            self.assertEqual(list(unseen([place], 5, 0)), [span])
-
 
 class Pages(Case):
     """In what two pages differ, and what a letter of a file is."""
@@ -378,7 +352,7 @@ class Pages(Case):
 
 
 class Repeats(unittest.TestCase):
-    """How often a page comes, and where PTS go back."""
+    """How often a page comes."""
 
     def test_measured(self) -> None:
         """Between edges, and not up to five frames before one; of few there is no measure."""
@@ -397,28 +371,3 @@ class Repeats(unittest.TestCase):
         of_gaps: list[tuple[list[int], int]] = [([], 0), ([5], 0), ([5, 5], 0), ([9, 5, 30], 21)]
         for frames, gap in of_gaps:
             self.assertEqual(longest_gap(frames), gap)
-
-    def test_bases(self) -> None:
-        """Two PTS in a row that are before the two before them begin one; heard in any pieces."""
-        plain = pes_packet(0, [])
-        without = plain[:7] + b"\0" + plain[8:]
-        of_rows: list[tuple[Sequence[int | None], list[int]]] = [
-            ([10, 20, 30], [0]), ([10, 20, 5, 6], [0, 2]), ([10, 20, 5], [0]),
-            ([10, 20, 5, 30, 40], [0]), ([10, 20, 5, 15], [0]), ([10, 5, 6, 7], [0]),
-            ([10, 20, 5, 6, 1, 2], [0, 2, 4]), ([10, 20, None, 5, None, 6], [0, 3]),
-            ([CLOCK - 9, CLOCK - 5, 3, 9], [0]), ([3, 9, CLOCK - 9, CLOCK - 5], [0, 2]),
-            ([10, 20, 9, 9, 9], [0, 2]), ([10, 20, 10, 10], [0]), ([], [0])]
-        for row, begins in of_rows:
-            packets = [without if pts is None else pes_packet(pts, []) for pts in row]
-            for by in (1, 2, 3, 9):
-                bases = Bases()
-                for at in range(0, len(packets), by):
-                    bases.take(packets[at:at + by])
-                self.assertEqual(bases.begins, begins, (row, by))
-                self.assertEqual((bases.count, bases.timed), (len(row), sum(
-                    pts is not None for pts in row)))
-                ends = [*(one - 1 for one in begins[1:]), len(row) - 1]
-                self.assertEqual(bases.ranges(), list(zip(begins, ends)))
-        bases = Bases()
-        bases.take([MARK, plain, MARK])
-        self.assertEqual((bases.count, bases.timed, bases.marks), (3, 1, 2))

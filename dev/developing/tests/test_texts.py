@@ -5,8 +5,10 @@ import shutil
 import subprocess
 
 from subtitles.core.letters import letters_of
-from .bench import Case, example, example_bytes
+from subtitles.core.stl import StoredSubtitle
+from .bench import Case, example, example_bytes, script
 
+tool = script("text")
 STORY = """\
 1  20:15:00:00 to 20:15:03:00  row 20, 22  white
    Good evening. / Here is the news.
@@ -27,23 +29,24 @@ class Texts(Case):
         done = self.tool("text", example("story.stl"))
         self.must("its lines", done == (0, STORY.encode(), []), done)
 
-    def test_agrees_with_show(self) -> None:
-        """Numbers and times are those that the program shows."""
-        for name in ("hello", "story", "german", "comments", "low", "accent"):
-            shown = self.program("show", example(name + ".stl"))[1]
-            printed = self.tool("text", example(name + ".stl")).out.decode().splitlines()
-            words = [line.split() for line in printed[:-1:2]]
-            own = [f"{int(one[0]):05} {one[1]} {one[3]}" for one in words]
-            own.append(printed[-1].replace("1 subtitle", "1 subtitles") if len(words) == 1
-                       else printed[-1])
-            self.must(name, own == [" ".join(line.split()[:3]) for line in shown], own)
-
-    def test_marks_colours(self) -> None:
-        data = bytearray(example_bytes("hello.stl"))
-        data[1040:1060] = b"\x03\x0b\x0bOne\x06two\x8a\x06three\x8f\x8f\x8f"
-        done = self.tool("text", self.write("colours.stl", data))
-        self.must("yellow, cyan", done.out.decode().splitlines()[:2] == [
-            "1  10:00:00:00 to 10:00:02:00  row 22, 23  yellow", "   One <cyan> two / three"], done)
+    def test_subtitles(self) -> None:
+        """Rows and colours of what has letters; a line begins in white."""
+        for text, words in (
+                (b"", "no text"), (b"\x03 \x8a\x0b", "no text"), (b"Hi", "row 20  white\n   Hi"),
+                (b"\x8aHi", "row 21  white\n   Hi"), (b"\x03Hi", "row 20  yellow\n   Hi"),
+                (b"One\x8a\x8atwo", "row 20, 22  white\n   One / two"),
+                (b"One\x06two", "row 20  white\n   One <cyan> two"),
+                (b"\x03One\x07two\x03three", "row 20  yellow\n   One <white> two <yellow> three"),
+                (b"\x03One\x8atwo", "row 20, 21  yellow\n   One / <white> two"),
+                (b"\x03One\x8a\x03two", "row 20, 21  yellow\n   One / two"),
+                (b"\x03\x06One", "row 20  cyan\n   One"),
+                (b"\x0d\x0b\x0bOne  \x08\x1ftwo\x0a\x0a", "row 20  white\n   One two"),
+                (b"O\x80n\x85e \xc2e\x86", "row 20  white\n   One \xe9\ufffd"),
+                *((bytes([code]) + b"A", f"row 20  {colour}\n   A") for code, colour in enumerate(
+                    "black red green yellow blue magenta cyan white".split()))):
+            found = tool.printed(StoredSubtitle(
+                7, bytes([1, 2, 3, 4]), bytes([99, 0, 0, 25]), 20, 2, text))
+            self.must(f"{text!r}", found == f"7  01:02:03:04 to 99:00:00:25  {words}", found)
 
     def test_tells_damage(self) -> None:
         story = example_bytes("story.stl")

@@ -1,6 +1,7 @@
 """TS packets: where they begin, their counters, the PCR beside the PTS, holes between two PCR."""
 from __future__ import annotations
 
+import io
 import random
 import unittest
 from typing import Iterator, Sequence
@@ -13,8 +14,7 @@ from subtitles.reading.listing import Listing
 from subtitles.reading.losses import Losses, Place
 from subtitles.reading.programmes import ProgramMap
 from subtitles.reading.timing import SECOND, Sample, Timing
-from subtitles.reading.transport import (
-    PACKET, Piece, Reader, Stream, beginning, crc, flagged, payload_at, places)
+from subtitles.reading.transport import BEGINS, PACKET, Piece, Reader, Stream, crc, payload_at
 
 PID, OTHER, VIDEO = 0x101, 0x202, 0x1FFE
 BYTES = b"".join(bytes([number]) * 4 for number in range(1, 47))  # a payload that tells its bytes
@@ -205,11 +205,11 @@ class Payloads(unittest.TestCase):
             (True, BYTES)])
         for one, (_, data, _) in zip([*made[:4], made[7]], found):
             self.assertEqual(payload_at(b"x" + one + b"yy", 1), data)
-        self.assertEqual(Stream(PID).beginnings(piece_of(made)), [0, 7 * PACKET])
-        self.assertEqual(Stream(0x103).beginnings(piece_of(made)), [])
+        self.assertEqual(piece_of(made).beginnings(PID), [0, 7 * PACKET])
+        self.assertEqual(piece_of(made).beginnings(0x103), [])
 
-    def test_columns(self) -> None:
-        """Of the packets of a piece alone: their bytes, those of a PID, and those with a flag."""
+    def test_pids(self) -> None:
+        """Of the packets of a piece alone: those of a PID, those with a flag, and beginnings."""
         made = [ts(0), clock(5, PID, counter=1), ts(2, data=b"\1\x10" * 92), ts(3, field=b"",
                 data=b"\x10" * 183), clock(6, OTHER), ts(4, field=b"\x30", begins=True), ts(5)]
         for begin, count in ((0, 7), (1, 5), (2, 1), (4, 2)):
@@ -217,16 +217,38 @@ class Payloads(unittest.TestCase):
             some = made[begin:begin + count]
             with self.subTest(begin=begin, count=count):
                 self.assertEqual(piece.column(3), bytes(one[3] for one in some))
-                for marks, wanted in ((flagged(piece, 0x10), (1, 4, 5)),
-                                      (flagged(piece, 0x20), (5,)), (beginning(piece), (5,)),
-                                      (Stream(OTHER).marks(piece), (4,))):
-                    self.assertEqual(list(places(piece, marks)), [
+                for found, wanted in (
+                        (piece.beginnings(PID), (5,)), (piece.flagged(PID, 0x10), (1, 5)),
+                        (piece.flagged(OTHER, 0x10), (4,)), (piece.flagged(PID, 0x20), (5,)),
+                        (piece.flagged(PID, 0x80), ()), (piece.of_pid(OTHER), (4,)),
+                        (piece.of_pid(PID), (0, 1, 2, 3, 5, 6)), (piece.beginnings(OTHER), ())):
+                    self.assertEqual(found, [
                         PACKET * at for at in wanted if begin <= at < begin + count])
         self.assertEqual(crc(b"123456789"), 0x0376E6E7)  # as is known of CRC-32/MPEG-2
 
+    def test_many_pids(self) -> None:
+        """More PIDs than there are marks, and such that have a byte in common with others: each is
+        found where its packets are, in all pieces, whatever is asked for first."""
+        chance = random.Random(188)
+        pids = [high << 8 | low for high in (0, 1, 0x10, 0x1F) for low in (0, 1, 0x41, 0xFF)]
+        order = [chance.choice(pids) for _ in range(400)]
+        data = b"".join(ts(0, pid, begins=chance.random() < 0.1) for pid in order)
+        for size in (1, 7, 100, 400):
+            asked = chance.sample(pids, len(pids))
+            for piece in Reader(io.BytesIO(data)):
+                parts = [Piece(data, at * PACKET, min(size, 400 - at), PACKET, piece.followed)
+                         for at in range(0, 400, size)]
+                for pid in asked:
+                    with self.subTest(size=size, pid=pid):
+                        self.assertEqual([at for part in parts for at in part.of_pid(pid)], [
+                            at * PACKET for at, one in enumerate(order) if one == pid])
+                        self.assertEqual([at for part in parts for at in part.beginnings(pid)], [
+                            at * PACKET for at, one in enumerate(order)
+                            if one == pid and data[at * PACKET + 1] & BEGINS])
+
     def test_many_at_once(self) -> None:
         """What is counted of a piece in which all is as it should be, is as packet by packet."""
-        for seed in range(300):
+        for seed in range(80):
             chance, counter, made = random.Random(seed), 7, list[bytes]()
             for number in range(60):
                 kind = chance.randrange(40)
@@ -275,7 +297,7 @@ class Clocks(unittest.TestCase):
     def test_samples(self) -> None:
         """A PTS a second after the last one that was looked at, and the PCR before it: as PTS and
         PCR are gone through one by one, in the pieces that are looked at."""
-        for seed in range(200):
+        for seed in range(50):
             chance = random.Random(seed)
             now, made = CLOCK - chance.randrange(9 * SECOND), list[tuple[str, int | None]]()
             for _ in range(60):
@@ -323,13 +345,13 @@ class Clocks(unittest.TestCase):
         timing = Timing(PID, listing_with())
         self.assertEqual((timing.reach(), timing.late(), timing.usual(), timing.strange()),
                          ((None, None), 0, 0, []))
-        timing.first = 7
+        timing.first = CLOCK - 2
         for ahead, first, late in (([5] * 100, 5, 0), ([5] * 59 + [9] + [5] * 90, 9, 0),
                                    ([5] * 60 + [9] * 9, 5, 0), ([-5] * 100, 0, 5),
                                    ([-9] + [-5] * 60, 0, 5), ([-9] + [-5] * 59, 0, 9)):
             timing.samples = [Sample(SECOND * at, one) for at, one in enumerate(ahead)]
             with self.subTest(ahead=ahead):
-                self.assertEqual((timing.reach()[0], timing.late()), (7 + first, late))
+                self.assertEqual((timing.reach()[0], timing.late()), ((first - 2) % CLOCK, late))
 
     def test_strange(self) -> None:
         """At each bound: behind, over a second early, over half a second from what is usual."""

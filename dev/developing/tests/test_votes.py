@@ -96,13 +96,39 @@ class Changes(unittest.TestCase):
                 ([(0, b"a"), (2, b""), (4, b"b"), (9, b"")], 5, [0, 1, 2, 3]),
                 ([(0, b""), (2, b"a"), (3, b"")], 5, [0, 1, 2]),
                 ([(0, b"a"), (2, b""), (3, b"a"), (4, b""), (5, b"a"), (9, b""), (20, b"a")], 2,
-                 [0, 5, 6]), ([(0, b"a")], 5, [0]), ([(0, b"a"), (1, b"")], 5, [0, 1]),
-                ([], 5, [])]
+                 [0, 5, 6]), *((
+                     [(0, b"a"), (2, b""), *((2 + at / 99, b"part %d" % at) for at in range(count)),
+                      (3, b"a"), (9, b"")], 2, [0, count + 3] if count < 24 else
+                     [*range(count + 4)]) for count in (22, 23, 24)),
+                ([(0, b"a")], 5, [0]), ([(0, b"a"), (1, b"")], 5, [0, 1]), ([], 5, [])]
         for some, most, left in of_rows:
             for first in (0, CLOCK - 3 * TICKS):
                 with self.subTest(some=some, most=most, first=first):
                     self.assertEqual([one.number for one in without_repeats(
                         changes_at(some, first), most)], left)
+
+    def test_pauses_of_a_file(self) -> None:
+        """A page that is back in five frames is sent again; where a subtitle comes again sooner, in
+        fewer than that takes."""
+        for pause, most in ((9, 5), (6, 5), (5, 4), (3, 2), (2, 1), (1, 0)):
+            edges = [(0, b"a"), (10, b""), (10 + pause, b"a"), (30, b"")]
+            for back in range(1, 8):
+                election = election_of(edges, [(0, b"a"), (5, b""), (5 + back, b"a"), (30, b"")])
+                with self.subTest(pause=pause, back=back):
+                    self.assertEqual(sorted(election.changes), [0, 30] if back <= most else
+                                     [0, 5, 5 + back, 30])
+
+    def test_frames_of_others(self) -> None:
+        """Within 1 and more the frames are those of most PTS, though the first one is off."""
+        for first in (0, CLOCK - 50 * TICKS):
+            for off in (5, -5, EARLY - 1, 1 - EARLY, EARLY, TICKS // 2):
+                some = [(0, b"0"), *((10 * at - off / TICKS, b"%d" % at) for at in range(1, 9))]
+                for within in (0, 1):
+                    election = election_of([(10 * at, b"%d" % at) for at in range(9)], some,
+                                           within, first)
+                    is_moved = within and abs(off) < EARLY
+                    with self.subTest(first=first, off=off, within=within):
+                        self.assertEqual(election.first, (first - off * is_moved) % CLOCK)
 
     def test_phase(self) -> None:
         """What is a quarter of a frame off is of a second field, a tick less is not."""
@@ -193,6 +219,11 @@ class Fits(unittest.TestCase):
              160, Apart(False, 3, 2, 2)),
             ("half of them", 0, edges[:4], [(0, b"0"), (50, b""), (100, b"1"), (153, b"")], 160,
              None),
+            ("half of them, all later", 0, edges[:4], [
+                (0, b"0"), (53, b""), (100, b"1"), (150, b""), (151, b"z"), (153, b"")], 160, None),
+            ("fewer, all later", 0, edges[:6], [
+                (0, b"0"), (53, b""), (100, b"1"), (150, b""), (151, b"z"), (153, b""),
+                (200, b"2"), (253, b"")], 260, Apart(False, 3, 3, 3)),
             ("a beginning", 0, edges[:2], [(4, b"0"), (50, b"")], 60, Apart(True, 4, 1, 1)),
             ("both", 0, edges[:2], [(4, b"0"), (54, b"")], 60, Apart(True, 4, 1, 1)),
             ("within two", 2, edges[:2], [(0, b"0"), (52, b"")], 60, None),
@@ -203,7 +234,10 @@ class Fits(unittest.TestCase):
             ("one outside", 0, edges[:4], [(0, b"0"), (53, b""), (100, b"1")], 150,
              Apart(False, 3, 1, 1)),
             ("fifty", 0, edges[:2], [(0, b"0"), (100, b"")], 110, Apart(False, 50, 1, 1)),
-            ("fifty-one", 0, edges[:2], [(0, b"0"), (101, b"")], 110, None)]
+            ("fifty-one", 0, edges[:2], [(0, b"0"), (101, b"")], 110, None),
+            ("fifty early", 0, [(0, b"0"), (80, b"")], [(0, b"0"), (30, b"")], 90,
+             Apart(False, -50, 1, 1)),
+            ("more early", 0, [(0, b"0"), (80, b"")], [(0, b"0"), (29, b"")], 90, None)]
         for name, within, some, sent, last, wanted in of_rows:
             election = election_of(some, sent, within, 0, last)
             fit = election.fit(int(sent[0][0]))
@@ -348,9 +382,9 @@ class Tracks(unittest.TestCase):
                                          (1000, [3] * 4 + [0] * 6, False)):
             other = self.track(start, [0, 0, *points])
             row = [Stretch(best, 0, 6), Stretch(other, 6, 12)]
-            found = single(row)
-            with self.subTest(start=start, points=points):
-                self.assertEqual(found, [Stretch(best, 0, 12)] if is_single else row)
+            for some in (row, [Stretch(best, 0, 4), Stretch(other, 4, 8), Stretch(best, 8, 12)]):
+                with self.subTest(start=start, points=points):
+                    self.assertEqual(single(some), [Stretch(best, 0, 12)] if is_single else some)
         self.assertEqual(single(row[:1]), row[:1])
 
     def test_parts_of_few(self) -> None:
@@ -360,6 +394,7 @@ class Tracks(unittest.TestCase):
         edges = [(10, b"a"), (20, b""), (30, b"b"), (40, b"")]
         rows: list[tuple[list[list[tuple[int, bytes]]], tuple[int, int] | None]] = [
             ([edges[:1], edges], (1, 4)), ([edges, edges[:1]], (0, 4)), ([[], edges], (1, 4)),
+            ([[], edges[:1]], (1, 1)),
             ([[], []], None)]
         for bases, wanted in rows:
             elections = [Election(edges_at(edges), changes_at(some), 0, 99 * TICKS)

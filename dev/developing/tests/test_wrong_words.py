@@ -45,11 +45,12 @@ WRONG: dict[str, list[list[str]]] = {
                [PES, "1", "2"]],
     "pes2ts": [[], [PES], ["none.pes", "0x101"], [PES, "0x100"], [PES, "7"], [PES, "0x1fff"],
                [PES, "0x101", "english"], [PES, "0x101", "--page", "8FF"]],
-    "install": [[], ["-x"], ["--", "-x"], [""], [PES], ["-p", "none", "to"], ["to", "from"]],
+    "install": [[], ["-x"], ["--", "-x"], ["--prefix"], [""], [PES], ["-p", "none", "to"],
+                ["to", "from"]],
     "dist": [[PES], ["--colour"], ["--deb", PES]],
     "release": [["none"], ["--note", "none"], ["--keep", "--compare"], ["--colour"]],
     "reading-list": [[], ["none"], ["Good", "Robust"], ["Good", "--colour"], ["--table", "nowhere"],
-                     ["Good", "--table", "a"], ["--count", "--table", "a"]],
+                     ["Good", "--table", "a"]],
     "slow-proofs": [[], ["none"]], "make-examples": [[], ["a", "b"]],
     "check-manual": [["-p", "none"]], "check-preview": [["-p", "none"]],
     "check-every-place": [["--count", "x"], ["--recordings", "x"]], "faults": [["-v", "none"]],
@@ -125,12 +126,22 @@ class WrongWords(Case):
                                             "pipe"], done)
 
     def test_reads_pipes_and_the_empty_device(self) -> None:
-        done = self.tool("poke", "-", "0=41", data=b"abc")
-        self.must("a pipe", done == (0, b"Abc", []), done)
         done = self.tool("poke", "/dev/stdin", data=b"abc")
         self.must("a pipe by its name", done == (0, b"abc", []), done)
         done = self.tool("poke", "/dev/null")
         self.must("/dev/null", done == (0, b"", []), done)
+
+    def test_pokes(self) -> None:
+        """One change after another, up to the last byte and no farther; so many bytes of that."""
+        for words, wanted in (
+                (["0=41", "5=5A"], b"AbcdeZ"), (["0=4142", "1=5A"], b"AZcdef"),
+                (["0=@3+3"], b"defdef"), (["3=@0+3", "0=5A"], b"Zbcabc"),
+                (["0=5A", "3=@0+3"], b"ZbcZbc"), (["1=@0+5"], b"aabcde"), (["0=@6+0"], b"abcdef"),
+                (["1=41", "-c", "2"], b"aA"), (["-c", "0"], b""), (["-c", "9"], b"abcdef"),
+                (["6=41"], None), (["5=4142"], None), (["0=@4+3"], None), (["4=@0+3"], None)):
+            done = self.tool("poke", "-", *words, data=b"abcdef")
+            refused = 2, b"", ["poke: - has only 6 bytes"]
+            self.must(f"{words}", done == (refused if wanted is None else (0, wanted, [])), done)
 
     def test_names_files_as_they_were_typed(self) -> None:
         """No part of a name, no number and no name that was made on the way."""

@@ -1,0 +1,148 @@
+"""Pairs judged in process: what is said of one, in its order, its verdict and its JSON result; and
+transmissions as the program makes them, of which something is changed.
+"""
+from __future__ import annotations
+
+import json
+import os
+import tempfile
+import threading
+from typing import Any, Callable, NamedTuple, Sequence
+
+from subtitles.calls.claim import claimed
+from subtitles.calls.machine import object_of
+from subtitles.calls.main import parser_of
+from subtitles.calls.objects import found
+from subtitles.calls.single import Files, end_pair, judge_pair, now
+from subtitles.core.files import whole_bytes
+from subtitles.core.pes import data_field, pes_packet, pts_in, teletext_packets
+from subtitles.core.stl import NEW_LINE, gsi_block, subtitle_blocks
+from subtitles.core.times import CLOCK, TICKS
+from subtitles.core.words import time_word
+from subtitles.qc.asked import asked_of
+from subtitles.qc.made_with import Program
+from subtitles.qc.names import Names
+from subtitles.qc.pair import Pair
+from subtitles.qc.progress import Progress
+from subtitles.qc.severity import Severity
+from subtitles.qc.speech import Speech
+from subtitles.qc.steps import Done, Steps
+from subtitles.qc.typed import Typed
+from subtitles.qc.verdict import Verdict
+from subtitles.reading.parting import Taken
+from .at_random import send
+from .bench import Case, packets
+
+Sent = list[tuple[int, list[bytes]]]  # PTS, and the Teletext packets then
+Change = Callable[[Sent], Sent]
+
+
+class Heard(Speech):
+    """What is said, and told with `! ` before it, in its order."""
+
+    def __init__(self) -> None:
+        super().__init__(Progress())
+        self.lines: list[str] = []
+
+    def say(self, line: str) -> None:
+        self.last = line
+        self.lines.append(line)
+
+    def tell(self, line: str) -> None:
+        self.lines.append(f"! {line}")
+
+
+class Judged(NamedTuple):
+    """A pair that was judged: its verdict, all that was said, its JSON result, and the lists of its
+    parts."""
+
+    verdict: Verdict
+    said: list[str]
+    result: dict[str, Any]
+    listed: list[str]
+
+    @property
+    def word(self) -> str:
+        return self.verdict.word
+
+    @property
+    def told(self) -> list[str]:
+        """What goes to standard error."""
+        return [line[2:] for line in self.said if line.startswith("! ")]
+
+    def lines(self, begin: str) -> list[str]:
+        """The lines that begin with some words, without these."""
+        return [line[len(begin):] for line in self.said if line.startswith(begin)]
+
+    def parts(self, *names: str) -> list[tuple[Any, ...]]:
+        """Some members of each part."""
+        return [tuple(part[name] for name in names) for part in self.result["parts"]]
+
+
+def judged(case: Case, *words: str, by: str | None = None, heard: Heard | None = None) -> Judged:
+    """A pair judged by the words of a command line, and by the program or another one."""
+    program, heard = by or case.bench.program, heard or Heard()
+    known = parser_of("").parse_args(["-p", program, *words])
+    asked, typed = asked_of(known), Typed("tools/qc", program)
+    verdict = Verdict(asked, Severity(asked.severity, asked.is_loss_allowed), now())
+    with tempfile.TemporaryDirectory() as folder, claimed(known.out, "one"):
+        names = Names("one", folder, known.out)
+        names.give(asked.stl)
+        files = Files(known, verdict, typed, names)
+        files.prepare()
+        verdict.found = found(asked)
+        pair = Pair(verdict, typed, names, heard, True)
+        vars(pair.steps)["tool"] = lambda *several: parted(pair.steps, *several)
+        judge_pair(pair, files)
+        end_pair(verdict, heard, files)
+        result = json.loads("".join(object_of(verdict, Program("1", "0" * 64, None), typed)))
+        listed = [line for part in verdict.parts for line in part.answer.lines()]
+        files.leave()
+    return Judged(verdict, heard.lines, result, listed)
+
+
+def parted(steps: Steps, name: str, words: Sequence[str], typed: Sequence[str]) -> Done:
+    """What tools/part does, in process; another tool is called."""
+    if name != "part":
+        return Steps.tool(steps, name, words, typed)
+    stl, _, begin, _, end, _, out = words
+    taken = Taken(whole_bytes(stl), time_word(begin), time_word(end))
+    with open(out, "wb") as file:
+        file.write(taken.file())
+    steps.speech.command(steps.typed.tool(name), *typed)
+    return steps.say(name, Done(0, [], []))
+
+
+# What is sent.
+
+def programme(case: Case, times: Sequence[tuple[int, int]], lines: int = 1,
+              text: bytes = b"Number %d", first: int = 1, name: str = "one.stl") -> str:
+    """A subtitle file: a subtitle for each pair of frames, by numbers from a first one on."""
+    blocks = [subtitle_blocks(number, begin, end, 22, 2, NEW_LINE.join(
+        [text % number if b"%" in text else text] * lines))
+        for number, (begin, end) in enumerate(times, first)]
+    return case.write(name, gsi_block(b"Judged", len(times), len(times)) + b"".join(blocks))
+
+
+def sendings(case: Case, stl: str, origin: int = 0, every: int = 25) -> Sent:
+    """The program's own transmission of it; PTS do not wrap."""
+    case.schedule(stl, "planned.pes", "--every", str(every))
+    return [(origin + pts_in(one), teletext_packets(data_field(one)))
+            for one in packets(case.read("planned.pes"))]
+
+
+def joined(sent: Sent) -> bytes:
+    return b"".join(pes_packet(pts % CLOCK, some) for pts, some in sent)
+
+
+def late(by: int, first: int = 0, last: int = 1 << 40) -> Change:
+    """Those from a PTS to another one so many frames later."""
+    return lambda sent: [(pts + by * TICKS * (first <= pts <= last), some) for pts, some in sent]
+
+
+def in_pipe(case: Case, data: bytes) -> str:
+    """A pipe into which somebody writes these bytes."""
+    path = case.path(f"feed{len(os.listdir(case.folder))}")
+    os.mkfifo(path)
+    threading.Thread(target=send, args=(path, data), daemon=True).start()
+    return path

@@ -1,0 +1,369 @@
+"""Pairs in parts, and pairs within some frames, judged from the recording to the verdict."""
+from __future__ import annotations
+
+import random
+from typing import Sequence
+
+from subtitles.core.pes import MARK, pes_packet
+from subtitles.core.times import CLOCK, EARLY, TICKS, time_of
+from subtitles.core.words import counted
+from subtitles.qc.clock import FITTED, FITTED_LATER, GIVEN, RECORDING
+from subtitles.qc.steps import origin_in
+from .bench import Case, example
+from .judged import Change, Judged, Sent, joined, judged, late, programme, sendings
+
+HELLO = example("hello.stl")
+EACH, LASTS = 100, 60  # frames from a TCI to the next one, and to its TCO
+ORIGIN = 20_000 * TICKS + 7
+PAUSES = 880, 1680  # frames before the 9th subtitle and the 17th, where the parts begin
+WARNING = "! warning: the page is repeated each 25 frames; --every 25 would hold it to that"
+
+
+def times(count: int) -> list[tuple[int, int]]:
+    return [(EACH * number, EACH * number + LASTS) for number in range(1, count + 1)]
+
+
+def one_late(number: int, by: int) -> Change:
+    """The sendings of a subtitle so many frames late."""
+    begin = EACH * number * TICKS
+    return late(by, begin, begin + LASTS * TICKS - 1)
+
+
+def apart(sent: Sent, *shifts: int) -> Sent:
+    """What is sent from each pause on moved by so many frames."""
+    begun = [sum(pts >= pause * TICKS for pause in PAUSES[:len(shifts)]) for pts, _ in sent]
+    return [(ORIGIN + pts + TICKS * (0, *shifts)[at], some) for at, (pts, some) in zip(begun, sent)]
+
+
+def cause_of(place: int, number: int, begin: int, by: int) -> str:
+    name = f"subtitle {place}" + f" (SN {number})" * (number != place)
+    return f'{name} at {time_of(begin)}, "Number {number}": late by {counted(by, "frame")}'
+
+
+class Parts(Case):
+    """Three parts of eight subtitles, after breaks and where PTS go back."""
+
+    def setUp(self) -> None:
+        super().setUp()
+        self.stl = programme(self, times(24))
+        self.sent = sendings(self, self.stl)
+        self.at = {pts // TICKS: number for number, (pts, _) in enumerate(self.sent)}
+
+    def judge(self, shifts: tuple[int, ...], changes: dict[int, int], *words: str,
+              marks: Sequence[int] = ()) -> Judged:
+        """Some subtitles are so many frames late, and before some PES packets there is a mark."""
+        sent = self.sent
+        for number, by in changes.items():
+            sent = one_late(number, by)(sent)
+        pes = [pes_packet(pts % CLOCK, some) for pts, some in apart(sent, *shifts)]
+        data = b"".join(MARK * (number in marks) + one for number, one in enumerate(pes))
+        return judged(self, self.stl, self.write("one.pes", data), "--breaks", str(len(shifts)),
+                      *words)
+
+    def test_parts(self) -> None:
+        """The frames of each, its clock, its PES packets; the clock that is given is that of the
+        first part alone."""
+        edges = ((100, 860), (900, 1660), (1700, 2460))
+        begins = (100, 885, 1685)
+        given = ["--origin", str(ORIGIN)]
+        rows: list[tuple[tuple[int, ...], list[str]]] = [
+            ((1000, 3000), []), ((-5000, 2000), given), ((1000,), given), ((-1000,), [])]
+        for shifts, words in rows:
+            found = self.judge(shifts, {}, *words)
+            count = len(shifts) + 1
+            ends = [*(end for _, end in edges[:count - 1]), 2460]
+            origins = [ORIGIN + TICKS * shift for shift in (0, *shifts)]
+            members = found.parts("part", "from", "to", "origin", "pes", "verdict")
+            self.must(f"{shifts}", members == [
+                (at + 1, time_of(edges[at][0]), time_of(ends[at]), origins[at],
+                 f"{self.at[begins[at]]}-{self.at[ends[at]]}", "accepted") for at in range(count)],
+                members)
+            self.must(f"{shifts}: clocks", [
+                (one["source"], one["delay_frames"]) for one, in found.parts("clock")] == [
+                (GIVEN, 0) if words and not at else (RECORDING, None) for at in range(count)])
+            self.must(f"{shifts}: said", found.said[-3 - count:] == [
+                *(f"part {at + 1}, from {time_of(edges[at][0])} to {time_of(ends[at])}: accepted "
+                  f"{ends[at] - begins[at] + 1} frames "
+                  f"{self.at[ends[at]] - self.at[begins[at]] + 1} transmissions"
+                  for at in range(count)), WARNING, FITTED_LATER if words else FITTED,
+                f"accepted {sum(ends) - sum(begins[:count]) + count} frames {len(self.sent)} "
+                f"transmissions in {count} parts"],
+                found.said)
+            ranges = [pes for pes, in found.parts("pes")]
+            self.must(f"{shifts}: commands", [
+                "" if " --pes " not in line else line.partition(" --pes ")[2].split()[0]
+                for line in found.lines("+ ") if "/cut " in line or " check " in line] == [
+                word for at, pes in enumerate(ranges) for word in (
+                    "" if min(shifts) > 0 else ranges[0] if not at else
+                    f"{self.at[885]}-{len(self.sent) - 1}", pes)], found.lines("+ "))
+            each = [tuple(one[name] for name in ("part", "number", "whole_after"))
+                    for one in found.result["subtitles"]]
+            self.must(f"{shifts}: each", each == [(1 + (at > 8) + (at > 16) * (count > 2), at, 0)
+                                                  for at in range(1, 25)])
+
+    def test_refused(self) -> None:
+        """The first, the second and the last part, by its own numbers; the least N is that of all
+        that are refused, and of one that no N accepts there is none."""
+        for changes, least in (({3: 2}, 2), ({10: 3}, 3), ({19: 1}, 1), ({3: 2, 10: 4, 19: 3}, 4),
+                               ({3: 5, 19: 2}, 5), ({10: 2, 19: 6}, None), ({3: 7, 10: 1}, None)):
+            found = self.judge((1000, 3000), changes, "--origin", str(ORIGIN))
+            refused = [(number - 1) // 8 for number in changes]
+            self.must(f"{changes}: parts", [one[0] for one in found.parts("verdict")] == [
+                "refused" if at in refused else "accepted" for at in range(3)], found.said)
+            self.must(f"{changes}: the least", (found.result["accepted_within"], found.lines(
+                "within ")) == (least, [f"{least} it is accepted: --within {least}"] * bool(least)),
+                found.said)
+            first = min(changes)
+            line = f"refused 72 Content frame {time_of(EACH * first)} row 22 column "
+            self.must(f"{changes}: line", found.said[-1].startswith(line) and
+                      found.verdict.faults == len(changes), found.said)
+            self.must(f"{changes}: causes", found.lines("cause: ") == [
+                cause_of((number - 1) % 8 + 1, number, EACH * number, by)
+                for number, by in changes.items()], found.said)
+            self.must(f"{changes}: faults", [
+                (one["part"], one["pes"], one["time"], one["pes_time"], one["pes_pts"],
+                 one["subtitle"]["number"], one["cause"]["frames"], one["row"], one["held"],
+                 one["due"]["code"], one["until"]) for one in found.result["faults"]] == [
+                ((number - 1) // 8 + 1, None, time_of(EACH * number), None, None, number, by, 22,
+                 {"code": "20", "character": " "}, "0B", time_of(EACH * number + by - 1))
+                for number, by in changes.items()], found.result["faults"])
+            more = f"; --within {least} accepts it" if least else ""
+            name = cause_of((first - 1) % 8 + 1, first, EACH * first, 0).partition(" at ")[0]
+            self.must(f"{changes}: sentence", found.lines("Refused: ") == [
+                f'at {time_of(EACH * first)} {name}, "Number {first}", is {changes[first]} '
+                f"frame{'s' * (changes[first] > 1)} late{more}."], found.said)
+            self.must(f"{changes}: each", [one["whole_after"] for one in found.result["subtitles"]]
+                      == [changes.get(number, 0) for number in range(1, 25)])
+            self.must(f"{changes}: counts", found.lines("causes of ") == [
+                f"{len(changes)} subtitle{'s' * (len(changes) > 1)}: {len(changes)} late"])
+
+    def test_least_where_pts_go_back(self) -> None:
+        """The same, of parts whose PES packets have a range of their own; where they go back less
+        far the frames of one part are those of another one too."""
+        for shifts in ((-5000, 2000), (-700, -1500)):
+            for changes, least in (({3: 2}, 2), ({10: 3}, 3), ({19: 1}, 1), ({10: 2, 19: 4}, 4)):
+                found = self.judge(shifts, changes, "--origin", str(ORIGIN))
+                self.must(f"{shifts} {changes}", found.result["accepted_within"] == least and
+                          [one[0] for one in found.parts("verdict")].count("refused") ==
+                          len(changes), found.said)
+
+    def test_within(self) -> None:
+        """Where parts are judged within N: the sums, and the least of more."""
+        found = self.judge((1000, 3000), {10: 2, 19: 4}, "--within", "1")
+        self.must("refused", found.said[-3] == "within 4 it is accepted: --within 4" and
+                  found.said[-4] == "subtitles are whole after 0 to 4 frames, 0 in the middle")
+        found = self.judge((1000, 3000), {10: 2, 19: 4}, "--within", "4")
+        self.must("accepted", found.word == "accepted" and found.result["accepted_within"] is None)
+
+    def test_losses(self) -> None:
+        """A mark in the first part, the second and the last; one behind the last of a part is of
+        that one: where it is, and whether the verdict speaks of it."""
+        every, clock = ["--every", "50"], ["--origin", str(ORIGIN)]
+        rows: list[tuple[list[int], list[int]]] = [
+            ([3], [1]), ([self.at[1000]], [2]), ([self.at[885]], [1]), ([3, self.at[2000]], [1, 3]),
+            ([len(self.sent)], [])]
+        for at, (places, own) in enumerate(rows):
+            found = self.judge((1000, 3000), {}, *every, *clock, marks=places)
+            self.must(f"{at}: parts", [one[0] for one in found.parts("verdict")] == [
+                "refused" if number in own else "accepted" for number in (1, 2, 3)], found.said)
+            lost = found.result["lost"]
+            self.must(f"{at}: marks", [(one["pes"], one["judged"]) for one in lost] == [
+                (place + number, True) for number, place in enumerate(places[:len(own)])], lost)
+            self.must(f"{at}: times", [one["after"] for one in lost] == [
+                time_of(self.sent[place - 1][0] // TICKS) for place in places[:len(own)]], lost)
+            self.must(f"{at}: no least", found.result["accepted_within"] is None and
+                      found.verdict.is_lost == bool(own) and
+                      ("nobody saw" in "".join(found.told)) == bool(own))
+            allowed = self.judge((1000, 3000), {}, *every, *clock, "--allow-lost", marks=places)
+            self.must(f"{at}: allowed", allowed.word == ("waived" if own else "accepted"))
+
+    def test_no_break(self) -> None:
+        """A break that is not said, and one that is said and is none."""
+        data = self.write("one.pes", joined(apart(self.sent, 1000, 3000)))
+        found = judged(self, self.stl, data, "--breaks", "1")
+        self.must("one of two", found.word == "not judged" and any(
+            "--breaks 2" in one for one in found.told), found.said)
+        whole = self.write("one.pes", joined(self.sent))
+        for count, word in (("1", "not judged"), ("0", "accepted")):
+            self.must(count, judged(self, self.stl, whole, "--breaks", count).word == word)
+
+
+# Ways in which what is right is sent over several frames.
+
+def in_fields(sent: Sent) -> Sent:
+    """The header in the first field of each frame, the rows in the second."""
+    return [one for pts, some in sent for one in ((pts, some[:1]), (pts + TICKS // 2, some[1:]))]
+
+
+def in_fields_at_once(sent: Sent) -> Sent:
+    """The same, and both have the PTS of the frame."""
+    return [one for pts, some in sent for one in ((pts, some[:1]), (pts, some[1:]))]
+
+
+def with_late_rows(sent: Sent, by: int = 1) -> Sent:
+    """The rows some frames after their header."""
+    return [one for pts, some in sent for one in (
+        [(pts, some)] if len(some) == 2 else [(pts, some[:1]), (pts + TICKS * by, some[1:])])]
+
+
+def in_three_frames(sent: Sent) -> Sent:
+    """The header in one frame, and each of two rows in one of its own."""
+    return [(pts + TICKS * number, part) for pts, some in sent for number, part in enumerate(
+        [some] if len(some) == 2 else [some[:1], some[1:2], some[2:]])]
+
+
+def with_jitter(sent: Sent) -> Sent:
+    """Each PTS a few milliseconds off."""
+    chance = random.Random(1)
+    return [(pts + chance.randrange(-EARLY // 2, EARLY // 2), some) for pts, some in sent]
+
+
+def under_load(sent: Sent) -> Sent:
+    """Each sending up to two frames late."""
+    chance = random.Random(2)
+    return [(pts + TICKS * chance.randrange(3), some) for pts, some in sent]
+
+
+class Within(Case):
+    """Recordings in which pages come over several frames."""
+
+    def setUp(self) -> None:
+        super().setUp()
+        self.stl = programme(self, times(10), 2)
+        self.sent = [(ORIGIN + pts, some) for pts, some in sendings(self, self.stl)]
+
+    def judge(self, sent: Sent, *words: str) -> Judged:
+        return judged(self, self.stl, self.write("one.pes", joined(sent)), *words)
+
+    def test_ways(self) -> None:
+        """Refused without, accepted within the least N that is named, with the clock that is given
+        and with one that is found; and after how many frames subtitles are whole then."""
+        ways: list[tuple[str, Change, int, int]] = [
+            ("fields", in_fields, 1, 0), ("fields at once", in_fields_at_once, 1, 0),
+            ("late rows", with_late_rows, 1, 1), ("jitter", with_jitter, 1, 0),
+            ("three frames", in_three_frames, 2, 2), ("load", under_load, 2, 2)]
+        for name, change, least, most in ways:
+            some = change(self.sent)
+            found = self.judge(some, "--origin", str(ORIGIN))
+            self.must(f"{name}: refused", found.word == "refused" and
+                      found.result["accepted_within"] == least, found.said)
+            self.must(f"{name}: hint", name != "jitter" or found.result["hints"] == [
+                "61: PTS are up to 5.0 ms off the frame; --within 1 accepts that"], found.said)
+            for words in (["--page", "888"], ["--origin", str(ORIGIN)]):
+                found = self.judge(some, "--within", str(least), *words)
+                spread = found.result["whole_after"]
+                self.must(f"{name}: {words}", found.word == "accepted" and
+                          (spread["greatest"], spread["never"]) == (most, 0), found.said)
+                self.must(f"{name}: the clock", found.result["accepted_within"] is None and
+                          abs(found.result["parts"][0]["origin"] - ORIGIN) < EARLY, found.said)
+
+    def test_origins(self) -> None:
+        """The most edges agree within N frames, and of equals the one of which the first is not
+        late; within 0 that of the beginnings, as a page that each repeat erases does not change."""
+        ways: list[tuple[str, Change, int, int | None]] = [
+            ("fields", in_fields, 1, 0), ("late rows", with_late_rows, 1, 0),
+            ("jitter", with_jitter, 1, None), ("load", under_load, 2, 0)]
+        for name, change, least, off in ways:
+            path = self.write("one.pes", joined(change(self.sent)))
+            for within in (least, 5, 50):
+                origin = origin_in(path, self.stl, ["--within", str(within)])
+                found = origin.parts[0].origin - ORIGIN
+                self.must(f"{name} {within}", origin.status == 0 and
+                          (abs(found) < EARLY if off is None else found == off), origin)
+                told = [line for line in origin.told if " late" in line]
+                self.must(f"{name} {within}: how late", len(told) == 1 and (
+                    told[0] == "no edge is late" or "edges are 0 to " in told[0]), origin.told)
+        at_once: list[tuple[Change, int, str]] = [
+            (with_late_rows, 3600, "1 frame"), (in_fields, 1800, "1 frame"),
+            (in_three_frames, 7200, "2 frames")]
+        for change, ticks, early in at_once:
+            path = self.write("one.pes", joined(change(self.sent)))
+            origin = origin_in(path, self.stl, [])
+            self.must(f"{ticks}: within 0", origin.parts[0].origin == ORIGIN + ticks and
+                      any(f"all ends are {early} early compared with" in line
+                          for line in origin.told), origin)
+
+    def test_of_each_subtitle(self) -> None:
+        """After how many frames it was whole: of the first, one between, and the last; where it
+        never was, or nobody heard it begin."""
+        early = (self.sent[0][0] - 40 * TICKS, self.sent[-1][1])
+        rows: list[tuple[Sent, list[int | None]]] = [
+            (self.sent, [0] * 10), ([early, *self.moved(1, 2)], [2, *[0] * 9]),
+            (self.moved(5, 3), [*[0] * 4, 3, *[0] * 5]), (self.moved(5, -3), [0] * 10),
+            (self.moved(10, 4), [*[0] * 9, 4]),
+            (self.without(5), [*[0] * 4, None, *[0] * 5]), (self.without(10), [*[0] * 9, None]),
+            (self.sent[1:], [None, *[0] * 9])]
+        for sent, wanted in rows:
+            for within in ("0", "1"):
+                found = self.judge(sent, "--origin", str(ORIGIN), "--within", within)
+                self.must(f"{wanted} {within}", [one["whole_after"] for one in
+                                                 found.result["subtitles"]] == wanted, found.said)
+                known = sorted(one for one in wanted if one is not None)
+                self.must(f"{wanted} {within}: of all", found.result["whole_after"] == {
+                    "least": known[0], "middle": known[len(known) // 2], "greatest": known[-1],
+                    "never": wanted.count(None)}, found.result["whole_after"])
+
+    def moved(self, number: int, by: int) -> Sent:
+        begin = ORIGIN + EACH * number * TICKS
+        return late(by, begin, begin + LASTS * TICKS - 1)(self.sent)
+
+    def without(self, number: int) -> Sent:
+        begin = ORIGIN + EACH * number * TICKS
+        return [one for one in self.sent if not begin <= one[0] < begin + LASTS * TICKS]
+
+    def test_what_to_type(self) -> None:
+        """Where the clock is not clear, or no break is found, the call within which it is."""
+        chance = random.Random(2)
+        stl = programme(self, times(10), 1)
+        sent = [(ORIGIN + pts + TICKS * chance.randrange(5), some)
+                for pts, some in sendings(self, stl)]
+        half = [pts for pts, some in sent if len(some) == 2][len(sent) // 8 * 2]
+        parted = [(pts + 2000 * TICKS * (pts > half), some) for pts, some in sent]
+        rows: list[tuple[list[str], Sent]] = [([], sent), (["--breaks", "1"], parted)]
+        for words, some in rows:
+            found = judged(self, stl, self.write("one.pes", joined(some)), *words)
+            typed = found.lines("! type ")
+            self.must(f"{words}", found.word == "not judged" and len(typed) == 1 and
+                      typed[0].endswith(" ".join([*words, "--within 5"])), found.said)
+            found = judged(self, stl, self.path("one.pes"), *words, "--within", "5")
+            self.must(f"{words}: what is typed", found.word == "accepted", found.said)
+
+    def test_causes(self) -> None:
+        """Fields with one PTS are no wrong colour; a repeat that erases the page for longer is not
+        late; frames of a pause and of what is late after it add up."""
+        hello = [(ORIGIN + pts, some) for pts, some in sendings(self, HELLO)]
+        pauses = programme(self, [(103 * at, 103 * at + 100) for at in range(1, 6)], name="two.stl")
+        sent = [(ORIGIN + pts, some) for pts, some in sendings(self, pauses)]
+        behind = [(sent[0][0] - 40 * TICKS, sent[-1][1]), sent[0],
+                  *((pts + 3 * TICKS, some) for pts, some in sent[1:])]
+        row = "late by 3 frames: the page is not whole for 6 frames in a row, from 00:00:08:03 on"
+        for stl, some, within, begin, cause, least in (
+                (HELLO, in_fields_at_once(hello), 0, "10:00:00:00", "unknown: as it is due only "
+                 "after another PES packet of the same frame", 1),
+                (HELLO, [*hello[:1], *with_late_rows(hello[1:2], 4), *hello[2:]], 2, "10:00:00:00",
+                 "unknown: it is gone at 10:00:01:00", 4),
+                (pauses, behind, 3, "00:00:08:06", row, None),
+                (pauses, behind, 5, "00:00:08:06", row, None)):
+            found = judged(self, stl, self.write("one.pes", joined(some)), "--origin", str(ORIGIN),
+                           "--within", str(within))
+            self.must(f"{cause} {within}", any(f" at {begin}, " in one and one.endswith(cause)
+                                               for one in found.lines("cause: ")) and
+                      found.result["accepted_within"] == least, found.said)
+        self.must("of six in a row", judged(self, pauses, self.path("one.pes"), "--origin",
+                                            str(ORIGIN), "--within", "6").word == "accepted")
+
+    def test_places(self) -> None:
+        """A fault of a packet has the PES packet that holds it, though the packets of a frame are
+        counted on; one of a frame's end the last of its PES packets."""
+        for at, bits, wanted in ((10, 0x80, (68, 1, 1, "10:00:00:00")),
+                                 (22, 0x06, (72, 1, None, "10:00:00:00"))):
+            some = in_fields(sendings(self, HELLO))
+            one = some[1][1][0]
+            some[1][1][0] = one[:at] + bytes([one[at] ^ bits]) + one[at + 1:]
+            found = judged(self, HELLO, self.write("one.pes", joined(some)), "--within", "1",
+                           "--origin", "0")
+            fault = found.result["faults"][0]
+            self.must(f"{at}", (fault["number"], fault["pes"], fault["packet"],
+                                fault["pes_time"]) == wanted, fault)
+            self.must(f"{at}: cells", fault["number"] != 72 or fault["due"] and fault["held"] and
+                      fault["due"] != fault["held"], fault)

@@ -1,0 +1,306 @@
+"""Pairs judged from the recording to the verdict, in process: what can't be read, what is lost, and
+what is said; of each what the JSON result has.
+"""
+from __future__ import annotations
+
+from typing import Sequence
+
+from subtitles.core.pes import DATA, MARK, UNIT, pes_packet, pts_bytes, pts_in
+from subtitles.core.stl import gsi_block, subtitle_blocks
+from subtitles.core.teletext import mirrored
+from subtitles.core.times import CLOCK, TICKS, time_of
+from .bench import Case, example, example_bytes, moved, packets, random_subtitles
+from .judged import Judged, Sent, in_pipe, joined, judged, programme, sendings
+from .test_pairs_in_parts import ORIGIN, one_late, times
+from .test_qc_batch import agrees
+
+STORY, HELLO, ACCENT = example("story.stl"), example("hello.stl"), example("accent.stl")
+UNREAD = "nothing of the recording was read, and --severity leaves no fault an error"
+EVERY = ["--every", "40"]  # frames: two sendings in a row may be missing
+BITS = {33: (6, 0xC0), 34: (7, 0x80), 35: (8, 1), 36: (13, 1), 37: (DATA - 1, 0x30),
+        38: (DATA + UNIT + 1, 1), 39: (DATA + UNIT + 3, 1), 40: (DATA + UNIT + 2, 0x0F)}
+NAMES = {33: "Flags", 34: "NoTime", 35: "HeaderLength", 36: "Time", 37: "DataId",
+         38: "UnitLength", 39: "Framing", 40: "LineOrder", 61: "OffFrame", 45: "Lost"}
+
+
+def broken(packet: bytes, number: int) -> bytes:
+    """A PES packet of which this number is told."""
+    if number == 61:
+        return packet[:9] + pts_bytes(pts_in(packet) + 90) + packet[14:]
+    at, bits = BITS[number]
+    return packet[:at] + bytes([packet[at] ^ bits]) + packet[at + 1:]
+
+
+class Unread(Case):
+    """Recordings of which some can't be read, or is lost: what follows is judged."""
+
+    def setUp(self) -> None:
+        super().setUp()
+        self.stl = programme(self, [(60 * at, 60 * at + 60) for at in range(2, 22)])
+        self.pes = [pes_packet(ORIGIN + pts, some)
+                    for pts, some in sendings(self, self.stl, 0, 12)]
+        self.frames = [(pts_in(one) - ORIGIN) // TICKS for one in self.pes]
+
+    def test_numbers(self) -> None:
+        """For each number two PES packets in a row, one of the next number right after them, and
+        two numbers one after the other: up to where each goes, in the list and in the result."""
+        runs = [(number, 5 * at + 1, 5 * at + 2) for at, number in enumerate([*BITS, 61])]
+        runs += [(33, 48, 48), (34, 49, 49), (45, 55, 56), (45, 60, 60)]
+        some = list(self.pes)
+        for number, first, last in runs:
+            for at in range(first, last + 1):
+                some[at] = MARK if number == 45 else broken(some[at], number)
+        found = judged(self, self.stl, self.write("one.pes", b"".join(some)), *EVERY, "--origin",
+                       str(ORIGIN))
+        listed = [f"{word} {number} {NAMES[number]} pes {at}" for number, first, last in runs
+                  for word, at in (("refused", first), *[("ended", last)] * (last > first))]
+        self.must("the list", [line for line in found.listed if " pes " in line] == listed,
+                  found.said)
+        self.must("the result", [(one["number"], one["pes"], one["until_pes"])
+                                 for one in found.result["faults"] if one["pes"] is not None
+                                 and one["number"] in NAMES] ==
+                  [(number, first, last if last > first else None)
+                   for number, first, last in runs], found.result["faults"])
+        self.must("the verdict", found.said[-1] == "refused 33 Flags pes 1", found.said)
+        agrees(self, found.result)
+
+    def test_trusted(self) -> None:
+        """Two marks, and what may be trusted around them: before the first, between, and behind."""
+        some = [*self.pes[:22], MARK, *self.pes[24:61], MARK, *self.pes[62:]]
+        found = judged(self, self.stl, self.write("one.pes", b"".join(some)), *EVERY, "--origin",
+                       str(ORIGIN))
+        stretches = [(0, 21, 1), (24, 60, 1), (62, len(self.pes) - 1, 0)]
+        self.must("trusted", [(one["part"], one["from"], one["to"])
+                              for one in found.result["trusted"]] ==
+                  [(1, time_of(self.frames[first]), time_of(self.frames[last] - less))
+                   for first, last, less in stretches], found.result["trusted"])
+        self.must("lost", [(one["number"], one["pes"]) for one in found.result["faults"]] ==
+                  [(45, 22), (45, 60)] and [(one["after"], one["before"]) for one in
+                                            found.result["lost"]] ==
+                  [(time_of(self.frames[before]), time_of(self.frames[after]))
+                   for before, after in ((21, 24), (60, 62))], found.result["lost"])
+        told = [line for line in found.told if "between" in line or "nobody" in line]
+        self.must("told", len(told) == 3 and "--allow-lost accepts" in told[2], told)
+        severity = self.write("severity", b"45 warning\n")
+        others = self.write("others", b"others warning\n")
+        rows: list[tuple[list[str], str]] = [
+            (["--allow-lost"], "waived"), (["--severity", severity], "waived"),
+            (["--severity", others], "refused"), ([], "refused")]
+        for words, word in rows:
+            found = judged(self, self.stl, self.path("one.pes"), *EVERY, *words)
+            self.must(f"{words}", found.word == word, found.said)
+
+    def test_promises(self) -> None:
+        """What is lost is where something else is refused too: --allow-lost is not promised then.
+        """
+        first = [MARK, *self.pes[1:]]
+        for name, some, is_promised in (("a repeat", [*self.pes[:2], MARK, *self.pes[3:]], True),
+                                        ("a subtitle", [*self.pes[:5], MARK, *self.pes[6:]], False),
+                                        ("the last", [*self.pes[:-1], MARK], False),
+                                        ("before the first", [MARK, *self.pes], None),
+                                        ("the first", first, None)):
+            path = self.write("one.pes", b"".join(some))
+            found = judged(self, self.stl, path, *EVERY, "--origin", str(ORIGIN))
+            told = [line for line in found.told if "nobody saw" in line]
+            more = "; --allow-lost accepts the recording without it" * bool(is_promised)
+            self.must(name, told == ([] if is_promised is None else
+                                     [f"nobody saw what was sent there{more}"]), found.said)
+            again = judged(self, self.stl, path, *EVERY, "--origin", str(ORIGIN), "--allow-lost")
+            self.must(f"{name}: allowed", (again.word != "refused") ==
+                      (is_promised or name == "before the first"), again.said)
+
+    def test_nothing_is_read(self) -> None:
+        """Of a subtitle file that is refused, or of PES packets none of which can be read: not
+        judged where all faults are warnings, whatever else there is."""
+        unread = b"".join(broken(one, 37) for one in packets(example_bytes("hello.pes")))
+        pes = self.write("unread.pes", unread)
+        every = self.write("warnings", b"others warning\n")
+        one = self.write("one", b"52 warning\n")
+        for words, severity, word in (
+                ([ACCENT, example("recording.ts")], every, "not judged"),
+                ([HELLO, pes], every, "not judged"), ([HELLO, pes], one, "refused"),
+                ([ACCENT], every, "waived"), ([ACCENT], one, "refused"),
+                ([ACCENT, example("recording.ts")], one, "refused")):
+            found = judged(self, *words, "--severity", severity)
+            is_unread = word == "not judged"
+            self.must(f"{words} {severity}", found.word == word and found.told[-1:] ==
+                      [UNREAD] * is_unread or not is_unread, found.said)
+            self.must(f"{words} {severity}: result", (found.result["line"] is None) == is_unread
+                      and found.result["faults"] and found.result["reason"] ==
+                      (UNREAD if is_unread else None), found.result)
+
+
+class Said(Case):
+    """What is said of a pair, of one part."""
+
+    def setUp(self) -> None:
+        super().setUp()
+        self.stl = programme(self, times(20), first=50)
+        self.sent = sendings(self, self.stl)
+
+    def judge(self, sent: Sent, *words: str) -> Judged:
+        return judged(self, self.stl, self.write("one.pes", joined(sent)), "--origin", "0", *words)
+
+    def test_sentences(self) -> None:
+        """Of all but the first, of some in the middle, of one; of what is accepted and waived."""
+        def moved(places: Sequence[int], by: int = 7) -> Sent:
+            sent = self.sent
+            for place in places:
+                sent = one_late(place, by)(sent)
+            return sent
+
+        gone = [one for one in self.sent if not 301 * TICKS <= one[0] < 350 * TICKS]
+        rows: list[tuple[Sent, list[str], str]] = [
+            (moved(range(2, 21)), [], "Refused: from 00:00:08:00 on the subtitles are 7 frames "
+             "late (19 of 20)."),
+            (moved(range(4, 8)), [], "Refused: from 00:00:16:00 to 00:00:28:00 the subtitles are 7 "
+             "frames late (4 of 20)."),
+            (moved([3]), [], 'Refused: at 00:00:12:00 subtitle 3 (SN 52), "Number 52", is 7 frames '
+             "late."),
+            (moved([3], 2), [], 'Refused: at 00:00:12:00 subtitle 3 (SN 52), "Number 52", is 2 '
+             "frames late; --within 2 accepts it."),
+            (self.sent, [], "Accepted: 20 subtitles, each of them as it is due from the first "
+             "frame on."),
+            (self.sent, ["--within", "2"], "Accepted: 20 subtitles, each of them as it is due "
+             "within 2 frames."),
+            (self.sent, ["--strict"], "Not accepted: there are warnings, which count (repeat); "
+             "what was seen is as it is due."),
+            (gone, ["--every", "49"], "Refused: from 00:00:13:24 on the longest gap is 50 frames: "
+             "--every 50 accepts it."),
+            (gone, ["--every", "49", "--severity", self.write("mild", b"73 warning\n")],
+             "Waived, since these faults are named warnings: from 00:00:13:24 on the longest gap "
+             "is 50 frames: --every 50 accepts it.")]
+        for sent, words, wanted in rows:
+            found = self.judge(sent, *words)
+            self.must(wanted, wanted in found.said and found.result["sentence"] == wanted,
+                      found.said)
+
+    def test_places(self) -> None:
+        """Of a subtitle its place in the file, and its SN where that is another, in each member."""
+        found = self.judge(one_late(3, 7)(self.sent))
+        place = {"position": 3, "number": 52, "begin": "00:00:12:00", "end": "00:00:14:10"}
+        causes, faults = found.result["causes"], found.result["faults"]
+        agrees(self, found.result)
+        self.must("result", [one["subtitle"] for one in (*causes, *faults)] == [place, place] and
+                  [one["position"] for one in found.result["subtitles"]] == [*range(1, 21)], causes)
+        self.must("cause", faults[0]["cause"] == {name: value for name, value in causes[0].items()
+                                                  if name != "part"}
+                  and (causes[0]["cause"], causes[0]["frames"], causes[0]["text"]) ==
+                  ("late", 7, "Number 52"), causes)
+
+    def test_texts_of_others(self) -> None:
+        """A subtitle in whose place another one is sent, the first too: which, and what."""
+        for number in (5, 1):
+            other = next(some for pts, some in self.sent if pts == 100 * number * TICKS)
+            found = self.judge([(pts, other if 300 * TICKS <= pts < 360 * TICKS else some)
+                                for pts, some in self.sent])
+            causes, text = found.result["causes"], f"Number {number + 49}"
+            self.must(f"{number}", [(one["cause"], one["text"], one["sent"], one["other"],
+                                     one["other_position"], one["words"]) for one in causes] == [
+                ("another subtitle's text", "Number 52", text, number + 49, number,
+                 f"another subtitle's text at its time, sent: \"{text}\" of subtitle {number} (SN "
+                 f"{number + 49})")] and
+                found.result["cause_counts"]["another subtitle's text"] == 1 and
+                "1 subtitle: 1 another subtitle's text" in found.lines("causes of "), causes)
+
+    def test_unsent(self) -> None:
+        """A page that is not sent again before it is due to go: where reading stops, and why."""
+        early = [(pts - 3000 * TICKS, some) for pts, some in self.sent[-1:]]
+        doubt = list(self.sent)
+        broken_at = next(at for at, (pts, _) in enumerate(doubt) if pts == 300 * TICKS)
+        pes = [pes_packet(pts % CLOCK, some) for pts, some in doubt]
+        pes[broken_at] = broken(pes[broken_at], 37)
+        found = judged(self, self.stl, self.write("one.pes", b"".join(pes)), "--origin", "0")
+        self.must("can't be read", [one["cause"] for one in found.result["causes"]] == ["unknown"]
+                  and "not all that was sent then can be read" in "".join(found.said), found.said)
+        back = [((1 << 33) - at * TICKS, early[0][1]) for at in (200, 150, 100, 50)]
+        found = self.judge([*back, *one_late(3, 4)(self.sent)])
+        self.must("of another clock", found.lines("cause: ") == [
+            'subtitle 3 (SN 52) at 00:00:12:00, "Number 52": late by 4 frames'] and
+            found.parts("pes") == [(f"4-{len(self.sent) + 3}",)], found.said)
+
+    def test_clocks(self) -> None:
+        """A clock that is given judges what nobody can fit; of several runs one is to be said."""
+        others = self.write("two.stl", random_subtitles(7)[0])
+        self.schedule(others, "two.pes")
+        three = programme(self, times(3), name="three.stl")
+        for clock, word in (("", "not judged"), (f"--origin {679_065 * TICKS}", "refused")):
+            found = judged(self, three, self.path("two.pes"), *clock.split())
+            self.must(clock, found.word == word, found.said)
+        twice = [*self.sent, *((pts + 6000 * TICKS, some) for pts, some in self.sent)]
+        path, last = self.write("one.pes", joined(twice)), len(self.sent) - 1
+        for words, word, origin, pes in (
+                ("", "not judged", None, None), ("--origin 0", "not judged", None, None),
+                ("--run 1", "accepted", 0, f"0-{last}"),
+                ("--run 2", "accepted", 6000 * TICKS, f"{last + 1}-{2 * last + 1}"),
+                ("--run 3", "not judged", None, None)):
+            found = judged(self, self.stl, path, *words.split())
+            self.must(f"{words}", found.word == word and found.parts("origin", "pes") ==
+                      [(origin, pes)] * (origin is not None), found.said)
+            typed = [line for line in found.told if line.startswith(("type ", "or "))]
+            self.must(f"{words}: as before", words[:5] == "--run" or
+                      all(words in line for line in typed), found.said)
+            typed = [line[-7:] for line in typed]
+            self.must(f"{words}: to type", words[:5] == "--run" or typed ==
+                      ["--run 1", "--run 2"], found.said)
+        found = judged(self, self.stl, in_pipe(self, joined(twice)), "--origin", "0")
+        self.must("a feed", found.word == "accepted" and found.result["parts"][0]["origin"] == 0,
+                  found.said)
+
+    def test_delays(self) -> None:
+        """By how much all that is sent is late or early, by a clock that is given."""
+        for by, words in ((0, None), (2, "all subtitles are 2 frames late"),
+                          (-1, "all subtitles are 1 frame early")):
+            blank = [(300 * TICKS, self.sent[-1][1])]
+            sent = [(pts + by * TICKS, some) for pts, some in [*blank, *self.sent]]
+            found = self.judge(sent)
+            self.must(f"{by}", [one for one in found.told if "all subtitles" in one] ==
+                      [words] * bool(words) and found.result["parts"][0]["clock"] == {
+                          "origin": 0, "source": "given", "delay_frames": by}, found.said)
+            self.must(f"{by}: noted", found.result["notes"] == [words] * bool(words))
+
+    def test_first_faults(self) -> None:
+        """Hints: the first letter, and the first header with other control bits."""
+        whole = "the whole file draws in --option swedish, italian, french, spanish, czech"
+        found = judged(self, ACCENT)
+        self.must("list", "1 faults" in found.said, found.said)
+        self.must("letter", found.result["hints"] == [f"50: {whole}"] and found.said[-2:] == [
+            f"50: {whole}", "refused 50 Character block 1 at 6"] and
+            [one["do"] for one in found.result["faults"]] == [whole] and any(
+                one.startswith("in block 1 a byte for which") for one in found.lines("Refused: ")),
+            found.said)
+        data = bytearray(example_bytes("hello.pes"))
+        at = DATA + 4 + 2 + 7  # in the first PES packet: C11 to C14 of its first header
+        data[at:at + 1] = mirrored(b"\xd0")  # the code word of 8: C12 to C14 are those of German
+        found = judged(self, HELLO, self.write("one.pes", data))
+        words = "the header is German: --option german"
+        self.must("header", found.result["hints"] == [f"67: {words}"] and found.said[-2:] == [
+            f"67: {words}", "refused 67 Control frame 10:00:00:00 packet 0"] and
+            found.result["faults"][0]["means"] == words, found.said)
+
+    def test_options(self) -> None:
+        """Complete pages, the page, the national option, severities."""
+        texts = (b"Gr\xc8u\xfbe", b"Ja")
+        stl = self.write("two.stl", gsi_block(b"Two", 2, 2, language=b"08") + b"".join(
+            subtitle_blocks(at, 90_000 + 100 * at, 90_050 + 100 * at, 20, 2, text)
+            for at, text in enumerate(texts)))
+        self.schedule(stl, "two.pes", "--page", "1A9", "--option", "german", "--origin", "4242")
+        two, no_end, five = self.path("two.pes"), example("no-end.pes"), example("five-faults.pes")
+        faults = b"".join(b"%d warning\n" % number for number in (67, 68, 69, 72, 73))
+        rows: list[tuple[list[str], bytes, str]] = [
+            ([stl, two, "--page", "1a9", "--option", "german"], b"", "accepted"),
+            ([stl, two, "--page", "1a9", "--option", "auto"], b"", "accepted"),
+            ([stl, two, "--page", "1a9"], b"", "refused"), ([stl, two], b"", "refused"),
+            ([stl, two, "--option", "german"], b"", "not judged"),
+            ([HELLO, no_end], b"", "refused"), ([HELLO, no_end, "--complete"], b"", "refused"),
+            ([HELLO, no_end, "--no-complete"], b"", "accepted"),
+            *(([STORY, five, "--every", "25"], text, word) for text, word in (
+                (faults, "waived"), (faults + b"73 error\n", "refused"),
+                (b"67 warning\n", "refused"), (b"others warning\n# no more\n", "waived"),
+                (b"others warning\n72 error\n", "refused")))]
+        for words, text, word in rows:
+            more = ["--severity", self.write("severity", text)] if text else []
+            found = judged(self, *words, *more)
+            self.must(f"{words} {text!r}", found.word == word, found.said)
+            first = "waived: " * (word == "waived") + "refused 67 "
+            self.must(f"{words} {text!r}: line", not text or found.said[-1].startswith(first))

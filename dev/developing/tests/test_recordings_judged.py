@@ -1,0 +1,397 @@
+"""Recordings judged in process: files of PES packets, transport streams, feeds; what is written and
+kept of them, and what is said where something is not clear.
+"""
+from __future__ import annotations
+
+import hashlib
+import os
+import threading
+import time
+from types import SimpleNamespace
+from typing import Any
+
+from subtitles.core.pes import pes_packet, pts_in
+from subtitles.core.times import TICKS
+from subtitles.qc.carriers import Carrier, Kept
+from subtitles.qc.clock import START, Clock
+from subtitles.qc.feed import At, Feed, Finder
+from subtitles.qc.live import Live
+from subtitles.qc.recording import Recording
+from subtitles.reading.finding import Agreement, OfPart, Origin
+from subtitles.reading.listing import Listing
+from .bench import Case, example, example_bytes, moved, packets, random_subtitles
+from .judged import Heard, in_pipe, joined, judged, programme, sendings
+from .muxed import (
+    MPEG_2, PRIVATE, TELETEXT_PID, VIDEO_PID, Maker, put_teletext, spaced, teletext_descriptor)
+from .parts import HEADER, PAGE
+from .test_pairs_in_parts import ORIGIN, apart, times
+from .test_pairs_judged import ACCENT, EVERY, HELLO, STORY, broken
+
+
+def in_stream(*of_pids: tuple[int, bytes]) -> bytes:
+    """PES packets as a transport stream, in their time; each PID announces page 888."""
+    maker = Maker([(VIDEO_PID, MPEG_2, b""), *(
+        (pid, PRIVATE, teletext_descriptor()) for pid, _ in of_pids)])
+    maker.put_tables()
+    waiting = sorted((pts_in(one), pid, one) for pid, data in of_pids for one in packets(data))
+    for now in range(waiting[0][0], waiting[-1][0] + TICKS, TICKS):
+        maker.put_pcr(now - 18_000)
+        while waiting and waiting[0][0] <= now:
+            _, pid, one = waiting.pop(0)
+            maker.put(pid, one)
+    return maker.data
+
+
+class Recordings(Case):
+    """Files of PES packets, transport streams, feeds."""
+
+    def test_the_same_of_all(self) -> None:
+        """What is refused of a file of PES packets is refused of a stream, and of each as a feed:
+        with faults, with what can't be read, with causes; and what is accepted is."""
+        five = list(packets(example_bytes("five-faults.pes")))
+        for at in (2, 3, 7):
+            five[at] = broken(five[at], 37)
+        self.schedule(STORY, "every.pes", "--every", "25")
+        slow = moved(self.read("every.pes"), lambda _, pts: pts + 8 * TICKS * (
+            pts == 1_822_675 * TICKS))
+        for name, data, often, count, causes, last in (
+                ("right", example_bytes("story.pes"), "250", 0, 0,
+                 "accepted 226 frames 5 transmissions"),
+                ("five faults", b"".join(five), "25", 8, 2,
+                 "refused 67 Control frame 20:15:01:00 packet 0"),
+                ("late", slow, "25", 1, 1,
+                 "refused 72 Content frame 20:15:07:00 row 22 column 16")):
+            whole = in_stream((TELETEXT_PID, data))
+            lists = set[tuple[str, ...]]()
+            for recording in (self.write("one.pes", data), self.write("one.ts", whole),
+                              in_pipe(self, data), in_pipe(self, whole)):
+                found = judged(self, STORY, recording, "--every", often, "--origin", "0")
+                lists.add(tuple(found.listed))
+                self.must(f"{name} {recording}", found.said[-1] == last and
+                          found.verdict.faults == count and len(found.lines("cause: ")) == causes,
+                          found.said)
+                self.must(f"{name} {recording}: part", found.parts("origin", "from", "to") ==
+                          [(0, "20:15:00:00", "20:15:09:00")], found.result["parts"])
+                if "feed" in recording:
+                    taken = f"{recording} 0x101 | tools/cut - " if recording[-1] in "468" else \
+                        f"{recording} "
+                    every = f" --every {often}" * (often != "250")
+                    name_of = "tools/ts2pes" if "|" in taken else "tools/cut"
+                    self.must(f"{name} {recording}: command", found.lines("+ ") == [
+                        f"{name_of} {taken}--stl {STORY}{every} -o - | {self.bench.program} check "
+                        f"{STORY} /dev/stdin{every} --complete --all"], found.said[0])
+            self.must(f"{name}: the same list", len(lists) == 1, lists)
+
+    def test_causes_as_they_come(self) -> None:
+        """A cause of a feed is said while the feed goes on, and once; a file is judged by two calls
+        of the program."""
+        self.schedule(STORY, "every.pes", "--every", "25")
+        slow = packets(moved(self.read("every.pes"), lambda _, pts: pts + 8 * TICKS * (
+            pts == 1_822_675 * TICKS)))
+        heard, begun = Heard(), list[int]()
+        path = self.path("feed")
+        os.mkfifo(path)
+
+        def sending() -> None:
+            with open(path, "wb", buffering=0) as file:
+                file.write(b"".join(slow[:-1]))
+                end = time.monotonic() + 60
+                while not any(line.startswith("cause: ") for line in heard.lines):
+                    if time.monotonic() > end:
+                        return
+                    time.sleep(0.02)
+                begun.append(len(heard.lines))
+                file.write(slow[-1])
+
+        threading.Thread(target=sending, daemon=True).start()
+        found = judged(self, STORY, path, "--origin", "0", heard=heard)
+        self.must("while it goes on", begun and found.lines("cause: ") == [
+            'subtitle 3 at 20:15:07:00, "It costs £5, or $7.": late by 8 frames'], found.said)
+        by = self.write("program", f'#!/bin/sh\necho "$1" >>{self.path("calls")}\n'
+                        f'exec {self.bench.program} "$@"\n'.encode())
+        os.chmod(by, 0o755)
+        judged(self, STORY, example("story.pes"), by=by)
+        calls = self.read("calls").decode().split()
+        self.must("calls", sorted(calls) == ["check", "check", "show"], calls)
+
+    def test_warnings(self) -> None:
+        """What is strange of a stream: said, in the result, and no change of the status unless it
+        counts."""
+        pes = example_bytes("story.pes")
+        french = self.write("french.stl", example_bytes("story.stl")[:14] + b"00" +
+                            example_bytes("story.stl")[16:])  # of no language
+        rows: list[tuple[str, bytes, int, list[str]]] = [
+            (STORY, teletext_descriptor(), 0, []), (STORY, teletext_descriptor(), 90_000, []),
+            (STORY, teletext_descriptor(), -1, ["pts_behind"]),
+            (STORY, teletext_descriptor(), 90_001, ["pts_early"]),
+            (STORY, teletext_descriptor(kind=5), 9, []),
+            (STORY, teletext_descriptor(page=0x89), 9, ["page"]),
+            (STORY, b"\x0a\x04eng\0", 9, ["page"]),
+            (STORY, teletext_descriptor(kind=1), 9, ["type"]),
+            (STORY, teletext_descriptor(b"ice"), 9, ["language"]),
+            (STORY, teletext_descriptor(b"ger") + teletext_descriptor(), 9, []),
+            (STORY, teletext_descriptor(b"\x1b[2"), -1, ["pts_behind", "language"]),
+            (french, teletext_descriptor(b"fre"), 9, ["option"])]
+        for stl, descriptor, ahead, kinds in rows:
+            maker = Maker([(VIDEO_PID, MPEG_2, b""), (TELETEXT_PID, PRIVATE, descriptor)])
+            maker.put_tables()
+            put_teletext(maker, pes, ahead)
+            path = self.write("one.ts", maker.data)
+            found = judged(self, stl, path, "--origin", "0")
+            warned = found.result["warnings"]
+            self.must(f"{descriptor!r} {ahead}", [one["kind"] for one in warned] == kinds and
+                      found.word == "accepted" and found.lines("! warning: ") ==
+                      [one["line"] for one in warned], found.said)
+            strict = judged(self, stl, path, "--origin", "0", "--strict")
+            self.must(f"{descriptor!r} {ahead}: strict", strict.word == (
+                "warned" if kinds else "accepted") and (not kinds or strict.said[-1].startswith(
+                    f"not accepted, since warnings count ({', '.join(kinds)}): ")), strict.said)
+
+    def test_what_is_not_whole(self) -> None:
+        """A recording whose end is cut after the last TCO, one that grows; a cut subtitle file."""
+        pes = example_bytes("story.pes")
+        stream = in_stream((TELETEXT_PID, pes))
+        later = pes_packet(pts_in(packets(pes)[-1]) + 100 * TICKS, [HEADER] * 5)  # two TS packets
+        for data in (pes + later[:100], in_stream((TELETEXT_PID, pes + later))[:-188], stream):
+            found = judged(self, STORY, self.write("cut.rec", data), "--origin", "0")
+            self.must("cut", found.word == "accepted" and [
+                one["kind"] for one in found.result["warnings"]] == ["cut"] * (data != stream),
+                found.said)
+        by = self.write("program", f"#!/bin/sh\necho >>{self.path('grown.rec')}\n"
+                        f'exec {self.bench.program} "$@"\n'.encode())
+        os.chmod(by, 0o755)
+        found = judged(self, STORY, self.write("grown.rec", stream), "--origin", "0", by=by)
+        self.must("grown", [one["kind"] for one in found.result["warnings"]] == ["grew"],
+                  found.said)
+        cut = self.write("cut.stl", example_bytes("story.stl")[:-128])
+        self.must("counts", judged(self, cut, "--strict").said[-1].startswith(
+            "not accepted, since warnings count (blocks, subtitles): "))
+
+    def test_feeds_in_parts(self) -> None:
+        """A break of a feed that is said; one that is not, of which only the first part came."""
+        stl = programme(self, times(24))
+        sent = sendings(self, stl)
+        data = joined(apart(sent, 1000))
+        found = judged(self, stl, in_pipe(self, data), "--breaks", "1")
+        self.must("in two parts", found.word == "accepted" and found.lines("+ ")[0].startswith(
+            "cat ") and found.parts("origin") == [
+            (ORIGIN,), (ORIGIN + 1000 * TICKS,)], found.said)
+        pause = [(pts, sent[-1][1]) for pts in range(870 * TICKS, 4500 * TICKS, 25 * TICKS)]
+        fed = [one for one in sent if one[0] < 870 * TICKS] + pause
+        data = joined([(ORIGIN + pts, some) for pts, some in fed])
+        note = "from 00:00:36:00 on no subtitle was sent while the feed was read; if the " \
+            "programme has a break there, say --breaks 1"
+        found = judged(self, stl, in_pipe(self, data), "--origin", str(ORIGIN), *EVERY)
+        self.must("nothing more", found.word == "refused" and note in found.told, found.said)
+        found = judged(self, stl, self.write("one.pes", data), "--origin", str(ORIGIN), *EVERY)
+        self.must("of a file", note not in found.told, found.told)
+
+    def test_pids(self) -> None:
+        """The PID with the page, the first or the second; a loss of it counts, and none of the
+        other one."""
+        stl = programme(self, times(10), 2)
+        sent = sendings(self, stl)
+        own = joined(sent)
+        self.schedule(stl, "other.pes", "--page", "801", "--every", "25")
+        other = self.read("other.pes")
+        for page, second in ((0x101, 0x102), (0x102, 0x101)):
+            whole = in_stream((page, own), (second, other))
+            for lost, word in ((None, "accepted"), (second, "accepted"), (page, "refused")):
+                inner = [at for at in range(0, len(whole), 188) if lost and
+                         whole[at + 1:at + 3] == lost.to_bytes(2, "big")]
+                data = whole[:inner[4]] + whole[inner[4] + 188:] if lost else whole
+                for recording in (self.write("one.ts", data), in_pipe(self, data)):
+                    found = judged(self, stl, recording, "--origin", "0", "--every", "100")
+                    self.must(f"{page} {lost} {recording}", found.word == word and
+                              "more place" not in "".join(found.said) and
+                              found.parts("pid") == [(page,)] and [
+                                  (one["judged"], one["ts_packets"]) for one in
+                                  found.result["lost"]] == [(True, 1)] * (lost == page), found.said)
+
+    def test_other_bytes(self) -> None:
+        """Bytes between TS packets, packets of 192 and 204 bytes, and what is no PES packet at the
+        end of a feed: what is said of them."""
+        pes = example_bytes("story.pes")
+        whole = in_stream((TELETEXT_PID, pes))
+        junk = whole[:188 * 20] + b"x" * 40 + whole[188 * 20:]
+        skipped, cut = " of no TS packet skipped", "it was read up to there"
+        for data, size, count in ((whole, 188, ""), (spaced(whole, 192), 192, "4 bytes"),
+                                  (spaced(whole, 204), 204, ""), (junk, 188, "40 bytes")):
+            for recording in (self.write("one.ts", data), in_pipe(self, data)):
+                found = judged(self, STORY, recording, "--origin", "0")
+                self.must(f"{size} {count} {recording}", found.word == "accepted" and
+                          found.parts("pid", "packet_size") == [(257, size)] and
+                          [line.removesuffix(skipped) for line in found.said
+                           if line.endswith(skipped)] == [count] * bool(count), found.said)
+        for data, words in ((pes, ""), (pes + b"x" * 50, cut)):
+            found = judged(self, STORY, in_pipe(self, data), "--origin", "0")
+            self.must(words, found.word == "accepted" and
+                      any(cut in one for one in found.said) == bool(words), found.said)
+
+    def test_what_there_is(self) -> None:
+        """Two PIDs with the page, none, one with something else, none at all; what to type."""
+        pes = example_bytes("story.pes")
+        both = self.write("both.ts", in_stream((TELETEXT_PID, pes), (0x102, pes)))
+        one = self.write("one.ts", in_stream((TELETEXT_PID, pes)))
+        other = self.write("other.stl", random_subtitles(7)[0])
+        self.schedule(self.write("own.stl", random_subtitles(8)[0]), "own.pes")
+        rows: list[tuple[list[str], str, list[str]]] = [
+            ([STORY, both], "page 888 is sent on 2 PIDs of ", ["--pid 0x101", "--pid 0x102"]),
+            ([STORY, in_pipe(self, in_stream((TELETEXT_PID, pes), (0x102, pes)))],
+             "page 888 is sent on 2 PIDs of ", ["--pid 0x101", "--pid 0x102"]),
+            ([STORY, both, "--page", "801"], "no header of page 801", ["--page P"]),
+            ([STORY, one, "--pid", "0x200"], "PID 0x200 has no whole PES packet",
+             ["--pid 0x101"]),
+            ([STORY, one, "--pid", "0x300"], "PID 0x300 carries nothing", ["--pid 0x101"]),
+            ([other, self.path("own.pes")], "fewer than half", ["--origin T", "--page P"]),
+            ([STORY, one, "--origin", "900000000"], "nothing of the page is in the recording",
+             ["--origin T", "--origin 900000000 --page P"]),
+            ([STORY, STORY], "is a subtitle file", []), ([STORY, "none.ts"], "No such file", []),
+            (["none.stl", one], "none.stl is no file, or is not there", []),
+            (["--", "-none.stl", one], "-none.stl is no file, or is not there", []),
+            (["", one], "an empty name is no file", []), ([ACCENT, "none.ts"], "No such file", []),
+            ([self.folder, one], "is no file, or is not there", []),
+            ([one], "is a recording: the subtitle file stands before it", []),
+            ([STORY, self.write("empty.ts", b"")], "is empty", []),
+            ([STORY, self.bench.program], "no transport stream", [])]
+        for words, why, to_type in rows:
+            found = judged(self, *words)
+            typed = [one.split(" ", 4)[-1] for one in found.told
+                     if one.startswith(("type ", "or "))]
+            self.must(f"{words}", found.word == "not judged" and why in "".join(found.told) and
+                      not found.told[0].startswith("./") and
+                      typed == to_type, found.told)
+        for pid in ("0x101", "0x102"):
+            found = judged(self, STORY, both, "--pid", pid)
+            self.must(pid, found.word == "accepted" and found.parts("pid") == [(int(pid, 16),)])
+
+    def test_files(self) -> None:
+        """What is written and kept of a file and of a feed, and the sums of what was read."""
+        pes = example_bytes("story.pes")
+        data = in_stream((TELETEXT_PID, pes))
+        path = self.write("one.ts", data)
+        rows: list[tuple[list[str], str, list[str]]] = [
+            ([], path, ["html", "json", "txt"]),
+            (["--keep"], path, ["html", "json", "recording.pes", "txt"]),
+            ([], in_pipe(self, data), ["html", "json", "txt"]),
+            (["--keep"], in_pipe(self, data), ["cut.pes", "html", "json", "recording.pes", "txt"])]
+        for words, recording, kept in rows:
+            out = self.path(f"out{len(os.listdir(self.folder))}")
+            found = judged(self, STORY, recording, "-o", out, "--origin", "0", *words)
+            self.must(f"{words} {recording}", sorted(os.listdir(out)) ==
+                      [f"one.{ending}" for ending in kept], os.listdir(out))
+            part, own = found.result["parts"][0], found.result["inputs"]["recording"]
+            is_feed = recording != path
+            self.must(f"{words} {recording}: part", (part["pid"], part["packet_size"]) ==
+                      (257, 188) and (part["judged"] is None) != is_feed and
+                      part["pes"] == (None if is_feed else "0-4"), part)
+            self.must(f"{words} {recording}: sum", own["name"] == recording and (is_feed or (
+                own["size"], own["sha256"]) == (len(data), hashlib.sha256(data).hexdigest())), own)
+            self.must(f"{words} {recording}: subtitles", found.result["inputs"]["stl"]["sha256"] ==
+                      hashlib.sha256(example_bytes("story.stl")).hexdigest())
+            self.must(f"{words} {recording}: kept", "recording.pes" not in kept or
+                      self.read(f"{out}/one.recording.pes") == pes)
+
+    def test_recording_that_is_not_read(self) -> None:
+        """A subtitle file that is refused: the report says so."""
+        judged(self, STORY, "-o", self.path("alone"))
+        self.must("no report", sorted(os.listdir(self.path("alone"))) == ["one.json", "one.txt"])
+        found = judged(self, ACCENT, self.write("one.ts", b"x"), "-o", self.path("out"))
+        self.must("said", found.word == "refused" and b"one.ts was not read" in
+                  self.read("out/one.html"), found.said)
+
+    def test_subtitle_files(self) -> None:
+        """Alone: right, of one subtitle, refused."""
+        for stl, lines in ((STORY, ["Accepted: nothing is wrong with 3 subtitles.",
+                                    "3 subtitles, nothing is wrong with them"]),
+                           (HELLO, ["Accepted: nothing is wrong with 1 subtitle.",
+                                    "1 subtitle, nothing is wrong with it"]),
+                           (ACCENT, ["refused 50 Character block 1 at 6"])):
+            found = judged(self, stl)
+            self.must(stl, found.said[-len(lines):] == lines and found.parts("from", "pes") ==
+                      [(None, None)], found.said)
+
+
+class Followed(Case):
+    """A feed, PES packet by PES packet."""
+
+    def kept(self, has_page: bool, pid: int = 1) -> Any:
+        """A PID whose PES packets are known to have the page, or are not."""
+        made = Carrier(pid, PAGE, os.devnull, Listing())
+        made.has_page = has_page
+        return made
+
+    def test_carriers(self) -> None:
+        """The first PID with the page is judged, from its first PES packet on, once its clock is
+        known; a second one with the page ends all."""
+        said = list[Any]()
+        live: Any = SimpleNamespace(put=lambda data: said.append(data), is_over=lambda: False,
+                                    put_all=lambda path: said.append(path),
+                                    stop=lambda: said.append("stop"))
+
+        def start(kept: Kept, at: At) -> Any:
+            said.append((kept, at))
+            return live
+
+        one, two, three = self.kept(False), self.kept(True, 2), self.kept(True, 3)
+        feed = Feed(7, Finder(lambda _: Origin(1)), start, None, 0, 25)
+        for kept, data, wanted, is_over in (
+                (one, b"1", [], False), (two, b"", [], False),
+                (two, b"2", [(two, At(7)), os.devnull], False), (one, b"1", [], False),
+                (two, b"3", [b"3"], False), (three, b"", ["stop"], True), (two, b"4", [], True)):
+            said.clear()
+            self.must(f"{kept.pid} {data!r}", (feed.hear(kept, data), said) == (is_over, wanted),
+                      said)
+        self.must("nothing is judged", feed.live is None and feed.carrier is two)
+
+    def test_clocks(self) -> None:
+        """The clock that is given; the one of the first picture, when that is clear; one that is
+        found, when it is time to look; of parts the end of the last one."""
+        found = Origin(0, [OfPart(5)], agreement=Agreement(5, 5, 5, 40, True))
+        parts = Origin(0, [OfPart(5, None, (0, 9)), OfPart(6, None, (10, 20))])
+        picture: Any = SimpleNamespace(clock=Clock(9, START))
+        for origin, began, breaks, finds, wanted, until in (
+                (7, None, 0, found, At(7), None), (None, None, 0, found, At(5), None),
+                (None, None, 0, Origin(1), None, None), (None, picture, 0, found, At(9), None),
+                (7, None, 1, parts, None, 6 + TICKS * 45), (None, picture, 1, parts, None,
+                                                          6 + TICKS * 45),
+                (7, None, 2, parts, None, None)):
+            for is_due in (True, False):
+                begun = list[At]()
+
+                def start(kept: Kept, at: At) -> Any:
+                    begun.append(at)
+                    return SimpleNamespace(put_all=lambda path: None)
+
+                finder = Finder(lambda _: finds)
+                vars(finder)["is_due"] = lambda kept: is_due
+                starting: Any = began and SimpleNamespace(began=None, look=lambda pid, grid: began)
+                feed = Feed(origin, finder, start, starting, breaks, 25)
+                feed.begin(self.kept(True))
+                is_known = is_due or origin is not None or began is not None
+                self.must(f"{origin} {began} {breaks} {is_due}", begun == (
+                    [wanted] if wanted and is_known else []), begun)
+                self.must(f"{origin} {began} {breaks} {is_due}: end", feed.until ==
+                          (until if is_due else None), feed.until)
+
+    def test_how_far(self) -> None:
+        """The time and the faults so far, or how much is read; how long nothing has come."""
+        for frame, still, words in ((125, 0.0, ["00:00:05:00  2 faults"]), (None, 3.0, []),
+                                    (0, 3.4, ["00:00:00:00  2 faults  nothing for 3 s"])):
+            shown = list[str]()
+            made: Any = SimpleNamespace(follow=lambda: None, cut=SimpleNamespace(frame=frame),
+                                        answer=SimpleNamespace(count=2),
+                                        speech=SimpleNamespace(show=shown.append))
+            Live.show(made, still)
+            self.must(f"{frame} {still}", shown == words, shown)
+        for name, size, is_due, still, words in (
+                ("one.ts", 3_000_000, True, 0.0, ["one.ts: 1.5 MB of 3.0"]),
+                ("-", None, True, 2.0, ["standard input: 1.5 MB  nothing for 2 s"]),
+                ("one.ts", 3_000_000, False, 0.0, [])):
+            shown = []
+            recording: Any = SimpleNamespace(name=name, speech=SimpleNamespace(
+                show=shown.append, progress=SimpleNamespace(is_due=lambda: is_due)))
+            source: Any = SimpleNamespace(count=1_500_000, size=size)
+            feed: Any = SimpleNamespace(live=None)
+            Recording.show(recording, source, feed, still)
+            self.must(f"{name} {size}", shown == words, shown)

@@ -1,0 +1,272 @@
+"""Reports at random, each made by a number: `dev/vectors/reports.tsv` has of each the verdict, and
+a sum of each part of the page as it was when somebody last looked at it.
+
+A change that is meant changes them: from dev/, `python3 -m developing.tests.test_reports_at_random`
+prints the table anew, and `.. NUMBER` the page of a number, to compare.
+"""
+from __future__ import annotations
+
+import contextlib
+import hashlib
+import os
+import random
+import re
+import subprocess
+import sys
+import tempfile
+import unittest
+import xml.etree.ElementTree as tree
+from typing import Any, Callable, Iterator
+
+from subtitles.core.manual import Meaning
+from subtitles.core.pes import DATA, UNIT, pts_bytes, pts_in, whole_in
+from subtitles.core.pieces import Pieces, pieces_of
+from subtitles.core.stl import (
+    NEW_LINE, USER_DATA, boxed, gsi_block, subtitle_blocks, tti_block)
+from subtitles.core.teletext import mirrored, packet, page_name
+from subtitles.core.times import CLOCK, FRAMES_OF_A_DAY, TICKS
+from subtitles.preview.page import report_page
+from subtitles.preview.program import NoReport
+from subtitles.preview.reasons import Around
+from subtitles.preview.report import Asked, Report
+from subtitles.preview.scope import Recorded
+from subtitles.qc.clock import FITTED
+from subtitles.qc.held import Span
+from .. import DEV
+from .bench import BENCH, example_bytes
+
+VECTORS = os.path.join(DEV, "vectors", "reports.tsv")
+COUNT, EACH = 240, 8  # rows, and how many a test has
+TEXTS = [b"Good evening.", b"Here is the news.", b"No! <&>", b"Thank you, Anne."]
+PARTS = re.compile('(?=<h2 id="|<section id="place"|<section class="fault" id="place")')
+HTML = "{http://www.w3.org/1999/xhtml}"
+FOREIGN = re.compile(r"<script|<link|<img|<iframe|@import|\burl\(|\bsrc=|\bon\w+="
+                     r"|https?://(?!www\.w3\.org/1999/xhtml)")
+STYLE = re.compile("<style>.*?</style>", re.S)
+MEANINGS = {number: Meaning("", f"it means `{number}`", f"do {number}") for number in range(90)}
+MADE = "files"  # the part that names files and dates
+WORDS = {"lost": ["between the beginning and 00:00:01:00: 3 lost", "between 10:00:02:00 and "
+                  "10:00:03:00: <5>"], "notes": ["a & b", FITTED], "sentence": "It <is> so.",
+         "word": "warned", "part": (2, 3), "clock": "tcp & co", "is_complete": True,
+         "recording": Recorded("a<b>.ts", 12345, "0" * 64)}
+BYTES = {3: (0, 0xF0, 0xFE, 7), 4: (1, 9), 5: (24,), 8: (25, 0), 9: (0, 23), 10: (60, 1),
+         13: (0, 23, 24), 14: (4,), 15: (1, 2), 19: (0x61, 0xC2, 0x8A, 0x0E), 2: (1,),
+         22: (0x81, 0x8A, 0x0D)}  # of a TTI block: what is wrong at which byte
+
+
+class Made:
+    """The files of a report in a folder, and what is asked."""
+
+    def __init__(self, number: int, folder: str) -> None:
+        self.chance = chance = random.Random(number)
+        self.path_of_stl, self.path_of_pes = (os.path.join(folder, name)
+                                              for name in ("one.stl", "one.pes"))
+        self.is_refused_file, self.is_long = number % 4 == 3, number % 12 == 2
+        self.every = chance.choice((25, 100, 250) if self.is_long else (1, 25, 25, 100, 250))
+        self.page = chance.choice(((0, 0x88), (0, 0x88), (1, 0x50)))
+        self.option = chance.choice(("english", "english", "german"))
+        self.begin = chance.choice((0, 100, 900_000, FRAMES_OF_A_DAY - 150_000))
+        self.origin = chance.choice((0, 90_000, CLOCK - TICKS * self.begin - 90_000, CLOCK - 5))
+        self.within = chance.choice((0, 0, 0, 1, 3))
+        self.stl = self.subtitle_file()
+
+    def subtitle_file(self) -> bytes:
+        """Subtitles, some of which touch; a comment, and user data."""
+        chance, frame, made = self.chance, self.begin, list[bytes]()
+        count = chance.choice((60, 300)) if self.is_long else chance.choice((0, 1, 3, 3, 5, 8))
+        gaps = (0, 20, 1000) if self.is_long else (0, 0, 5, 40, 120, 700)
+        for number in range(1, count + 1):
+            end = frame + chance.choice((1, 12, 30, 60, 90))
+            lines = [boxed(chance.choice(TEXTS), chance.choice((b"", b"\3")))
+                     for _ in range(chance.choice((1, 1, 2)))]
+            low = 23 - 2 * len(lines)
+            made.append(subtitle_blocks(number + (number > 2), frame, end, chance.choice(
+                (low, low, 1)), chance.choice((1, 2, 3)), (NEW_LINE * 2).join(lines)))
+            frame = end + chance.choice(gaps)
+        head = gsi_block(b"Title & more", len(made), count)
+        if self.is_refused_file:
+            made[1:1] = [tti_block(0, 0, 0, 20, 2, b"note", comment=1),
+                         tti_block(1, 0, 0, 20, 2, b"user", USER_DATA)]
+            made = [self.wrong_block(one) for one in made]
+            at = chance.choice((*[0] * 12, 3, 6, 11, 13))
+            head = head[:at] + b"9" * (at > 0) + head[at + (at > 0):]
+            made[-1:] = [made[-1][:chance.choice((128, 128, 99))]]
+        return head + b"".join(made)
+
+    def wrong_block(self, block: bytes) -> bytes:
+        """A block in which something is wrong at times."""
+        data = bytearray(block)
+        for at in self.chance.choices(list(BYTES), k=self.chance.choice((0, 1, 1, 2))):
+            data[at] = self.chance.choice(BYTES[at])
+        return bytes(data)
+
+    def sent(self) -> bytes:
+        """What is sent: the program's own transmission, with something wrong."""
+        words = ["--every", str(self.every), "--origin", str(self.origin), "--option", self.option,
+                 "--page", page_name(*self.page)]
+        subprocess.run([BENCH.program, "schedule", self.path_of_stl, self.path_of_pes, *words],
+                       check=False, stdout=subprocess.DEVNULL)
+        with open(self.path_of_pes, "rb") as file:
+            pes = whole_in(file.read() or example_bytes("hello.pes"))  # of no subtitle none is sent
+        kinds: list[Callable[[list[bytes], int], None]] = [
+            self.lose, self.stop_reading, self.move, self.hit, self.swap, self.send_late, self.cut,
+            self.send_elsewhere]
+        for kind in self.chance.choices(kinds, (3, 4, 2, 8, 1, 3, 1, 2),
+                                        k=self.chance.choice((0, 1, 2, 3, 5))):
+            kind(pes, self.chance.randrange(max(1, len(pes))))
+        return b"".join(pes)
+
+    def lose(self, pes: list[bytes], at: int) -> None:
+        del pes[at:at + self.chance.choice((1, 1, 3))]
+
+    def stop_reading(self, pes: list[bytes], at: int) -> None:
+        """Some in a row can't be read, for one reason or another."""
+        byte = self.chance.choice((6, 7, 8, 45, 47, 48))
+        for number in range(at, min(at + self.chance.choice((1, 1, 2)), len(pes))):
+            pes[number] = pes[number][:byte] + b"\5" + pes[number][byte + 1:]
+
+    def move(self, pes: list[bytes], at: int) -> None:
+        """One has another PTS."""
+        self.shift(pes, at, self.chance.choice((-90, 5, 1800, TICKS)), 1)
+
+    def send_late(self, pes: list[bytes], at: int) -> None:
+        """All from one on, or some, come earlier or later."""
+        self.shift(pes, at, TICKS * self.chance.choice((-2, 1, 3, 40)),
+                   self.chance.choice((2, len(pes))))
+
+    @staticmethod
+    def shift(pes: list[bytes], at: int, ticks: int, count: int) -> None:
+        pes[at:at + count] = [one[:9] + pts_bytes((pts_in(one) + ticks) % CLOCK) + one[14:]
+                              for one in pes[at:at + count]]
+
+    def hit(self, pes: list[bytes], at: int) -> None:
+        """A bit of a Teletext packet is wrong, or two: of an address, a header, or a row."""
+        if pes:
+            data = bytearray(pes[at])
+            unit = DATA + UNIT * self.chance.randrange(3)
+            byte = unit + self.chance.choice((4, 6, 8, 9, 11, 13, 20, 25, 26))
+            data[byte % len(data)] ^= self.chance.choice((2, 3, 8, 0x80, 0x82))
+            pes[at] = bytes(data)
+
+    def send_elsewhere(self, pes: list[bytes], at: int) -> None:
+        """The first row that is sent is another one, with another text."""
+        if pes:
+            sent = packet(self.page[0], self.chance.choice((1, 2, 24)), (),
+                          b"\x0b\x0bElsewhere".ljust(40))
+            place = DATA + UNIT + 4
+            pes[at] = pes[at][:place] + mirrored(sent) + pes[at][place + len(sent):]
+
+    def swap(self, pes: list[bytes], at: int) -> None:
+        pes[at:at + 2] = pes[at:at + 2][::-1]
+
+    def cut(self, pes: list[bytes], at: int) -> None:
+        """The file ends within one, or before it."""
+        pes[at:] = [one[:self.chance.choice((20, 100))] for one in pes[at:at + self.chance.choice(
+            (0, 1))]]
+
+    def asked(self) -> Asked:
+        """What is asked, of files that are written here."""
+        chance, pes, pieces = self.chance, self.path_of_pes, None
+        with open(self.path_of_stl, "wb") as file:
+            file.write(self.stl)
+        if not self.is_refused_file:
+            data = self.sent()
+            with open(pes, "wb") as file:
+                file.write(data)
+            pieces = pieces_of(pes, 1, 4) if chance.random() < 0.1 else Pieces(pes)
+        more: dict[str, Any] = {name: words for name, words in WORDS.items()
+                                if chance.random() < 0.25}
+        around = chance.choice((None, None, Around(pes, None, None),
+                                Around(pes, Span(self.begin, self.begin + 200), None)))
+        window = chance.choice(((0, FRAMES_OF_A_DAY), (self.begin + 60, self.begin + 150)))
+        known: dict[str, Any] = {
+            "words": [], "stl": self.path_of_stl, "pes": pieces and pes, "program": "./subttx",
+            "program_path": BENCH.program, "page": self.page, "every": chance.choice(
+                (self.every, self.every, 25)), "origin": self.origin, "option": self.option,
+            "is_complete": False, "window": window, "lost": [], "notes": [], "recording": None,
+            "part": None, "around": pieces and around, "clock": None, "within": self.within,
+            "pieces": pieces, **more}
+        return Asked(**known)
+
+
+@contextlib.contextmanager
+def made(number: int) -> Iterator[tuple[Asked, str]]:
+    """What is asked, of files that are there meanwhile; and the page, or why there is none."""
+    with tempfile.TemporaryDirectory() as folder:
+        asked = Made(number, folder).asked()
+        try:
+            report = Report(asked)
+            report.meanings = MEANINGS
+            yield asked, STYLE.sub("", report_page(report))
+        except NoReport as reason:
+            yield asked, str(reason).replace(folder, "FOLDER")
+
+
+def page_of(number: int) -> str:
+    """The page of a number, or why there is none."""
+    with made(number) as (_, page):
+        return page
+
+
+def row_of(number: int, page: str) -> str:
+    """The row of a number: its verdict, and each part with its sum."""
+    head, *parts = PARTS.split(page)
+    verdict = re.search("<title>(.*?) &#8211;", head)
+    sums = [f"head {sum_of(head)}"] if verdict else []
+    for part in parts:
+        name = re.findall(r'id="(\w+)"', part)[0]
+        sums += [f"{name} {sum_of(part)}"] * (name != MADE)
+    return "\t".join([str(number), verdict[1] if verdict else head, *sums])
+
+
+def sum_of(text: str) -> str:
+    return hashlib.sha256(text.encode()).hexdigest()[:8]
+
+
+class Reports(unittest.TestCase):
+    """Rows of the table, some at a time."""
+
+    def stands(self, page: str) -> None:
+        """A page is XML, and stands alone: nothing is fetched or run, each name is there once, each
+        link leads to one, heads of tables have a scope, and pictures and links have words."""
+        items = list(tree.fromstring(page).iter())
+        self.assertIsNone(FOREIGN.search(page))
+        names = [item.get("id") for item in items if item.get("id")]
+        self.assertEqual(len(names), len(set(names)))
+        links = [item for item in items if item.tag == f"{HTML}a"]
+        self.assertLessEqual({item.get("href") for item in links}, {f"#{name}" for name in names})
+        for item in items:
+            has_label = bool(item.get("aria-label"))
+            if item.tag == f"{HTML}th":
+                self.assertIn(item.get("scope"), ("col", "row"))
+            elif item.tag == f"{HTML}svg" and item.get("aria-hidden") != "true":
+                self.assertTrue(has_label and item.get("role") in ("img", "group"))
+            elif item.tag == f"{HTML}a":
+                self.assertTrue(has_label or "".join(item.itertext()).strip())
+
+
+def rows_from(first: int) -> Callable[[Reports], None]:
+    """The test of the rows from a number on."""
+
+    def test(self: Reports) -> None:
+        with open(VECTORS, encoding="utf-8") as file:
+            rows = file.read().splitlines()
+        for number in range(first, first + EACH):
+            page = page_of(number)
+            with self.subTest(number):
+                self.assertEqual(row_of(number, page), rows[number])
+                if page.startswith("<"):
+                    self.stands(page)
+
+    return test
+
+
+for FIRST in range(0, COUNT, EACH):
+    setattr(Reports, f"test_from_{FIRST:03}", rows_from(FIRST))
+
+if __name__ == "__main__":
+    if sys.argv[1:]:
+        print(page_of(int(sys.argv[1])))
+    else:
+        for NUMBER in range(COUNT):
+            print(row_of(NUMBER, page_of(NUMBER)))

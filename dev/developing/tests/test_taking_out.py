@@ -1,0 +1,445 @@
+"""tools/cut, part, ts2pes and pes2ts, called: what they write, print and tell."""
+from __future__ import annotations
+
+import os
+import random
+import resource
+import select
+import subprocess
+import sys
+import time
+from typing import Any, Sequence
+
+from subtitles.core.pes import MARK, pes_packet
+from subtitles.core.stl import GSI, TTI
+from subtitles.core.times import CLOCK, TICKS
+from ..every_place.recordings import carried
+from .at_random import tool_here
+from .bench import Case, Done, alone, example, example_bytes, moved, packets, tool_path
+from .muxed import spaced
+from .parts import CLOSING, HEADER, row
+
+STL, PES, TS = example("story.stl"), example("story.pes"), example("recording.ts")
+STORY = packets(example_bytes("story.pes"))  # at the seconds 0, 3, 5.5, 7 and 9
+TIMES = ["--from", "20:15:00:00", "--to", "20:15:09:00"]
+PID, PAYLOAD = "0x101", 184
+SOON = 20  # seconds after which a PES packet has to have come
+# MB of transport stream a second of the processor: where --speed is asked for, and on a machine
+# that does other things too.
+FAST, ANYWHERE = 100, 30
+
+
+def here(name: str, *words: str) -> Done:
+    """A call of a tool in this process, which takes what is printed."""
+    done = tool_here([sys.executable, tool_path(name), *words])
+    return Done(done.returncode, done.stdout.encode(), done.stderr.splitlines())
+
+
+class Fed:
+    """A tool that is handed bytes, and whose answer is waited for."""
+
+    def __init__(self, name: str, *words: str) -> None:
+        self.process = subprocess.Popen([tool_path(name), *words], stdin=subprocess.PIPE, bufsize=0,
+                                        stdout=subprocess.PIPE, stderr=subprocess.DEVNULL)
+
+    def __enter__(self) -> Fed:
+        self.process.__enter__()
+        return self
+
+    def __exit__(self, *reason: Any) -> None:
+        self.close()
+        self.process.__exit__(*reason)
+
+    def put(self, data: bytes, count: int) -> bytes:
+        """Hands on some; so many bytes that come then, fewer where it ends or is too late."""
+        assert self.process.stdin and self.process.stdout
+        if data:
+            self.process.stdin.write(data)
+        found, end = b"", time.monotonic() + SOON
+        while len(found) < count and select.select(
+                [self.process.stdout], [], [], max(end - time.monotonic(), 0))[0]:
+            more = os.read(self.process.stdout.fileno(), count - len(found))
+            if not more:
+                break
+            found += more
+        return found
+
+    def close(self) -> None:
+        """Hands on no more."""
+        assert self.process.stdin
+        self.process.stdin.close()
+
+
+class Cuts(Case):
+    """tools/cut."""
+
+    def rows(self) -> list[tuple[str, list[bytes], list[str], tuple[int, int] | None, list[str]]]:
+        """PES packets and words; the numbers of those that are taken; what is told."""
+        broken = [STORY[0], moved(STORY[1], lambda _, pts: pts + 17),
+                  STORY[2][:7] + b"\0" + STORY[2][8:], STORY[3][:100] + b"\0" * 84, STORY[4]]
+        hidden = [one[:46] + b"\xff" + one[47:] if number in (0, 1, 3) else one
+                  for number, one in enumerate(STORY)]
+        far = moved(STORY[1], lambda _, pts: pts + 10_000 * TICKS)
+        early, first, none_of = (pes_packet(6561000000 - frames * TICKS, [HEADER, CLOSING])
+                                 for frames in (20, 250, 251))
+        last = moved(STORY[4], lambda _, pts: pts + TICKS)
+        whole, stl = "from 20:15:00:00 to 20:15:09:00", ["--stl", STL]
+        short = ["--stl", self.write("short.stl", example_bytes("story.stl")[:-1])]
+        none = "is of these frames and comes with, or after, a header of the page there"
+        return [
+            ("all", STORY, TIMES, (0, 4), [f"5 of 5 PES packets, {whole}"]),
+            ("of a file", STORY, stl, (0, 4), [f"5 of 5 PES packets, {whole}"]),
+            ("some", STORY, ["--from", "20:15:02:24", "--to", "20:15:05:12"], (1, 2),
+             ["2 of 4 PES packets, from 20:15:03:00 to 20:15:05:12"]),
+            ("one", STORY, ["--from", "20:15:05:12", "--to", "20:15:05:12"], (2, 2),
+             ["1 of 4 PES packets, from 20:15:05:12 to 20:15:05:12"]),
+            ("numbers", STORY, [*TIMES, "--pes", "1-2"], (1, 2),
+             ["2 of 4 PES packets, from 20:15:03:00 to 20:15:05:12"]),
+            ("none", STORY, ["--from", "01:00:00:00", "--to", "02:00:00:00"], None,
+             [f"none of 5 PES packets {none}"]),
+            ("another page", STORY, [*TIMES, "--page", "100"], None,
+             [f"none of 5 PES packets {none}"]),
+            ("an origin", [moved(one, lambda _, pts: pts + CLOCK - TICKS) for one in STORY],
+             [*TIMES, "--origin", str(CLOCK - TICKS)], (0, 4), [f"5 of 5 PES packets, {whole}"]),
+            ("another origin", STORY, ["--origin", "3600", *TIMES], (1, 4),
+             ["4 of 5 PES packets, from 20:15:02:24 to 20:15:08:24"]),
+            ("a bound", [early, *STORY], [*stl, "--every", "20"], (0, 5),
+             ["6 of 6 PES packets, from 20:14:59:05 to 20:15:09:00"]),
+            ("a bound too short", [early, *STORY], [*stl, "--every", "19"], (1, 5),
+             [f"5 of 6 PES packets, {whole}"]),
+            ("the bound left out", [first, *STORY], stl, (0, 5),
+             ["6 of 6 PES packets, from 20:14:50:00 to 20:15:09:00"]),
+            ("behind that", [none_of, *STORY], stl, (1, 5), [f"5 of 6 PES packets, {whole}"]),
+            ("a tick early", [moved(one, lambda _, pts: pts - 1) for one in STORY], TIMES, (1, 4),
+             ["4 of 5 PES packets, from 20:15:02:24 to 20:15:08:24"]),
+            ("within", [moved(one, lambda _, pts: pts - 1) for one in STORY],
+             [*TIMES, "--within", "1"], (0, 4), [f"5 of 5 PES packets, {whole}"]),
+            ("broken", broken, TIMES, (0, 4), [f"5 of 5 PES packets, {whole}"]),
+            ("begins with a header", hidden, TIMES, (2, 4),
+             ["3 of 5 PES packets, from 20:15:05:12 to 20:15:09:00"]),
+            ("a wrong PTS alone", [STORY[0], far, *STORY[2:], last, last, b"no PES packet"], stl,
+             (0, 4), [f"5 of 6 PES packets, {whole}"]),
+            ("it is cut", [*STORY[:4], STORY[4][:-1]], TIMES, (0, 3),
+             ["4 of 4 PES packets, from 20:15:00:00 to 20:15:07:00",
+              "asked.pes: PES packet 4 is cut; it was read up to there"]),
+            ("a file that is cut", STORY, short, (0, 2), [
+                "short.stl: block 3 is cut; what stands before is used",
+                "3 of 4 PES packets, from 20:15:00:00 to 20:15:05:12"])]
+
+    @alone
+    def test_calls(self) -> None:
+        """The numbers of the PES packets that are taken, or their bytes; all options."""
+        for name, pes, words, wanted, told in self.rows():
+            own = self.write("asked.pes", b"".join(pes))
+            status = int(wanted is None or "it is cut" == name)
+            said = [f"cut: {line.replace('asked.pes', own)}".replace(
+                "short.stl", self.path("short.stl")) for line in told]
+            done = here("cut", own, *words)
+            printed = b"--pes %d-%d\n" % wanted if wanted else b""
+            self.must(f"{name}: numbers", done == (status, printed, said), done)
+            done = here("cut", own, *words, "-o", self.path("out.pes"))
+            if wanted is None:
+                self.must(name, done == (1, b"", [f"{said[0]}; nothing is written"]) and
+                          not os.path.exists(self.path("out.pes")), done)
+                continue
+            counts = next(line for line in told if " of " in line)
+            self.must(name, (done.status, done.out.decode()) == (status, counts + "\n") and
+                      done.told == [line for line in said if counts not in line], done)
+            self.must(f"{name}: bytes",
+                      self.read("out.pes") == b"".join(pes[wanted[0]:wanted[1] + 1]))
+            os.remove(self.path("out.pes"))
+
+    @alone
+    def test_usage(self) -> None:
+        """Which words go with which, and times in their order."""
+        needed, many = "--from and --to are needed, or --stl", \
+            "--stl has the times: --from and --to are too many"
+        rows: list[tuple[list[str], str]] = [
+            ([], needed), (TIMES[:2], needed), (TIMES[2:], needed), ([*TIMES, "--stl", STL], many),
+            ([*TIMES[:2], "--stl", STL], many), ([*TIMES[2:], "--stl", STL], many),
+            ([*TIMES, "--every", "25"], "--every goes with --stl"),
+            (["--from", "20:15:09:01", *TIMES[2:]],
+             "--from 20:15:09:01 is after --to 20:15:09:00")]
+        for words, line in rows:
+            done = here("cut", PES, *words)
+            self.must(f"{words}", done == (2, b"", [f"cut: {line}"]), done)
+
+    def test_outputs(self) -> None:
+        """From and to standard input and output, of any kind; nothing is written over."""
+        told = ["cut: 5 of 5 PES packets, from 20:15:00:00 to 20:15:09:00"]
+        data = example_bytes("story.pes")
+        for source in (PES, "-"):
+            for out in ("-", "/dev/stdout"):
+                words = [tool_path("cut"), source, *TIMES, "-o", out]
+                done = self.call(words, data)
+                self.must(f"{source} {out}", done == (0, data, told), done)
+                done = self.call(["sh", "-c", 'exec "$@" >file.pes', "sh", *words], data)
+                self.must(f"{source} {out}, a file", self.read("file.pes") == data, done)
+        old, stl = self.write("old.pes", data), self.write("old.stl", example_bytes("story.stl"))
+        os.symlink(old, self.path("link.pes"))
+        for words in ([*TIMES, "-o", old], [*TIMES, "-o", self.path("link.pes")],
+                      ["--stl", stl, "-o", stl]):
+            done = self.tool("cut", old, *words)
+            self.must(f"the input as {words[-1]}", done.status == 2, done)
+        self.tool("cut", PES, "--from", "01:00:00:00", "--to", "02:00:00:00", "-o", old)
+        self.must("as it was", (self.read("old.pes"), self.read("old.stl")) ==
+                  (data, example_bytes("story.stl")))
+
+    @alone
+    def test_recordings(self) -> None:
+        """Of a PID of a transport stream, and why there is none."""
+        wide = self.write("wide.ts", spaced(example_bytes("recording.ts"), 192))
+        bare = self.write("bare.ts", b"x" * 999)
+        whole = "5 of 7 PES packets, from 20:15:00:00 to 20:15:09:00"
+        none = "PID 0x101 has no whole PES packet in 8 TS packets"
+        rows: list[tuple[str, list[str], str]] = [
+            (TS, ["--pid", PID], whole), (wide, ["--pid", PID, "--packet-size", "192"], whole),
+            (wide, ["--pid", PID], f"{wide}: {none}; its TS packets are 192 bytes apart: "
+             "--packet-size 192"),
+            (TS, ["--pid", "0x102"], f"{TS}: PID 0x102 carries nothing"),
+            (TS, ["--pid", PID, "--packet-size", "204"], f"{TS}: {none}; its TS packets are 188 "
+             "bytes apart: --packet-size 188"),
+            (bare, ["--pid", PID], f"{bare}: PID 0x101 carries nothing")]
+        for path, words, line in rows:
+            done = here("cut", path, *words, "--origin", "5000000000", *TIMES, "-p",
+                        self.bench.program)
+            wanted = (0, b"--pes 2-6\n") if line == whole else (2, b"")
+            self.must(f"{path} {words}", done == (*wanted, [f"cut: {line}"]), done)
+        for script, line in (
+                ("exit 0", "it printed nothing, status 0"),
+                ("kill -9 $$", "it printed nothing, status -9"),
+                ("echo written 7 pes 0 gaps; exit 1", "written 7 pes 0 gaps, status 1"),
+                ("echo fault 41 Read pes 2; exit 2", "fault 41 Read pes 2, status 2")):
+            program = self.write("program", f"#!/bin/sh\n{script}\n".encode())
+            os.chmod(program, 0o755)
+            done = here("cut", TS, *TIMES, "--pid", PID, "-p", program)
+            self.must(script, done == (2, b"", [f"cut: {TS}: extract was not answered: {line}"]),
+                      done)
+
+    def test_at_once(self) -> None:
+        """Each PES packet is handed on as it comes, and the end does not wait for more."""
+        last = moved(STORY[4], lambda _, pts: pts + TICKS)
+        with Fed("cut", "-", "--stl", STL, "-o", "-") as fed:
+            for one in STORY:
+                self.must("each at once", fed.put(one, len(one)) == one)
+            self.must("the end, while the pipe is open", fed.put(last, 1) == b"")
+        self.must("its status", fed.process.returncode == 0)
+
+
+class Parts(Case):
+    """tools/part."""
+
+    def test_calls(self) -> None:
+        """Of three subtitles some, in a file and in a pipe; those over an edge are named."""
+        story = example_bytes("story.stl")
+        two = story[:238] + b"0000200002001" + story[251:GSI] + story[GSI + TTI:]
+        over = "left out, since due before or after these frames too: "
+        none = "comes and goes in these frames; nothing is written"
+        rows: list[tuple[tuple[str, str], bytes, int, bytes | None, str, list[str]]] = [
+            (("20:15:03:00", "20:15:09:00"), story, 0, two, "2 of 3 subtitles", []),
+            (("20:15:01:00", "20:15:09:00"), story, 0, two, "2 of 3 subtitles", [over + "00001"]),
+            (("20:15:01:00", "20:15:08:00"), story[:-TTI], 0, story[:238] + b"0000100001001"
+             + story[251:GSI] + story[GSI + TTI:-TTI], "1 of 2 subtitles", [over + "00001"]),
+            (("20:15:00:00", "20:15:09:00"), story[:-1], 1, story[:238] + b"0000200002001"
+             + story[251:-TTI], "2 of 2 subtitles",
+             ["IN: block 3 is cut; it was read up to there"]),
+            (("20:15:01:00", "20:15:08:00"), story[:GSI + TTI], 1, None, f"none of 1 subtitle "
+             f"{none}", [over + "00001"]),
+            (("20:15:03:00", "20:15:03:00"), story, 1, None, f"none of 3 subtitles {none}", []),
+            (("20:15:01:00", "20:15:08:00"), story[:GSI], 1, None, f"none of 0 subtitles {none}",
+             [])]
+        for times, data, status, wanted, line, told in rows:
+            words = ["--from", times[0], "--to", times[1], "-o"]
+            own = self.write("in.stl", data)
+            said = [f"part: {one}" for one in told]
+            of_file, of_pipe = ([one.replace("IN", name) for one in said] for name in (own, "-"))
+            done = self.tool("part", own, *words, "out.stl")
+            if wanted is None:
+                self.must(line, done == (status, b"", [f"part: {line}", *of_file]), done)
+                self.must("nothing", not os.path.exists(self.path("out.stl")))
+                continue
+            self.must(line, done == (status, f"{line}\n".encode(), of_file), done)
+            self.must("bytes", self.read("out.stl") == wanted)
+            done = self.tool("part", "-", *words, "-", data=data)
+            self.must("a pipe", done == (status, wanted, [f"part: {line}", *of_pipe]), done)
+            os.remove(self.path("out.stl"))
+        count = 22
+        blocks = b"".join(story[GSI:GSI + 1] + bytes([at, 0]) + story[GSI + 3:GSI + TTI]
+                          for at in range(count)) + story[GSI + TTI:]
+        done = self.tool("part", self.write("in.stl", story[:GSI] + blocks), "--from",
+                         "20:15:01:00", "--to", "20:15:09:00", "-o", "out.stl")
+        self.must("many", done.told[0].endswith(": " + ", ".join(
+            f"{at:05}" for at in range(20)) + ", 2 more"), done)
+
+
+class Streams(Case):
+    """tools/ts2pes and tools/pes2ts."""
+
+    def stream(self, *words: str) -> list[bytes]:
+        """The story as a transport stream, packet by packet."""
+        done = self.tool("pes2ts", PES, PID, *words)
+        assert done == (0, done.out, ["pes2ts: 5 PES packets as PID 0x101"]), done
+        return [done.out[at:at + 188] for at in range(0, len(done.out), 188)]
+
+    def extracted(self, data: bytes, pid: str = PID) -> Done:
+        """What ts2pes makes of a stream."""
+        return self.tool("ts2pes", self.write("asked.ts", data), pid, "-p", self.bench.program)
+
+    def test_there_and_back(self) -> None:
+        """Packets of each size, twice, from a pipe, behind other bytes, which are counted."""
+        made, pes = self.stream(), example_bytes("story.pes")
+        for name, data, skipped in (
+                ("188 bytes", b"".join(made), 0),
+                ("192 bytes", b"".join(b"TIME" + one for one in made), 4),
+                ("204 bytes", b"".join(one + b"\x47" * 16 for one in made), 0),
+                ("from the midst of one", made[0][77:] + b"".join(made), 111),
+                ("each twice", b"".join(one + one for one in made), 0),
+                ("bytes lost", made[0] + made[1][:99] + b"".join(made), 188 + 99)):
+            done = self.extracted(data)
+            said = [f"ts2pes: {skipped} bytes of no TS packet skipped"] * (skipped > 0)
+            self.must(name, done == (0, pes, ["ts2pes: 5 PES packets of PID 0x101", *said]),
+                      done.told)
+        for source in ("-", "/dev/stdin"):
+            done = self.tool("ts2pes", source, PID, "-p", self.bench.program, data=b"".join(made))
+            self.must(source, (done.status, done.out) == (0, pes), done.told)
+        own = [one for one in made if one[1] & 0x1F == 1 and one[2] == 1]
+        done = self.extracted(b"".join(own[1:]))
+        self.must("it begins later", done == (0, b"".join(STORY[1:]), [
+            "ts2pes: 4 PES packets of PID 0x101"]), done)
+
+    def test_what_there_is(self) -> None:
+        """PIDs with their pages; where one carries nothing, or no Teletext, those that do."""
+        made, stream = self.stream(), b"".join(self.stream("swe", "--page", "1A9"))
+        own = [one for one in made if one[1] & 0x1F == 1 and one[2] == 1]
+        none = [one for one in made if one not in own and one[1] & 0x1F != 1]
+        for data, out, told in (
+                (b"".join(made), b"PID 0x101: announced 888 eng subtitles in programme 1; subtitle "
+                 b"pages sent: 888\n", ""),
+                (stream, b"PID 0x101: announced 1A9 swe subtitles in programme 1; subtitle pages "
+                 b"sent: 888\n", ""),
+                (b"x" * 9 + b"".join(own), b"PID 0x101: announced nothing; subtitle pages sent: "
+                 b"888\n", "ts2pes: 9 bytes of no TS packet skipped"),
+                (b"".join(none), b"", "ts2pes: there is no PID with Teletext")):
+            done = self.tool("ts2pes", self.write("asked.ts", data))
+            self.must("listed", done == (int(not out), out, [told] if told else []), done)
+        there = "Teletext is in PID 0x101 (888)"
+        for data, pid, line in (
+                (stream, "101", f"PID 0x65 carries nothing; {there}: did you mean 0x101?"),
+                (stream, "0x102", f"PID 0x102 carries nothing; {there}"),
+                (stream, "0x100", "PID 0x100 has no PES packets of private_stream_1, as Teletext "
+                 f"has; {there}"),
+                (b"".join(none + own[:1]), PID, "PID 0x101 has no whole PES packet in 1 TS packet; "
+                 + there)):
+            done = self.extracted(data, pid)
+            self.must(line, (done.status, done.told) == (1, [f"ts2pes: {line}"]), done)
+
+    def test_losses(self) -> None:
+        """At random: the bytes that the definitions say, and in all how many are lost. In a row:
+        of each place between which PTS it is, up to twenty, and of more how many."""
+        for seed in range(3):
+            chance = random.Random(seed)
+            pes = [pes_packet(TICKS * at, [HEADER, *[row(20, b"x")] * chance.randrange(15)])
+                   for at in range(60)]
+            made = sent(pes)
+            kept = [one for at, one in enumerate(made) if chance.random() > 0.1 or at % 15 == 0]
+            wanted = carried(b"".join(kept), 0x101, 188)
+            done = self.extracted(b"".join(kept))
+            self.must(f"{seed}", (done.status, done.out) == (1, wanted.data), done.told)
+            self.must(f"{seed}: told", f" {len(made) - len(kept)} TS packets" in done.told[-2],
+                      (len(made) - len(kept), done.told))
+        pes = [pes_packet(8_000 + 250 * TICKS * at, [HEADER, *[row(20, b"text")] * 6])
+               for at in range(51)]
+        for count in (1, 2, 20, 21, 25):
+            done = self.extracted(b"".join(one for at, one in enumerate(sent(pes))
+                                           if at % 4 != 3 or at > 4 * count))
+            behind = [8_000 + 500 * TICKS * at for at in range(count + 1)]
+            told = [f"between PTS {one} and {other}, 00:{at // 3:02}:{at % 3 * 20:02}:00 and "
+                    f"00:{(at + 1) // 3:02}:{(at + 1) % 3 * 20:02}:00 on: 1 TS packet lost"
+                    for at, (one, other) in enumerate(zip(behind, behind[1:]))]
+            more = [f"and at {count - 20} more place{'s' * (count > 21)}"] * (count > 20)
+            told = told[:20] + more + [f"in all {count} TS packets lost"] * (count > 1)
+            told.append(f"51 PES packets of PID 0x101, {count} mark{'s' * (count > 1)} among them")
+            self.must(f"{count}", done.status == 1 and done.told == [
+                f"ts2pes: {line}" for line in told], (done.told, told))
+            self.must(f"{count}: marks", packets(done.out) == [
+                MARK if at % 2 and at < 2 * count else one for at, one in enumerate(pes)])
+
+    def test_last_loss(self) -> None:
+        """What is lost just before the end, where no PES packet comes behind it."""
+        made = sent([pes_packet(8_000 + 250 * TICKS * at, [HEADER, *[row(20, b"text")] * 6])
+                     for at in range(4)])
+        done = self.extracted(b"".join([*made[:5], made[6]]))
+        self.must("told", (done.status, done.told) == (1, [
+            "ts2pes: after PTS 908000, 00:00:10:00 on: 1 TS packet lost",
+            "ts2pes: 3 PES packets of PID 0x101, 1 mark among them"]), done.told)
+
+    def test_at_once(self) -> None:
+        """Each PES packet comes as soon as its last TS packet was sent, once there are five, which
+        tell where packets begin."""
+        made, at = sent(STORY * 3), 0
+        with Fed("ts2pes", "-", PID, "-p", self.bench.program) as fed:
+            for pes in [b"".join(STORY[:4]), STORY[4], *STORY * 2]:
+                count = len(pes) // PAYLOAD
+                data, at = b"".join(made[at:at + count]), at + count
+                self.must("each at once", fed.put(data, len(pes)) == pes)
+            fed.close()
+            self.must("no more", fed.put(b"", 1) == b"")
+        self.must("its status", fed.process.returncode == 0)
+
+    def test_what_is_no_teletext(self) -> None:
+        """pes2ts tells the first PES packet that is none, after those before it."""
+        data = example_bytes("story.pes")
+        for name, pes, count, line in (
+                ("cut", data[:-1], 4, "PES packet 4 is cut"),
+                ("another start", data[:368] + b"\1" + data, 1,
+                 "PES packet 1 does not begin with 00 00 01 BD"),
+                ("no PTS", STORY[0] + data[:7] + b"\0" + data[8:], 1,
+                 "PES packet 1 is none of Teletext"),
+                ("another length", data[:4] + b"\0\xb3" + data[6:184] + b"x", 0,
+                 "PES packet 0 is none of Teletext")):
+            path = self.write("wrong.pes", pes)
+            done = self.tool("pes2ts", path, PID)
+            self.must(name, done.status == 1 and done.told == [
+                f"pes2ts: {path}: {line}", f"pes2ts: {count} PES packet{'s' * (count != 1)} as PID "
+                "0x101"], done.told)
+            own = [one for at in range(0, len(done.out), 188)
+                   if (one := done.out[at:at + 188])[1] & 0x1F == 1 and one[2] == 1]
+            self.must(f"{name}: before it", b"".join(one[4:] for one in own) ==
+                      b"".join(packets(data)[:count]))
+
+    @alone
+    def test_is_fast(self) -> None:
+        """A stream of a tenth of Teletext is read and listed, and one of nothing else is made."""
+        least = FAST if self.bench.is_timed else ANYWHERE
+        own = sent(STORY)
+        video = bytes([0x47, 2, 0, 0x10]) + bytes(range(PAYLOAD))
+        mixed = b"".join(one[:3] + bytes([0x10 | at & 15]) + one[4:] + 9 * video
+                         for at, one in enumerate(own * (60_000 // len(own))))
+        pes = self.write("long.pes", example_bytes("story.pes") * 40_000)
+        path = self.write("mixed.ts", mixed)
+        program = ["-p", self.bench.program]
+        for name, *words in (("a tenth of it", "ts2pes", path, PID, *program),
+                             ("a list of it", "ts2pes", path), ("pes2ts", "pes2ts", pes, PID)):
+            begin = processor_seconds()
+            done = self.tool(*words)
+            size = len(done.out) if name == "pes2ts" else len(mixed)
+            speed = size / 1e6 / (processor_seconds() - begin)
+            print(f"{name}: {speed:.0f} MB of transport stream a second of the processor")
+            self.must(name, speed >= least, speed)
+            self.must(f"{name}: its bytes", {
+                "a tenth of it": done.out == b"".join(STORY) * 10_000,
+                "a list of it": done.out.startswith(b"PID 0x101: announced nothing; subtitle page"),
+                "pes2ts": done.out[2::188].count(1) == 240_000}[name])
+
+
+def sent(pes: Sequence[bytes]) -> list[bytes]:
+    """TS packets of PES packets, whose lengths are whole payloads."""
+    made = [(at == 0, one[at:at + PAYLOAD]) for one in pes for at in range(0, len(one), PAYLOAD)]
+    return [bytes([0x47, 0x41 if begins else 1, 1, 0x10 | number & 15]) + data
+            for number, (begins, data) in enumerate(made)]
+
+
+def processor_seconds() -> float:
+    """What all calls took up to now."""
+    used = resource.getrusage(resource.RUSAGE_CHILDREN)
+    return used.ru_utime + used.ru_stime
