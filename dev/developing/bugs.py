@@ -153,14 +153,14 @@ PASSED_OVER = ("annotation", "returns", "decorator_list", "exc", "cause", "msg")
 def places(node: ast.AST, names: str = "", inside: str = MODULE
            ) -> Iterator[tuple[ast.AST, str, int | None, str]]:
     """Where a bug may be: a node, one of its parts, a number in it, and the function around it.
-    Printed words, types and what is raised are passed over."""
+    Types and what is raised are passed over, and of printed words all but the values in them."""
     for name in node._fields:
         value = getattr(node, name, None)
         several = value if isinstance(value, list) else [value]
         if name in PASSED_OVER or name in ("elts", "keys", "values") and len(several) > MANY:
             continue
         for at, child in enumerate(several):
-            if not isinstance(child, ast.AST) or isinstance(child, ast.JoinedStr):
+            if not isinstance(child, ast.AST):
                 continue
             yield node, name, at if isinstance(value, list) else None, inside
             is_function = isinstance(child, ast.FunctionDef)

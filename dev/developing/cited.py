@@ -4,8 +4,9 @@ from __future__ import annotations
 
 import os
 import re
-from typing import Iterator
+from typing import Callable, Iterator
 
+from subtitles.core.words import Stop
 from .definitions import Library, counts
 from .promises import ROW as INDEX
 
@@ -76,6 +77,18 @@ class Sources:
                  for part in path.split("/")]
         form = re.compile("/".join(parts))
         return path in self.paths or any(map(form.fullmatch, self.paths))
+
+
+def rewrite(path: str, made: Callable[[str], str]) -> None:
+    """Makes a document anew of what it is."""
+    try:
+        with open(path, "r+", encoding="utf-8") as file:
+            text = made(file.read())
+            file.seek(0)
+            file.truncate()
+            file.write(text)
+    except OSError as error:
+        raise Stop(f"{path}: {error.strerror}") from error
 
 
 def unknown_names(top: str) -> dict[str, list[str]]:

@@ -2,6 +2,7 @@
 from __future__ import annotations
 
 import os
+import shutil
 
 from subtitles.core.built import TOP
 
@@ -35,3 +36,12 @@ def write_lines(folder: str, crates: list[str], lines: Lines) -> None:
     """Writes a folder's crates.txt, of these crates alone."""
     with open(os.path.join(folder, "crates.txt"), "w", encoding="utf-8") as file:
         file.writelines(f"{name}: {' '.join(lines[name])}\n" for name in crates)
+
+
+def copy_crates(folder: str, crates: list[str], lines: Lines, *left_out: str) -> None:
+    """Makes a repository of some crates, without their folders of these names."""
+    write_lines(folder, crates, lines)
+    shutil.copy2(os.path.join(TOP, "HANDLES"), folder)
+    for name in crates:
+        shutil.copytree(os.path.join(CRATES, name), os.path.join(folder, "crates", name),
+                        ignore=shutil.ignore_patterns(*left_out))

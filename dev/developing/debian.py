@@ -2,7 +2,6 @@
 from __future__ import annotations
 
 import gzip
-import hashlib
 import os
 import re
 import shutil
@@ -10,7 +9,7 @@ import subprocess
 
 from subtitles.core.files import naming
 from subtitles.core.words import Stop
-from .prefix import PAGES, copy, install, link
+from .prefix import PAGES, copy, files_below, install, link, sums_of, write
 
 NAME = "subttx"
 MACHINE = "amd64"
@@ -49,13 +48,6 @@ def write_packed(path: str, data: bytes) -> None:
         packed.write(data)
 
 
-def write(path: str, text: str) -> None:
-    """A text file below folders that are made."""
-    os.makedirs(os.path.dirname(path), exist_ok=True)
-    with open(path, "w", encoding="utf-8") as file:
-        file.write(text)
-
-
 def pack_man_pages(root: str) -> None:
     """Man pages as Debian has them."""
     for page in PAGES:
@@ -79,29 +71,16 @@ def add_documents(root: str, version: str, proved: str, date: str) -> None:
     write(os.path.join(root, "usr", "share", "lintian", "overrides", NAME), OVERRIDES)
 
 
-def files_below(root: str) -> list[str]:
-    """The files of a package, links left out, by their names from its root."""
-    found = []
-    for place, _, names in os.walk(root):
-        paths = [os.path.join(place, name) for name in names]
-        found += [os.path.relpath(path, root) for path in paths if not os.path.islink(path)]
-    return sorted(found)
-
-
 def add_control(root: str, version: str) -> None:
     """What the package is, and a sum of each of its files."""
-    names = files_below(root)
-    size = sum(os.path.getsize(os.path.join(root, name)) for name in names)
-    sums = []
-    for name in names:
-        with open(os.path.join(root, name), "rb") as file:
-            sums.append(f"{hashlib.md5(file.read()).hexdigest()}  {name}\n")
+    size = sum(os.path.getsize(os.path.join(root, name)) for name in files_below(root))
+    sums = sums_of(root, "md5")
     fields = {"Package": NAME, "Version": version, "Section": "video", "Priority": "optional",
               "Architecture": MACHINE, "Depends": DEPENDS, "Maintainer": maintainer(),
               "Installed-Size": str(size // 1024 + 1), "Description": SUMMARY}
     lines = "".join(f"{name}: {value}\n" for name, value in fields.items())
     write(os.path.join(root, "DEBIAN", "control"), f"{lines}{DESCRIPTION}\n")
-    write(os.path.join(root, "DEBIAN", "md5sums"), "".join(sums))
+    write(os.path.join(root, "DEBIAN", "md5sums"), sums)
 
 
 def settle(root: str, time: int) -> None:

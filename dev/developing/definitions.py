@@ -17,7 +17,7 @@ from .crates import read_lines
 BEGINS = ("abbrev ", "unfoldable ", "pub record ", "pub data ", "record ", "data ")
 BETWEEN = ("use ", "pub use ", "mod ", "pub mod ", "infix")
 HEAD = re.compile(r"(?:(?:pub|abbrev|unfoldable|record|data) )+([^\s:(]+)")
-USE = re.compile(r"^(pub |ghost )?use (\S+?)(?:\.\{([^}]*)\}| as (\w+))?;?$", re.M)
+USE = re.compile(r"^ *(pub |ghost )?use (\S+?)(?:\.\{([^}]*)\}| as (\w+))?;?$", re.M)
 TOKEN = re.compile(r"[^\s()\[\]{},;]+")
 # What binds names: (x y : A), λ x y. e, let x = e in, and x ← e.
 BINDS = [re.compile(form) for form in (r"[({]([^(){}:]*) : ", r"λ ([^.]*)\.", r"\blet (\S+) =",
@@ -30,7 +30,7 @@ CLAUSE = re.compile(r"^ *ensures (\w+)? ?\{", re.M)
 class Definition:
     """A definition: its comment, and from `line` on its text with the comments in it."""
 
-    def __init__(self, file: File, line: int, comment: list[str], first: str) -> None:
+    def __init__(self, file: Specs, line: int, comment: list[str], first: str) -> None:
         self.file, self.line, self.comment, self.text = file, line, comment, [first]
         head = HEAD.match(first)
         assert head
@@ -68,12 +68,14 @@ Meant = Union[Definition, Outside]
 
 
 class File:
-    """A file of specs/ or of src/: what its `use` lines bring, and its definitions."""
+    """A file of a crate, and what its `use` lines bring."""
 
     def __init__(self, crate: str, path: str, module: str) -> None:
         self.crate, self.path, self.module = crate, path, module
         with open(path, encoding="utf-8") as file:
             self.text = file.read()
+        self.definitions: dict[str, Definition] = {}
+        self.constructors: dict[str, Definition] = {}
         self.names: dict[str, tuple[str, str]] = {}
         self.aliases: dict[str, str] = {}
         self.passed_on: list[str] = []
@@ -87,7 +89,14 @@ class File:
                 self.aliases[alias] = source
             elif how == "pub " and not names:
                 self.passed_on.append(source)
-        self.definitions = self.read_definitions() if path.endswith(".antt") else {}
+
+
+class Specs(File):
+    """A file of specs/, which has definitions."""
+
+    def __init__(self, crate: str, path: str, module: str) -> None:
+        super().__init__(crate, path, module)
+        self.definitions = self.read_definitions()
         self.constructors = {name: one for one in self.definitions.values()
                              for name in one.constructors()}
 
@@ -109,26 +118,27 @@ class File:
         return found
 
 
+def paths(top: str, crate: str, part: str, ending: str) -> Iterator[tuple[str, str]]:
+    """The files of a part of a crate below a folder, each with its module."""
+    start = os.path.join(top, "crates", crate, part)
+    for folder, _, names in sorted(os.walk(start)):
+        for path in (os.path.join(folder, name) for name in sorted(names)):
+            if path.endswith(ending):
+                inner = os.path.relpath(path, start)[:-len(ending)].replace(os.sep, ".")
+                yield path, f"Rattle.{crate}.{part}.{inner}"
+
+
 class Library:
     """All files of specs/ of a folder crates/, with the crates in the order of crates.txt."""
 
     def __init__(self, top: str) -> None:
         self.top = top
-        self.files: dict[str, File] = {}
+        self.files: dict[str, Specs] = {}
         self.crates = list(read_lines(os.path.join(top, "crates.txt")))
         for crate in self.crates:
-            for path, module in self.paths(crate, "specs", ".antt"):
+            for path, module in paths(top, crate, "specs", ".antt"):
                 if not path.endswith("/Lib.antt"):
-                    self.files[module] = File(crate, path, module)
-
-    def paths(self, crate: str, part: str, ending: str) -> Iterator[tuple[str, str]]:
-        """The files of a part of a crate, each with its module."""
-        start = os.path.join(self.top, "crates", crate, part)
-        for folder, _, names in sorted(os.walk(start)):
-            for path in (os.path.join(folder, name) for name in sorted(names)):
-                if path.endswith(ending):
-                    inner = os.path.relpath(path, start)[:-len(ending)].replace(os.sep, ".")
-                    yield path, f"Rattle.{crate}.{part}.{inner}"
+                    self.files[module] = Specs(crate, path, module)
 
     def meant(self, module: str, name: str) -> Meant:
         """What a module means by a name: a `Definition`, or what is `Outside`."""
@@ -162,18 +172,8 @@ class Library:
 
     def used(self, file: File, text: str, bound: set[str]) -> list[Meant]:
         """What a text of a file names, in its order, but what is bound."""
-        tokens = [token.lstrip("λ") for token in TOKEN.findall(text)]
-        found: list[Meant | None] = []
-        around = zip(["", *tokens], tokens, [*tokens[1:], ""])
-        for before, token, after in around:
-            base, _, rest = token.partition(".")
-            if base in file.aliases and rest:
-                found.append(self.meant(file.aliases[base], rest.split(".")[0]))
-            elif base not in bound and before != "pub" and after not in ("=", ":"):
-                found.append(self.named(file, base))
-        signs = set(tokens)
-        found += [self.named(file, name) for name in [*file.names, *file.definitions]
-                  if "◌" in name and signs.issuperset(filter(None, name.split("◌")))]
+        found = (self.meant(source, name) if source else self.named(file, name)
+                 for source, name in named_in(file, file.definitions, text, bound))
         return [it for it in found if it]
 
     def used_by(self, one: Definition) -> list[Meant]:
@@ -200,7 +200,7 @@ class Library:
         crate, slash, function = function.rpartition("/")
         found: list[tuple[File, str]] = []
         for one in [crate] if slash else self.crates:
-            for path, module in self.paths(one, "src", ".rt"):
+            for path, module in paths(self.top, one, "src", ".rt"):
                 file = File(one, path, module)
                 for text in clauses(file.text, function, clause):
                     found.append((file, text))
@@ -228,7 +228,7 @@ class Library:
     def place(self, outside: Outside) -> tuple[str, int]:
         """The file and the line in which the code declares a type."""
         form = re.compile(rf"^ *(?:pub(?:\(\w+\))? )?(?:struct|enum|trait) {outside.name}\b", re.M)
-        for path, _ in self.paths(outside.crate, "src", ".rt"):
+        for path, _ in paths(self.top, outside.crate, "src", ".rt"):
             with open(path, encoding="utf-8") as file:
                 text = file.read()
             if found := form.search(text):
@@ -265,6 +265,23 @@ class Library:
             del left[one]
             done.append(one)
         return done
+
+
+def named_in(file: File, own: Iterable[str], text: str, bound: Iterable[str] = ()
+             ) -> Iterator[tuple[str | None, str]]:
+    """The names in a text of a file that has some of its own, but what is bound; those that stand
+    behind an alias each with its module."""
+    tokens = [token.lstrip("λ") for token in TOKEN.findall(text)]
+    for before, token, after in zip(["", *tokens], tokens, [*tokens[1:], ""]):
+        base, _, rest = token.partition(".")
+        if base in file.aliases and rest:
+            yield file.aliases[base], rest.split(".")[0]
+        elif base not in bound and before != "pub" and after not in ("=", ":"):
+            yield None, base
+    signs = set(tokens)
+    for name in [*file.names, *own]:
+        if "◌" in name and signs.issuperset(filter(None, name.split("◌"))):
+            yield None, name
 
 
 def binders(text: str) -> set[str]:

@@ -6,11 +6,13 @@ in that file of its crate the old text, which stands there once, gives way to th
 """
 from __future__ import annotations
 
+import contextlib
 import os
 import re
 from collections import Counter
-from typing import NamedTuple
+from typing import Iterator, NamedTuple
 
+from subtitles.core.built import read
 from subtitles.core.words import Stop
 from .crates import CRATES
 
@@ -65,11 +67,6 @@ def lines_in(path: str) -> Lines:
     return [(kind, rest.removeprefix(" ")) for kind, _, rest in lines]
 
 
-def lines_of(edit: Edit) -> Lines:
-    """The lines of an edit of a crate."""
-    return lines_in(edit.path())
-
-
 def test_in(name: str, lines: Lines) -> str | None:
     """The test that an edit with a name names, if any."""
     names = [rest.strip() for kind, rest in lines if kind == "test"]
@@ -80,12 +77,32 @@ def test_in(name: str, lines: Lines) -> str | None:
 
 def test_of(edit: Edit) -> str | None:
     """The stored test that it names, if any."""
-    return test_in(str(edit), lines_of(edit))
+    return test_in(str(edit), lines_in(edit.path()))
 
 
 def edited(edit: Edit) -> dict[str, str]:
     """The files of the crate that the edit changes, by their path in it, with their new text."""
-    return texts_of(str(edit), lines_of(edit), os.path.join(CRATES, edit.crate), PARTS)
+    return texts_of(str(edit), lines_in(edit.path()), os.path.join(CRATES, edit.crate), PARTS)
+
+
+@contextlib.contextmanager
+def changed(top: str, texts: dict[str, str]) -> Iterator[None]:
+    """While this holds files below a folder have these texts; then they are as they were."""
+    kept = {}
+    for path, text in texts.items():
+        file_name = os.path.join(top, path)
+        with open(file_name, "r+b") as file:
+            kept[file_name] = file.read(), os.stat(file_name).st_mtime_ns
+            file.seek(0)
+            file.truncate()
+            file.write(text.encode())
+    try:
+        yield
+    finally:
+        for file_name, (data, time) in kept.items():
+            with open(file_name, "wb") as file:
+                file.write(data)
+            os.utime(file_name, ns=(time, time))
 
 
 def texts_of(name: str, lines: Lines, top: str, parts: tuple[str, ...]) -> dict[str, str]:
@@ -104,7 +121,9 @@ def texts_of(name: str, lines: Lines, top: str, parts: tuple[str, ...]) -> dict[
         elif kind == "new":
             if path is None or not old:
                 raise Stop(f"{name}: a line `new:` stands before its `file:` or its `old:`")
-            text = texts.get(path) or text_at(name, top, path)
+            text = texts.get(path) or read(os.path.join(top, path))
+            if text is None:
+                raise Stop(f"{name}: there is no {path}")
             texts[path] = replaced(f"{name}: {path}", text, old, rest)
             old = None
         elif kind != "test":
@@ -112,15 +131,6 @@ def texts_of(name: str, lines: Lines, top: str, parts: tuple[str, ...]) -> dict[
     if old is not None or not texts:
         raise Stop(f"{name}: a line `new:` is missing")
     return texts
-
-
-def text_at(name: str, top: str, path: str) -> str:
-    """The text of a file that an edit with a name changes."""
-    try:
-        with open(os.path.join(top, path), encoding="utf-8") as source:
-            return source.read()
-    except OSError as error:
-        raise Stop(f"{name}: {path}: {error.strerror}") from error
 
 
 def replaced(name: str, text: str, old: str, new: str) -> str:
@@ -137,7 +147,8 @@ def tables() -> str:
     lines = ["", "## Tried by the gate", "", "| Crate | Wrong program | It changes |",
              "|---|---|---|"]
     for edit in edits_in(TRIED_BY_GATE):
-        files = dict.fromkeys(rest.strip() for kind, rest in lines_of(edit) if kind == "file")
+        lines_of = lines_in(edit.path())
+        files = dict.fromkeys(rest.strip() for kind, rest in lines_of if kind == "file")
         changed = ", ".join(f"`{file}`" for file in files)
         lines.append(f"| `{edit.crate}` | `{edit.name}` | {changed} |")
     others = edits_in(TRIED_BEFORE_RELEASE)
@@ -159,20 +170,16 @@ def with_tables(text: str) -> str:
 
 
 def stored_tests() -> dict[str, tuple[str, str]]:
-    """The tests of all crates by their names: the crate, and the path of the file in its src/."""
-    found: dict[str, tuple[str, str]] = {}
-    several: set[str] = set()
+    """The tests of all crates, of which no two have one name: the crate, and the path in its src/.
+    """
+    found: dict[str, list[tuple[str, str]]] = {}
     for crate in sorted(os.listdir(CRATES)):
         top = os.path.join(CRATES, crate, "src")
         for folder, _, files in os.walk(top):
-            for file in files:
-                path = os.path.join(folder, file)
-                with open(path, encoding="utf-8") as source:
-                    for name in TEST.findall(source.read()):
-                        if name in found:
-                            several.add(name)
-                        found[name] = crate, os.path.relpath(path, top)
-    return {name: place for name, place in found.items() if name not in several}
+            for path in (os.path.join(folder, file) for file in files):
+                for name in TEST.findall(read(path) or ""):
+                    found.setdefault(name, []).append((crate, os.path.relpath(path, top)))
+    return {name: places[0] for name, places in found.items() if len(places) == 1}
 
 
 def count_applying() -> tuple[int, int]:

@@ -7,7 +7,7 @@ from __future__ import annotations
 
 import contextlib
 import dataclasses
-from typing import BinaryIO, Callable, Iterable
+from typing import BinaryIO, Iterable
 
 from subtitles.core.files import Damaged
 from subtitles.core.pes import (
@@ -156,101 +156,69 @@ def joined(sendings: Iterable[Sending]) -> bytes:
     return b"".join(pes_packet(one.pts, one.packets) for one in sendings)
 
 
-class Transmission:
-    """The sendings of a file that is mended; `due` are those of the subtitle file, by frame."""
+def mended(sendings: list[Sending], due: dict[int, Sending], every: int,
+           faults: Iterable[Fault]) -> list[Sending]:
+    """The sendings of a file, each fault mended where its line says it is; `due` are those of the
+    subtitle file, by frame. Lines count packets as they were, so what is dropped goes last."""
+    dropped: list[tuple[list[bytearray], int]] = []
+    dropped_sendings: list[int] = []
+    added: list[Sending] = []
+    for fault in faults:
+        number, place = fault.number, fault.place
+        if number == 62:
+            dropped_sendings.append(place["pes"])
+        elif number in (69, 70):
+            dropped.append((packets_at(sendings, place), place["packet"]))
+        elif number == 73:  # the page is sent where its header was missing, as long as it was
+            added += [due[frame] for frame in range(place["frame"], fault.until + 1, every)]
+        elif number in (72, 77):
+            mend_lasting(sendings, due, fault)
+        elif number != 30:  # bytes after the last PES packet are in no sending
+            first = headers_in(map(bytes, sendings[0].packets))[0][2]
+            packet = packets_at(sendings, place)[place["packet"]]
+            mend_packet(packet, number, has_bit(first, SERIAL))
+    for packets, at in sorted(dropped, key=lambda one: -one[1]):
+        del packets[at]
+    left = [one for number, one in enumerate(sendings) if number not in dropped_sendings]
+    return sorted(left + added, key=lambda one: one.pts)
 
-    def __init__(self, sendings: list[Sending], due: dict[int, Sending], every: int) -> None:
-        self.sendings, self.due, self.every = sendings, due, every
-        self.dropped: list[tuple[list[bytearray], bytearray]] = []
-        self.dropped_sendings: list[int] = []
-        self.added: list[Sending] = []
 
-    def mend(self, faults: Iterable[Fault]) -> list[Sending]:
-        """Mends each fault where its line says it is; answers the sendings.
+def packets_at(sendings: list[Sending], place: dict[str, int]) -> list[bytearray]:
+    """The packets of the frame of a fault."""
+    return next(one.packets for one in sendings if one.frame == place["frame"])
 
-        Lines count packets as they were, so what is dropped goes last.
-        """
-        for fault in faults:
-            MENDS[fault.number](self, fault)
-        for packets, packet in self.dropped:
-            del packets[next(at for at, one in enumerate(packets) if one is packet)]
-        left = [one for number, one in enumerate(self.sendings)
-                if number not in self.dropped_sendings]
-        return sorted(left + self.added, key=lambda one: one.pts)
 
-    def packets_at(self, fault: Fault) -> list[bytearray]:
-        """The packets of the frame of a fault."""
-        return next(one.packets for one in self.sendings if one.frame == fault.place["frame"])
-
-    def packet(self, fault: Fault) -> bytearray:
-        return self.packets_at(fault)[fault.place["packet"]]
-
-    def lasting(self, fault: Fault) -> list[Sending]:
-        """The sendings from which a fault comes that stands from one frame to another."""
-        begin = max(one.frame for one in self.sendings if one.frame <= fault.place["frame"])
-        return [one for one in self.sendings if begin <= one.frame <= fault.until]
-
-    def leave_out(self, fault: Fault) -> None:
-        """Bytes after the last PES packet are in no sending."""
-
-    def drop_sending(self, fault: Fault) -> None:
-        self.dropped_sendings.append(fault.place["pes"])
-
-    def correct(self, begin: int, end: int, fault: Fault) -> None:
-        """Bytes with one wrong bit become the code words that are meant."""
-        packet = self.packet(fault)
+def mend_packet(packet: bytearray, number: int, is_serial: bool) -> None:
+    """A packet that breaks a rule; the first header says which mode is kept."""
+    if number in (64, 65):  # bytes with one wrong bit become the code words that are meant
+        begin, end = (0, CODED[0]) if number == 64 else CODED
         packet[begin:end] = (CODE_WORDS[NUMBER[byte] or 0] for byte in packet[begin:end])
-
-    def correct_address(self, fault: Fault) -> None:
-        self.correct(0, CODED[0], fault)
-
-    def correct_header(self, fault: Fault) -> None:
-        self.correct(*CODED, fault)
-
-    def set_mode(self, fault: Fault) -> None:
-        first = headers_in(map(bytes, self.sendings[0].packets))[0][2]
-        set_bit(self.packet(fault), SERIAL, has_bit(first, SERIAL))
-
-    def set_control(self, fault: Fault) -> None:
-        """The control bits of a subtitle, in English."""
-        for bit in (ERASE, SUBTITLE, SUPPRESS):
-            set_bit(self.packet(fault), bit, True)
-        for bit in (NEWSFLASH, INHIBIT, *NATIONAL):
-            set_bit(self.packet(fault), bit, False)
-
-    def set_parity(self, fault: Fault) -> None:
-        packet = self.packet(fault)
+    elif number == 66:
+        set_bit(packet, SERIAL, is_serial)
+    elif number == 67:  # the control bits of a subtitle, in English
+        for bit in (ERASE, SUBTITLE, SUPPRESS, NEWSFLASH, INHIBIT, *NATIONAL):
+            set_bit(packet, bit, bit in (ERASE, SUBTITLE, SUPPRESS))
+    elif number == 68:
         packet[2:] = (byte if is_odd(byte) else byte ^ PARITY for byte in packet[2:])
-
-    def drop_packet(self, fault: Fault) -> None:
-        self.dropped.append((self.packets_at(fault), self.packet(fault)))
-
-    def send_row(self, fault: Fault) -> None:
-        """The row of a wrong cell is sent as it is due, as long as it was wrong."""
-        for one in self.lasting(fault):
-            for packet in one.packets:
-                address = address_of(packet)
-                if address and address[1] == fault.place["row"]:
-                    packet[:] = next(row for row in self.due[one.frame].packets
-                                     if address_of(row) == address)
-
-    def send_again(self, fault: Fault) -> None:
-        """The page is sent where its header was missing, as long as it was."""
-        for frame in range(fault.place["frame"], fault.until + 1, self.every):
-            self.added.append(self.due[frame])
-
-    def close(self, fault: Fault) -> None:
-        """The closing header comes at the end of each sending that had none."""
-        for one in self.lasting(fault):
-            one.packets.append(self.due[one.frame].packets[-1])
+    else:
+        raise ValueError(f"no cure for {number}")
 
 
-MENDS: dict[int, Callable[[Transmission, Fault], None]] = {
-    30: Transmission.leave_out, 62: Transmission.drop_sending,
-    64: Transmission.correct_address, 65: Transmission.correct_header,
-    66: Transmission.set_mode, 67: Transmission.set_control, 68: Transmission.set_parity,
-    69: Transmission.drop_packet, 70: Transmission.drop_packet, 72: Transmission.send_row,
-    73: Transmission.send_again, 77: Transmission.close}
+def mend_lasting(sendings: list[Sending], due: dict[int, Sending], fault: Fault) -> None:
+    """The sendings from which a fault comes that stands from one frame to another: the row of a
+    wrong cell is sent as it is due, or the closing header comes at the end."""
+    begin = max(one.frame for one in sendings if one.frame <= fault.place["frame"])
+    for one in sendings:
+        if not begin <= one.frame <= fault.until:
+            continue
+        if fault.number == 77:
+            one.packets.append(due[one.frame].packets[-1])
+            continue
+        for packet in one.packets:
+            address = address_of(packet)
+            if address and address[1] == fault.place["row"]:
+                packet[:] = next(row for row in due[one.frame].packets
+                                 if address_of(row) == address)
 
 
 def set_bit(packet: bytearray, bit: int, is_set: bool) -> None:

@@ -2,6 +2,7 @@
 from __future__ import annotations
 
 import glob
+import hashlib
 import os
 import re
 import shutil
@@ -27,6 +28,14 @@ def copy(source: str, target: str, mode: int = 0o644) -> None:
     shutil.copyfile(source, target + ".new")
     os.chmod(target + ".new", mode)
     os.replace(target + ".new", target)
+
+
+def write(path: str, text: str) -> None:
+    """Writes a text in the same way."""
+    os.makedirs(os.path.dirname(path), exist_ok=True)
+    with open(path + ".new", "w", encoding="utf-8") as file:
+        file.write(text)
+    os.replace(path + ".new", path)
 
 
 def link(words: str, name: str) -> None:
@@ -61,9 +70,7 @@ def copy_manual(home: str) -> None:
     for name in [*READ, *pictures]:
         copy(os.path.join(TOP, name), os.path.join(home, name))
     for path in glob.glob(os.path.join(glob.escape(home), "docs", "**", "*.md"), recursive=True):
-        text = read(path) or ""
-        with open(path, "w", encoding="utf-8") as file:
-            file.write(without_dead_links(text, os.path.dirname(path)))
+        write(path, without_dead_links(read(path) or "", os.path.dirname(path)))
 
 
 def without_dead_links(text: str, folder: str) -> str:
@@ -113,8 +120,7 @@ def install_and_note(program: str, prefix: str) -> list[str]:
     paths = install(program, prefix)
     note = os.path.join(prefix, HOME, FOLDERS)
     known = (read(note) or "").splitlines()
-    with open(note, "w", encoding="utf-8") as file:
-        file.writelines(f"{name}\n" for name in dict.fromkeys([*known, *made]))
+    write(note, "".join(f"{name}\n" for name in dict.fromkeys([*known, *made])))
     return paths
 
 
@@ -137,6 +143,24 @@ def remove(prefix: str) -> list[str]:
         if os.path.normpath(path) in made and os.path.isdir(path) and not os.listdir(path):
             os.rmdir(path)
     return [*removed, home]
+
+
+def files_below(folder: str) -> list[str]:
+    """The files of a folder, links left out, by their names from there."""
+    found = []
+    for place, _, names in os.walk(folder):
+        paths = [os.path.join(place, name) for name in names]
+        found += [os.path.relpath(path, folder) for path in paths if not os.path.islink(path)]
+    return sorted(found)
+
+
+def sums_of(folder: str, kind: str) -> str:
+    """A line for each file of a folder: its sum, as md5 or sha256, and its name."""
+    lines = []
+    for name in files_below(folder):
+        with open(os.path.join(folder, name), "rb") as file:
+            lines.append(f"{hashlib.new(kind, file.read()).hexdigest()}  {name}\n")
+    return "".join(lines)
 
 
 def links_into(prefix: str) -> list[str]:

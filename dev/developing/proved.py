@@ -19,7 +19,7 @@ from typing import NamedTuple
 
 from subtitles.core.built import TOP, read
 from subtitles.core.words import Stop
-from .prefix import copy
+from .prefix import copy, write
 
 OUT, DIST = os.path.join(TOP, "out"), os.path.join(TOP, "dist")
 NOTES = os.path.join(OUT, "lines")
@@ -138,10 +138,3 @@ def lacking(proved: Proved) -> list[str]:
     """The crates of which a file PROVED has no line, for the sources as they stand."""
     return [name for name, digest in crate_sums().items()
             if proved.crates.get(name, ("", ""))[0] != digest]
-
-
-def write(path: str, text: str) -> None:
-    os.makedirs(os.path.dirname(path), exist_ok=True)
-    with open(path + ".new", "w", encoding="utf-8") as file:
-        file.write(text)
-    os.replace(path + ".new", path)

@@ -11,12 +11,12 @@ import hashlib
 import os
 import re
 import shutil
-from typing import Iterable
 
 from subtitles.core.built import read
 from subtitles.core.words import Stop
 from .crates import Lines, below
-from .proved import toolchain, write
+from .prefix import write
+from .proved import toolchain
 
 PROGRAM = "subttx"
 TARGET = "x86_64-unknown-linux-gnu"
@@ -111,15 +111,10 @@ class Made:
 
 
 def chains(lines: Lines, sizes: dict[str, int]) -> dict[str, int]:
-    """For each crate the work from its beginning to the program's end, by the longest way."""
+    """For each crate, lowest first, the work from its beginning to the program's end, by the
+    longest way."""
     found: dict[str, int] = {}
-
-    def chain(name: str) -> int:
-        if name not in found:
-            above: Iterable[int] = (chain(one) for one in sizes if name in lines[one])
-            found[name] = sizes[name] + max(above, default=0)
-        return found[name]
-
-    for name in sizes:
-        chain(name)
+    for name in reversed(sizes):
+        above = (found[one] for one in found if name in lines[one])
+        found[name] = sizes[name] + max(above, default=0)
     return found

@@ -21,15 +21,56 @@ STRACE = ["strace", "-f", "--seccomp-bpf", "-y", "-s", "0", "-e", CALLS]
 TOLD_OF_EACH = {"long.pes": 0, "even.pes": 2, "unread.pes": 1}
 
 
+# Refuses the call of malloc or realloc with the number of REFUSE_AT, and makes the file REFUSED.
+REFUSER = rb"""
+#define _GNU_SOURCE
+#include <dlfcn.h>
+#include <fcntl.h>
+#include <stdlib.h>
+#include <unistd.h>
+
+static long left = -1;
+
+static int is_refused(void) {
+    if (left < 0) {
+        const char *at = getenv("REFUSE_AT");
+        left = at ? atol(at) : 0;
+    }
+    if (left == 0 || --left != 0)
+        return 0;
+    close(open(getenv("REFUSED"), O_CREAT | O_WRONLY, 0600));
+    return 1;
+}
+
+void *malloc(size_t size) {
+    static void *(*real)(size_t);
+    if (!real)
+        real = dlsym(RTLD_NEXT, "malloc");
+    return is_refused() ? NULL : real(size);
+}
+
+void *realloc(void *old, size_t size) {
+    static void *(*real)(void *, size_t);
+    if (!real)
+        real = dlsym(RTLD_NEXT, "realloc");
+    return is_refused() ? NULL : real(old, size);
+}
+"""
+
+
 class Command(NamedTuple):
     """A command line, the file that it writes, and what it does where nothing fails."""
 
     name: str
     words: list[str]
     out: str | None
-    status: int
+    status: int | str
     printed: bytes
     written: bytes | None
+
+    def writing(self, path: str) -> Command:
+        """The same with another output."""
+        return self._replace(words=[*self.words[:2], path], out=path)
 
 
 class Call(NamedTuple):
@@ -107,29 +148,35 @@ class Trial:
         with open(os.path.join(self.folder, name), "wb") as file:
             file.write(data)
 
-    def run(self, words: Sequence[str], out: str | None = None, before: Sequence[str] = (),
-            setup: str = "", prepare: Callable[[str], object] | None = None,
-            stdout: int | IO[bytes] = subprocess.PIPE, stdin: int | IO[bytes] = subprocess.DEVNULL,
-            **more: Any) -> Ran:
+    def command(self, name: str, words: list[str]) -> Command:
+        """A command, and what it does where nothing fails."""
+        out = words[2] if words[0] in ("normal", "schedule") else None
+        ran = self.run(Command(name, words, out, 0, b"", None))
+        return Command(name, words, out, ran.status, ran.printed or b"", ran.written)
+
+    def run(self, command: Command, before: Sequence[str] = (), setup: str = "",
+            prepare: Callable[[str], object] | None = None,
+            stdout: int | IO[bytes] = subprocess.PIPE, **more: Any) -> Ran:
         """Runs the program in a new folder; `setup` is done by the shell that starts it."""
         with tempfile.TemporaryDirectory(dir=self.folder) as place:
             os.chmod(place, 0o777)
             if prepare:
                 prepare(place)
             script = f'ulimit -c 0; ulimit -t {SECONDS}; {setup} exec "$@"'
-            command = ["sh", "-c", script, "sh", *before, self.program, *words]
+            line = ["sh", "-c", script, "sh", *before, self.program, *command.words]
             try:
-                done = subprocess.run(command, stdout=stdout, stderr=subprocess.DEVNULL, cwd=place,
-                                      stdin=stdin, timeout=30 * SECONDS, check=False, **more)
+                done = subprocess.run(line, stdout=stdout, stderr=subprocess.DEVNULL, cwd=place,
+                                      stdin=subprocess.DEVNULL, timeout=30 * SECONDS, check=False,
+                                      **more)
             except (OSError, subprocess.SubprocessError) as error:
                 return Ran(str(error), b"", None, [])
             calls = calls_of(read(os.path.join(place, "calls")) or b"")
-            written = read(os.path.join(place, out)) if out else None
+            written = read(os.path.join(place, command.out)) if command.out else None
             return Ran(done.returncode, done.stdout, written, calls)
 
     def traced(self, command: Command, *more: str) -> Ran:
         """Runs a command under strace, with more of strace's words."""
-        return self.run(command.words, command.out, before=[*STRACE, "-o", "calls", *more])
+        return self.run(command, before=[*STRACE, "-o", "calls", *more])
 
     def own_calls(self, command: Command) -> list[Call]:
         """The system calls of the program itself, those of the loader before it left out."""
@@ -138,7 +185,7 @@ class Trial:
         return calls[start + 1:]
 
 
-def wrong(ran: Ran, status: int, printed: bytes, written: bytes | None) -> list[str]:
+def wrong(ran: Ran, status: int | str, printed: bytes, written: bytes | None) -> list[str]:
     """What of a run is not as it has to be, as words."""
     faults = []
     if ran.status != status:

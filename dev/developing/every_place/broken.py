@@ -3,13 +3,10 @@ from __future__ import annotations
 
 import io
 from random import Random
-from typing import Callable
 
 from subtitles.core.pes import DATA, STUFFING_UNIT, UNIT, pes_packet, pes_packets, pts_bytes, pts_in
 from subtitles.core.teletext import CODE_WORDS, MIRROR, mirrored, odd, packet as teletext_packet
 from subtitles.core.times import CLOCK, FRAMES_OF_A_DAY, TICKS
-
-Change = Callable[[Random, bytearray], None]  # of a PES packet
 
 PACKET = 4  # where a data unit has its Teletext packet
 MOST_LINES = 16  # that `pes_packet` has room for
@@ -42,22 +39,44 @@ def random_packet(chance: Random) -> bytes:
     return teletext_packet(chance.choice([0, 0, 0, 2]), number, [], chance.choices(LETTERS, k=40))
 
 
-def change_bit(chance: Random, packet: bytearray) -> None:
-    at = chance.choice(units_in(packet))
-    place = chance.choice([chance.randrange(2), chance.randrange(10), chance.randrange(42)])
-    packet[at + PACKET + place] ^= 1 << chance.randrange(8)
+# What may be changed in a PES packet, and how often.
+WAYS = ["bit", "bit", "code", "code", "code", "drop", "add", "add", "enhancement", "swap", "frame",
+        "byte", "field"]
 
 
-def change_code(chance: Random, packet: bytearray) -> None:
-    """Another code word in an address or a header, or another letter in a row."""
-    at = chance.choice(units_in(packet)) + PACKET
-    place = chance.choice([chance.randrange(2, 10), chance.randrange(10, 42)])
-    code = chance.choice([CODE_WORDS[chance.randrange(16)], odd(chance.randrange(128))])
-    packet[at + place] = MIRROR[code]
-
-
-def change_byte(chance: Random, packet: bytearray) -> None:
-    packet[chance.randrange(len(packet))] = chance.randrange(256)
+def change(way: str, chance: Random, packet: bytearray) -> None:
+    """Changes something in a PES packet that has Teletext."""
+    units, teletext = units_in(packet), teletext_in(packet)
+    if way == "bit":
+        at = chance.choice(units)
+        place = chance.choice([chance.randrange(2), chance.randrange(10), chance.randrange(42)])
+        packet[at + PACKET + place] ^= 1 << chance.randrange(8)
+    elif way == "code":  # in an address or a header, or another letter in a row
+        at = chance.choice(units) + PACKET
+        place = chance.choice([chance.randrange(2, 10), chance.randrange(10, 42)])
+        code = chance.choice([CODE_WORDS[chance.randrange(16)], odd(chance.randrange(128))])
+        packet[at + place] = MIRROR[code]
+    elif way == "drop":
+        at = chance.choice(units)
+        packet[at:at + UNIT] = STUFFING_UNIT
+    elif way == "add" and len(teletext) < MOST_LINES:
+        add_packet(chance, teletext)
+        packet[:] = pes_packet(pts_in(packet), teletext)
+    elif way == "enhancement" and len(teletext) < MOST_LINES:  # X/25 to X/28, at the second place
+        teletext[1:1] = [teletext_packet(0, chance.randrange(25, 29), [], b" " * 40)]
+        packet[:] = pes_packet(pts_in(packet), teletext)
+    elif way == "swap":  # a row before its header, or rows after the closing header
+        one, other = (chance.choice(units) + PACKET for _ in range(2))
+        end = UNIT - PACKET
+        packet[one:one + end], packet[other:other + end] = \
+            packet[other:other + end], packet[one:one + end]
+    elif way == "frame":
+        frames = chance.choice([-1, 1, 2, chance.randrange(-60, 60)])
+        move(packet, chance.choice([TICKS * frames] * 6 + [frames]))
+    elif way == "byte":
+        packet[chance.randrange(len(packet))] = chance.randrange(256)
+    elif way == "field":
+        change_field(chance, packet)
 
 
 def change_field(chance: Random, packet: bytearray) -> None:
@@ -69,16 +88,8 @@ def change_field(chance: Random, packet: bytearray) -> None:
     packet[at] ^= 1 << chance.choice(bits)
 
 
-def drop_unit(chance: Random, packet: bytearray) -> None:
-    at = chance.choice(units_in(packet))
-    packet[at:at + UNIT] = STUFFING_UNIT
-
-
-def add_unit(chance: Random, packet: bytearray) -> None:
+def add_packet(chance: Random, teletext: list[bytes]) -> None:
     """One more packet at any place: a new one, or one of those there, changed or not."""
-    teletext = teletext_in(packet)
-    if len(teletext) >= MOST_LINES:
-        return
     made, way = random_packet(chance), chance.random()
     if way < 0.6:
         made = chance.choice(teletext)
@@ -86,34 +97,11 @@ def add_unit(chance: Random, packet: bytearray) -> None:
             at = chance.randrange(10, 42)
             made = made[:at] + bytes([odd(chance.choice(LETTERS))]) + made[at + 1:]
     teletext.insert(chance.randrange(len(teletext) + 1), made)
-    packet[:] = pes_packet(pts_in(packet), teletext)
 
 
-def add_enhancement(chance: Random, packet: bytearray) -> None:
-    """One more packet X/25 to X/28 of magazine 8, at the second place."""
-    teletext = teletext_in(packet)
-    if len(teletext) < MOST_LINES:
-        made = teletext_packet(0, chance.randrange(25, 29), [], b" " * 40)
-        packet[:] = pes_packet(pts_in(packet), [*teletext[:1], made, *teletext[1:]])
-
-
-def swap_units(chance: Random, packet: bytearray) -> None:
-    """Two packets change places: a row before its header, or rows after the closing header."""
-    one, other = (chance.choice(units_in(packet)) + PACKET for _ in range(2))
-    end = UNIT - PACKET
-    packet[one:one + end], packet[other:other + end] = \
-        packet[other:other + end], packet[one:one + end]
-
-
-def move_frame(chance: Random, packet: bytearray) -> None:
-    frames = chance.choice([-1, 1, 2, chance.randrange(-60, 60)])
-    ticks = chance.choice([TICKS * frames] * 6 + [frames])
+def move(packet: bytearray, ticks: int) -> None:
+    """Another PTS."""
     packet[9:14] = pts_bytes((pts_in(packet) + ticks) % CLOCK)
-
-
-WITHIN: list[Change] = [
-    change_bit, change_bit, change_code, change_code, change_code, drop_unit, add_unit, add_unit,
-    add_enhancement, swap_units, move_frame, change_byte, change_field]
 
 
 def change_order(chance: Random, packets: list[bytearray]) -> None:
@@ -134,13 +122,13 @@ def change_order(chance: Random, packets: list[bytearray]) -> None:
 
 def change_some(chance: Random, packets: list[bytearray]) -> None:
     """One PES packet is changed, or some after each other in the same ways."""
-    ways = [(chance.choice(WITHIN), chance.random()) for _ in range(chance.choice([1, 1, 1, 2, 3]))]
+    ways = [(chance.choice(WAYS), chance.random()) for _ in range(chance.choice([1, 1, 1, 2, 3]))]
     first = chance.randrange(len(packets))
     count = chance.choice([1, 1, 1, 2, 3, len(packets)])
     for packet in packets[first:first + count]:
         for way, seed in ways:
             if units_in(packet):
-                way(Random(seed), packet)
+                change(way, Random(seed), packet)
 
 
 # What keeps a PES packet from being read: bits of a byte of its head, or of its data units.
@@ -154,8 +142,7 @@ def damage(chance: Random, packet: bytearray) -> None:
     for _ in range(chance.choice([1, 1, 1, 1, 2])):
         way = chance.random()
         if way < 0.25:
-            ticks = chance.choice([1, 90, TICKS // 2] * 6 + [TICKS * FRAMES_OF_A_DAY])
-            packet[9:14] = pts_bytes((pts_in(packet) + ticks) % CLOCK)
+            move(packet, chance.choice([1, 90, TICKS // 2] * 6 + [TICKS * FRAMES_OF_A_DAY]))
         elif way < 0.65:
             at, bits = chance.choice(HEAD_BITS)
             packet[at] ^= bits
@@ -196,10 +183,9 @@ def break_pes(chance: Random, data: bytes) -> bytes:
     for _ in range(chance.choice([0, 1, 1, 2, 3, 6, 12])):
         if packets:
             (change_order if chance.random() < 0.12 else change_some)(chance, packets)
-    if chance.random() < 0.5:
-        for _ in range(chance.choice([1, 1, 2, 3])):
-            if packets:
-                damage_some(chance, packets)
+    for _ in range(chance.choice([1, 1, 2, 3]) if chance.random() < 0.5 else 0):
+        if packets:
+            damage_some(chance, packets)
     if packets and chance.random() < 0.06:
         damage_head(chance, packets)
     data = b"".join(packets)

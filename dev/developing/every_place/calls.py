@@ -7,8 +7,8 @@ from typing import Iterator, NamedTuple
 from .definitions import check_all, refused
 from .listening import listen_lines, packets_lines
 from .recordings import carried
-from .scheduling import schedule
-from .words import given_by, options_of
+from .scheduling import SERIAL, schedule
+from .words import Options, UsageFault, given_by, options_of
 
 ALL = "--all"
 
@@ -28,7 +28,7 @@ class Call(NamedTuple):
     name: str
     command: str
     files: tuple[bytes, ...]
-    words: str
+    words: str = ""
     is_failing: bool = False
 
     @property
@@ -43,19 +43,35 @@ class KnownCall(NamedTuple):
     answer: Answer
 
 
+def check_of(stl: bytes, pes: bytes, words: str, is_failing: bool = False, name: str = "") -> Call:
+    """The call for all that is told of a pair."""
+    return Call(name, "check", (stl, pes), f"{words} {ALL}".lstrip(), is_failing)
+
+
+def known_pair(name: str, stl: bytes, pes: bytes, words: str, lines: list[str],
+               is_failing: bool = False) -> KnownCall:
+    """A pair, and all that is told of it."""
+    return KnownCall(check_of(stl, pes, words, is_failing, name), Answer(lines))
+
+
+def with_first(call: Call, answer: Answer) -> Iterator[KnownCall]:
+    """A call with its answer; and where it asks for all that is told of a pair, the one that asks
+    for the first fault."""
+    yield KnownCall(call, answer)
+    if ALL in call.options:
+        words = shlex.join(word for word in call.options if word != ALL)
+        yield KnownCall(call._replace(words=words), Answer(first_told(answer.lines)))
+
+
 def first_told(lines: list[str]) -> list[str]:
     """The line of `check` by those of `check --all`: the first fault, or that nothing is broken, or
     what failed."""
     return [line for line in lines if not line.startswith(("trusted ", "ended "))][:1]
 
 
-def extract(data: bytes, words: list[str], is_failing: bool) -> Answer:
+def extract(data: bytes, options: Options, is_failing: bool) -> Answer:
     """The PES packets that a transport stream carries, and marks."""
-    if "--pid" not in given_by(words):
-        return Answer(["usage 0 Words"])
-    options = options_of(words)
-    if isinstance(options, str) or options.pid is None:
-        return Answer([str(options)])
+    assert options.pid is not None
     found = carried(data, options.pid, options.size)
     count = len(found.pieces)
     if found.broken is not None:
@@ -69,18 +85,23 @@ def extract(data: bytes, words: list[str], is_failing: bool) -> Answer:
 
 def answer_to(call: Call) -> Answer:
     """What the definitions answer."""
-    words, data = call.options, call.files[-1]
-    if call.command == "check":
-        lines = list(check_all(call.files[0], data, [word for word in words if word != ALL],
-                               call.is_failing))
-        return Answer(lines if ALL in words else first_told(lines))
+    words, data = [word for word in call.options if word not in (ALL, SERIAL)], call.files[-1]
+    try:
+        if call.command == "extract" and "--pid" not in given_by(words):
+            raise UsageFault("0 Words")
+        options = options_of(words)
+    except UsageFault as fault:
+        return Answer([f"usage {fault}"])
     if call.command == "extract":
-        return extract(data, words, call.is_failing)
+        return extract(data, options, call.is_failing)
     if call.command == "schedule":
-        line, written = schedule(data, words)
-        return Answer([line], None if line.startswith("usage") else written)
-    lines_of = {"packets": packets_lines, "listen": listen_lines}[call.command]
-    return Answer(list(lines_of(data, words, call.is_failing)))
+        return Answer(*schedule(data, options, SERIAL in call.options))
+    if call.command == "packets":
+        return Answer(list(packets_lines(data, options, call.is_failing)))
+    if call.command == "listen":
+        return Answer(listen_lines(data, options, words, call.is_failing))
+    lines = check_all(call.files[0], data, options, call.is_failing)
+    return Answer(lines if ALL in call.options else first_told(lines))
 
 
 def wrong_answers(known: list[KnownCall]) -> Iterator[str]:

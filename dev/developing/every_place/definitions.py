@@ -11,11 +11,11 @@ from subtitles.core.teletext import CODE_WORDS, Page, address_of, is_odd
 from subtitles.core.times import time_of
 from .national import ALL_BITS, BITS
 from .reading import (
-    Header, Record, StlFault, found_in, header_of, pieces_of, records_of, sending_in)
+    CUT, Header, Record, StlFault, found_in, header_of, pieces_of, records_of, sending_in)
 from .recordings import Range, carried, range_of
 from .rows import BLANK, COLUMNS, SPACE, TextFault, drawn
 from .trust import Course, End, Event, Sent, lines_of
-from .words import Options, options_of
+from .words import Options
 
 NAMES = dict(
     (int(words[0]), words[1]) for words in map(str.split, """
@@ -111,12 +111,13 @@ def is_row(packet: Packet, page: Page) -> bool:
     return address is not None and address[0] == page[0] and 1 <= address[1] <= 24
 
 
-def first_of_row(packets: Sequence[Packet], page: Page, row: int) -> bytes | None:
-    """The codes of the first packet of a row in the span of the packets, `None` where none is."""
-    for packet in span_of(packets, page)[0]:
-        if is_row(packet, page) and packet.address == (page[0], row):
-            return codes_of(packet)
-    return None
+def rows_in(span: Sequence[Packet], page: Page) -> dict[int, bytes]:
+    """The codes of the first packet of each row."""
+    rows: dict[int, bytes] = {}
+    for packet in span:
+        if packet.address and is_row(packet, page):
+            rows.setdefault(packet.address[1], codes_of(packet))
+    return rows
 
 
 def codes_of(packet: Packet) -> bytes:
@@ -132,11 +133,8 @@ class Held(NamedTuple):
 
 def held_after(packets: Sequence[Packet], page: Page) -> Held:
     """What a receiver holds after the packets."""
-    rows: dict[int, bytes] = {}
     span, is_open = span_of(packets, page)
-    for packet in span:
-        if packet.address and is_row(packet, page):
-            rows.setdefault(packet.address[1], codes_of(packet))
+    rows = rows_in(span, page)
     return Held(b"".join(rows.get(row, BLANK[:COLUMNS]) for row in range(1, 25)), is_open)
 
 
@@ -158,10 +156,10 @@ def is_plain_subtitle_header(control: set[int], option: str) -> bool:
 def packet_faults(packet: Packet, before: Sequence[Packet], options: Options) -> list[int]:
     """The numbers of the rules that a packet breaks after those before it."""
     address, header, page = packet.address, packet.header, options.page
-    is_open = span_of(before, page)[1]
+    span, is_open = span_of(before, page)
     is_stored = is_open and is_row(packet, page)
     headers = (one.header for one in before if one.header)
-    known = first_of_row(before, page, address[1]) if address and is_stored else None
+    known = rows_in(span, page).get(address[1]) if address and is_stored else None
     broken: dict[int, object] = {
         64: not is_exact(packet.data[:2]),
         65: address and address[1] == 0 and not is_exact(packet.data[2:10]),
@@ -357,7 +355,7 @@ class Transmission:
                 self.course.ends.append(
                     End(frame, bool(ends.standing), ends.since, ends.is_late))
 
-    def close(self, broken: int | None, pes: int) -> Course:
+    def close(self, broken: int | None, pes: int) -> None:
         """The end after so many pieces, and what is wrong with the bytes after them, if any are."""
         self.end_sending()
         self.end_passed()
@@ -372,45 +370,18 @@ class Transmission:
         elif self.frames and (self.ends.since is not None and not self.ends.is_late
                               or end is not None and end > self.frames[-1]):
             self.tell(74, f"frame {time_of(self.frames[-1])}", None)
-        return self.course
 
-    def fail(self, pes: int) -> Course:
-        """The source failed after so many pieces: nothing more is told, and nothing ends."""
-        self.course.failed = self.first + pes
-        return self.course
-
-
-CUT = 30  # where the bytes end before a piece does
+    def accepted(self) -> str:
+        """The line where nothing is broken."""
+        count = self.frames[-1] - self.frames[0] + 1
+        return f"accepted {count} frames {len(self.headers)} transmissions"
 
 
-def course_of(due: Due, read: Range, options: Options, is_failing: bool = False) -> Course:
-    """What is told of a transmission, and what was read of it.
-
-    A source that is failing fails where the bytes end, if they are read so far.
-    """
-    pieces, broken = pieces_of(read.data)
-    transmission = Transmission(due, options, read.first)
-    for pes, piece in enumerate(pieces):
-        sending = sending_in(piece, options.origin, options.within)
-        if isinstance(sending, int):
-            transmission.pass_over(pes, sending)
-        else:
-            transmission.take(pes, *sending)
-    if is_failing and read.is_end and broken in (None, CUT):
-        return transmission.fail(len(pieces))
-    return transmission.close(broken, len(pieces))
-
-
-def transmissions(data: bytes, options: Options) -> tuple[int, int]:
-    """The frames and the headers of the page of a file that is accepted."""
-    frames, count = [], 0
-    for piece in pieces_of(data)[0]:
-        sending = sending_in(piece, options.origin, options.within)
-        if not isinstance(sending, int):
-            frames.append(sending[0])
-            headers = [header_of(one) for one in sending[1]]
-            count += sum(header is not None and header[0] == options.page for header in headers)
-    return frames[-1] - frames[0] + 1, count
+def failure_at(read: Range, count: int, broken: int | None, is_failing: bool) -> str | None:
+    """The line of a source that is failing, after so many pieces and what is wrong with the bytes
+    after them: it fails where the bytes end, if they are read so far."""
+    is_so = is_failing and read.is_end and broken in (None, CUT)
+    return f"fault 41 Read pes {read.first + count}" if is_so else None
 
 
 def read_by(data: bytes, options: Options) -> Range:
@@ -419,27 +390,25 @@ def read_by(data: bytes, options: Options) -> Range:
     return range_of(pes, options.first, options.last)
 
 
-def check_all(stl: bytes, pes: bytes, words: list[str], is_failing: bool = False) -> Iterator[str]:
-    """The lines of `check --all` with these words, as they are found. A PES file, or a transport
-    stream, may fail where its bytes end."""
-    options = options_of(words)
-    if isinstance(options, str):
-        yield options
-        return
-    count, failed = 0, None
-    for line in stl_faults(stl, options.option):
-        count += 1
-        yield line
-    if not count:
-        read = read_by(pes, options)
-        course = course_of(Due(records_of(stl), options.option), read, options, is_failing)
-        failed = course.failed
-        for line in lines_of(course):
-            count += line.startswith("refused")
-            yield line
-    if failed is not None:
-        yield f"fault 41 Read pes {failed}"
-    elif count:
-        yield f"{count} faults"
-    else:
-        yield "accepted {} frames {} transmissions".format(*transmissions(read.data, options))
+def check_all(stl: bytes, pes: bytes, options: Options, is_failing: bool = False) -> list[str]:
+    """The lines of `check --all`. A PES file, or a transport stream, may fail where its bytes end.
+    """
+    lines = list(stl_faults(stl, options.option))
+    if lines:
+        return [*lines, f"{len(lines)} faults"]
+    read = read_by(pes, options)
+    pieces, broken = pieces_of(read.data)
+    transmission = Transmission(Due(records_of(stl), options.option), options, read.first)
+    for number, piece in enumerate(pieces):
+        sending = sending_in(piece, options.origin, options.within)
+        if isinstance(sending, int):
+            transmission.pass_over(number, sending)
+        else:
+            transmission.take(number, *sending)
+    # Where the source failed nothing more is told, and nothing ends.
+    if failure := failure_at(read, len(pieces), broken, is_failing):
+        return [*lines_of(transmission.course, True), failure]
+    transmission.close(broken, len(pieces))
+    lines = list(lines_of(transmission.course, False))
+    count = sum(line.startswith("refused") for line in lines)
+    return [*lines, f"{count} faults"] if count else [transmission.accepted()]

@@ -8,7 +8,7 @@ from __future__ import annotations
 
 import io
 from random import Random
-from typing import Callable, NamedTuple
+from typing import NamedTuple
 
 from subtitles.core.pes import pes_packet, pes_packets, pts_bytes, pts_in
 from subtitles.core.teletext import odd
@@ -22,8 +22,6 @@ class Part(NamedTuple):
     time: int
     packets: list[bytes]
 
-
-Change = Callable[[Random, list[Part]], None]
 
 FIELD = TICKS // 2
 EARLIEST, LATEST = -(TICKS // 4), TICKS - TICKS // 4 - 1  # ticks by which a PTS is of its frame
@@ -72,50 +70,42 @@ def move(chance: Random, parts: list[Part]) -> None:
         parts[at] = part._replace(time=frame_in(part.time) + ticks)
 
 
-# What is wrong, or sent besides
-
-def leave_out(chance: Random, parts: list[Part]) -> None:
-    """A PES packet is lost, often the first; seldom the last."""
-    del parts[chance.choice([0, chance.randrange(max(1, len(parts) - 1))])]
+# What is wrong, or sent besides, and how often.
+ACCIDENTS = ["leave out", "leave out", "empty the last", "empty the last", "open", "hold back",
+             "hold back", "send again", "send again", "erase", "erase", "misspell", "misspell"]
 
 
-def empty_last(chance: Random, parts: list[Part]) -> None:
-    """The last page is not sent, or a part of it; seldom the last pages."""
-    for at in range(max(0, len(parts) - chance.choice([1, 1, 1, 2])), len(parts)):
-        packets = parts[at].packets
-        parts[at] = parts[at]._replace(packets=packets[len(packets) - chance.choice([0, 0, 1]):])
-
-
-def open_last(chance: Random, parts: list[Part]) -> None:
-    """A page without its closing header."""
-    at = chance.choice([-1, chance.randrange(len(parts))])
-    parts[at] = parts[at]._replace(packets=parts[at].packets[:-1])
-
-
-def hold_back(chance: Random, parts: list[Part]) -> None:
-    """A PES packet some frames later or earlier, and seldom all that follow it too."""
-    at, by = chance.randrange(len(parts)), TICKS * chance.choice([1, 1, 2, 3, 4, 5, 6, -1, -2])
-    end = len(parts) if chance.random() < 0.2 else at + 1
-    parts[at:end] = [part._replace(time=part.time + by) for part in parts[at:end]]
-    parts.sort(key=lambda one: one.time)
-
-
-def send_again(chance: Random, parts: list[Part]) -> None:
-    """A PES packet of now or of before again, some fields later."""
-    at = chance.randrange(len(parts))
-    old = parts[max(0, at - chance.choice([0, 0, 1, 1, 2, 3]))]
-    again = parts[at].time + FIELD * chance.choice([0, 1, 1, 2, 2, 3, 4, 6])
-    parts.append(Part(again, list(old.packets)))
-    parts.sort(key=lambda one: one.time)
-
-
-def erase(chance: Random, parts: list[Part]) -> None:
-    """The header of a page alone, or a PES packet without Teletext, or any packet."""
-    at = chance.randrange(len(parts))
-    header, none = parts[at].packets[:1], parts[at].packets[:0]
-    packets = chance.choice([header, header, none, [random_packet(chance)]])
-    parts.insert(at + 1, Part(parts[at].time + FIELD * chance.choice([1, 1, 2, 3, 4]), packets))
-    parts.sort(key=lambda one: one.time)
+def happen(chance: Random, parts: list[Part]) -> None:
+    """Something is wrong, or sent besides; what stands at another time comes at its place."""
+    way, count = chance.choice(ACCIDENTS), len(parts)
+    if way == "leave out":  # often the first PES packet, seldom the last
+        del parts[chance.choice([0, chance.randrange(max(1, count - 1))])]
+    elif way == "empty the last":  # the last page is not sent, or a part of it
+        for at in range(max(0, count - chance.choice([1, 1, 1, 2])), count):
+            packets = parts[at].packets
+            packets = packets[len(packets) - chance.choice([0, 0, 1]):]
+            parts[at] = parts[at]._replace(packets=packets)
+    elif way == "open":  # a page without its closing header
+        at = chance.choice([-1, chance.randrange(count)])
+        parts[at] = parts[at]._replace(packets=parts[at].packets[:-1])
+    elif way == "hold back":  # frames later or earlier, and seldom all that follow too
+        at, by = chance.randrange(count), TICKS * chance.choice([1, 1, 2, 3, 4, 5, 6, -1, -2])
+        end = count if chance.random() < 0.2 else at + 1
+        parts[at:end] = [part._replace(time=part.time + by) for part in parts[at:end]]
+    elif way == "send again":  # a PES packet of now or of before
+        at = chance.randrange(count)
+        old = parts[max(0, at - chance.choice([0, 0, 1, 1, 2, 3]))]
+        again = parts[at].time + FIELD * chance.choice([0, 1, 1, 2, 2, 3, 4, 6])
+        parts.append(Part(again, list(old.packets)))
+    elif way == "erase":  # the header of a page alone, or no Teletext, or any packet
+        at = chance.randrange(count)
+        header, none = parts[at].packets[:1], parts[at].packets[:0]
+        packets = chance.choice([header, header, none, [random_packet(chance)]])
+        parts.insert(at + 1, Part(parts[at].time + FIELD * chance.choice([1, 1, 2, 3, 4]), packets))
+    else:
+        misspell(chance, parts)
+    if way not in ("leave out", "empty the last", "open"):
+        parts.sort(key=lambda one: one.time)
 
 
 def misspell(chance: Random, parts: list[Part]) -> None:
@@ -141,11 +131,6 @@ def misspell(chance: Random, parts: list[Part]) -> None:
         parts[at:at + 1] = [other, parts[at]._replace(time=time + FIELD * chance.choice([0, 1, 2]))]
     else:
         parts.insert(at + 1, other._replace(time=time + FIELD * chance.choice([1, 1, 2, 3])))
-    parts.sort(key=lambda one: one.time)
-
-
-ACCIDENTS: list[Change] = [leave_out, leave_out, empty_last, empty_last, open_last, hold_back,
-                           hold_back, send_again, send_again, erase, erase, misspell, misspell]
 
 
 # Transmissions
@@ -186,7 +171,7 @@ def sent_late(chance: Random, data: bytes, within: int, origin: int) -> bytes:
     parts = send(chance, parts, max(0, within + chance.choice([0, 0, 0, 0, -1, 1])))
     for _ in range(chance.choice([0, 0, 0, 0, 1, 1, 2, 3])):
         if parts:
-            chance.choice(ACCIDENTS)(chance, parts)
+            happen(chance, parts)
     if chance.random() < 0.5:
         move(chance, parts)
     packets = joined(parts, first)

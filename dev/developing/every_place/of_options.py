@@ -7,11 +7,12 @@ from __future__ import annotations
 
 from subtitles.core.stl import TEXT, gsi_block, tti_block
 from subtitles.core.teletext import MIRROR
-from .calls import Answer, Call, KnownCall
+from .calls import Answer, Call, KnownCall, known_pair
 from .known import HELLO, poked
-from .one_file import Line, boxed, of_text, refused, row_packet
-from .one_rule import CLOSING, FIRST, header, sent
+from .one_file import Line, boxed, of_text, pes_of, refused
+from .one_rule import FIRST, header
 from .scheduling import schedule
+from .words import options_of
 
 # The byte of a header with C11 to C14, in parallel and in serial mode.
 CODED = {"english": ("15", "02"), "german": ("D0", "C7"), "swedish": ("64", "73"),
@@ -25,14 +26,12 @@ OPTIONS = [*CODED]
 
 def of_pair(name: str, option: str, stl: bytes, pes: bytes, lines: list[str]) -> KnownCall:
     """A subtitle file with a transmission, and all that is told of them."""
-    return KnownCall(Call(f"{name} in {option}", "check", (stl, pes), f"--option {option} --all"),
-                     Answer(lines))
+    return known_pair(f"{name} in {option}", stl, pes, f"--option {option}", lines)
 
 
 def drawn(option: str, stl: bytes, name: str, *lines: Line) -> KnownCall:
     """A text with a transmission of these lines and no others."""
-    head = header(c11_c14=CODED[option][0])
-    pes = sent([head, *map(row_packet, lines), CLOSING], [head, CLOSING])
+    pes = pes_of(header(c11_c14=CODED[option][0]), lines)
     return of_pair(name, option, stl, pes, ["accepted 2 frames 2 transmissions"])
 
 
@@ -94,8 +93,7 @@ TEXTS = [
     *[one for option in ("italian", "french", "spanish", "czech")
       for one in not_drawn(option, 0, "A8")],
     drawn("french", OVER_A_COMMENT, "a pair over a comment", Line(1, 0, boxed(b"\x23"))),
-    drawn("french", OVER_TWO, "a pair over two blocks", *ROWS_OVER_TWO,
-          Line(4, 0, boxed(b"\x23"))),
+    drawn("french", OVER_TWO, "a pair over two blocks", *ROWS_OVER_TWO, Line(4, 0, boxed(b"\x23"))),
     *[of_pair("a pair over two blocks", option, OVER_TWO, b"",
               refused("50 Character block 2 at 111")) for option in ("english", "german")],
 ]
@@ -106,7 +104,7 @@ TEXTS = [
 def sendings(option: str, mode: int) -> bytes:
     """The transmission of the subtitle of hello.stl: its English one, with the bits of the
     option."""
-    plain = schedule(HELLO, ["--serial"] * mode).data
+    plain = schedule(HELLO, options_of([]), mode == 1)[1]
     assert len(plain) == 368
     return with_bits(plain, CODED[option][mode], 0, 184)
 

@@ -6,13 +6,16 @@ these cells and no others, which is accepted.
 """
 from __future__ import annotations
 
-from typing import NamedTuple
+from typing import Iterable, NamedTuple
 
+from subtitles.core.pes import pes_packet
 from subtitles.core.stl import (
     GSI, LAST, TEXT, TTI, USER_DATA, gsi_block, subtitle_blocks, tti_block)
 from subtitles.core.teletext import packet
-from .known import HI, Known, poked
-from .one_rule import CLOSING, FIRST, HEADER, header, sent
+from subtitles.core.times import TICKS
+from .calls import KnownCall, known_pair
+from .known import HI, poked
+from .one_rule import CLOSING, FIRST, HEADER, header
 
 TAKEN = ["refused 60 Empty", "1 faults"]  # of a file that is taken, with a PES file without a byte
 EBN, CS, TCI, TCO, VP, JC, CF = 3, 4, 5, 9, 13, 14, 15  # where the fields of a block begin
@@ -23,9 +26,9 @@ def refused(fault: str) -> list[str]:
     return [f"refused {fault}", "1 faults"]
 
 
-def of_file(name: str, stl: bytes, lines: list[str]) -> Known:
+def of_file(name: str, stl: bytes, lines: list[str]) -> KnownCall:
     """A subtitle file with a PES file without a byte."""
-    return Known(name, stl, b"", "", lines)
+    return known_pair(name, stl, b"", "", lines)
 
 
 # Blocks
@@ -75,20 +78,20 @@ IN_ORDER = [
     ("21 EmptyTime", TCO + 2, 1, 2)]
 
 
-def general_blocks() -> list[Known]:
+def general_blocks() -> list[KnownCall]:
     made = [of_file(f"{fault}: {put.hex()} at {at}", WHOLE[:at] + put + WHOLE[at + len(put):],
                     refused(f"{fault} block 0")) for fault, at, put in GENERAL]
     return [*made, of_file("of level 2", poked(WHOLE, {11: ord("2")}), TAKEN)]
 
 
-def first_blocks() -> list[Known]:
+def first_blocks() -> list[KnownCall]:
     """Of the first subtitle of a file, and of a later one."""
     return [of_file(f"{fault}: {value:02X} at {field} of block {block}",
                     poked(WHOLE, {begin + field: value}), refused(f"{fault} block {block}"))
             for fault, field, value in OF_FIRST for block, begin in ((2, TWO), (5, ALONE))]
 
 
-def further_blocks() -> list[Known]:
+def further_blocks() -> list[KnownCall]:
     """Of one, CS, the times, VP and JC are not looked at."""
     made = [of_file(f"{fault}: {value:02X} at {field} of a further block",
                     poked(WHOLE, {LAST_OF_TWO + field: value}), refused(fault))
@@ -98,7 +101,7 @@ def further_blocks() -> list[Known]:
                    for field in (CS, *range(TCI, VP), VP, JC)]
 
 
-def first_faults() -> list[Known]:
+def first_faults() -> list[KnownCall]:
     """The first fault of a block, where those before it have been mended."""
     made = []
     file = poked(WHOLE, {TWO + field: wrong for _, field, wrong, _ in IN_ORDER})
@@ -108,7 +111,7 @@ def first_faults() -> list[Known]:
     return [*made, of_file("all of them mended", file, TAKEN)]
 
 
-def cuts() -> list[Known]:
+def cuts() -> list[KnownCall]:
     """The file cut at the end of each block, and a byte before and after it."""
     ends = {GSI: TAKEN, GSI + TTI: TAKEN, GSI + 2 * TTI: refused("24 Unfinished block 2"),
             GSI + 3 * TTI: refused("24 Unfinished block 3"), GSI + 4 * TTI: TAKEN,
@@ -121,7 +124,7 @@ def cuts() -> list[Known]:
     return made
 
 
-def many_blocks() -> list[Known]:
+def many_blocks() -> list[KnownCall]:
     """A subtitle of nine blocks, and no tenth."""
     heads = [tti_block(1, 25, 50, 20, 2, b"AAAA", ebn=ebn) for ebn in range(10)]
     last = tti_block(1, 25, 50, 20, 2, b"AAAA", ebn=LAST)
@@ -161,21 +164,26 @@ def row_packet(line: Line) -> bytes:
     return packet(0, line.row, [], codes.ljust(40))
 
 
-def drawn(option: str, text: bytes, row: int, justify: int, *lines: Line) -> Known:
+def pes_of(head: bytes, lines: Iterable[Line]) -> bytes:
+    """A transmission of these lines and no others at the first frame, and of none at the next."""
+    return b"".join(pes_packet((FIRST + frame) * TICKS, [head, *rows, CLOSING])
+                    for frame, rows in enumerate((map(row_packet, lines), [])))
+
+
+def drawn(option: str, text: bytes, row: int, justify: int, *lines: Line) -> KnownCall:
     """A text with a transmission of these lines and no others."""
-    head = header(c11_c14="D0") if option == "german" else HEADER
-    pes = sent([head, *map(row_packet, lines), CLOSING], [head, CLOSING])
-    return Known(name_of(text, f"drawn at row {row}, JC {justify}, {option}"),
-                 of_text(text, row, justify), pes, f"--option {option}",
-                 ["accepted 2 frames 2 transmissions"])
+    pes = pes_of(header(c11_c14="D0") if option == "german" else HEADER, lines)
+    return known_pair(name_of(text, f"drawn at row {row}, JC {justify}, {option}"),
+                      of_text(text, row, justify), pes, f"--option {option}",
+                      ["accepted 2 frames 2 transmissions"])
 
 
 def not_drawn(option: str, text: bytes, row: int, justify: int, fault: str,
-              at: int, block: int = 1) -> Known:
+              at: int, block: int = 1) -> KnownCall:
     """A text that is refused."""
-    return Known(name_of(text, f"refused at row {row}, JC {justify}, {option}"),
-                 of_text(text, row, justify), b"", f"--option {option}",
-                 refused(f"{fault} block {block} at {at}"))
+    return known_pair(name_of(text, f"refused at row {row}, JC {justify}, {option}"),
+                      of_text(text, row, justify), b"", f"--option {option}",
+                      refused(f"{fault} block {block} at {at}"))
 
 
 FULL = b"A" * 36  # with its box it fills a row

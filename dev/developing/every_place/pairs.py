@@ -5,6 +5,7 @@ packets, PES packets and subtitles of them are changed. A `Pair` is what `check`
 """
 from __future__ import annotations
 
+import shlex
 from random import Random
 from typing import Callable, NamedTuple
 
@@ -22,11 +23,14 @@ class Pair(NamedTuple):
     """Two files, and the words of a check. `is_failing` asks for a PES file that also fails where
     its bytes end."""
 
-    seed: int
     stl: bytes
     pes: bytes
-    words: list[str]
-    is_failing: bool
+    options: list[str]
+    is_failing: bool = False
+
+    @property
+    def words(self) -> str:
+        return shlex.join(self.options)
 
 
 class Shown(NamedTuple):
@@ -233,4 +237,4 @@ def random_pair(seed: int, schedule: Schedule) -> Pair:
     asked = [*listed(words), *within_words(chance, within)]
     if chance.random() < 0.4:
         asked.append("--complete")
-    return Pair(seed, stl, pes, asked, chance.random() < 0.25)
+    return Pair(stl, pes, asked, chance.random() < 0.25)

@@ -1,6 +1,7 @@
 """Calls about transport streams at random: of `check`, `extract`, `packets` and `listen`."""
 from __future__ import annotations
 
+import contextlib
 import shlex
 from random import Random
 
@@ -10,7 +11,7 @@ from .pairs import Pair, Schedule, listed, random_pair, random_subtitles, random
 from .reading import pieces_of, sending_in
 from .recordings import SIZES
 from .streams import random_stream
-from .words import Options, options_of
+from .words import UsageFault, options_of
 
 MOST_PACKETS = 40  # PES packets of a stream
 MOST_BYTES = 65_535  # of one whose end may fail, so that it is read at once
@@ -53,10 +54,11 @@ def flips(chance: Random, count: int) -> str:
     return ",".join(f"{packet}:{byte}:{chance.randrange(1, 9)}" for packet, byte in sorted(places))
 
 
-def listen_words(chance: Random, options: Options | str, packets: list[bytes]) -> list[str]:
+def listen_words(chance: Random, words: list[str], packets: list[bytes]) -> list[str]:
     """Words of `listen` alone: a time near that of a PES packet, and what is hit and lost."""
     frames = [0]
-    if not isinstance(options, str):
+    with contextlib.suppress(UsageFault):
+        options = options_of(words)
         sendings = (sending_in(one, options.origin, options.within) for one in packets)
         frames += [one[0] for one in sendings if not isinstance(one, int)]
     frame = chance.choice(frames) + chance.choice([0, 0, 1, -1, 30])
@@ -78,7 +80,7 @@ def whole_pair(chance: Random, schedule: Schedule) -> Pair:
     """A subtitle file with its transmission, which is accepted."""
     words = random_words(chance)
     stl = stl_file(chance, random_subtitles(chance, words["--option"]))
-    return Pair(0, stl, schedule(stl, listed(words)), listed(words), False)
+    return Pair(stl, schedule(stl, listed(words)), listed(words))
 
 
 def random_calls(seed: int, schedule: Schedule) -> list[Call]:
@@ -90,16 +92,15 @@ def random_calls(seed: int, schedule: Schedule) -> list[Call]:
     pid, size = chance.choice([0x101, 0x1001, chance.randrange(0x1FFF)]), chance.choice(SIZES)
     stream = random_stream(chance, packets, pid, size)
     name, of_stream = f"recording {seed}", recording_words(chance, pid, size, len(packets))
-    given = dict(zip(pair.words[::2], pair.words[1::2]))
+    given = dict(zip(pair.options[::2], pair.options[1::2]))
     shared = [word for key in OF_LISTEN if key in given for word in (key, given[key])]
     pieces = range_words(chance, len(packets))
     is_failing = chance.random() < 0.2 and 0 < len(stream) < MOST_BYTES
-    heard = listen_words(chance, options_of(pair.words), packets)
+    heard = listen_words(chance, pair.options, packets)
 
     def call(command: str, words: list[str], *files: bytes) -> Call:
         return Call(name, command, (*files, stream), shlex.join(words), is_failing)
 
-    return [call("check", [*pair.words, *of_stream, *pieces], pair.stl),
-            call("check", [*pair.words, *of_stream, *pieces, ALL], pair.stl),
+    return [call("check", [*pair.options, *of_stream, *pieces, ALL], pair.stl),
             call("extract", of_stream), call("packets", [*of_stream, *pieces]),
             call("listen", [*shared, *of_stream, *pieces, *heard])]

@@ -13,6 +13,8 @@ from subtitles.core.stl import GSI, LAST, TTI, USER_DATA
 from subtitles.core.teletext import NUMBER, Page, address_of, mirrored
 from subtitles.core.times import CLOCK, FRAMES_OF_A_DAY, TICKS, frame_at, frame_of_code
 
+HEAD = 6  # bytes of a PES packet up to its length and with it
+CUT, START, LENGTH = 30, 31, 32  # what is wrong where a piece should be
 MOST_BLOCKS, MOST_BLOCKS_OF_ONE, MOST_PES_PACKETS = 99_999, 9, 2_160_000
 
 Sending = tuple[int, list[bytes]]  # a PES packet that is read: its frame, its Teletext packets
@@ -64,12 +66,11 @@ def general_fault(data: bytes) -> int | None:
 def first_block_fault(block: bytes) -> int | None:
     """The number of what is wrong with the first block of a subtitle."""
     tci, tco = frame_of_code(block[5:9]), frame_of_code(block[9:13])
-    questions = [(16, block[4] != 0), (18, block[14] > 3), (19, not 1 <= block[13] <= 23),
-                 (20, tci is None or tco is None)]
-    for number, is_broken in questions:
+    for number, is_broken in ((16, block[4] != 0), (18, block[14] > 3),
+                              (19, not 1 <= block[13] <= 23)):
         if is_broken:
             return number
-    return 21 if tci is not None and tco is not None and tci >= tco else None
+    return 20 if tci is None or tco is None else 21 if tci >= tco else None
 
 
 def block_fault(block: bytes, group: list[bytes]) -> int | None:
@@ -193,18 +194,25 @@ def units_of(packet: bytes) -> tuple[list[bytes], int | None]:
     return packets, None
 
 
+def length_at(data: bytes, begin: int = 0) -> int | None:
+    """The length of the piece that begins there, 184 bytes or more; 31 or 32 where its start or its
+    length is another; `None` where six bytes are not there."""
+    head = data[begin:begin + HEAD]
+    if len(head) < HEAD:
+        return None
+    if head[:4] != b"\0\0\1\xbd":
+        return START
+    length = HEAD + int.from_bytes(head[4:], "big")
+    return length if length in range(184, 184 * 9 + 1, 184) else LENGTH
+
+
 def piece_at(data: bytes, begin: int) -> bytes | int:
     """The piece that begins there, as long as it says that it is; or a number."""
-    head = data[begin:begin + 6]
-    if len(head) < 6:
-        return 30
-    if head[:4] != b"\0\0\1\xbd":
-        return 31
-    length = int.from_bytes(head[4:], "big") + 6
-    if length not in range(184, 184 * 9 + 1, 184):
-        return 32
+    length = length_at(data, begin)
+    if length is None or length in (START, LENGTH):
+        return length or CUT
     piece = data[begin:begin + length]
-    return piece if len(piece) == length else 30
+    return piece if len(piece) == length else CUT
 
 
 def pieces_of(data: bytes) -> tuple[list[bytes], int | None]:

@@ -3,11 +3,12 @@ hand."""
 from __future__ import annotations
 
 from subtitles.core.stl import gsi_block, subtitle_blocks
-from .calls import Answer, Call, KnownCall
+from .calls import Answer, Call, KnownCall, known_pair
 from .known import HELLO, ROW, SENT, poked
 from .one_rule import CLOSING, HEADER
 from .recordings import MARK
 from .scheduling import schedule
+from .words import options_of
 
 TIME, LATER = "10:00:00:00", "10:00:02:00"  # of the two PES packets of SENT
 ACCEPTED = "accepted 51 frames 2 transmissions"
@@ -29,7 +30,6 @@ def of_head(words: str) -> bytes:
     return bytes.fromhex(words).ljust(188, b"\0")
 
 
-
 def counted(packet: bytes, counter: int) -> bytes:
     """The packet with this counter."""
     return poked(packet, {3: packet[3] & 0xF0 | counter})
@@ -48,8 +48,7 @@ def check(name: str, recording: bytes, line: str, words: str = PID, stl: bytes =
 
 
 def check_all(name: str, recording: bytes, words: str, *lines: str) -> KnownCall:
-    return KnownCall(Call(name, "check", (HELLO, recording), f"{words} --all"),
-                     Answer(list(lines)))
+    return known_pair(name, HELLO, recording, words, list(lines))
 
 
 def extract(name: str, recording: bytes, line: str, written: bytes | None, words: str = PID
@@ -72,7 +71,7 @@ def of_23_rows() -> tuple[bytes, bytes]:
     bytes."""
     text = b"\x8a".join([b"A"] * 23)
     stl = gsi_block(b"23 rows", 1, 1) + subtitle_blocks(1, 900_000, 900_050, 1, 2, text)
-    return stl, schedule(stl, ["--every", "25"]).data
+    return stl, schedule(stl, options_of(["--every", "25"]), False)[1]
 
 
 TALL, OF_TALL = of_23_rows()
@@ -105,7 +104,6 @@ LONGER_HALF = poked(field_of(counted(X0, 1), FIRST[100:] + b"\xff" * 16), {1: 0x
 HALF_WITH_JUMP = field_of(X0, FIRST[:100], 0x80)
 THIRD = counted(X1, 2)
 SPOILED = poked(X0, {7: 0xBE})  # another start code
-
 
 
 def second_half(counter: int, flags: int = 0) -> bytes:
@@ -141,9 +139,8 @@ PLAIN = [
     packets("two PES packets", T, PID, *listed(0, 0), *listed(1, 1), "2 pes"),
     check("another PID", T, EMPTY, "--pid 258"),
     extract("another PID", T, EMPTY, b"", "--pid 258"),
-    check("a PID of 13 bits, asked for one of 12", sized([poked(X0, {1: 0x51}), NULL,
-                                                          poked(X1, {1: 0x51})]), EMPTY,
-          "--pid 0x101"),
+    check("a PID of 13 bits, asked for one of 12",
+          sized([poked(X0, {1: 0x51}), NULL, poked(X1, {1: 0x51})]), EMPTY, "--pid 0x101"),
     check("a PID of 13 bits", sized([poked(X0, {1: 0x51}), NULL, poked(X1, {1: 0x51})]), ACCEPTED,
           "--pid 0x1101"),
     check("187 bytes", T[:187], EMPTY),
@@ -154,8 +151,8 @@ REPEATED = [
     check("a packet twice", X0 + X0 + NULL + X1, ACCEPTED),
     check("a packet three times", X0 * 3 + X1, LOST),
     tall("the third twice", [*TALLS[:3], *TALLS[2:]], ACCEPTED_TALL),
-    check("the first half twice, with a jump", sized([HALF_WITH_JUMP, HALF_WITH_JUMP, OTHER_HALF,
-                                                      THIRD]), ACCEPTED),
+    check("the first half twice, with a jump",
+          sized([HALF_WITH_JUMP, HALF_WITH_JUMP, OTHER_HALF, THIRD]), ACCEPTED),
     check("a repeat with another adaptation field",
           sized([X0, second_half(1), second_half(1, 0x40), other_second_half(2)]), ACCEPTED),
     check("a repeat that announces a jump, as the first one does",
@@ -192,8 +189,8 @@ LOSSES = [
     extract("more bytes than the PES packet has", HALF + LONGER_HALF + THIRD,
             "written 3 pes 1 gaps", FIRST + MARK + SECOND),
     check("an adaptation field that is too long", X0 + of_head("47 01 01 31 B8") + X1, LOST),
-    check("an adaptation field that leaves no payload",
-          X0 + of_head("47 01 01 31 B7") + THIRD, LOST),
+    check("an adaptation field that leaves no payload", X0 + of_head("47 01 01 31 B7") + THIRD,
+          LOST),
     check("a wrong packet without a payload", X0 + of_head("47 81 01 20 B7") + X1, LOST),
     check("a packet without a payload and with another counter",
           X0 + of_head("47 01 01 27 B7") + X1, ACCEPTED),
@@ -210,11 +207,11 @@ LOSSES = [
             "written 1 pes 0 gaps", FIRST),
     extract("a PES packet and the end of another behind a jump", X0 + JUMP + counted(OTHER_HALF, 9),
             "written 1 pes 0 gaps", FIRST),
-    extract("several gaps in a row", sized([X0, second_half(2), poked(X0, {1: 0xC1}),
-                                            second_half(7), second_half(9), counted(X1, 12)]),
-            "written 3 pes 1 gaps", FIRST + MARK + SECOND),
-    extract("several gaps at the end", sized([X0, second_half(2), second_half(7),
-                                              poked(X0, {1: 0xC1})]),
+    extract("several gaps in a row",
+            sized([X0, second_half(2), poked(X0, {1: 0xC1}), second_half(7), second_half(9),
+                  counted(X1, 12)]), "written 3 pes 1 gaps", FIRST + MARK + SECOND),
+    extract("several gaps at the end",
+            sized([X0, second_half(2), second_half(7), poked(X0, {1: 0xC1})]),
             "written 2 pes 1 gaps", FIRST + MARK),
     extract("a wrong packet behind all", T + poked(X0, {1: 0xC1}), "written 3 pes 1 gaps",
             SENT + MARK),

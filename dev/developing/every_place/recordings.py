@@ -9,7 +9,7 @@ from __future__ import annotations
 
 from typing import Iterator, NamedTuple
 
-from .reading import piece_at
+from .reading import HEAD, LENGTH, START, length_at, piece_at
 
 SYNC = 0x47
 PACKET = 188
@@ -17,9 +17,7 @@ SIZES = PACKET, 192, 204  # from one packet to the next
 TIME_STAMP = 4  # bytes before each packet where these are 192
 MOST_BYTES = 2**48  # of a stream that are read
 UNSEEN = 15  # packets: where as many bytes are skipped, some of the PID may be among them
-HEAD = 6  # bytes of a PES packet up to its length and with it
 MARK = b"\0\0\1\xbd\0\xb2" + b"\xff" * 178  # stands where something is missing
-START, LENGTH = 31, 32  # what is wrong with the beginning of a PES packet
 
 
 # Packets
@@ -30,51 +28,23 @@ class Skipped(NamedTuple):
     length: int
 
 
-class TransportPacket(NamedTuple):
+class TransportPacket:
     """A packet (2.4.3.2) by its 188 bytes."""
 
-    data: bytes
-
-    @property
-    def pid(self) -> int:
-        return self.data[1] % 32 * 256 + self.data[2]
-
-    @property
-    def begins(self) -> bool:
-        """Whether payload_unit_start_indicator is set."""
-        return self.data[1] & 0x40 != 0
-
-    @property
-    def counter(self) -> int:
-        """The continuity_counter."""
-        return self.data[3] % 16
-
-    @property
-    def has_adaptation_field(self) -> bool:
-        return self.data[3] & 0x20 != 0
-
-    @property
-    def has_payload(self) -> bool:
-        return self.data[3] & 0x10 != 0
-
-    @property
-    def is_wrong(self) -> bool:
-        """Whether transport_error_indicator is set, or the packet is scrambled, or its adaptation
-        field leaves no byte for its payload."""
-        return bool(self.data[1] & 0x80 or self.data[3] & 0xC0) or (
-            self.has_adaptation_field and self.has_payload and self.data[4] > 182)
-
-    @property
-    def announces_jump(self) -> bool:
-        """Whether discontinuity_indicator is set in an adaptation field; a wrong one announces
-        nothing."""
-        return not self.is_wrong and self.has_adaptation_field and self.data[4] != 0 \
-            and self.data[5] & 0x80 != 0
-
-    @property
-    def payload(self) -> bytes:
-        """The payload of one that has it and is not wrong."""
-        return self.data[5 + self.data[4]:] if self.has_adaptation_field else self.data[4:]
+    def __init__(self, data: bytes) -> None:
+        self.data = data
+        self.pid = data[1] % 32 * 256 + data[2]
+        self.begins = data[1] & 0x40 != 0  # payload_unit_start_indicator
+        self.counter = data[3] % 16  # continuity_counter
+        has_field, self.has_payload = data[3] & 0x20 != 0, data[3] & 0x10 != 0
+        # transport_error_indicator is set, or the packet is scrambled, or its adaptation field
+        # leaves no byte for its payload.
+        self.is_wrong = bool(data[1] & 0x80 or data[3] & 0xC0) or (
+            has_field and self.has_payload and data[4] > 182)
+        # discontinuity_indicator is set in an adaptation field; a wrong packet announces nothing.
+        self.announces_jump = not self.is_wrong and has_field and data[4] != 0 \
+            and data[5] & 0x80 != 0
+        self.payload = data[5 + data[4]:] if has_field else data[4:]
 
 
 def packets_of(data: bytes, size: int) -> Iterator[TransportPacket | Skipped]:
@@ -163,65 +133,33 @@ def good_packets(data: bytes, pid: int, size: int) -> tuple[list[Good], bool]:
 
 # Parts
 
-class Part(NamedTuple):
+class Part:
     """Good packets that belong together: a PES packet begins with the first one, or none is known
     to."""
 
-    packets: list[Good]
-
-    @property
-    def begins(self) -> bool:
-        return self.packets[0].packet.begins
-
-    @property
-    def payload(self) -> bytes:
-        return b"".join(one.packet.payload for one in self.packets)
-
-    @property
-    def length(self) -> int | None:
-        """How long its PES packet says that it is; `None` where that is not known."""
-        found = length_at(self.payload) if self.begins else None
-        return found if found not in (START, LENGTH) else None
-
-    @property
-    def is_whole(self) -> bool:
-        return self.length is not None and len(self.payload) >= self.length
-
-    @property
-    def wrong_head(self) -> int | None:
-        """The number of what is wrong with the head of one that begins and has its six bytes."""
-        found = length_at(self.payload) if self.begins else None
-        return found if found in (START, LENGTH) else None
-
-    @property
-    def head(self) -> bytes:
-        """Its payloads up to that with its sixth byte."""
-        head = b""
-        for one in self.packets:
-            if len(head) < HEAD:
-                head += one.packet.payload
-        return head
-
-
-def length_at(data: bytes) -> int | None:
-    """The length of the PES packet that begins there, 184 bytes or more; 31 or 32 where its start
-    or its length is another; `None` where six bytes are not there."""
-    if len(data) < HEAD:
-        return None
-    if data[:4] != b"\0\0\1\xbd":
-        return START
-    length = HEAD + int.from_bytes(data[4:HEAD], "big")
-    return length if length in range(184, 184 * 9 + 1, 184) else LENGTH
+    def __init__(self, packets: list[Good]) -> None:
+        self.has_break = packets[0].is_break  # before it
+        payloads = [one.packet.payload for one in packets]
+        self.payload = b"".join(payloads)
+        found = length_at(self.payload) if packets[0].packet.begins else None
+        # What is wrong with the head of one that begins and has its six bytes; else how long its
+        # PES packet says that it is, `None` where that is not known.
+        self.wrong_head = found if found in (START, LENGTH) else None
+        self.length = None if self.wrong_head else found
+        self.is_whole = self.length is not None and len(self.payload) >= self.length
+        self.head = b""  # its payloads up to that with its sixth byte
+        for payload in payloads:
+            self.head += payload if len(self.head) < HEAD else b""
 
 
 def parts_of(goods: list[Good]) -> list[Part]:
     """Good packets, cut before each that begins, at each break and at each seam."""
-    parts: list[Part] = []
+    parts: list[list[Good]] = []
     for one in goods:
         if not parts or one.packet.begins or one.is_break or one.is_seam:
-            parts.append(Part([]))
-        parts[-1].packets.append(one)
-    return parts
+            parts.append([])
+        parts[-1].append(one)
+    return [Part(packets) for packets in parts]
 
 
 # What is carried
@@ -255,7 +193,7 @@ def carried(data: bytes, pid: int, size: int) -> Carried:
             marks.append(True)
 
     for number, part in enumerate(parts, 1):
-        has_gap |= part.packets[0].is_break
+        has_gap |= part.has_break
         if part.wrong_head is not None:
             mark()
             return Carried(pieces, marks, part.head, part.wrong_head)

@@ -1,8 +1,6 @@
 """What `schedule` writes, from the definitions: plain and slow."""
 from __future__ import annotations
 
-from typing import NamedTuple
-
 from subtitles.core.pes import START, STUFFING_UNIT, pts_bytes
 from subtitles.core.teletext import Page, mirrored, packet
 from subtitles.core.times import pts_of
@@ -10,17 +8,10 @@ from .definitions import Due, stl_faults
 from .national import BITS
 from .reading import records_of
 from .rows import BLANK, COLUMNS, ROWS, SPACE
-from .words import Options, options_of
+from .words import Options
 
 SERIAL = "--serial"
 FIRST_LINE, LAST_LINE = 7, 22
-
-
-class Written(NamedTuple):
-    """The last line, and the bytes of the file."""
-
-    line: str
-    data: bytes
 
 
 def header(page: Page, option: str, is_serial: bool) -> bytes:
@@ -59,24 +50,20 @@ def sending(page: bytes, options: Options, is_serial: bool) -> list[bytes]:
     return [*made, closing_header(options.page, is_serial)]
 
 
-def schedule(stl: bytes, words: list[str]) -> Written:
-    """What is written of a subtitle file, and the line that is printed."""
-    options = options_of([word for word in words if word != SERIAL])
-    if isinstance(options, str):
-        return Written(options, b"")
+def schedule(stl: bytes, options: Options, is_serial: bool) -> tuple[list[str], bytes]:
+    """The line that is printed of a subtitle file, and what is written."""
     fault = next(stl_faults(stl, options.option), None)
-    due = Due(records_of(stl), options.option) if fault is None else None
-    if fault is not None or due is None:
-        return Written(fault or "", b"")
+    if fault is not None:
+        return [fault], b""
+    due = Due(records_of(stl), options.option)
     first, last = due.first(), due.last()
     if first is None or last is None:
-        return Written("refused 82 NoSubtitles", b"")
+        return ["refused 82 NoSubtitles"], b""
     made, base, before = [], first, BLANK
     for frame in range(first, last + 1):
         page = due.at(frame)
         if page != before:
             base, before = frame, page
         if (frame - base) % options.every == 0 or frame == last:
-            made.append(pes_of(pts_of(frame, options.origin),
-                               sending(page, options, SERIAL in words)))
-    return Written(f"written {len(made)} transmissions", b"".join(made))
+            made.append(pes_of(pts_of(frame, options.origin), sending(page, options, is_serial)))
+    return [f"written {len(made)} transmissions"], b"".join(made)

@@ -7,7 +7,7 @@ units, puts bytes between them and cuts the ends.
 from __future__ import annotations
 
 from random import Random
-from typing import Callable, NamedTuple
+from typing import NamedTuple
 
 from .recordings import PACKET, SYNC, TIME_STAMP, UNSEEN
 
@@ -17,13 +17,12 @@ NULL_PID = 0x1FFF
 
 
 class Unit(NamedTuple):
-    """A packet of a stream. Of one of the PID: the number of its PES packet, that of the packet
-    among those with a payload (`None` without one), and whether it is one once more."""
+    """A packet of a stream. Of one of the PID: the number of its PES packet, and that of the packet
+    among those with a payload, `None` without one."""
 
     packet: bytes
     pes: int | None = None
     number: int | None = None
-    is_repeat: bool = False
 
     @property
     def is_wrong(self) -> bool:
@@ -126,7 +125,7 @@ class Multiplexer:
                               is_jump and place == 0 and (turn == 0 or chance.random() < 0.7))
                 if turn:  # b1 to b3 are those of the first one
                     made = self.units_packet(pes)[:4] + made[4:]
-                self.units.append(Unit(made, pes, self.number, turn == 1))
+                self.units.append(Unit(made, pes, self.number))
                 self.between(pes)
             self.counter = (self.counter + 1) % 16
             self.number += 1
@@ -178,7 +177,8 @@ def with_losses(chance: Random, units: list[Unit]) -> list[Unit]:
         bursts = chance.randrange(1, 30) if chance.random() < lost / 10 else max(0, bursts - 1)
         is_lost = bursts > 0 or chance.random() < lost / 4
         is_wrong = unit.pes is not None and chance.random() < wrong / 4
-        if unit.number is not None and (is_lost or is_wrong) and gone(units, unit, kept):
+        if unit.number is not None and (is_lost or is_wrong) \
+                and gone(unit.number, kept):
             is_lost = is_wrong = False
         if is_lost:
             continue
@@ -189,17 +189,16 @@ def with_losses(chance: Random, units: list[Unit]) -> list[Unit]:
     return made
 
 
-def gone(units: list[Unit], unit: Unit, kept: set[int]) -> bool:
+def gone(number: int, kept: set[int]) -> bool:
     """Whether too many packets in a row would be gone with this one: the 14 before it are."""
-    number = unit.number
-    assert number is not None
-    return number not in kept and number >= UNSEEN - 1 and \
-        not any(one in kept for one in range(number - UNSEEN + 1, number))
+    return number >= UNSEEN - 1 and kept.isdisjoint(range(number - UNSEEN + 1, number + 1))
 
 
 # Worse
 
-Change = Callable[[Random, list[Unit], int], None]  # of some units, of this size
+# What may happen to a unit, and how often.
+CHANGES = ["leave out", "leave out", "leave out", "again", "again", "wrong", "wrong", "head",
+           "head", "head", "length", "jump", "jump", "counters", "payload", "bytes", "bytes"]
 
 
 def is_packet(unit: Unit) -> bool:
@@ -215,45 +214,44 @@ def any_place(chance: Random, units: list[Unit]) -> int:
     return chance.choice([at for at, one in enumerate(units) if is_packet(one)])
 
 
-def leave_out(chance: Random, units: list[Unit], size: int) -> None:
-    at = any_place(chance, units)
-    del units[at:at + chance.choice([1, 1, 2, 3, 14, 15, 16])]
-
-
-def send_again(chance: Random, units: list[Unit], size: int) -> None:
-    """A unit once or twice more, at once or a few units later."""
-    at = any_place(chance, units)
-    for _ in range(chance.choice([1, 1, 2])):
-        units.insert(min(at + chance.choice([1, 1, 1, 2, 3]), len(units)), units[at])
-
-
-def spoil(chance: Random, units: list[Unit], size: int) -> None:
-    at = any_place(chance, units)
-    units[at] = made_wrong(chance, units[at])
-
-
-def change_head(chance: Random, units: list[Unit], size: int) -> None:
-    """Another bit in the head of a packet, or in the first bytes behind it."""
+def change(chance: Random, units: list[Unit], size: int) -> None:
+    """Something of any kind happens to units, of this size."""
+    way = chance.choice(CHANGES)
+    if way == "bytes":  # between two units: few, a packet's, or so many that packets may be there
+        unseen = UNSEEN * size
+        count = chance.choice([1, 5, 187, 188, size, *[unseen - 1, unseen] * 3, 15 * 188, 3000])
+        units.insert(any_place(chance, units), Unit(random_bytes(chance, count)))
+        return
     at = any_place(chance, units)
     changed = bytearray(units[at].packet)
-    changed[chance.choice([0, 1, 1, 2, 3, 3, 3, 3, 4, 5, 5, 6, 7, 8, 9])] ^= \
-        1 << chance.randrange(8)
+    if way == "leave out":
+        del units[at:at + chance.choice([1, 1, 2, 3, 14, 15, 16])]
+        return
+    if way == "again":  # once or twice more, at once or a few units later
+        for _ in range(chance.choice([1, 1, 2])):
+            units.insert(min(at + chance.choice([1, 1, 1, 2, 3]), len(units)), units[at])
+        return
+    if way == "wrong":
+        changed = bytearray(made_wrong(chance, units[at]).packet)
+    elif way == "head":  # another bit there, or in the first bytes behind it
+        changed[chance.choice([0, 1, 1, 2, 3, 3, 3, 3, 4, 5, 5, 6, 7, 8, 9])] ^= \
+            1 << chance.randrange(8)
+    elif way == "length":  # of an adaptation field, up to more than there are bytes
+        changed[3] |= 0x20
+        changed[4] = chance.choice([0, 1, 7, 181, 182, 183, 184, 255])
+        changed[5] = chance.choice([0, 0, JUMP, 0xFF])
+    elif way == "payload":  # other bytes at the end of a packet, or fewer or more of them there
+        count = chance.choice([1, 16, 100])
+        changed[-count:] = random_bytes(chance, count)
     units[at] = units[at]._replace(packet=bytes(changed))
+    if way == "counters":
+        move_counters(chance, units, at)
+    elif way == "jump":
+        announce(chance, units, at)
 
 
-def change_length(chance: Random, units: list[Unit], size: int) -> None:
-    """An adaptation field of another length, up to more than there are bytes."""
-    at = any_place(chance, units)
-    changed = bytearray(units[at].packet)
-    changed[3] |= 0x20
-    changed[4] = chance.choice([0, 1, 7, 181, 182, 183, 184, 255])
-    changed[5] = chance.choice([0, 0, JUMP, 0xFF])
-    units[at] = units[at]._replace(packet=bytes(changed))
-
-
-def announce(chance: Random, units: list[Unit], size: int) -> None:
+def announce(chance: Random, units: list[Unit], at: int) -> None:
     """A jump that is announced at any place, by a packet of the PID or of another one."""
-    at = any_place(chance, units)
     one = bytearray(without_payload(chance, 0, True))
     one[1] |= units[at].packet[1] & 0x1F
     one[2] = units[at].packet[2]
@@ -262,37 +260,15 @@ def announce(chance: Random, units: list[Unit], size: int) -> None:
     units.insert(at, Unit(bytes(one), units[at].pes))
 
 
-def move_counters(chance: Random, units: list[Unit], size: int) -> None:
-    """The counters from a unit on, with or without a jump that is announced there."""
-    at = any_place(chance, units)
+def move_counters(chance: Random, units: list[Unit], at: int) -> None:
+    """The counters from a unit on, with or without a jump that is announced somewhere."""
     more = chance.randrange(1, 16)
     for place in filter(lambda place: is_packet(units[place]), range(at, len(units))):
         changed = bytearray(units[place].packet)
         changed[3] = changed[3] & 0xF0 | (changed[3] + more) % 16
         units[place] = units[place]._replace(packet=bytes(changed))
     if chance.random() < 0.6:
-        announce(chance, units, size)
-
-
-def change_payload(chance: Random, units: list[Unit], size: int) -> None:
-    """Other bytes at the end of a packet, or one whose payload is shorter or longer there."""
-    at = any_place(chance, units)
-    data = units[at].packet
-    count = chance.choice([1, 16, 100])
-    units[at] = units[at]._replace(packet=data[:-count] + random_bytes(chance, count))
-
-
-def put_bytes(chance: Random, units: list[Unit], size: int) -> None:
-    """Bytes between two units: few, a packet's, or so many that packets may be among them."""
-    unseen = UNSEEN * size
-    count = chance.choice([1, 5, 187, 188, size, *[unseen - 1, unseen] * 3, 15 * 188, 3000])
-    units.insert(any_place(chance, units), Unit(random_bytes(chance, count)))
-
-
-CHANGES: list[Change] = [
-    leave_out, leave_out, leave_out, send_again, send_again, spoil, spoil, change_head, change_head,
-    change_head, change_length, announce, announce, move_counters, change_payload, put_bytes,
-    put_bytes]
+        announce(chance, units, any_place(chance, units))
 
 
 def random_stream(chance: Random, packets: list[bytes], pid: int, size: int) -> bytes:
@@ -302,7 +278,7 @@ def random_stream(chance: Random, packets: list[bytes], pid: int, size: int) -> 
         units = with_losses(chance, units)
     for _ in range(chance.choice([0, 0, 1, 1, 2, 4])):
         if any(map(is_packet, units)):
-            chance.choice(CHANGES)(chance, units, size)
+            change(chance, units, size)
     data = stream_of(chance, units, size)
     way = chance.random()
     if way < 0.1:

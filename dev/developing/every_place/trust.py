@@ -62,8 +62,7 @@ class Course:
 
     `sent` and `ends` are the PES packets before the first one that does not rise, and the ends of
     frames before it; `is_rising` says that there is none such. `passed` are the pieces that were
-    passed over. `is_left` says that bytes are left after the pieces. `failed` is the piece in which
-    the source failed: then no event comes after the last end.
+    passed over. `is_left` says that bytes are left after the pieces.
     """
 
     events: list[Event] = field(default_factory=list)
@@ -72,7 +71,6 @@ class Course:
     passed: list[int] = field(default_factory=list)
     is_rising: bool = True
     is_left: bool = False
-    failed: int | None = None
 
 
 class Trust:
@@ -145,7 +143,7 @@ class Trust:
         return last if end is None or end.since is None else end.since - 1
 
 
-def lines_of(course: Course) -> Iterator[str]:
+def lines_of(course: Course, has_failed: bool) -> Iterator[str]:
     """The lines of a course, and of what may be trusted where anything is told.
 
     Where the source failed nobody knows how far the last run goes.
@@ -158,5 +156,5 @@ def lines_of(course: Course) -> Iterator[str]:
     for at, event in enumerate(course.events):
         yield from before.get(at, [])
         yield event.line
-    if course.failed is None:
+    if not has_failed:
         yield from before.get(len(course.events), [])

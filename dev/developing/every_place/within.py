@@ -1,40 +1,27 @@
 """Pairs with the lines that `check --all --within N` prints of them, worked out by hand.
 
-A transmission is written as its PES packets, each as a frame and its Teletext packets: `0 h r c` is
-the header, row 22 and the closing header at 10:00:00:00, and `50 h c` the page without a row two
-seconds later. `+` after the frame is half a frame later, the other field, and `-` a quarter of a
-frame early.
+A transmission is written as in `one_rule`: `o` is row 22 with an o in place of its i, and `e` with
+an even byte in place of its H.
 """
 from __future__ import annotations
 
 from subtitles.core.pes import pes_packet
 from subtitles.core.stl import GSI, subtitle_blocks
 from subtitles.core.times import CLOCK, FRAMES_OF_A_DAY, TICKS
-from .known import HELLO, LAST, ROW, SENT, Known, poked, trusted
-from .one_rule import CLOSING, FIRST, HEADER
+from .calls import KnownCall, known_pair
+from .known import (
+    EARLY_WRONG, HELLO, LAST, ROW, SENT, accepted, ended, poked, refused, stands, told, trusted,
+    wrong)
+from .one_rule import CLOSING, FIRST, HEADER, PAGE, pes_packets_of
 
-# Row 22 with an o in place of its i, and with an even byte in place of its H.
 PACKETS = {"h": HEADER, "r": ROW, "c": CLOSING, "o": poked(ROW, {22: 0xEF}),
            "e": poked(ROW, {21: 0x48})}
-TICKS_OFF = {"+": 1800, "-": -900}
-
-
-def sent(packets: str) -> list[bytes]:
-    """The PES packets that some words name, with a comma between two."""
-    return [pes_of(one.split()) for one in packets.split(",")]
-
-
-def pes_of(words: list[str]) -> bytes:
-    frame, names = words[0], words[1:]
-    ticks = TICKS_OFF.get(frame[-1], 0)
-    if ticks:
-        frame = frame[:-1]
-    return pes_packet((FIRST + int(frame)) * TICKS + ticks, [PACKETS[name] for name in names])
 
 
 def pes_file(packets: str, *changes: tuple[int, int, int]) -> bytes:
-    """The PES packets of some words, joined; a change is a PES packet, a place in it, a byte."""
-    made = sent(packets)
+    """The PES packets that some words name, joined; a change is a PES packet, a place in it, a
+    byte."""
+    made = pes_packets_of(packets, PACKETS)
     for pes, at, byte in changes:
         made[pes] = poked(made[pes], {at: byte})
     return b"".join(made)
@@ -48,92 +35,61 @@ def followed_by(end: int) -> bytes:
 TWO_SECONDS, TWO_FRAMES = followed_by(100), followed_by(52)
 
 
-def of_pair(name: str, pes: bytes, *asked: tuple[str, list[str]], stl: bytes = HELLO,
-            is_failing: bool = False) -> list[Known]:
-    """A pair with each of some words, and the lines of these."""
-    return [Known(f"{name}: check {words}".rstrip(), stl, pes, words, lines, is_failing)
-            for words, lines in asked]
-
-
-def told(*lines: str) -> list[str]:
-    """The lines of a list, and how many faults it has."""
-    count = sum(line.startswith("refused") for line in lines)
-    return [*lines, f"{count} faults"]
-
-
-def accepted(frames: int, transmissions: int) -> list[str]:
-    return [f"accepted {frames} frames {transmissions} transmissions"]
-
-
-def refused(fault: str, time: str, place: str = "") -> str:
-    """The line of a fault at a frame of 10:00."""
-    return f"refused {fault} frame 10:00:{time} {place}".rstrip()
-
-
-def ended(fault: str, time: str) -> str:
-    return f"ended {fault} frame 10:00:{time}"
-
-
-def wrong(time: str, end: str | None = None, column: int = 16) -> list[str]:
-    """The two lines of row 22 where it is wrong, from a frame to another."""
-    return [refused("72 Content", time, f"row 22 column {column}"),
-            ended("72 Content", end or time)]
+def of_pair(name: str, pes: bytes, *asked: tuple[str, ...], stl: bytes = HELLO,
+            is_failing: bool = False) -> list[KnownCall]:
+    """A pair with each of some words, and what is told then."""
+    return [known_pair(f"{name}: check {words}".rstrip(), stl, pes, words,
+                       list(lines) if is_failing else told(*lines), is_failing)
+            for words, *lines in asked]
 
 
 UP_TO_TCO, ONE, TWO = trusted("00:00", "01:24"), "--within 1", "--within 2"
+UNFINISHED = [wrong("00:01")[0], refused("77 Incomplete", "00:01"), wrong("00:01")[1],
+              ended("77 Incomplete", "00:01")]
 
 # The page comes later than it is due, but not too late.
 LATE = [
     *of_pair("a row a frame after its header", pes_file("0 h, 1 r c, 50 h c"),
-             ("", told(*wrong("00:00"), LAST)),
-             (ONE, accepted(51, 2)), (f"{ONE} --complete", accepted(51, 2))),
+             ("", *wrong("00:00"), LAST), (ONE, accepted(51, 2)),
+             (f"{ONE} --complete", accepted(51, 2))),
     *of_pair("a row two frames after its header", pes_file("0 h, 2 r c, 50 h c"),
-             (ONE, told(*wrong("00:01"), LAST)), (TWO, accepted(51, 2)),
-             (f"{ONE} --complete", told(
-                 wrong("00:01")[0], refused("77 Incomplete", "00:01"), wrong("00:01")[1],
-                 ended("77 Incomplete", "00:01"), LAST))),
+             (ONE, *wrong("00:01"), LAST), (TWO, accepted(51, 2)),
+             (f"{ONE} --complete", *UNFINISHED, LAST)),
     *of_pair("a row three frames after its header", pes_file("0 h, 3 r c, 50 h c"),
-             (TWO, told(*wrong("00:02"), LAST))),
+             (TWO, *wrong("00:02"), LAST)),
     *of_pair("the last page a frame late", pes_file("0 h r c, 51 h c"),
-             ("", told(UP_TO_TCO, *wrong("02:00"), trusted("02:01", "02:01"))),
-             (ONE, accepted(52, 2))),
+             ("", UP_TO_TCO, *wrong("02:00"), trusted("02:01", "02:01")), (ONE, accepted(52, 2))),
     *of_pair("a page two frames late", pes_file("0 h r c, 52 h o c, 100 h c"),
              (TWO, accepted(101, 3)),
-             (ONE, told(UP_TO_TCO, *wrong("02:01", column=20), trusted("02:02", "04:00"))),
+             (ONE, UP_TO_TCO, *wrong("02:01", column=20), trusted("02:02", "04:00")),
              stl=TWO_SECONDS),
     *of_pair("a subtitle of two frames, a frame late", pes_file("0 h r c, 51 h o c, 53 h c"),
              ("--within 3", accepted(54, 3)), stl=TWO_FRAMES),
     *of_pair("a subtitle of two frames that is not sent", pes_file("0 h r c, 52 h c"),
-             ("--within 3", told(UP_TO_TCO, *wrong("02:01", column=20), trusted("02:02", "02:02"))),
+             ("--within 3", UP_TO_TCO, *wrong("02:01", column=20), trusted("02:02", "02:02")),
              stl=TWO_FRAMES),
     *of_pair("a subtitle that is not sent", pes_file("0 h c, 50 h c"),
-             ("--within 50", told(*wrong("01:24"), LAST))),
+             ("--within 50", *wrong("01:24"), LAST)),
     *of_pair("a header, and two frames later its row", pes_file("0 h r, 1 h, 2 r c, 50 h c"),
-             (ONE, accepted(51, 3)),
-             (f"{ONE} --complete", told(
-                 wrong("00:01")[0], refused("77 Incomplete", "00:01"), wrong("00:01")[1],
-                 ended("77 Incomplete", "00:01"), LAST))),
+             (ONE, accepted(51, 3)), (f"{ONE} --complete", *UNFINISHED, LAST)),
     *of_pair("the end of the page a frame later", pes_file("0 h r, 1 c, 50 h c"),
-             ("--complete", told(refused("77 Incomplete", "00:00"),
-                                 ended("77 Incomplete", "00:00"), LAST)),
+             ("--complete", *stands("77 Incomplete", "00:00", "00:00"), LAST),
              (f"{ONE} --complete", accepted(51, 2))),
     *of_pair("no end of the page", pes_file("0 h r c, 50 h c", (0, 138, 0xFF)),
-             (f"{ONE} --complete", told(refused("77 Incomplete", "00:01"),
-                                        ended("77 Incomplete", "01:24"), LAST))),
+             (f"{ONE} --complete", *stands("77 Incomplete", "00:01", "01:24"), LAST)),
     *of_pair("the page of before again", pes_file("0 h r c, 50 h c, 51 h r c, 52 h c"),
-             (ONE, told(trusted("00:00", "02:00"), *wrong("02:01"), trusted("02:02", "02:02"))),
+             (ONE, trusted("00:00", "02:00"), *wrong("02:01"), trusted("02:02", "02:02")),
              (TWO, accepted(53, 4))),
     *of_pair("the first page after the last TCO", pes_file("51 h r c, 52 h c"),
-             ("--within 5", told(refused("63 Early", "02:01"), *wrong("02:01"),
-                                 trusted("02:02", "02:02")))),
+             ("--within 5", refused("63 Early", "02:01"), *wrong("02:01"), trusted("02:02",
+              "02:02"))),
 ]
 
 # Several PES packets of one frame, and PTS that are not those of frames.
 FIELDS = [
     *of_pair("a row half a frame after its header", pes_file("0 h, 0+ r c, 50 h c"),
-             ("", told(refused("72 Content", "00:00", "row 22 column 16"),
-                       "refused 61 OffFrame pes 1", ended("72 Content", "01:24"), LAST)),
-             (ONE, accepted(51, 2))),
+             ("", refused("72 Content", "00:00", "row 22 column 16"), "refused 61 OffFrame pes 1",
+              ended("72 Content", "01:24"), LAST), (ONE, accepted(51, 2))),
     *of_pair("a header in the second field", pes_file("0 c, 0+ h r c, 50 h c"),
              (ONE, accepted(51, 2))),
     *of_pair("a row half a frame later, twice", pes_file("0 h, 0+ r c, 1 h, 1+ r c, 50 h c"),
@@ -141,134 +97,122 @@ FIELDS = [
     *of_pair("a PES packet without Teletext first", pes_file("0 h, 1, 1+ h r c, 50 h c"),
              (ONE, accepted(51, 3))),
     *of_pair("a quarter of a frame early", pes_file("0- h r c, 50 h c"), (ONE, accepted(51, 2))),
-    *of_pair("a PTS that is no frame's", SENT,
-             ("--origin 1 --within 1", accepted(51, 2)),
+    *of_pair("a PTS that is no frame's", SENT, ("--origin 1 --within 1", accepted(51, 2)),
              ("--origin 8589934591 --within 1", accepted(51, 2))),
     *of_pair("the first frame twice", pes_file("0 h r c, 0 h r c, 50 h c"),
-             ("", told("refused 62 Order pes 1")), (ONE, accepted(51, 3))),
-    *of_pair("the file twice", SENT + SENT, (ONE, told(UP_TO_TCO, "refused 62 Order pes 2"))),
-    *of_pair("another row in the first field",
-             pes_file("0 h r c, 1 h o c, 1+ h r c, 50 h c"), (ONE, accepted(51, 4))),
+             ("", "refused 62 Order pes 1"), (ONE, accepted(51, 3))),
+    *of_pair("the file twice", SENT + SENT, (ONE, UP_TO_TCO, "refused 62 Order pes 2")),
+    *of_pair("another row in the first field", pes_file("0 h r c, 1 h o c, 1+ h r c, 50 h c"),
+             (ONE, accepted(51, 4))),
     *of_pair("an even byte in the second field",
              pes_file("0 h, 0+ r c, 1 h r c, 50 h c", (1, 71, 0x12)),
-             (ONE, told(refused("68 Parity", "00:00", "packet 1"), trusted("00:01", "02:00")))),
+             (ONE, refused("68 Parity", "00:00", "packet 1"), trusted("00:01", "02:00"))),
     *of_pair("another row, and an even byte in the second field",
              pes_file("0 h r c, 1 h o c, 1+ h e c, 2 h r c, 50 h c"),
-             (ONE, told(trusted("00:00", "00:00"), refused("68 Parity", "00:01", "packet 4"),
-                        trusted("00:02", "02:00")))),
+             (ONE, trusted("00:00", "00:00"), refused("68 Parity", "00:01", "packet 4"),
+              trusted("00:02", "02:00"))),
     *of_pair("a page that is erased in the second field",
              pes_file("0 h r c, 0+ h, 1 h r c, 1+ h, 50 h c"),
-             (ONE, told(*wrong("00:01", "01:24"), LAST))),
+             (ONE, *wrong("00:01", "01:24"), LAST)),
     *of_pair("one that can't be read between those of a frame",
              pes_file("0 h r c, 25 h, 25 c, 25+ r c, 50 h c", (2, 45, 0x20)),
-             (ONE, told(trusted("00:00", "00:24"), "refused 37 DataId pes 2", LAST))),
+             (ONE, trusted("00:00", "00:24"), "refused 37 DataId pes 2", LAST)),
 ]
 
 # What may be trusted where a page was not whole yet, and what else is told there.
 TRUST = [
     *of_pair("a row that was never due", pes_file("0 h o c, 1 h r c, 50 h c"),
-             ("--within 3", told(*wrong("00:00", column=20), trusted("00:01", "02:00")))),
+             ("--within 3", *wrong("00:00", column=20), trusted("00:01", "02:00"))),
     *of_pair("a page a frame early", pes_file("-1 h r c, 50 h c"),
-             ("--within 3", told(
-                 "refused 72 Content frame 09:59:59:24 row 22 column 16",
-                 "ended 72 Content frame 09:59:59:24", LAST))),
+             ("--within 3", *EARLY_WRONG, LAST)),
     *of_pair("a gap", SENT,
-             ("--every 49", told(trusted("00:00", "01:23"), refused("73 Gap", "01:24"),
-                                 ended("73 Gap", "01:24"), LAST)),
-             ("--every 49 --within 1", told(trusted("00:00", "01:23"), refused("73 Gap", "01:24"),
-                                            ended("73 Gap", "01:24"), LAST)),
-             ("--every 48 --within 1", told(trusted("00:00", "01:22"), refused("73 Gap", "01:23"),
-                                            ended("73 Gap", "01:24"), LAST))),
+             ("--every 49", trusted("00:00", "01:23"), *stands("73 Gap", "01:24", "01:24"), LAST),
+             ("--every 49 --within 1", trusted("00:00", "01:23"), *stands("73 Gap", "01:24",
+              "01:24"), LAST),
+             ("--every 48 --within 1", trusted("00:00", "01:22"), *stands("73 Gap", "01:23",
+              "01:24"), LAST)),
     *of_pair("another page", SENT,
-             ("--page 100 --every 3 --within 1", told(
-                 refused("71 NoFirstHeader", "00:00"), wrong("00:01")[0],
-                 refused("73 Gap", "00:02"), ended("72 Content", "01:24"),
-                 ended("73 Gap", "02:00")))),
+             ("--page 100 --every 3 --within 1", refused("71 NoFirstHeader", "00:00"),
+              wrong("00:01")[0], refused("73 Gap", "00:02"), ended("72 Content", "01:24"),
+              ended("73 Gap", "02:00"))),
     *of_pair("no header of the last page", pes_file("0 h r c, 50"),
-             (ONE, told(UP_TO_TCO, refused("74 Late", "02:00"))),
-             (f"{ONE} --complete", told(UP_TO_TCO, refused("74 Late", "02:00")))),
-    *of_pair("a part of the second PES packet", SENT[:-1],
-             (ONE, told("refused 30 Truncated pes 1"))),
+             (ONE, UP_TO_TCO, refused("74 Late", "02:00")),
+             (f"{ONE} --complete", UP_TO_TCO, refused("74 Late", "02:00"))),
+    *of_pair("a part of the second PES packet", SENT[:-1], (ONE, "refused 30 Truncated pes 1")),
 ]
 
 # The first and the last PTS of the day, and one tick before and after them.
 DAY = [
     *[known for ticks in (-900, TICKS * FRAMES_OF_A_DAY - 901) for known in of_pair(
-        f"a PTS of {ticks}", pes_packet(ticks % CLOCK, [HEADER, CLOSING]), (ONE, accepted(1, 1)),
+        f"a PTS of {ticks}", pes_packet(ticks % CLOCK, PAGE), (ONE, accepted(1, 1)),
         stl=HELLO[:GSI])],
     *[known for ticks in (-901, TICKS * FRAMES_OF_A_DAY - 900) for known in of_pair(
-        f"a PTS of {ticks}", pes_packet(ticks % CLOCK, [HEADER, CLOSING]),
-        (ONE, told("refused 61 OffFrame pes 0")), stl=HELLO[:GSI])],
+        f"a PTS of {ticks}", pes_packet(ticks % CLOCK, PAGE),
+        (ONE, "refused 61 OffFrame pes 0"), stl=HELLO[:GSI])],
 ]
 
 WORDS = [
-    *of_pair("too many frames", SENT, ("--within 51", ["usage 85 Within"])),
-    *of_pair("no number of frames", SENT, ("--within x", ["usage 85 Within"])),
+    *of_pair("too many frames", SENT, ("--within 51", "usage 85 Within")),
+    *of_pair("no number of frames", SENT, ("--within x", "usage 85 Within")),
 ]
 
 # What is left of a run where the page is not whole any more after ten frames, by what comes next.
 STOPPED = [
     *of_pair("an end that is late", pes_file("0 h r c, 10 h c, 50 h c"),
-             ("--within 5", told(trusted("00:00", "00:09"), *wrong("00:15", "01:24"), LAST))),
-    *of_pair("an even byte before an end is late", pes_file("0 h r c, 10 h c, 12 h e c, 20 h r c, "
-                                                            "50 h c"),
-             ("--within 5", told(trusted("00:00", "00:11"), refused("68 Parity", "00:12",
-                                                                    "packet 1"),
-                                 trusted("00:20", "02:00")))),
+             ("--within 5", trusted("00:00", "00:09"), *wrong("00:15", "01:24"), LAST)),
+    *of_pair("an even byte before an end is late",
+             pes_file("0 h r c, 10 h c, 12 h e c, 20 h r c, " "50 h c"),
+             ("--within 5", trusted("00:00", "00:11"), refused("68 Parity", "00:12", "packet 1"),
+              trusted("00:20", "02:00"))),
     *of_pair("a gap before an end is late", pes_file("0 h r c, 10 h c, 50 h c"),
-             ("--every 25 --within 50", told(trusted("00:00", "01:09"), refused("73 Gap", "01:10"),
-                                             ended("73 Gap", "01:24"), LAST))),
+             ("--every 25 --within 50", trusted("00:00", "01:09"), *stands("73 Gap", "01:10",
+              "01:24"), LAST)),
     *of_pair("one that can't be read before an end is late",
              pes_file("0 h r c, 10 h c, 12 h c, 50 h c", (2, 45, 0x20)),
-             ("--within 50", told(trusted("00:00", "00:09"), "refused 37 DataId pes 2", LAST))),
+             ("--within 50", trusted("00:00", "00:09"), "refused 37 DataId pes 2", LAST)),
     *of_pair("a frame that does not rise before an end is late",
              pes_file("0 h r c, 10 h c, 12 h c, 5 h r c, 50 h c"),
-             ("--within 50", told(trusted("00:00", "00:11"), "refused 62 Order pes 3"))),
+             ("--within 50", trusted("00:00", "00:11"), "refused 62 Order pes 3")),
     *of_pair("an end that is not late, and a byte more", pes_file("0 h r c, 50") + b"\0",
-             (ONE, told(UP_TO_TCO, "refused 30 Truncated pes 2"))),
+             (ONE, UP_TO_TCO, "refused 30 Truncated pes 2")),
     *of_pair("one that can't be read and an even byte in the next frame",
              pes_file("0 h r c, 25 h r c, 25 h c, 25+ h e c, 50 h c", (2, 45, 0x20)),
-             (ONE, told(trusted("00:00", "00:24"), "refused 37 DataId pes 2",
-                        refused("68 Parity", "01:00", "packet 4"), LAST))),
+             (ONE, trusted("00:00", "00:24"), "refused 37 DataId pes 2", refused("68 Parity",
+              "01:00", "packet 4"), LAST)),
     *of_pair("an even byte and one that can't be read in the next frame",
              pes_file("0 h r c, 25 h e c, 25 h c, 25+ h r c, 50 h c", (2, 45, 0x20)),
-             (ONE, told(trusted("00:00", "00:24"), refused("68 Parity", "01:00", "packet 1"),
-                        "refused 37 DataId pes 2", LAST))),
+             (ONE, trusted("00:00", "00:24"), refused("68 Parity", "01:00", "packet 1"),
+              "refused 37 DataId pes 2", LAST)),
 ]
 
 # When the end of a frame is told: after what can't be read behind it, and not where a read failed.
 ENDS = [
     *of_pair("two that can't be read after a late end",
              pes_file("-1 h r c, 1 h c, 2 h c, 50 h c", (1, 45, 0x20), (2, 45, 0x20)),
-             (ONE, told("refused 37 DataId pes 1", "ended 37 DataId pes 2",
-                        "refused 72 Content frame 09:59:59:24 row 22 column 16",
-                        "ended 72 Content frame 09:59:59:24", LAST))),
+             (ONE, "refused 37 DataId pes 1", "ended 37 DataId pes 2", *EARLY_WRONG, LAST)),
     *of_pair("two that can't be read at the end",
              pes_file("0 c, 1 h c, 2 h c", (1, 45, 0x20), (2, 45, 0x20)),
-             (ONE, told("refused 37 DataId pes 1", "ended 37 DataId pes 2",
-                        refused("71 NoFirstHeader", "00:00"), refused("74 Late", "00:00")))),
+             (ONE, "refused 37 DataId pes 1", "ended 37 DataId pes 2", refused("71 NoFirstHeader",
+              "00:00"), refused("74 Late", "00:00"))),
     *of_pair("a source that fails after the first frame", pes_file("0 c"),
-             (ONE, ["fault 41 Read pes 1"]), is_failing=True),
+             (ONE, "fault 41 Read pes 1"), is_failing=True),
     *of_pair("a source that fails before the end that is late", pes_file("0 h c, 1 h c"),
-             (ONE, ["fault 41 Read pes 2"]), is_failing=True),
+             (ONE, "fault 41 Read pes 2"), is_failing=True),
     *of_pair("a source that fails after the end that is late", pes_file("0 h c, 1 h c, 2 h c"),
-             (ONE, [wrong("00:01")[0], "fault 41 Read pes 3"]), is_failing=True),
+             (ONE, wrong("00:01")[0], "fault 41 Read pes 3"), is_failing=True),
     *of_pair("a source that fails after an even byte", pes_file("0 h r c, 1 h r c, 1+ h e c"),
-             (ONE, [trusted("00:00", "00:00"), refused("68 Parity", "00:01", "packet 4"),
-                    "fault 41 Read pes 3"]), is_failing=True),
+             (ONE, trusted("00:00", "00:00"), refused("68 Parity", "00:01", "packet 4"),
+              "fault 41 Read pes 3"), is_failing=True),
     *of_pair("a subtitle that began before the first frame", pes_file("10 h c, 50 h c"),
-             ("--within 50", told(refused("63 Early", "00:10"), *wrong("01:24"), LAST))),
+             ("--within 50", refused("63 Early", "00:10"), *wrong("01:24"), LAST)),
     *of_pair("a page that was whole once", pes_file("0 h r c, 1 h c, 50 h c"),
              ("--within 50", accepted(51, 3))),
     *of_pair("a page before the first frame", pes_file("5 h r c, -1 h r c, -1+ h r c, 50 h c"),
-             ("--within 50", told(refused("63 Early", "00:05"), "refused 62 Order pes 1",
-                                  "refused 72 Content frame 09:59:59:24 row 22 column 16",
-                                  "ended 72 Content frame 09:59:59:24"))),
+             ("--within 50", refused("63 Early", "00:05"), "refused 62 Order pes 1", *EARLY_WRONG)),
     *of_pair("a frame of two PES packets that does not rise",
              pes_file("0 h r c, 2 h r c, 1 h e c, 1+ h e c, 50 h c"),
-             (ONE, told(trusted("00:00", "00:01"), "refused 62 Order pes 2",
-                        refused("68 Parity", "00:01", "packet 1"),
-                        refused("68 Parity", "00:01", "packet 4")))),
+             (ONE, trusted("00:00", "00:01"), "refused 62 Order pes 2", refused("68 Parity",
+              "00:01", "packet 1"), refused("68 Parity", "00:01", "packet 4"))),
 ]
 
 # A quarter of a frame early and three quarters late are of the frame, a tick more is not.
@@ -276,12 +220,10 @@ TICKS_OF_A_FRAME = [
     *of_pair("the last PTS of a frame", SENT, ("--origin 8589931893 --within 1", accepted(51, 2))),
     *of_pair("the first PTS of a frame", SENT, ("--origin 900 --within 1", accepted(51, 2))),
     *of_pair("a PTS of the frame before", SENT,
-             ("--origin 901 --within 1", told(
-                 "refused 72 Content frame 09:59:59:24 row 22 column 16",
-                 "ended 72 Content frame 09:59:59:24", refused("74 Late", "01:24")))),
+             ("--origin 901 --within 1", *EARLY_WRONG, refused("74 Late", "01:24"))),
     *of_pair("a PTS of the next frame", SENT,
-             ("--origin 8589931892 --within 1", told(
-                 refused("63 Early", "00:01"), trusted("00:01", "02:01")))),
+             ("--origin 8589931892 --within 1", refused("63 Early", "00:01"), trusted("00:01",
+              "02:01"))),
 ]
 
 WITHIN = [*LATE, *FIELDS, *TRUST, *STOPPED, *ENDS, *TICKS_OF_A_FRAME, *DAY, *WORDS]

@@ -1,4 +1,4 @@
-"""How a report looks in a browser: contrast, what is cut, broken words, and pictures without words.
+"""How a report looks in a browser: contrast, what is cut, and broken words.
 
 The contrast of the style's colours is computed by WCAG 2. For the rest headless Chromium opens the
 report in a frame of some width, with a script that the report itself has not.
