@@ -101,6 +101,14 @@ class Case(unittest.TestCase):
             file.write(data)
         return self.path(name)
 
+    def write_program(self, name: str, text: str) -> str:
+        """Writes a program; answers its path. Another process writes it: a call that begins in
+        another thread meanwhile would hold it open, and then nobody could run it."""
+        done = self.call(["sh", "-c", 'cat >"$0" && chmod 755 "$0"', self.path(name)],
+                         text.encode())
+        assert done.status == 0, done
+        return self.path(name)
+
     def read(self, name: str) -> bytes:
         """The bytes of a file of the test."""
         with open(self.path(name), "rb") as file:
@@ -126,10 +134,8 @@ class Case(unittest.TestCase):
     def program_but(self, when: str, does: str) -> str:
         """A program that does something where its words are like a pattern of the shell, and what
         it should at all others."""
-        path = self.write("program", f"#!/bin/sh\ncase $* in {when}) {does} ;; esac\nexec "
-                          f"'{self.bench.program}' \"$@\"\n".encode())
-        os.chmod(path, 0o755)
-        return path
+        return self.write_program("program", f"#!/bin/sh\ncase $* in {when}) {does} ;; esac\nexec "
+                                             f"'{self.bench.program}' \"$@\"\n")
 
     def schedule(self, stl: str, name: str, *options: str) -> str:
         """The program's own transmission of a subtitle file."""

@@ -76,8 +76,8 @@ class Clone:
 
     def give(self, name: str, text: str) -> None:
         """Puts a script beside rt."""
-        self.write(os.path.join("bin", name), text)
-        os.chmod(self.path("bin", name), 0o755)
+        os.makedirs(self.path("bin"), exist_ok=True)
+        self.case.write_program(self.path("bin", name), text)
 
     def give_toolchain(self, text: str = TOOLCHAIN) -> str:
         """Puts an rt into the clone; the PATH that finds it."""

@@ -58,9 +58,7 @@ class Story(Case):
         """A program that says these lines of a recording."""
         quoted = " ".join(f"'{line}'" for line in lines)
         said = f"printf '%s\\n' {quoted}; {then}" if lines else then
-        path = self.write("program", PROGRAM.replace("{said}", said).encode())
-        os.chmod(path, 0o755)
-        return path
+        return self.write_program("program", PROGRAM.replace("{said}", said))
 
     def qc(self, *words: str, out: str = "out.txt") -> Ended:
         """Calls qc; what it prints goes into a file."""

@@ -137,7 +137,7 @@ class Judged(Case):
 
     def setUp(self) -> None:
         super().setUp()
-        os.chmod(self.write("call", CALL.encode()), 0o755)
+        self.write_program("call", CALL)
         self.typed = Typed("tools/qc", self.bench.program)
         vars(self.typed)["call"] = lambda name: [self.path("call")]
         os.mkdir(self.path("temporary"))

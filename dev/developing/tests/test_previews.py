@@ -2,7 +2,6 @@
 from __future__ import annotations
 
 import array
-import os
 import random
 import re
 import tempfile
@@ -360,7 +359,7 @@ class Asking(Case):
         words."""
         script = f"#!/bin/sh\nprintf '%s\\n' \"$@\" > '{self.path('words')}'\nprintf '{lines}'\n" \
             f"exit {status}\n"
-        os.chmod(self.write("program", script.encode()), 0o755)
+        self.write_program("program", script)
         return Program("./program", self.path("program"), "888", "25", "7", "german", True, 2)
 
     def test_verdicts(self) -> None:

@@ -51,8 +51,7 @@ def slow_program(case: Case) -> str:
     script = ("#!/bin/sh\n"
               "case $* in check*--pes*--all*) echo one >>'{0}'; sleep 0.2 ;; esac\n"
               "exec '{1}' \"$@\"\n").format(case.path("checked"), case.bench.program)
-    os.chmod(case.write("program", script.encode()), 0o755)
-    return case.path("program")
+    return case.write_program("program", script)
 
 
 def count_judged(case: Case) -> int:

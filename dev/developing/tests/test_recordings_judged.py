@@ -107,9 +107,8 @@ class Recordings(Case):
         found = judged(self, STORY, path, "--origin", "0", heard=heard)
         self.must("while it goes on", begun and found.lines("cause: ") == [
             'subtitle 3 at 20:15:07:00, "It costs £5, or $7.": late by 8 frames'], found.said)
-        by = self.write("program", f'#!/bin/sh\necho "$1" >>{self.path("calls")}\n'
-                        f'exec {self.bench.program} "$@"\n'.encode())
-        os.chmod(by, 0o755)
+        by = self.write_program("program", f'#!/bin/sh\necho "$1" >>{self.path("calls")}\n'
+                                f'exec {self.bench.program} "$@"\n')
         judged(self, STORY, example("story.pes"), by=by)
         calls = self.read("calls").decode().split()
         self.must("calls", sorted(calls) == ["check", "check", "show"], calls)
@@ -157,9 +156,8 @@ class Recordings(Case):
             self.must("cut", found.word == "accepted" and [
                 one["kind"] for one in found.result["warnings"]] == ["cut"] * (data != stream),
                 found.said)
-        by = self.write("program", f"#!/bin/sh\necho >>{self.path('grown.rec')}\n"
-                        f'exec {self.bench.program} "$@"\n'.encode())
-        os.chmod(by, 0o755)
+        by = self.write_program("program", f"#!/bin/sh\necho >>{self.path('grown.rec')}\n"
+                                f'exec {self.bench.program} "$@"\n')
         found = judged(self, STORY, self.write("grown.rec", stream), "--origin", "0", by=by)
         self.must("grown", [one["kind"] for one in found.result["warnings"]] == ["grew"],
                   found.said)

@@ -400,8 +400,7 @@ class Calls(Case):
             (["refused 50 Character block 1 at 6"], 1, False), (["a"], 1, False), ([], 2, False),
             (["a"], -9, False), (["refused 82 NoSubtitles", "b"], 1, False)]
         for lines, status, is_right in rows:
-            path = self.write("program", f"#!/bin/sh\n{script(lines, status)}".encode())
-            os.chmod(path, 0o755)
+            path = self.write_program("program", f"#!/bin/sh\n{script(lines, status)}")
             try:
                 found: list[str] | None = asked_of(path, "schedule", "x")
             except Unclear as reason:

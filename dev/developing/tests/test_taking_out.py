@@ -210,8 +210,7 @@ class Cuts(Case):
                 ("kill -9 $$", "it printed nothing, status -9"),
                 ("echo written 7 pes 0 gaps; exit 1", "written 7 pes 0 gaps, status 1"),
                 ("echo fault 41 Read pes 2; exit 2", "fault 41 Read pes 2, status 2")):
-            program = self.write("program", f"#!/bin/sh\n{script}\n".encode())
-            os.chmod(program, 0o755)
+            program = self.write_program("program", f"#!/bin/sh\n{script}\n")
             done = here("cut", TS, *TIMES, "--pid", PID, "-p", program)
             self.must(script, done == (2, b"", [f"cut: {TS}: extract was not answered: {line}"]),
                       done)
