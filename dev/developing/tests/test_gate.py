@@ -47,12 +47,13 @@ class Gate(Case):
 
     def test_takes_words_only_where_the_toolchain_does(self) -> None:
         """All is proved from nothing where it takes none, so `--anew` is the gate alone."""
-        for name, usage, words, status, called in [
-                ("the gate", NO_WORDS, [], 0, "ci:\n"),
-                ("anew", NO_WORDS, ["--anew"], 0, "ci:\n"),
-                ("a crate", NO_WORDS, ["sub_io"], 2, ""),
-                ("anew, which it takes", NAMES, ["--anew"], 0, "ci:--anew\n"),
-                ("a crate, which it takes", NAMES, ["sub_io"], 0, "ci:sub_io\n")]:
+        cases: list[tuple[str, str, list[str], int, str]] = [
+            ("the gate", NO_WORDS, [], 0, "ci:\n"),
+            ("anew", NO_WORDS, ["--anew"], 0, "ci:\n"),
+            ("a crate", NO_WORDS, ["sub_io"], 2, ""),
+            ("anew, which it takes", NAMES, ["--anew"], 0, "ci:--anew\n"),
+            ("a crate, which it takes", NAMES, ["sub_io"], 0, "ci:sub_io\n")]
+        for name, usage, words, status, called in cases:
             done, said = self.gate(usage, *words)
             self.must(name, said == called and done.status == status, (done, said))
 

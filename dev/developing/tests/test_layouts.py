@@ -1,0 +1,162 @@
+"""Layouts: what a TEXT means, what a line becomes, and which layout is found for pages as houses
+send them."""
+from __future__ import annotations
+
+import random
+
+from subtitles.core.layout import (
+    NAME_OF, PLAIN, Layout, Refused, drawn, layout_of, page_of, text_of)
+from subtitles.core.national import BY_WORD
+from subtitles.qc.layouts import Choice, Sent, count_drawn, is_found, layout_of_sent, simplicity
+from .bench import Case
+
+ENGLISH, GERMAN = BY_WORD["english"], BY_WORD["german"]
+# TEXTs that mean no layout.
+NONE = ("", "fit,fit", "before=0", "before=0E", "before=00", "before=0B0B0B0B0B0B0B",
+        "after=0A0A0A0A0A", "strip=20", "strip=0A0A", "left=40", "left=007", "row=-23", "row=+1",
+        "row=--1", "left=-1", "free=0", "free=4", "fit=1", "left", "left=", "fit,", ",fit", "Fit",
+        "fit fit", "pitch=1", "colour", "open", "double=2", "before=0B*0B*", "before=0*B",
+        "before=0B0B0B*0B0B0B0B", "before=*0E", "after=0A*", "strip=*0A", "before", "row=1\n",
+        "left=\u0661")
+# The same layout in other words, and its simplest TEXT.
+MEANS = [("row=-0,left=00,free=01", ""), ("before=*", "before="), ("before=0b*0d", "before=0B*0D"),
+         ("white,up", "up,white"), ("before=0B0B,after=0A0A,strip=", ""), ("row=-22", "row=-22"),
+         ("strip=1f00", "strip=1F00"), ("right=09", "right=9"), ("before=0B*", "before=0B")]
+# Text, VP, JC, TEXT, and the lines that are drawn: row, column, cells; or the fault.
+DRAWN = [
+    ("Hi", 22, 2, "", "22 17 0B0B4869 0A0A"), ("Hi", 22, 2, "white", "22 16 0B0B074869 0A0A"),
+    ("03 Hi", 22, 2, "before=*0B0B", "22 16 030B0B4869 0A0A"),
+    ("Hi 21", 22, 2, "text,up", "22 17 0B0B486921 0A0A"),
+    ("03 06 Hi 02", 22, 2, "before=*0B0B,text,after=0A", "22 15 03060B0B4869 020A"),
+    ("Hi", 22, 1, "left=2,text", "22 0 0B0B4869 0A0A"),
+    ("Hi", 22, 3, "right=2,text", "22 34 0B0B4869 0A0A"),
+    ("Hi", 22, 0, "free=3,right=3", "22 31 0B0B4869 0A0A"),
+    ("Hi", 22, 1, "left=39", "22 34 0B0B4869 0A0A"),
+    ("Hi 8A 8A Ho 8A", 22, 2, "last", "20 17 0B0B4869 0A0A 22 17 0B0B486F 0A0A"),
+    ("Hi 8A 8A Ho", 20, 2, "pack,double", "20 17 0B0B4869 0A0A 22 17 0B0B486F 0A0A"),
+    ("20 8A Hi", 20, 2, "trim,pack", "20 17 0B0B4869 0A0A"), ("20 20", 22, 2, "trim,white", ""),
+    ("20 20 Hi 07 20 20", 22, 2, "trim", "22 16 0B0B486907 0A0A"),
+    ("0D 0B 0B Hi 0A 0A", 22, 2, "before=*07,after=,white,trim", "22 16 0D0B0B4869 0A0A"),
+    ("0D Hi", 22, 2, "white,before=*0B0B", "22 16 0D070B0B4869 0A0A"),
+    ("00 Hi", 22, 2, "strip=00", "22 17 0B0B4869 0A0A"), ("00 Hi", 22, 2, "", "51 at 0"),
+    ("Hi", 22, 2, "row=2,before=0D0B0B", "53 at 0"), ("Hi", 1, 2, "row=-1", "53 at 0"),
+    ("Hi", 23, 2, "before=070D0B0B", "54 at 0"), ("8A 0D Hi", 23, 2, "pack", "54 at 1"),
+    ("Hi 8A Ho", 20, 2, "before=0D0B0B", "55 at 1"),
+    ("Hi 8A 8A Ho", 20, 2, "pack,before=0D0B0B", "55 at 2"),
+    ("0D Hi 8A 8A Ho", 20, 2, "", "20 16 0B0B0D4869 0A0A 22 17 0B0B486F 0A0A"),
+    ("E6", 22, 2, "", "50 at 0")]
+WORDS = "the cat sat on a mat and then it went to see what was there Hi Ho no yes".split()
+# How houses draw: whether a file has codes of its own, and the empty line between its lines that
+# leaves room for double height; what is sent; a TEXT that draws so.
+HOUSES = [
+    (False, False, "before=0D0B0B,double"), (True, True, ""), (False, False, "text"),
+    (False, False, "last"), (False, False, "after=0A"), (False, False, "after="),
+    (False, False, "before=070B0B"), (False, False, "before=*0B0B"), (False, False, "free=2"),
+    (False, False, "fit"), (True, True, "strip=0A0B0D,before=0D070B0B,after=0A,double,pack"),
+    (False, False, "before=0D*0B0B,white,double,last,text"), (False, False, "up"),
+    (True, False, "row=-1,double,last"), (False, False, "left=2,right=3")]
+
+
+def text_bytes(said: str) -> bytes:
+    """The bytes of a text, letters as they are."""
+    return b"".join(one.encode() if one in ("Hi", "Ho") else bytes.fromhex(one)
+                    for one in said.split(" "))
+
+
+def said_of(text: bytes, row: int, justify: int, layout: Layout) -> str:
+    """What is drawn, as the table says it."""
+    found = drawn(text, row, justify, layout, ENGLISH)
+    if isinstance(found, Refused):
+        return f"{found.number} at {found.at}"
+    return " ".join(f"{one.row} {one.column} {one.cells[:-2].hex().upper()} "
+                    f"{one.cells[-2:].hex().upper()}" for one in found)
+
+
+def line(some: random.Random, has_codes: bool) -> bytes:
+    """A line of words, some with a colour; with codes as files have that bring their own."""
+    text = " ".join(some.choice(WORDS) for _ in range(some.randrange(1, 5)))[:30].encode()
+    colour = some.choice([b"", b"", b"\3", b"\6"])
+    return b"\x0d" + colour + b"\x0b\x0b" + text + b"\x0a\x0a" if has_codes else colour + text
+
+
+def programme(some: random.Random, has_codes: bool, leaves_room: bool, layout: Layout,
+              count: int = 40) -> list[Sent]:
+    """Subtitles, and what an inserter of this layout sends of them."""
+    sent: list[Sent] = []
+    while len(sent) < count:
+        between = b"\x8a\x8a" if leaves_room else b"\x8a"
+        text = between.join(line(some, has_codes) for _ in range(some.choice([1, 2, 2])))
+        row, justify = some.choice([16, 18, 20]), some.choice([2, 2, 2, 1, 3, 0])
+        lines = drawn(text, row, justify, layout, ENGLISH)
+        if not isinstance(lines, Refused):
+            sent.append(Sent(text, row, justify, page_of(lines)))
+    return sent
+
+
+class Layouts(Case):
+    """A TEXT, and what it draws."""
+
+    def test_text_means_one_layout(self) -> None:
+        for text in NONE:
+            self.must(f"none: {text!r}", layout_of(text) is None, layout_of(text))
+        for text, simple in MEANS:
+            found = layout_of(text)
+            self.must(text, found and text_of(found) == simple, found)
+            self.must(f"{text}, read again", (layout_of(simple) if simple else PLAIN) == found)
+
+    def test_lines_are_drawn(self) -> None:
+        for said, row, justify, text, want in DRAWN:
+            layout = layout_of(text) if text else PLAIN
+            assert layout is not None, text
+            found = said_of(text_bytes(said), row, justify, layout)
+            self.must(f"{said} {text}", found == want, (found, want))
+        self.must("names", sorted(NAME_OF) == [*range(50, 56)])
+        pair = drawn(b"a\x0a\xc8a", 5, 2, Layout(strip=b"\x0a"), GERMAN)
+        self.must("a pair", not isinstance(pair, Refused)
+                  and pair[0].cells == b"\x0b\x0ba{\x0a\x0a", pair)
+        parted = drawn(b"\xc8\x0aa", 5, 2, Layout(strip=b"\x0a"), GERMAN)
+        self.must("a pair that is parted", parted == Refused(50, 0), parted)
+
+
+class Searches(Case):
+    """Which layout draws what was sent."""
+
+    def test_finds_how_a_house_draws(self) -> None:
+        some = random.Random(7)
+        for has_codes, leaves_room, text in HOUSES:
+            layout = layout_of(text) if text else PLAIN
+            assert layout is not None, text
+            sent = programme(some, has_codes, leaves_room, layout)
+            found = layout_of_sent(sent, ENGLISH)
+            self.must(text, found.drawn == found.found == len(sent) and found.is_clear
+                      and simplicity(found.layout) <= simplicity(layout), found)
+
+    def test_a_wrong_page_is_no_layout(self) -> None:
+        """One with another letter is not found; one in another column is found and not drawn."""
+        some = random.Random(8)
+        sent = programme(some, False, False, Layout(text=True))
+        wrong = sent[20]._replace(rows=tuple(row.replace(b"e", b"c") for row in sent[20].rows))
+        moved = sent[30]._replace(rows=tuple(row[-3:] + row[:-3] for row in sent[30].rows))
+        sent[20:21], sent[30:31] = [wrong], [moved]
+        found = layout_of_sent(sent, ENGLISH)
+        self.must("the house's", found.layout == Layout(text=True) and found.is_clear, found)
+        self.must("counted", (found.found - found.drawn) == 1
+                  and found.found == sum(is_found(one, ENGLISH) for one in sent), found)
+
+    def test_guesses_nothing(self) -> None:
+        """Of another programme, of fewer than ten subtitles, of pages that are drawn in turns."""
+        some = random.Random(9)
+        sent = programme(some, False, False, PLAIN)
+        others = [one._replace(rows=other.rows) for one, other in zip(sent, sent[1:])]
+        self.must("another programme", not layout_of_sent(others, ENGLISH).is_clear)
+        self.must("nine", not layout_of_sent(sent[:9], ENGLISH).is_clear)
+        self.must("ten", layout_of_sent(sent[:10], ENGLISH) == Choice(PLAIN, 10, 10))
+        self.must("none", layout_of_sent([], ENGLISH) == Choice(PLAIN, 0, 0))
+        turns = [one for pair in zip(programme(some, False, False, PLAIN, 60),
+                                     programme(some, False, False, Layout(row=-1), 60))
+                 for one in pair]
+        found = layout_of_sent(turns, ENGLISH)
+        self.must("in turns", not found.is_clear and found.found == 120
+                  and found.drawn >= count_drawn(PLAIN, turns, ENGLISH), found)
+        self.must("nine in ten", Choice(PLAIN, 90, 100).is_clear
+                  and not Choice(PLAIN, 89, 100).is_clear and not Choice(PLAIN, 9, 9).is_clear)
