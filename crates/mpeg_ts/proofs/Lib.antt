@@ -1,5 +1,4 @@
 pub mod CarriedLemmas
-pub mod InSequenceLemmas
 pub mod JoinedLemmas
 pub mod NoteLemmas
 pub mod OutcomeLemmas

@@ -1,10 +1,10 @@
 -- The PES packets of a PID as a source; main lemmas: gave, lends_front, passed_front.
 use Rattle.std.proofs.Common.{◌≡◌, ℕ, ◌≤◌, List, [], ◌∷◌, ◌++◌, length, take, drop, Option}
-use Rattle.std.proofs.Common.{Some, None, refl, sym, ap, ◌∙◌, length-take-le}
+use Rattle.std.proofs.Common.{Some, None, sym, ap, ◌∙◌, length-take-le}
 use Rattle.std.proofs.Common.{take-append-drop}
 use Rattle.std.proofs.KnownBytes.{Keeps-refl}
 use Rattle.std.proofs.lemmas.Option.{same_Some}
-use Rattle.std.specs.Io.KnownBytes.{Consumes, IsAtEnd, Keeps, prepend_known}
+use Rattle.std.specs.Io.KnownBytes.{Consumes, IsAtEnd, Keeps}
 use lib.Seq.{take-append-le}
 use Rattle.sub_io.specs.Device.{PassesOver}
 use Rattle.sub_io.specs.Reading.{AreNext}
@@ -77,13 +77,6 @@ passed_front told v count le = record {
       (take count v.joining.pending) (Keeps-refl (still_given v told))
       (sym (take-append-drop count v.joining.pending));
 }
-
--- ---- PES packets that were taken together
-
--- Where none are left, nothing comes before the others.
-pub prepend_none : (told : Option (List ℕ)) → prepend_known [] told ≡ told
-prepend_none None = refl
-prepend_none (Some b) = refl
 
 pub ruleset pulls = (gave, gave_ready, gave_none)
 

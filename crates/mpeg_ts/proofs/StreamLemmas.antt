@@ -11,7 +11,7 @@ use Rattle.std.proofs.lemmas.List.{take-take}
 use Rattle.std.proofs.Math.Seq.{drop-append-add, drop-append_seam}
 use Rattle.std.proofs.KnownBytes.{Keeps-trans, Keeps-refl}
 use Rattle.std.specs.Prelude.{◌&&◌, ◌==◌, ◌%◌, ◌*◌, nat_lt, slice_index, if◌then◌else◌, IfSome}
-use Rattle.std.specs.Io.KnownBytes.{Consumes, IsAtEnd, Keeps, prepend_known}
+use Rattle.std.specs.Io.KnownBytes.{Consumes, IsAtEnd, Keeps}
 use lib.Seq.{take-add, take-append-le}
 use Rattle.sub_io.specs.Device.{PassesOver}
 use Rattle.sub_io.specs.Reading.{AreNext}
@@ -731,63 +731,3 @@ lent_taken (Some xs) (Some ys) v w lent p count next passed sum few within none 
 pub ruleset others = other_passed
 
 pub ruleset skims = (others_kept, Keeps-refl)
-
--- ---- PES packets that follow one another
-
--- What is left behind them, and they before it.
-pub sequence_kept : (x y : Option (List ℕ)) (v : StreamValue) (j : JoiningValue) (w : WindowValue)
-    (lent given : List ℕ) (count : ℕ)
-    → AreNext lent x
-    → PassesOver x count y
-    → count ≤ length lent
-    → length lent ≤ v.window.left
-    → v.window.held ≡ []
-    → v.lead ≡ 0
-    → v.in_step ≡ true
-    → v.run ≡ 0
-    → ((rest : List ℕ)
-    → stream_gives v.distance v.number 0 true v.joining (lent ++ rest)
-    ≡ given ++ stream_gives v.distance v.number 0 true j (drop count (lent ++ rest)))
-    → w ≡ record v.window { left = v.window.left - count }
-    → Keeps (still_given v x)
-    (prepend_known given (still_given (record v { window = w; joining = j }) y))
-sequence_kept None y v j w lent given count next passed few within none lead step run gives is = tt
-sequence_kept (Some xs) None v j w lent given count next passed few within none lead step run gives
-    is = absurd passed.consumed
-sequence_kept (Some xs) (Some ys) v j w lent given count next passed few within none lead step run
-    gives is =
-    let left = v.window.left in
-    let rest = take (left - length lent) (drop (length lent) xs) in
-    let whole : take left xs ≡ lent ++ rest =
-    ap (λ (n : ℕ). take n xs) (let e : left ≡ length lent + (left - length lent) = omega arith in e)
-    ∙ take-add (length lent) (left - length lent) xs
-    ∙ ap (λ (l : List ℕ). l ++ rest) (next xs refl) in
-    let behind : drop count xs ≡ ys =
-    ap (λ (n : ℕ). drop n xs) (sym passed.number)
-    ∙ ap (drop (length passed.bytes)) passed.consumed
-    ∙ drop-append_seam passed.bytes ys in
-    let after : take (left - count) ys ≡ drop count (lent ++ rest) =
-    ap (take (left - count)) (sym behind)
-    ∙ sym (drop-take count (left - count) xs)
-    ∙ ap (λ (n : ℕ). drop count (take n xs))
-    (let e : count + (left - count) ≡ left = omega arith in e)
-    ∙ ap (drop count) whole in
-    ap (λ (u : WindowValue). given ++ given_of (record v { window = u; joining = j }) ys) is
-    ∙ ap (λ (l : List ℕ). given ++ stream_gives v.distance v.number v.run v.in_step j
-    (drop v.lead (l ++ take (left - count) ys))) none
-    ∙ ap (λ (n : ℕ). given ++ stream_gives v.distance v.number v.run v.in_step j
-    (drop n (take (left - count) ys))) lead
-    ∙ ap (λ (n : ℕ). given ++ stream_gives v.distance v.number n v.in_step j
-    (take (left - count) ys)) run
-    ∙ ap (λ (b : Bool). given ++ stream_gives v.distance v.number 0 b j
-    (take (left - count) ys)) step
-    ∙ ap (λ (l : List ℕ). given ++ stream_gives v.distance v.number 0 true j l) after
-    ∙ sym (gives rest)
-    ∙ ap (stream_gives v.distance v.number 0 true v.joining) (sym whole)
-    ∙ ap (λ (b : Bool). stream_gives v.distance v.number 0 b v.joining (take left xs)) (sym step)
-    ∙ ap (λ (n : ℕ). stream_gives v.distance v.number n v.in_step v.joining (take left xs))
-    (sym run)
-    ∙ ap (λ (n : ℕ). stream_gives v.distance v.number v.run v.in_step v.joining
-    (drop n (take left xs))) (sym lead)
-    ∙ ap (λ (l : List ℕ). stream_gives v.distance v.number v.run v.in_step v.joining
-    (drop v.lead (l ++ take left xs))) (sym none)

@@ -1,6 +1,5 @@
 pub mod Carried
 pub mod GoodPackets
-pub mod InSequence
 pub mod Joining
 pub mod PacketSize
 pub mod PacketsInStep

@@ -75,9 +75,7 @@ pub record IsStream (number distance lead run taken : ℕ) (in_step : Bool) : Ty
   pub no_run : in_step ≡ true → run ≡ 0
   pub counted : run + taken ≤ 2 ^ 48
 
--- The source of a recording with what was read of it, and the bytes of PES packets that were taken
--- together and are given before what else is.
+-- The source of a recording, and what was read of it.
 pub record SourceValue (D : Type 0) : Type 0 where
   pub device : D
   pub stream : StreamValue
-  pub batch : List ℕ

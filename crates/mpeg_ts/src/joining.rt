@@ -5,7 +5,6 @@ ghost use Rattle.mpeg_ts.specs.GoodPackets.{Wrong, Hole, note_of};
 ghost use Rattle.mpeg_ts.specs.Joining.{after_note, after_valid, begun, gone_on, grown};
 ghost use Rattle.mpeg_ts.specs.Joining.{has_ended, holding, is_complete, link_after, repeats};
 ghost use Rattle.mpeg_ts.specs.Joining.{nothing_joined, remembering};
-ghost use Rattle.mpeg_ts.specs.InSequence.{GoesOn, behind_packet};
 ghost use Rattle.mpeg_ts.specs.Parts.{is_break, is_cut};
 ghost use Rattle.mpeg_ts.specs.TransportPacket.{has_payload, is_wrong, payload};
 
@@ -128,42 +127,6 @@ impl Joining {
         ensures { (result ≡ true) ↔ (self.now.pending ≡ []) }
     {
         self.mark_left == 0 && self.start == self.end
-    }
-
-    // The counter of the last good packet, where the next PES packet may follow it with nothing
-    // missing.
-    pub(crate) fn counter_before(&self) -> Option<u8>
-        requires { self.now.pending ≡ [] }
-        ensures goes_on { IfSome result (λ counter. GoesOn self.now counter) }
-        ensures bound { IfSome result (λ counter. counter < 0x10) }
-    {
-        if self.payload_size == 0 || self.has_jump || self.has_break || !self.is_complete() {
-            return None;
-        }
-        match &self.given {
-            Given::Packet => Some(self.header[3] % 0x10),
-            _ => None,
-        }
-    }
-
-    // PES packets were given whose transport packets followed one another: the last of them has
-    // these bytes, and its last packet that header.
-    pub(crate) fn set_behind(&mut self, header: [u8; 4], packet: &[u8])
-        requires idle { self.old.pending ≡ [] }
-        requires least { 184 ≤ length packet.now }
-        requires most { length packet.now ≤ 1656 }
-        ensures { self.new ≡ behind_packet header packet.now }
-    {
-        self.clear();
-        self.bytes.add(packet);
-        self.payload_size = 184;
-        self.header = header;
-        self.announced = false;
-        self.has_repeat = false;
-        self.has_jump = false;
-        self.has_break = false;
-        self.part = PartState::Complete;
-        self.given = Given::Packet;
     }
 
     // Whether nothing comes any more but what is ready.

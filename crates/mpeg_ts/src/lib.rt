@@ -15,8 +15,6 @@
 //! ```
 #![tactic(auto)]
 
-mod batch;
-mod in_sequence;
 mod joining;
 mod mark;
 mod packet_size;

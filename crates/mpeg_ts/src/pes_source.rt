@@ -1,6 +1,6 @@
 //! The PES packets that the packets of a PID carry, as a source.
-ghost use Rattle.std.specs.Prelude.{◌≡◌, ◌≢◌, ◌++◌, [], Ok, option_map};
-ghost use Rattle.std.specs.Io.KnownBytes.{IsAtEnd, Keeps, prepend_known};
+ghost use Rattle.std.specs.Prelude.{◌≡◌, ◌≢◌, [], Ok, option_map};
+ghost use Rattle.std.specs.Io.KnownBytes.{IsAtEnd, Keeps};
 ghost use Rattle.sub_io.specs.Device.{CanFail, CountsFailure};
 ghost use Rattle.sub_io.specs.Lent.{BeginLent};
 ghost use Rattle.sub_io.specs.Reading.{AreNext};
@@ -8,7 +8,6 @@ ghost use Rattle.mpeg_ts.specs.Carried.{carried};
 ghost use Rattle.mpeg_ts.specs.PacketSize.{bytes_of};
 ghost use Rattle.mpeg_ts.specs.Stream.{start_of_stream, still_given};
 
-use crate::batch::Batch;
 use crate::stream::Stream;
 use crate::{PacketSize, Pid};
 use std::marker::Model;
@@ -22,28 +21,19 @@ use sub_io::{Failed, Source};
 /// of the next where that packet was found out of step; a mark as soon as it is known. A PES packet
 /// is lent whole. It takes no memory beside its own.
 ///
-/// Where the source inside lends its bytes, PES packets whose transport packets follow one another
-/// in them, with nothing between, are taken together, at most 16 KiB at a time, and lent as one run
-/// of bytes.
-///
 /// Contracts see it as the source inside, and what was read of it.
 #[derive(Drop)]
 pub struct PesSource<S> {
     inner: S,
     stream: Stream,
-    // PES packets that were taken together. Where one is there, nothing else is ready.
-    batch: Batch,
 }
 
 impl<S> Model for PesSource<S> {
-    ghost use Rattle.std.specs.Prelude.{◌≡◌, ◌≢◌, []};
     ghost use Rattle.mpeg_ts.specs.Stream.{SourceValue};
 
     ghost Value = { SourceValue S };
 
-    ghost view = { λ s. record { device = s.inner; stream = s.stream; batch = s.batch } };
-
-    ghost invariant = { λ s. s.batch ≢ [] → s.stream.joining.pending ≡ [] };
+    ghost view = { λ s. record { device = s.inner; stream = s.stream } };
 }
 
 impl<S: Source> PesSource<S> {
@@ -54,27 +44,24 @@ impl<S: Source> PesSource<S> {
         ensures start { result ≡ record {
           device = source;
           stream = start_of_stream pid (bytes_of packet_size);
-          batch = [];
         } }
         // What it gives is what the packets of the PID carry in the recording.
-        ensures carried { prepend_known result.batch
-            (still_given result.stream (S.remaining result.device))
+        ensures carried { still_given result.stream (S.remaining result.device)
             ≡ option_map (carried pid (bytes_of packet_size)) (S.remaining source) }
     {
         PesSource {
             inner: source,
             stream: Stream::new(pid, packet_size),
-            batch: Batch::new(),
         }
     }
 }
 
 impl<S: Source> Source for PesSource<S> {
-    ghost remaining = { λ s. prepend_known s.batch (still_given s.stream (S.remaining s.device)) };
+    ghost remaining = { λ s. still_given s.stream (S.remaining s.device) };
 
     ghost failure_count = { λ s. S.failure_count s.device };
 
-    ghost lent = { λ s. s.batch ++ s.stream.joining.pending };
+    ghost lent = { λ s. s.stream.joining.pending };
 
     /// Gives bytes of a PES packet or of a mark. It reads on where none are ready.
     ///
@@ -84,11 +71,7 @@ impl<S: Source> Source for PesSource<S> {
     #[tactic(auto, using(crate::proofs::SourceLemmas::pulls))]
     fn pull(&mut self, to: &mut [u8]) -> Result<usize, Failed> {
         self.read_on()?;
-        if self.batch.is_empty() {
-            Ok(self.stream.give(to))
-        } else {
-            Ok(self.batch.give(to))
-        }
+        Ok(self.stream.give(to))
     }
 
     /// The failures of the source inside.
@@ -99,18 +82,12 @@ impl<S: Source> Source for PesSource<S> {
     /// The bytes that are ready, PES packets or a mark: none only where none are ready.
     #[tactic(auto, using(crate::proofs::SourceLemmas::lends))]
     fn held(&self) -> &[u8]
-        ensures bytes { AreNext result.now (prepend_known self.now.batch
-            (still_given self.now.stream (S.remaining self.now.device))) }
-        ensures lent { BeginLent result.now
-            (self.now.batch ++ self.now.stream.joining.pending) }
-        ensures some { result.now ≡ []
-            → self.now.batch ++ self.now.stream.joining.pending ≡ [] }
+        ensures bytes { AreNext result.now
+            (still_given self.now.stream (S.remaining self.now.device)) }
+        ensures lent { BeginLent result.now self.now.stream.joining.pending }
+        ensures some { result.now ≡ [] → self.now.stream.joining.pending ≡ [] }
     {
-        if self.batch.is_empty() {
-            self.stream.lent()
-        } else {
-            self.batch.held()
-        }
+        self.stream.lent()
     }
 
     /// Reads on where no bytes are ready, and has some ready then but at the end.
@@ -118,28 +95,19 @@ impl<S: Source> Source for PesSource<S> {
     /// # Errors
     ///
     /// `Failed` where the source inside fails.
-    #[inline(never)]
     #[tactic(auto, using(crate::proofs::SourceLemmas::pulls))]
     fn read_on(&mut self) -> Result<(), Failed>
         requires { CanFail (S.failure_count self.old.device) }
-        ensures bytes { Keeps
-            (prepend_known self.old.batch
-            (still_given self.old.stream (S.remaining self.old.device)))
-            (prepend_known self.new.batch
-            (still_given self.new.stream (S.remaining self.new.device))) }
-        ensures ready { self.old.batch ++ self.old.stream.joining.pending ≢ []
+        ensures bytes { Keeps (still_given self.old.stream (S.remaining self.old.device))
+            (still_given self.new.stream (S.remaining self.new.device)) }
+        ensures ready { self.old.stream.joining.pending ≢ []
             → (self.new ≡ self.old) × (result ≡ Ok tt) }
-        ensures end { result ≡ Ok tt → self.new.batch ++ self.new.stream.joining.pending ≡ []
+        ensures end { result ≡ Ok tt → self.new.stream.joining.pending ≡ []
             → IsAtEnd (still_given self.new.stream (S.remaining self.new.device)) }
         ensures count { CountsFailure
             (S.failure_count self.old.device) result (S.failure_count self.new.device) }
     {
-        if !self.batch.is_empty() || !self.stream.is_idle() {
-            return Ok(());
-        }
-        self.stream
-            .take_in_sequence(&mut self.inner, &mut self.batch);
-        if !self.batch.is_empty() {
+        if !self.stream.is_idle() {
             return Ok(());
         }
         self.stream.read_on(&mut self.inner)
@@ -148,9 +116,6 @@ impl<S: Source> Source for PesSource<S> {
     /// Passes over bytes that are ready.
     #[tactic(auto, using(crate::proofs::SourceLemmas::passes))]
     fn pass(&mut self, count: usize) -> bool {
-        if !self.batch.is_empty() {
-            return self.batch.pass(count);
-        }
         if self.stream.ready() < count {
             return false;
         }

@@ -12,8 +12,6 @@ ghost use Rattle.mpeg_ts.specs.Stream.{given_of, start_of_stream, still_given, s
 ghost use Rattle.mpeg_ts.specs.TransportPacket.{pid, sync_byte};
 ghost use Rattle.mpeg_ts.specs.Window.{window_size};
 
-use crate::batch::Batch;
-use crate::in_sequence::{Spacing, plain_header};
 use crate::joining::Joining;
 use crate::transport_packet::{PACKET, SYNC_BYTE, pid_of};
 use crate::window::Window;
@@ -404,41 +402,6 @@ impl Stream {
         self.step(source)
     }
 
-    // Takes PES packets that follow one another in what the source lends, where nothing is ready.
-    #[inline(never)]
-    #[tactic(auto, using(crate::proofs::StreamLemmas::skims))]
-    pub(crate) fn take_in_sequence<S: Source>(&mut self, source: &mut S, batch: &mut Batch)
-        requires count { CanFail (S.failure_count source.old) }
-        requires idle { self.old.joining.pending ≡ [] }
-        requires empty { batch.old ≡ [] }
-        ensures keeps { Keeps (still_given self.old (S.remaining source.old))
-            (prepend_known batch.new (still_given self.new (S.remaining source.new))) }
-        ensures idle { self.new.joining.pending ≡ [] }
-        ensures count { S.failure_count source.new ≡ S.failure_count source.old }
-    {
-        if !self.in_step || self.window.len() > 0 || self.lead > 0 {
-            return;
-        }
-        let Some(counter) = self.joining.counter_before() else {
-            return;
-        };
-        let lent = source.held();
-        if self.window.left() < lent.len() as u64 {
-            return;
-        }
-        let spacing = Spacing {
-            number: self.number,
-            distance: self.distance,
-        };
-        let Some(last) = batch.take(lent, spacing, counter) else {
-            return;
-        };
-        let header = plain_header(self.number, last.size == 184, last.counter);
-        self.joining.set_behind(header, batch.last(last.size));
-        source.pass(last.place);
-        self.window.pass(last.place as u64);
-    }
-
     // Whether nothing is ready, and more may come.
     #[inline(always)]
     fn wants_more(&self) -> bool
@@ -478,8 +441,7 @@ impl Stream {
         self.joining.is_idle()
     }
 
-    // The bytes that are given next, as far as they stand together. (Out of line, like what passes
-    // over them: most bytes are lent by the batch.)
+    // The bytes that are given next, as far as they stand together.
     #[inline(never)]
     pub(crate) fn lent(&self) -> &[u8]
         ensures next { take (length result.now) self.now.joining.pending ≡ result.now }
