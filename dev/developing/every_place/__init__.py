@@ -32,6 +32,7 @@ carried_laws       what is promised of a recording, tried at random
 At random:
 
 pairs              pairs of files, broken
+as_houses          what a house asks for: layouts, parts, headers that keep, refused subtitles
 broken             transmissions, broken
 late               transmissions sent late, in fields, with PTS that are a bit off
 streams            transport streams, with losses and worse

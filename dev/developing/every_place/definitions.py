@@ -11,7 +11,8 @@ from subtitles.core.teletext import CODE_WORDS, Page, address_of, is_odd
 from subtitles.core.times import time_of
 from .national import ALL_BITS, BITS
 from .reading import (
-    CUT, Header, Record, StlFault, found_in, header_of, pieces_of, records_of, sending_in)
+    CUT, OF_FIRST_BLOCK, Header, Outside, Record, StlFault, found_in, header_of, pieces_of,
+    sending_in, subcode_of)
 from .recordings import Range, carried, range_of
 from .rows import BLANK, COLUMNS, SPACE, TextFault, drawn
 from .trust import Course, End, Event, Sent, lines_of
@@ -25,7 +26,9 @@ NAMES = dict(
     |38 UnitLength|39 Framing|40 LineOrder|44 TooMany|45 Lost|50 Character|51 Control|52 RowTooLong
     |53 PastBottom|54 DoubleRow|55 Hidden|56 OutOfOrder|57 Overlap|60 Empty|61 OffFrame|62 Order
     |63 Early|64 Address|65 HeaderCode|66 Mode|67 Control|68 Parity|69 RowChanged|70 Enhancement
-    |71 NoFirstHeader|72 Content|73 Gap|74 Late|77 Incomplete""".split("|")))
+    |71 NoFirstHeader|72 Content|73 Gap|74 Late|77 Incomplete|78 Undecided|79 Silent
+    """.split("|")))
+ERASE, SERIAL = 4, 11
 
 
 class Packet(NamedTuple):
@@ -47,32 +50,78 @@ def ended(number: int, place: str) -> str:
 
 # The subtitle file
 
-def stl_faults(data: bytes, option: str) -> Iterator[str]:
-    """The lines for everything that is broken in a subtitle file."""
+class Subtitles(NamedTuple):
+    """What is told of a subtitle file, and the records that can be judged, with whether another
+    subtitle that is asked for stands before each of them, and last behind them; `None` where the
+    PES file is not read."""
+
+    lines: list[str]
+    records: list[Record] | None
+    others: list[bool]
+
+
+def record_faults(record: Record, before: Record | None, options: Options) -> Iterator[str]:
+    """The lines for everything that is broken in a record."""
+    if before and record.tci < before.tci:
+        yield refused(56, f"block {record.block}")
+    elif before and record.tci < before.tco:
+        yield refused(57, f"block {record.block}")
+    try:
+        drawn(record, options.option, options.layout)
+    except TextFault as fault:
+        yield refused(fault.number, f"block {record.block} at {fault.at}")
+
+
+def is_of_order(line: str) -> bool:
+    return line.startswith(("refused 56 ", "refused 57 "))
+
+
+def subtitles_in(data: bytes, options: Options) -> Subtitles:
+    """What is told of a file, and what can be judged beside it."""
+    told: list[str] = []
+    groups: list[Record | None] = []  # those that are asked for, `None` where one is no record
+    faults: dict[int, list[str]] = {}  # of the records, by their places among the groups
     before: Record | None = None
-    for found in found_in(data):
-        if isinstance(found, StlFault):
-            yield refused(found.number, f"block {found.block}")
-            continue
-        if before and found.tci < before.tci:
-            yield refused(56, f"block {found.block}")
-        elif before and found.tci < before.tco:
-            yield refused(57, f"block {found.block}")
-        try:
-            drawn(found, option)
-        except TextFault as fault:
-            yield refused(fault.number, f"block {found.block} at {fault.at}")
-        before = found
+    found: list[Record | StlFault | Outside] = list(
+        found_in(data, options.is_open, options.from_frame, options.to_frame))
+    for one in found:
+        if isinstance(one, StlFault):
+            told.append(refused(one.number, f"block {one.block}"))
+            groups.append(None)
+        elif isinstance(one, Record):
+            faults[len(groups)] = list(record_faults(one, before, options))
+            told += faults[len(groups)]
+            groups.append(one)
+            before = one
+    places = list(faults)
+    judged = [place for place, after in zip(places, [*places[1:], None])
+              if not faults[place] and not (after and any(map(is_of_order, faults[after])))]
+    records = [record for place in judged if (record := groups[place])]
+    others = [second - first > 1 for first, second in zip([-1, *judged], [*judged, len(groups)])]
+    is_known = not any(isinstance(one, StlFault) and one.number not in OF_FIRST_BLOCK
+                       for one in found)
+    in_order = all(one.tci >= earlier.tco for at, one in enumerate(records)
+                   for earlier in records[:at])
+    is_read = not told or is_known and bool(records) and in_order
+    return Subtitles(told, records if is_read else None, others)
 
 
 class Due:
-    """The page that is due at each frame."""
+    """The page that is due at each frame, and where it is undecided."""
 
-    def __init__(self, records: list[Record], option: str) -> None:
-        self.pages = [(one.tci, one.tco, drawn(one, option)) for one in records]
+    def __init__(self, records: list[Record], others: list[bool], options: Options) -> None:
+        self.others = others
+        self.pages = [(one.tci, one.tco, drawn(one, options.option, options.layout))
+                      for one in records]
 
     def at(self, frame: int) -> bytes:
         return next((page for tci, tco, page in self.pages if tci <= frame < tco), BLANK)
+
+    def is_undecided(self, frame: int) -> bool:
+        """Whether none is due, and a subtitle that is no record of these stands there in the file.
+        """
+        count = sum(tci <= frame for tci, _, _ in self.pages)
+        return self.others[count] and not any(tci <= frame < tco for tci, tco, _ in self.pages)
 
     def first(self) -> int | None:
         return self.pages[0][0] if self.pages else None
@@ -97,9 +146,38 @@ def span_of(packets: Sequence[Packet], page: Page) -> tuple[Sequence[Packet], bo
     if begin is None:
         return [], False
     for end, packet in enumerate(packets[begin + 1:], begin + 1):
-        if packet.header and (packet.header[0][0] == page[0] or 11 in packet.header[1]):
+        if ends_page(packet, page):
             return packets[begin + 1:end], False
     return packets[begin + 1:], True
+
+
+def ends_page(packet: Packet, page: Page) -> bool:
+    """Whether a packet is a header that ends the page where it is open."""
+    header = packet.header
+    return header is not None and (header[0][0] == page[0] or SERIAL in header[1])
+
+
+def long_span_of(packets: Sequence[Packet], page: Page, may_keep: bool) -> list[Packet]:
+    """What follows the headers of the page, each up to the one that ends it: from the last one that
+    erases on, where headers may keep the page, from the first one where none erases; else from the
+    last one on."""
+    headers = [at for at, packet in enumerate(packets) if page_of(packet) == page]
+    erasing = [at for at in headers if erases(packets[at])]
+    first = (erasing[-1:] or headers[:1]) if may_keep else headers[-1:]
+    span: list[Packet] = []
+    is_open = False
+    for packet in packets[first[0]:] if first else []:
+        if page_of(packet) == page:
+            is_open = True
+        elif ends_page(packet, page):
+            is_open = False
+        elif is_open:
+            span.append(packet)
+    return span
+
+
+def erases(packet: Packet) -> bool:
+    return packet.header is not None and ERASE in packet.header[1]
 
 
 def page_of(packet: Packet) -> Page | None:
@@ -125,21 +203,25 @@ def codes_of(packet: Packet) -> bytes:
 
 
 class Held(NamedTuple):
-    """What a receiver holds: 960 codes, and whether the page is open."""
+    """What a receiver holds: 960 codes, whether the page is open, and the rows that came since the
+    last header of the page."""
 
     page: bytes
     is_open: bool
+    came: set[int]
+
+    def first_difference(self, due: bytes) -> int | None:
+        """The first cell with another code, or with text that was not sent again."""
+        return next((at for at, code in enumerate(self.page) if code != due[at]
+                     or due[at] != SPACE and at // COLUMNS + 1 not in self.came), None)
 
 
-def held_after(packets: Sequence[Packet], page: Page) -> Held:
-    """What a receiver holds after the packets."""
-    span, is_open = span_of(packets, page)
-    rows = rows_in(span, page)
-    return Held(b"".join(rows.get(row, BLANK[:COLUMNS]) for row in range(1, 25)), is_open)
-
-
-def first_difference(page: bytes, other: bytes) -> int | None:
-    return next((at for at, code in enumerate(page) if code != other[at]), None)
+def held_after(packets: Sequence[Packet], options: Options) -> Held:
+    """What a receiver holds after the packets that was blank before them."""
+    span, is_open = span_of(packets, options.page)
+    rows = rows_in(long_span_of(packets, options.page, options.may_keep), options.page)
+    return Held(b"".join(rows.get(row, BLANK[:COLUMNS]) for row in range(1, 25)), is_open,
+                {*rows_in(span, options.page)})
 
 
 # The rules of a packet
@@ -149,23 +231,33 @@ def is_exact(codes: bytes) -> bool:
 
 
 def is_plain_subtitle_header(control: set[int], option: str) -> bool:
-    """C4, C6 and C7 set; C5 and C10 clear; C12, C13 and C14 those of the national option."""
-    return control >= {4, 6, 7} and not control & {5, 10} and control & ALL_BITS == BITS[option]
+    """C6 and C7 set; C5 and C10 clear; C12, C13 and C14 those of the national option."""
+    return control >= {6, 7} and not control & {5, 10} and control & ALL_BITS == BITS[option]
+
+
+def is_repeat(packet: Packet, before: Sequence[Packet], is_open: bool, options: Options) -> bool:
+    """Whether a header of the page may keep it: it has the subcode of the one before it, and, where
+    complete pages are asked for, that page has ended."""
+    last = next((one for one in reversed(before) if page_of(one) == options.page), None)
+    return (options.may_keep and not (options.is_complete and is_open)
+            and (last is None or subcode_of(last.data) == subcode_of(packet.data)))
 
 
 def packet_faults(packet: Packet, before: Sequence[Packet], options: Options) -> list[int]:
     """The numbers of the rules that a packet breaks after those before it."""
     address, header, page = packet.address, packet.header, options.page
-    span, is_open = span_of(before, page)
+    _, is_open = span_of(before, page)
     is_stored = is_open and is_row(packet, page)
     headers = (one.header for one in before if one.header)
-    known = rows_in(span, page).get(address[1]) if address and is_stored else None
+    rows = rows_in(long_span_of(before, page, options.may_keep), page)
+    known = rows.get(address[1]) if address and is_stored else None
     broken: dict[int, object] = {
         64: not is_exact(packet.data[:2]),
         65: address and address[1] == 0 and not is_exact(packet.data[2:10]),
-        66: header and (11 in header[1]) != (11 in next(headers, header)[1]),
-        67: header and header[0] == page and not is_plain_subtitle_header(header[1],
-                                                                         options.option),
+        66: header and (SERIAL in header[1]) != (SERIAL in next(headers, header)[1]),
+        67: header and header[0] == page and not (
+            is_plain_subtitle_header(header[1], options.option)
+            and (erases(packet) or is_repeat(packet, before, is_open, options))),
         68: is_stored and not all(map(is_odd, packet.data[2:])),
         69: known is not None and known != codes_of(packet),
         70: is_open and address and address[0] == page[0] and 25 <= address[1] <= 28,
@@ -188,25 +280,32 @@ class Ends:
         self.since: int | None = None
         self.is_late = False  # of the last end
 
-    def stands(self, frame: int, held: Held, headers: list[int]) -> dict[int, int]:
-        """The numbers that stand at an end; `headers` are the frames with a header of the page."""
-        options, due = self.options, self.due.at(frame)
+    def stands(self, frame: int, held: Held, headers: list[int], sent: list[int]
+               ) -> dict[int, int]:
+        """The numbers that stand at an end; `headers` are the frames with a header of the page,
+        `sent` those of PES packets."""
+        options = self.options
         is_open = options.is_complete and held.is_open
-        is_finished = held.page == due and not is_open
+        differs = None if self.due.is_undecided(frame) else \
+            held.first_difference(self.due.at(frame))
+        is_finished = differs is None and not is_open
         self.since = None if is_finished else frame if self.since is None else self.since
         self.is_late = self.has_to_be_whole(frame)
-        found: dict[int, int] = {}
-        if held.page != due:
-            cell = first_difference(held.page, due) if self.is_late \
-                else self.first_wrong(held.page, frame)
-            if cell is not None:
-                found[72] = cell
+        cell = differs if self.is_late else None
+        cell = self.first_wrong(held.page, frame) if cell is None else cell
         is_window = frame >= self.first + options.every - 1
-        if is_window and not any(frame < one + options.every for one in headers):
-            found[73] = NO_CELL
-        if self.is_late and is_open:
-            found[77] = NO_CELL
-        return found
+        found = {
+            72: cell is not None,
+            73: is_window and not any(frame < one + options.every for one in headers),
+            77: self.is_late and is_open,
+            78: any(map(self.due.is_undecided, self.allowed(frame))),
+            79: options.pace and not any(frame < one + options.pace for one in sent)}
+        return {number: cell if number == 72 and cell is not None else NO_CELL
+                for number, is_so in found.items() if is_so}
+
+    def allowed(self, frame: int) -> list[int]:
+        """A frame, and those before it whose page may still stand."""
+        return [frame, *range(max(self.first, frame - self.options.within), frame)]
 
     def has_to_be_whole(self, frame: int) -> bool:
         """Whether an end is unfinished and late: as many frames as are allowed have passed, or a
@@ -218,16 +317,19 @@ class Ends:
 
     def first_wrong(self, page: bytes, frame: int) -> int | None:
         """The first cell that holds neither a space nor what is due there, or was due up to so many
-        frames before."""
-        frames = [frame, *range(max(self.first, frame - self.options.within), frame)]
+        frames before; none where one of these is undecided."""
+        frames = self.allowed(frame)
+        if any(map(self.due.is_undecided, frames)):
+            return None
         dues = [self.due.at(one) for one in frames]
         return next((at for at, code in enumerate(page)
                      if code != SPACE and all(due[at] != code for due in dues)), None)
 
-    def at(self, frame: int, held: Held, headers: list[int]) -> Iterator[tuple[int, str]]:
+    def at(self, frame: int, held: Held, headers: list[int], sent: list[int]
+           ) -> Iterator[tuple[int, str]]:
         """The numbers and the lines of an end."""
-        found = self.stands(frame, held, headers)
-        for number in (72, 73, 77):
+        found = self.stands(frame, held, headers, sent)
+        for number in (72, 73, 77, 78, 79):
             now, before = found.get(number), self.standing.get(number)
             if now == before:
                 continue
@@ -322,8 +424,8 @@ class Transmission:
         self.end(pes, range(max(self.frames) + 1, frame))
 
     def take_packets(self, pes: int, frame: int, teletext: list[bytes]) -> bool:
-        """Its Teletext packets; answers whether one of them is a header of the page."""
-        page, before = self.options.page, len(self.headers)
+        """Its Teletext packets; answers whether one of them is a header that erases the page."""
+        page, has_erased = self.options.page, False
         for one in teletext:
             packet = Packet(one, address_of(one), header_of(one))
             for fault in packet_faults(packet, self.packets, self.options):
@@ -332,7 +434,8 @@ class Transmission:
             self.count += 1
             if page_of(packet) == page:
                 self.headers.append(frame)
-        return len(self.headers) > before
+                has_erased |= erases(packet)
+        return has_erased
 
     def end_sending(self) -> None:
         """The end of the frame that was read last, where it is still to come."""
@@ -347,9 +450,9 @@ class Transmission:
     def end(self, pes: int, frames: Iterable[int]) -> None:
         """The ends of frames between which nothing is sent: those before a PES packet, or its own
         after the last one of it."""
-        held, ends = held_after(self.packets, self.options.page), self.ends
+        held, ends = held_after(self.packets, self.options), self.ends
         for frame in frames:
-            for number, line in ends.at(frame, held, self.headers):
+            for number, line in ends.at(frame, held, self.headers, self.frames):
                 self.add(Event(line, number, pes, frame, True))
             if self.course.is_rising:
                 self.course.ends.append(
@@ -393,12 +496,14 @@ def read_by(data: bytes, options: Options) -> Range:
 def check_all(stl: bytes, pes: bytes, options: Options, is_failing: bool = False) -> list[str]:
     """The lines of `check --all`. A PES file, or a transport stream, may fail where its bytes end.
     """
-    lines = list(stl_faults(stl, options.option))
-    if lines:
-        return [*lines, f"{len(lines)} faults"]
+    subtitles = subtitles_in(stl, options)
+    told = subtitles.lines
+    if subtitles.records is None:
+        return [*told, f"{len(told)} faults"]
     read = read_by(pes, options)
     pieces, broken = pieces_of(read.data)
-    transmission = Transmission(Due(records_of(stl), options.option), options, read.first)
+    due = Due(subtitles.records, subtitles.others, options)
+    transmission = Transmission(due, options, read.first)
     for number, piece in enumerate(pieces):
         sending = sending_in(piece, options.origin, options.within)
         if isinstance(sending, int):
@@ -406,9 +511,10 @@ def check_all(stl: bytes, pes: bytes, options: Options, is_failing: bool = False
         else:
             transmission.take(number, *sending)
     # Where the source failed nothing more is told, and nothing ends.
+    course, is_refused = transmission.course, bool(told)
     if failure := failure_at(read, len(pieces), broken, is_failing):
-        return [*lines_of(transmission.course, True), failure]
+        return [*told, *lines_of(course, True, is_refused), failure]
     transmission.close(broken, len(pieces))
-    lines = list(lines_of(transmission.course, False))
+    lines = [*told, *lines_of(course, False, is_refused)]
     count = sum(line.startswith("refused") for line in lines)
     return [*lines, f"{count} faults"] if count else [transmission.accepted()]

@@ -6,14 +6,13 @@ from typing import Iterator, NamedTuple
 from subtitles.core.pes import pts_in
 from subtitles.core.teletext import address_of, is_odd
 from subtitles.core.times import frame_of, time_of
-from .definitions import failure_at, read_by, refused
+from .definitions import ERASE, SERIAL, failure_at, read_by, refused
 from .reading import head_fault, header_of, line_of, pieces_of, sending_in, units_of
 from .recordings import Range
 from .rows import COLUMNS, ROWS, SPACE
 from .words import Options, given_by
 
 UNHEARD = 0x3F  # in each cell of the old page
-ERASE, SERIAL = 4, 11
 
 
 def end_fault(read: Range, count: int, broken: int | None, is_failing: bool) -> str | None:
@@ -97,7 +96,7 @@ class Receiver:
         address, header = address_of(packet), header_of(packet)
         if header and header[0] == self.page:
             self.is_heard = self.is_open = True
-            if ERASE in header[1]:
+            if ERASE in header[1] or self.kind == "anew":
                 self.held = [bytes([SPACE]) * COLUMNS] * ROWS
         elif header and (header[0][0] == self.page[0] or SERIAL in header[1]):
             if self.is_open:

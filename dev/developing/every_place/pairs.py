@@ -11,6 +11,7 @@ from typing import Callable, NamedTuple
 
 from subtitles.core.stl import GSI, TTI, USER_DATA, gsi_block, subtitle_blocks
 from subtitles.core.times import FRAMES_OF_A_DAY
+from .as_houses import as_open, layout_text, pace_words, part_words, refused_some, without_erasing
 from .broken import LETTERS, break_pes
 from .late import sent_late
 from .national import BITS, CELLS, SAME
@@ -189,7 +190,7 @@ def other_words(chance: Random, words: dict[str, str]) -> dict[str, str]:
         return words
     name = chance.choice(["--every"] * 4 + ["--page", "--origin", "--origin", "--option"])
     origin = int(words["--origin"]) + chance.choice([3600, -3600, 1, 90_000])
-    other = {"--every": str(chance.choice([1, 10, 24, 49, 1500])), "--page": "100",
+    other = {"--every": str(chance.choice([1, 10, 24, 49, 1501])), "--page": "100",
              "--origin": str(origin % 2**33),
              "--option": chance.choice([*OPTIONS, "polish", "French", ""])}
     return {**words, name: other[name]}
@@ -214,27 +215,41 @@ def within_words(chance: Random, within: int) -> list[str]:
 
 def random_pair(seed: int, schedule: Schedule) -> Pair:
     """A pair at random. `schedule` gives the transmission of a subtitle file, by words."""
-    chance = Random(seed)
+    chance, house = Random(seed), Random(f"house {seed}")
     words = random_words(chance)
     subtitles = random_subtitles(chance, words["--option"])
     within = chance.choice([0] * 8 + [1, 1, 1, 2, 2, 3, 3, 4])
     stl = stl_file(chance, subtitles)
     modes: list[list[str]] = [[], [], ["--serial"]]
-    pes = schedule(stl, [*listed(words), *chance.choice(modes)])
+    drawn = ["--layout", layout_text(house)] if house.random() < 0.2 else []
+    part = part_words(house, stl) if house.random() < 0.15 else []
+    flags = ["--open"] if house.random() < 0.05 else []
+    stl = as_open(stl, house) if flags else stl
+    mode = chance.choice(modes)
+    pes = schedule(stl, [*listed(words), *drawn, *part, *flags, *mode])
+    if not pes:  # there is nothing to send by these words
+        drawn = part = []
+        pes = schedule(stl, [*listed(words), *flags, *mode])
+    if keeps := house.random() < 0.2:
+        pes = without_erasing(house, pes)
+        flags += ["--keeping"] if house.random() < 0.85 else []
     is_late = chance.random() < (0.9 if within else 0.1)
     if is_late:
         pes = sent_late(chance, pes, within or chance.randrange(3), int(words["--origin"]))
         if chance.random() < 0.7:
             words["--every"] = str(int(words["--every"]) + within)
-    # Of one that is late, often nothing else is broken.
-    if not is_late or chance.random() < 0.4:
+    if house.random() < 0.15:
+        stl = refused_some(house, stl)
+    # Of one that is late, or keeps pages, often nothing else is broken.
+    if not (is_late or keeps and house.random() < 0.6) or chance.random() < 0.4:
         if chance.random() < 0.3:
             stl = stl_file(chance, other_subtitles(chance, subtitles, words["--option"]))
         if chance.random() < 0.2:
             stl = break_stl(chance, stl)
         pes = break_pes(chance, pes)
         words = other_words(chance, words)
-    asked = [*listed(words), *within_words(chance, within)]
+    pace = pace_words(house) if house.random() < 0.12 else []
+    asked = [*listed(words), *within_words(chance, within), *drawn, *part, *pace, *flags]
     if chance.random() < 0.4:
         asked.append("--complete")
     return Pair(stl, pes, asked, chance.random() < 0.25)

@@ -47,9 +47,15 @@ class StlFault(NamedTuple):
 OF_FIRST_BLOCK = {16, 18, 19, 20, 21}
 
 
+class Outside(NamedTuple):
+    """A subtitle that is not asked for, by the number of its last block: it is passed over."""
+
+    block: int
+
+
 # Subtitle files
 
-def general_fault(data: bytes) -> int | None:
+def general_fault(data: bytes, takes_open: bool) -> int | None:
     """The number of what is wrong with the GSI block, `None` where nothing is."""
     if len(data) < GSI:
         return 10
@@ -58,7 +64,7 @@ def general_fault(data: bytes) -> int | None:
         return 11
     if format_code == b"STL30.01":
         return 12
-    if display not in (b"1", b"2"):
+    if display not in (b"1", b"2", *(b"0", b" ") * takes_open):
         return 13
     return None if table == b"00" else 14
 
@@ -73,8 +79,9 @@ def first_block_fault(block: bytes) -> int | None:
     return 20 if tci is None or tco is None else 21 if tci >= tco else None
 
 
-def block_fault(block: bytes, group: list[bytes]) -> int | None:
-    """The number of what is wrong with a block after the blocks `group` of its subtitle.
+def block_fault(block: bytes, group: list[bytes], is_outside: bool) -> int | None:
+    """The number of what is wrong with a block after the blocks `group` of its subtitle, which is
+    asked for or is not.
 
     A block that is passed over has none: user data, or a comment.
     """
@@ -88,7 +95,7 @@ def block_fault(block: bytes, group: list[bytes]) -> int | None:
     if comment == 1:
         return None
     if not group:
-        return first_block_fault(block)
+        return None if is_outside else first_block_fault(block)
     if block[0:3] != group[0][0:3]:
         return 22
     return 23 if len(group) == MOST_BLOCKS_OF_ONE else None
@@ -103,23 +110,28 @@ def record_of(group: list[bytes], number: int) -> Record:
     return Record(number, tci, tco, head[13], head[14], text)
 
 
-def found_in(data: bytes) -> Iterator[Record | StlFault]:
-    """What a subtitle file holds, by block: records, and faults.
+def found_in(data: bytes, takes_open: bool = False, begin: int = 0, end: int = FRAMES_OF_A_DAY
+             ) -> Iterator[Record | StlFault | Outside]:
+    """What a subtitle file holds, by block: records, faults, and what is not asked for.
 
     Where what the first block of a subtitle says of it is broken, its blocks are known all the
-    same. They are no record, and reading goes on; any other fault is the last.
+    same. They are no record, and reading goes on; any other fault is the last. A subtitle is asked
+    for where its TCI is from a frame on and before another, or is no time.
     """
-    number = general_fault(data)
+    number = general_fault(data, takes_open)
     if number:
         yield StlFault(number, 0)
         return
     group: list[bytes] = []
-    is_record, count = True, 0
+    is_record, is_outside, count = True, False, 0
     while GSI + TTI * count < len(data):
         block = data[GSI + TTI * count:GSI + TTI * (count + 1)]
         count += 1
+        if not group and len(block) == TTI:
+            tci = frame_of_code(block[5:9])
+            is_outside = tci is not None and not begin <= tci < end
         number = 25 if count > MOST_BLOCKS else 10 if len(block) < TTI \
-            else block_fault(block, group)
+            else block_fault(block, group, is_outside)
         if number:
             yield StlFault(number, count)
             is_record = False
@@ -129,16 +141,13 @@ def found_in(data: bytes) -> Iterator[Record | StlFault]:
             continue
         group.append(block)
         if block[3] == LAST:
-            if is_record:
+            if is_outside:
+                yield Outside(count)
+            elif is_record:
                 yield record_of(group, count)
             group, is_record = [], True
     if group:
         yield StlFault(24, count)
-
-
-def records_of(data: bytes) -> list[Record]:
-    """The subtitles of a file."""
-    return [found for found in found_in(data) if isinstance(found, Record)]
 
 
 # PES packets
@@ -249,6 +258,12 @@ def sending_in(piece: bytes, origin: int, within: int) -> Sending | int:
 
 
 # Teletext packets
+
+def subcode_of(packet: bytes) -> tuple[int, ...]:
+    """The subcode of a page header, S1 to S4."""
+    numbers = [NUMBER[byte] or 0 for byte in packet[4:8]]
+    return numbers[0], numbers[1] & 7, numbers[2], numbers[3] & 3
+
 
 def header_of(packet: bytes) -> Header | None:
     """The page and the control bits of a packet with number 0, with correction; else `None`.

@@ -4,9 +4,8 @@ from __future__ import annotations
 from subtitles.core.pes import START, STUFFING_UNIT, pts_bytes
 from subtitles.core.teletext import Page, mirrored, packet
 from subtitles.core.times import pts_of
-from .definitions import Due, stl_faults
+from .definitions import Due, subtitles_in
 from .national import BITS
-from .reading import records_of
 from .rows import BLANK, COLUMNS, ROWS, SPACE
 from .words import Options
 
@@ -52,10 +51,10 @@ def sending(page: bytes, options: Options, is_serial: bool) -> list[bytes]:
 
 def schedule(stl: bytes, options: Options, is_serial: bool) -> tuple[list[str], bytes]:
     """The line that is printed of a subtitle file, and what is written."""
-    fault = next(stl_faults(stl, options.option), None)
-    if fault is not None:
-        return [fault], b""
-    due = Due(records_of(stl), options.option)
+    subtitles = subtitles_in(stl, options)
+    if subtitles.lines:
+        return subtitles.lines[:1], b""
+    due = Due(subtitles.records or [], subtitles.others, options)
     first, last = due.first(), due.last()
     if first is None or last is None:
         return ["refused 82 NoSubtitles"], b""

@@ -32,7 +32,8 @@ class Event(NamedTuple):
 
 
 class Sent(NamedTuple):
-    """A PES packet: its place in the file, its frame, and whether it has a header of the page."""
+    """A PES packet: its place in the file, its frame, and whether it has a header that erases the
+    page."""
 
     pes: int
     frame: int
@@ -40,7 +41,7 @@ class Sent(NamedTuple):
 
 
 class End(NamedTuple):
-    """The end of a frame: whether 72, 73 or 77 stands there, and where it is unfinished, the frame
+    """The end of a frame: whether anything stands there, and where it is unfinished, the frame
     of the first of the unfinished ends in a row up to it, and whether it is late."""
 
     frame: int
@@ -74,9 +75,11 @@ class Course:
 
 
 class Trust:
-    """The frames of a course before the first PES packet that does not rise, and the quiet ones."""
+    """The frames of a course before the first PES packet that does not rise, and the quiet ones;
+    beside a subtitle file of which something is told, or one that is right."""
 
-    def __init__(self, course: Course) -> None:
+    def __init__(self, course: Course, is_refused: bool) -> None:
+        self.is_refused = is_refused
         self.events, self.sent = course.events, course.sent
         self.first, self.last = self.sent[0].frame, self.sent[-1].frame
         self.ends = {one.frame: one for one in course.ends}
@@ -133,24 +136,28 @@ class Trust:
 
     def last_of(self, last: int, at: int) -> int:
         """The last frame that is trusted of a run, told before an event: none of those whose page
-        was never whole where the end that comes there is late, or is the last one."""
+        was never whole where the end that comes there is late, or is the last one; beside a
+        subtitle file that is refused none of these whatever comes there."""
         event = self.events[at] if at < len(self.events) else None
         end: End | None = None
         if event is None or event.pes is None:
             end = self.ends.get(self.last)
         elif event.is_end and event.frame is not None and self.ends[event.frame].is_late:
             end = self.ends[event.frame]
+        if self.is_refused and self.ends[last].since is not None:
+            end = self.ends[last]
         return last if end is None or end.since is None else end.since - 1
 
 
-def lines_of(course: Course, has_failed: bool) -> Iterator[str]:
-    """The lines of a course, and of what may be trusted where anything is told.
+def lines_of(course: Course, has_failed: bool, is_refused: bool) -> Iterator[str]:
+    """The lines of a course, and of what may be trusted where anything is told, of the subtitle
+    file too.
 
     Where the source failed nobody knows how far the last run goes.
     """
     before: dict[int, list[str]] = {}
-    if course.events and course.sent:
-        for at, run in Trust(course).trusted():
+    if (course.events or is_refused) and course.sent:
+        for at, run in Trust(course, is_refused).trusted():
             line = f"trusted frames {time_of(run.first)} {time_of(run.last)}"
             before.setdefault(at, []).append(line)
     for at, event in enumerate(course.events):

@@ -4,12 +4,13 @@ from __future__ import annotations
 import re
 from typing import NamedTuple
 
+from subtitles.core.layout import PLAIN, Layout, layout_of
 from subtitles.core.teletext import Page
-from subtitles.core.times import CLOCK
+from subtitles.core.times import CLOCK, FRAMES_OF_A_DAY, frame_of
 from .national import BITS
 
-MOST_FRAMES, MOST_WITHIN = 1500, 50
-FLAG = "--complete"
+MOST_WITHIN = 50
+COMPLETE, OPEN, KEEPING = FLAGS = "--complete", "--open", "--keeping"
 DEFAULTS = {"--page": "888", "--every": "250", "--origin": "0", "--option": "english",
             "--within": "0", "--packet-size": "188", "--pes": "0-"}
 MOST_PID = 8190  # 8191 is that of null packets
@@ -22,7 +23,10 @@ class UsageFault(Exception):
 class Options(NamedTuple):
     """The words of `check`; `within` is how many frames late a page may be. With a PID the other
     file is a transport stream, whose packets stand `size` bytes apart; of its PES packets, or of
-    those of the file, the ones from `first` to `last` are read, `None` for no end."""
+    those of the file, the ones from `first` to `last` are read, `None` for no end. Subtitles are
+    drawn by a layout, those of an open subtitle file too where that is asked; those are taken
+    whose TCI is from a frame on and before another. Headers may keep the page; PES packets come
+    within so many frames, where that is asked."""
 
     page: Page
     every: int
@@ -34,6 +38,12 @@ class Options(NamedTuple):
     size: int = 188
     first: int = 0
     last: int | None = None
+    layout: Layout = PLAIN
+    is_open: bool = False
+    from_frame: int = 0
+    to_frame: int = FRAMES_OF_A_DAY
+    may_keep: bool = False
+    pace: int | None = None
 
 
 def number_of(text: str) -> int | None:
@@ -51,19 +61,19 @@ def pid_of(text: str) -> int | None:
 def given_by(words: list[str]) -> dict[str, str]:
     """The texts by their names; `--name=text` is a name and a text."""
     parts = [part for word in words for part in (
-        word.split("=", 1) if word.startswith("--") else [word]) if word != FLAG]
+        word.split("=", 1) if word.startswith("--") else [word]) if word not in FLAGS]
     return {**DEFAULTS, **dict(zip(parts[::2], parts[1::2]))}
 
 
 def options_of(words: list[str]) -> Options:
-    """The options of `check` from its words, each a name and a text but for `--complete`. Raises
-    the first `UsageFault`."""
+    """The options of `check` from its words, each a name and a text but for flags. Raises the first
+    `UsageFault`."""
     given = given_by(words)
     page, option = given["--page"], given["--option"]
     every, origin, within = (number_of(given[name]) for name in ("--every", "--origin", "--within"))
     if not re.fullmatch(r"[1-8][0-9A-Fa-f]{2}", page) or page[1:].upper() == "FF":
         raise UsageFault("1 BadPage")
-    if every is None or not 1 <= every <= MOST_FRAMES:
+    if every is None or not 1 <= every <= FRAMES_OF_A_DAY:
         raise UsageFault("80 Every")
     if origin is None or origin >= CLOCK:
         raise UsageFault("81 Origin")
@@ -77,8 +87,19 @@ def options_of(words: list[str]) -> Options:
     if given["--packet-size"] not in ("188", "192", "204"):
         raise UsageFault("87 PacketSize")
     first, last = pieces_of(given["--pes"])
-    return Options((int(page[0]) % 8, int(page[1:], 16)), every, origin, option, FLAG in words,
-                   within, pid, int(given["--packet-size"]), first, last)
+    layout = layout_of(given["--layout"]) if "--layout" in given else PLAIN
+    if layout is None:
+        raise UsageFault("89 Layout")
+    pace = number_of(given["--pace"]) if "--pace" in given else None
+    if "--pace" in given and (pace is None or not 1 <= pace <= FRAMES_OF_A_DAY):
+        raise UsageFault("92 Pace")
+    ends = [frame_of(given[name]) if name in given else whole
+            for name, whole in (("--from", 0), ("--to", FRAMES_OF_A_DAY))]
+    if ends[0] is None or ends[1] is None:
+        raise UsageFault("6 BadTime")
+    return Options((int(page[0]) % 8, int(page[1:], 16)), every, origin, option, COMPLETE in words,
+                   within, pid, int(given["--packet-size"]), first, last, layout, OPEN in words,
+                   ends[0], ends[1], KEEPING in words, pace)
 
 
 def pieces_of(text: str) -> tuple[int, int | None]:

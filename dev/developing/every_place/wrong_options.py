@@ -51,10 +51,14 @@ WRONG = [
             "option = next((one for one in BITS if option and one.startswith(option)), option)\n"
             "    if option not in BITS:"),
     Mistake("the first header asked alone", "definitions",
-            "67: header and header[0] == page and not",
-            "67: header and header[0] == page and header[0] not in map(page_of, before) and not"),
+            "67: header and header[0] == page and not (",
+            "67: header and header[0] == page and header[0] not in map(page_of, before) and not ("),
     Mistake("the bits of closing headers asked", "definitions",
-            "67: header and header[0] == page and not is_plain_subtitle_header(header[1],",
-            "67: header and header[0][0] == page[0] and not is_plain_subtitle_header(header[1] "
-            "| ({4, 6, 7} if header[0] != page else set()),"),
+            "67: header and header[0] == page and not (\n"
+            "            is_plain_subtitle_header(header[1], options.option)\n"
+            "            and (erases(packet)",
+            "67: header and header[0][0] == page[0] and not (\n"
+            "            is_plain_subtitle_header(header[1] | ({6, 7} if header[0] != page else "
+            "set()), options.option)\n"
+            "            and (header[0] != page or erases(packet)"),
 ]

@@ -215,8 +215,12 @@ def drawn(text: bytes, first: int, justify: int, layout: Layout, option: Nationa
           ) -> list[Line] | Refused:
     """The lines of a subtitle's text that are not empty, as they are drawn; or its first fault."""
     cells = lines_of(text, option, layout.strip)
-    if isinstance(cells, Refused):
-        return cells
+    return cells if isinstance(cells, Refused) else drawn_lines(cells, first, justify, layout)
+
+
+def drawn_lines(cells: Sequence[bytes], first: int, justify: int, layout: Layout
+                ) -> list[Line] | Refused:
+    """The lines of cells that are not empty, as they are drawn; or the first fault."""
     lines = [prepared(one, layout) for one in cells]
     found: list[Line] = []
     above = b""  # the line that is numbered before this one

@@ -1,0 +1,123 @@
+"""What a house asks for beside the page and the repeat bound, at random: how its texts are drawn,
+which part of a file, headers that keep the page, how far apart PES packets are; and subtitle files
+in which some subtitles are refused, beside a transmission of all of them."""
+from __future__ import annotations
+
+import io
+from random import Random
+
+from subtitles.core.layout import FLAGS, NUMBERS
+from subtitles.core.pes import pes_packet, pes_packets, pts_in
+from subtitles.core.stl import GSI, TTI
+from subtitles.core.teletext import CODE_WORDS, NUMBER
+from subtitles.core.times import FRAMES_OF_A_DAY, frame_of_code, time_code, time_of
+from .broken import MOST_LINES, teletext_in
+
+DISPLAY = 11  # where a GSI block has its DSC
+CODES = [0x0A, 0x0B, 0x0B, 0x0D, 0x07, 0x03, 0x01, 0x0C]
+WRONG_LAYOUTS = ["", "fit,fit", "Fit", "before=0", "left=40", "after=0A*", "row=+1", "strip=20"]
+WRONG_PACES = ["0", "2160001", "", "x", "+1", "00000000001"]
+WRONG_TIMES = ["", "24:00:00:00", "1:00:00:00", "10:00:00:25", "10:00:00"]
+SUBCODE, S2_C4 = 4, 5  # places of a header's numbers among its bytes
+
+
+def codes(chance: Random, most: int, some: list[int]) -> str:
+    return "".join(f"{chance.choice(some):02X}" for _ in range(chance.randrange(most + 1)))
+
+
+def layout_text(chance: Random) -> str:
+    """A layout, seldom none."""
+    if chance.random() < 0.04:
+        return chance.choice(WRONG_LAYOUTS)
+    items = [name for name in FLAGS if chance.random() < 0.2]
+    items += [f"{name}={chance.choice(numbers[:6])}" for name, numbers in NUMBERS.items()
+              if chance.random() < 0.15 and name != "row"]
+    if chance.random() < 0.15:
+        items.append(f"row={chance.randrange(-3, 3)}")
+    if chance.random() < 0.4:
+        star = "*" + codes(chance, 3, CODES) if chance.random() < 0.6 else ""
+        items.append(f"before={codes(chance, 3, CODES)}{star}")
+    if chance.random() < 0.3:
+        items.append(f"after={codes(chance, 3, CODES)}")
+    if chance.random() < 0.3:
+        stripped = chance.sample([0x00, 0x0A, 0x0B, 0x0D, 0x03, 0x1F], chance.randrange(1, 4))
+        items.append("strip=" + bytes(stripped).hex())
+    chance.shuffle(items)
+    return ",".join(items) or "fit"
+
+
+def blocks_of(stl: bytes) -> list[bytearray]:
+    return [bytearray(stl[at:at + TTI]) for at in range(GSI, len(stl), TTI)]
+
+
+def part_words(chance: Random, stl: bytes) -> list[str]:
+    """From where on and up to where subtitles are asked for, near where some begin."""
+    words: list[str] = []
+    begins = [frame for block in blocks_of(stl)
+              if (frame := frame_of_code(bytes(block[5:9]))) is not None] or [0]
+    for name in ("--from", "--to"):
+        if chance.random() < 0.6:
+            frame = chance.choice(begins) + chance.choice([0, 0, 1, -1, 30])
+            wrong = chance.random() < 0.04
+            words += [name, chance.choice(WRONG_TIMES) if wrong
+                      else time_of(min(max(frame, 0), FRAMES_OF_A_DAY - 1))]
+    return words
+
+
+def as_open(stl: bytes, chance: Random) -> bytes:
+    """The file as one of open subtitles; seldom of something else."""
+    return stl[:DISPLAY] + chance.choice([b"0", b"0", b" ", b"3"]) + stl[DISPLAY + 1:]
+
+
+def without_erasing(chance: Random, pes: bytes) -> bytes:
+    """A transmission with headers that keep the page, most often where it is sent again; seldom
+    with a row left out there, or another subcode."""
+    made: list[bytes] = []
+    before: list[bytes] = []
+    often = chance.choice([0.3, 0.9, 1.0])
+    for packet in pes_packets(io.BytesIO(pes)):
+        teletext = teletext_in(bytearray(packet))
+        is_repeat = teletext == before
+        before = list(teletext)
+        if teletext and chance.random() < (often if is_repeat else 0.08):
+            head = bytearray(teletext[0])
+            number = NUMBER[head[S2_C4]]
+            head[S2_C4] = CODE_WORDS[(number or 0) & 7]
+            if chance.random() < 0.04:
+                head[SUBCODE] = CODE_WORDS[chance.randrange(4)]
+            teletext[0] = bytes(head)
+            if len(teletext) > 2 and chance.random() < 0.06:
+                del teletext[chance.randrange(1, len(teletext))]
+        made.append(pes_packet(pts_in(packet), teletext) if len(teletext) < MOST_LINES
+                    else bytes(packet))
+    return b"".join(made)
+
+
+def refused_some(chance: Random, stl: bytes) -> bytes:
+    """The file with one or two subtitles that are refused: for a letter, for what its first block
+    says, or for its place among the others."""
+    blocks = blocks_of(stl)
+    for _ in range(chance.choice([1, 1, 2])):
+        if not blocks:
+            break
+        at, way = chance.randrange(len(blocks)), chance.randrange(6)
+        block = blocks[at]
+        if way < 2:
+            block[16 + chance.randrange(4)] = chance.choice([0xE6, 0xC2, 0x00, 0x1F])
+        elif way == 2:
+            field, value = chance.choice([(14, 4), (4, 1), (8, 25), (12, 25), (9, 23), (13, 24)])
+            block[field] = value
+        elif way == 3:  # up to within the next one, or behind it
+            tco = frame_of_code(bytes(block[9:13])) or 0
+            block[9:13] = time_code(min(tco + chance.randrange(1, 90), FRAMES_OF_A_DAY - 1))
+        elif way == 4:
+            blocks.insert(at, blocks.pop(chance.randrange(len(blocks))))
+        else:
+            blocks.insert(at, bytearray(chance.choice(blocks)))
+    return stl[:GSI] + b"".join(blocks)
+
+
+def pace_words(chance: Random) -> list[str]:
+    wrong = chance.random() < 0.04
+    return ["--pace", chance.choice(WRONG_PACES) if wrong
+            else str(chance.choice([1, 2, 25, 26, 50, 100, 250, 2160000]))]
