@@ -16,11 +16,13 @@ use Rattle.ttx_page.specs.Noise.{ErasesPage, HasSameCodes, IsOddRow, IsSameRow, 
 use Rattle.ttx_page.specs.Page.{space}
 use Rattle.ttx_page.specs.PacketKind.{kind, is_row}
 use Rattle.ttx_page.specs.Shown.{shown}
-use Rattle.ttx_page.specs.Span.{holds_header, is_open_after, is_unended, span}
+use Rattle.ttx_page.specs.Repeats.{HasCodes, SendsText}
+use Rattle.ttx_page.specs.Span.{holds_header, is_open_after, is_unended, span, text_span}
 use Rattle.ttx_page.specs.declared.packet_kind.PacketKind.TheVariants.{Row}
 use Rattle.ttx_page.proofs.NoiseLaws.{shown_is}
 use Rattle.ttx_page.proofs.SpanLists.{after-append, after-none, holds-append_right, none_pass}
 use Rattle.ttx_page.proofs.SpanPush.{span-push}
+use Rattle.ttx_page.proofs.TextSpan.{text_span-later}
 
 -- What holds of two lists joined holds of the second.
 All-later : {A : Type 0} (P : A → Type 0) (xs ys : List A)
@@ -52,6 +54,28 @@ module _ (w : PageIdValue) (before heard : List (List ℕ)) where
     same =
         of_span (λ ps. All (λ first. All (HasSameCodes w first) ps) ps) (All-nil _) sound.same;
   }
+
+  -- And where all that was sent is a text, so is what is heard.
+  pub sends-later : (keeps : Bool) (text : ℕ → ℕ → ℕ)
+      → SendsText keeps w (before ++ heard) text
+      → SendsText keeps w heard text
+  sends-later keeps text sends =
+      let later = text_span-later (kind w) keeps before heard in
+      let of_text : (P : List ℕ → Type 0)
+      → All P (text_span keeps (kind w) (before ++ heard))
+      → All P (text_span keeps (kind w) heard) =
+      λ P all. All-later P later.0 (text_span keeps (kind w) heard) (subst (All P) later.1 all) in
+      record {
+        exact = All-later HasExactWords before heard sends.exact;
+        erases = λ none. All-later (ErasesPage w) before heard (sends.erases none);
+        odd = of_text (IsOddRow w) sends.odd;
+        codes = of_text (HasCodes w text) sends.codes;
+      }
+
+  -- With a header of the page among it, its span is that of all.
+  pub span-later : holds_header (kind w) heard ≡ true
+      → span (kind w) (before ++ heard) ≡ span (kind w) heard
+  span-later holds = grind (arith, nat_tests, after-append)
 
   -- With a header of the page among what is heard, it shows what all shows.
   pub shown-later : holds_header (kind w) heard ≡ true

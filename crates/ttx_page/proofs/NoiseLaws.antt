@@ -1,11 +1,11 @@
--- The laws of noise and of lost rows: what a run over items leaves of the flags, `flags`, and of a
--- cell, `cell_shown`, gives `law_of_recovery` and `law_of_lost_rows`; the others follow.
+-- The laws of noise and of lost rows: the law of repeats where no repeat may keep, `cell_shown`,
+-- gives `law_of_recovery` and `law_of_lost_rows`; the others follow.
 use Rattle.std.proofs.Common.{rules, ◌≡◌, ℕ, suc, ◌<◌, ◌⊎◌, inl, inr, Bool, true, false, not, ◌||◌}
 use Rattle.std.proofs.Common.{List, [], ◌∷◌, length, map, zip, find, Option, Some, None, option_map}
 use Rattle.std.proofs.Common.{All, unwrap_or, Contains, IsTrue, refl, ap, ◌∙◌, arith}
 use Rattle.std.specs.List.{AllByRecursion, list_any, AllZip, items_where_true}
 use Rattle.std.proofs.lemmas.Bool.Decides.{nat_tests}
-use Rattle.std.proofs.lemmas.List.{length-map, get_or-map}
+use Rattle.std.proofs.lemmas.List.{get_or_default}
 use Rattle.std.proofs.lemmas.List.Elements.{recursion_from_All, All-cons, All-contains, All-nil}
 use Rattle.std.proofs.lemmas.List.Folds.{list_any_at}
 use Rattle.std.proofs.lemmas.Slice.Zip.{firsts-zip, AllZip-long}
@@ -26,9 +26,12 @@ use Rattle.ttx_page.specs.Noise.{IsOddRow, IsSound, LawOfNoise, LawOfQuiet}
 use Rattle.ttx_page.specs.LostRows.{IsHitOrLost, LawOfLostRows, LawOfNothingLost, MayBeMarked}
 use Rattle.ttx_page.specs.LostRows.{arrivals_of}
 use Rattle.ttx_page.specs.Recovery.{LawOfRecovery}
+use Rattle.ttx_page.specs.Repeats.{EndsForgetting, SendsText}
 use Rattle.ttx_page.proofs.SpanLists.{Any-map, map-Any, find_is, find_none, none_pass, list_any-map}
 use Rattle.ttx_page.proofs.SpanLists.{after-map, span-map, zip-map}
-use Rattle.ttx_page.proofs.NoiseSteps.{Item, kind_of_item, Becomes, excused_as, over, row_from_test}
+use Rattle.ttx_page.proofs.NoiseSteps.{kind_of_item, row_from_test}
+use Rattle.ttx_page.proofs.RepeatLaws.{law_of_forgetting, law_of_repeats}
+use Rattle.ttx_page.proofs.TextSpan.{beginning-none_keeps, text_span-none_keeps}
 
 -- Each packet of a row in the span has the code that is shown. Also for `LateStart`.
 pub shown_is : (w : PageIdValue) (sent : List (List ℕ)) (row column : ℕ) (packet : List ℕ)
@@ -54,114 +57,75 @@ shown_is w sent row column packet sound within is below = go (find test spanned)
         grind (arith, nat_tests, none_pass, test, spanned, list_any_at)
     go (Some first) e = search (rules, find_is, test, spanned, All-contains, row_from_test)
 
--- There is an arrival for each mark.
-length-arrivals_of :
-    (marks : List Bool) (got : List (List ℕ)) → length (arrivals_of marks got) ≡ length marks
-length-arrivals_of [] got = refl
-length-arrivals_of (false ∷ ms) got = ap suc (length-arrivals_of ms got)
-length-arrivals_of (true ∷ ms) [] = ap suc (length-arrivals_of ms [])
-length-arrivals_of (true ∷ ms) (g ∷ gs) = ap suc (length-arrivals_of ms gs)
+-- ---- the laws
 
--- What is sent, with what arrives of it.
+-- What is sound is sent as the text that it shows, where no repeat may keep. For a checker's laws.
+pub sends_shown : (w : PageIdValue) (sent : List (List ℕ))
+    → IsSound w sent
+    → SendsText false w sent (shown w sent)
+sends_shown w sent sound =
+    let same = text_span-none_keeps (kind w) sent in
+    record {
+      exact = sound.exact;
+      erases = λ none. sound.erases;
+      odd = rw same sound.odd;
+      codes = rw same (λ k d l row column is below.
+          shown_is w sent row column _ sound (k, l, get_or_default (span (kind w) sent) k _ d l) is
+          below);
+    }
+
 module _ (class : ReceiverClass) (w : PageIdValue) (sent : List (List ℕ)) (marks : List Bool)
-    (got : List (List ℕ)) (may : AllZip MayBeMarked sent marks)
-    (near : AllZip AreNear (items_where_true marks sent) got) where
-  abbrev arrivals : List (Option (List ℕ))
-  arrivals = arrivals_of marks got
+    (got : List (List ℕ)) (old new : State) (sound : IsSound w sent)
+    (may : AllZip MayBeMarked sent marks)
+    (near : AllZip AreNear (items_where_true marks sent) got)
+    (hears : HearsBy class w old got new) where
+  -- What excuses a space.
+  abbrev Excused : ℕ → ℕ → Type 0
+  Excused = ExcusedBy class (IsHitOrLost w sent (arrivals_of marks got))
 
-  abbrev items : List Item
-  items = zip sent arrivals
-
-  abbrev sent_of : Item → List ℕ
-  sent_of item = item.0
-
-  -- The packets of the items are those that were sent.
-  sent-items : sent ≡ map sent_of items
-  sent-items = grind (arith, nat_tests, firsts-zip, length-arrivals_of, AllZip-long)
-
-  -- The packets of the items' span are the span of the packets.
-  span-items : span (kind w) sent ≡ map sent_of (span (kind_of_item w) items)
-  span-items = ap (span (kind w)) sent-items ∙ span-map (kind w) sent_of items
-
-  -- The packet of an item in the span is in the span.
-  sent-in_span : (item : Item)
-      → Contains (span (kind_of_item w) items) item
-      → Contains (span (kind w) sent) item.0
-  sent-in_span item within = grind (arith, nat_tests, span-items, length-map, get_or-map)
-
-  -- They hold a header of the page where the packets do.
-  holds-items : holds_header (kind w) sent ≡ holds_header (kind_of_item w) items
-  holds-items = grind (arith, nat_tests, sent-items, list_any-map)
-
-  -- Their span ends where that of the packets does.
-  is_unended-items : is_unended (kind w) sent ≡ is_unended (kind_of_item w) items
-  is_unended-items = grind (arith, nat_tests, sent-items, after-map, list_any-map, kind_of_item)
-
-  -- Their span has a packet of a row where that of the packets does.
-  row-items : (row : ℕ)
-      → list_any (λ p. is_row row (kind w p)) (span (kind w) sent)
-      ≡ list_any (λ (item : Item). is_row row (kind w item.0)) (span (kind_of_item w) items)
-  row-items row = grind (arith, nat_tests, span-items, list_any-map, kind_of_item)
-
-  -- What has become of a receiver and of one cell.
-  becomes : (old new : State) (row column : ℕ)
-      → IsSound w sent
-      → IsCell row column
-      → HearsBy class w old got new
-      → Becomes class w row column (shown w sent row column)
-      (ExcusedBy class (IsHitOrLost w sent arrivals) row column)
-      old items new
-  becomes old new row column sound named hears =
-      over class w row column _ _ old [] sent marks got old new named
-      (recursion_from_All _ sent sound.exact) (recursion_from_All _ sent sound.erases) may near
-      hears (grind (arith, nat_tests))
-
-  -- The two flags.
-  flags : (old new : State)
-      → IsSound w sent
-      → HearsBy class w old got new
-      → (new.heard ≡ (holds_header (kind w) sent || old.heard))
-      × ((holds_header (kind w) sent || not old.is_open) ≡ true
-      → new.is_open ≡ is_open_after (kind w) sent)
-  flags old new sound hears =
-      let end = becomes old new 1 0 sound (omega arith, omega arith, omega arith) hears in
-      rw (holds-items, is_unended-items) (end.heard, end.is_open)
+  -- What has become of a receiver.
+  ends_as : EndsForgetting false false w sent (shown w sent) Excused old new
+  ends_as =
+      law_of_repeats false false class w sent marks got (shown w sent) old new
+      (sends_shown w sent sound) may near (law_of_forgetting class w got old new hears)
 
   -- Each cell, after a header of the page.
-  cell_shown : (old new : State)
-      → IsSound w sent
-      → holds_header (kind w) sent ≡ true
-      → HearsBy class w old got new
+  cell_shown : holds_header (kind w) sent ≡ true
       → (row column : ℕ)
       → IsCell row column
       → (cell new.page row column ≡ shown w sent row column)
-      ⊎ ((cell new.page row column ≡ space)
-      × ExcusedBy class (IsHitOrLost w sent arrivals) row column)
-  cell_shown old new sound holds hears row column named =
-      let end =
-      (becomes old new row column sound named hears).cell_is (rw (← holds-items) holds)
-      (λ item within is.
-      let sent_within = sent-in_span item within in (
-        All-contains (IsOddRow w) _ item.0 sound.odd sent_within row is,
-        shown_is w sent row column item.0 sound sent_within is named.2,
-        excused_as class _ _ row column
-            (λ other lost_byte. (within.0, item, within.1, within.2, (is, lost_byte))),
-      )) in
-      let rows = row-items row in
+      ⊎ ((cell new.page row column ≡ space) × Excused row column)
+  cell_shown holds row column named =
+      let begun = beginning-none_keeps (kind w) sent in
+      let end = ends_as.cells holds (inr (inl (begun ∙ holds))) row column named in
       let no_row = find_none (λ p. is_row row (kind w p)) (span (kind w) sent) in
       grind (arith, nat_tests)
-
--- ---- the laws
 
 -- The law of recovery.
 pub law_of_recovery : LawOfRecovery
 law_of_recovery class w sent marks got old new sound may near holds hears =
-    grind (arith, nat_tests, flags, cell_shown)
+    let ends = ends_as class w sent marks got old new sound may near hears in
+    let heard_is = ends.heard in
+    let open_is = ends.is_open in
+    record {
+      heard = grind (arith, nat_tests);
+      is_open = grind (arith, nat_tests);
+      cells = cell_shown class w sent marks got old new sound may near hears holds;
+    }
 
 -- The law of lost rows.
 pub law_of_lost_rows : LawOfLostRows
 law_of_lost_rows class w sent marks got old new sound may near unheard shut hears =
-    grind (arith, nat_tests, flags, cell_shown)
+    let ends = ends_as class w sent marks got old new sound may near hears in
+    let heard_is = ends.heard in
+    let open_is = ends.is_open in
+    let heard_only : new.heard ≡ holds_header (kind w) sent = grind (arith, nat_tests) in
+    record {
+      heard = heard_only;
+      is_open = grind (arith, nat_tests);
+      cells = λ now. cell_shown class w sent marks got old new sound may near hears
+          (rw heard_only at now);
+    }
 
 -- ---- with nothing lost
 

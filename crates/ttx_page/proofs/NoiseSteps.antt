@@ -2,7 +2,7 @@
 -- packet, `at_lost` and `at_got`, and by a run over many, `over`.
 use Rattle.std.proofs.Common.{rules, ◌≡◌, ℕ, ◌<◌, ◌⊎◌, inl, inr, true, false, not, ◌&&◌, ◌||◌, List}
 use Rattle.std.proofs.Common.{[], ◌∷◌, ◌++◌, zip, Option, Some, None, Bool, is_some, Contains, refl}
-use Rattle.std.proofs.Common.{arith}
+use Rattle.std.proofs.Common.{IsFalse, ap, arith, cond, subst, sym, ◌∙◌}
 use Rattle.std.specs.List.{list_any, AllByRecursion, AllZip, items_where_true}
 use Rattle.std.proofs.lemmas.Bool.{cases_Bool}
 use Rattle.std.proofs.lemmas.Bool.Decides.{nat_tests}
@@ -20,14 +20,17 @@ use Rattle.ttx_packet.proofs.NearPackets.{address-near, header-near, near_at}
 use Rattle.ttx_page.specs.Page.{space, blank, blank_row, cell, IsCell}
 use Rattle.ttx_page.specs.declared.packet_kind.PacketKind.{PacketKind}
 use Rattle.ttx_page.specs.declared.packet_kind.PacketKind.TheVariants.{Row}
-use Rattle.ttx_page.specs.PacketKind.{kind, is_this_page, ends_page, is_row}
+use Rattle.ttx_page.specs.PacketKind.{begins, kind, is_this_page, ends_page, is_row}
 use Rattle.ttx_page.specs.DroppedRows.{ExcusedBy}
-use Rattle.ttx_page.specs.Receiver.{HearsBy, ReceiverClass, State, Step, StepBy, is_dropped}
+use Rattle.ttx_page.specs.Receiver.{ReceiverClass, State, is_dropped}
 use Rattle.ttx_page.specs.Receiver.ReceiverClass.{Dropping, Storing}
 use Rattle.ttx_page.specs.Noise.{ErasesPage}
 use Rattle.ttx_page.specs.LostRows.{LosesByte, MayBeLost, MayBeMarked, arrivals_of}
-use Rattle.ttx_page.specs.Span.{holds_header, is_open_after, span}
+use Rattle.ttx_page.specs.Repeats.{BeginsAnew, ForgetsAt, HearsForgetting, StepForgetting}
+use Rattle.ttx_page.specs.Span.{holds_beginning, holds_header, is_open_after, span, text_span}
 use Rattle.ttx_page.proofs.SpanPush.{holds-push, span-push, open-this, open-other}
+use Rattle.ttx_page.proofs.TextSpan.{begins_is_header, beginning_is_header, beginning-push}
+use Rattle.ttx_page.proofs.TextSpan.{text_span-push}
 
 -- A packet that passes the test for a row is one. For the rules of a checker.
 pub row_from_test : (row : ℕ) (k : PacketKind) → is_row row k ≡ true → k ≡ Row row
@@ -114,15 +117,21 @@ TakesCode class row column sent arrival old new =
 
 -- What becomes of a receiver, and of one cell of its page, at an item.
 record AtItem
-    (class : ReceiverClass) (w : PageIdValue) (row column : ℕ) (sent : List ℕ)
+    (keeps anew : Bool) (class : ReceiverClass) (w : PageIdValue) (row column : ℕ) (sent : List ℕ)
     (arrival : Option (List ℕ)) (old new : State)
     : Type 0 where
   heard : new.heard ≡ (is_this_page (kind w sent) || old.heard)
   is_open : new.is_open
       ≡ (is_this_page (kind w sent) || (old.is_open && not (ends_page (kind w sent))))
-  -- A header of the page erases it.
-  erased : is_this_page (kind w sent) ≡ true → new.page ≡ blank
-  -- The cell stays but at packets of its row while the page is open.
+  -- A header with which the text begins erases the page, and so does each header in a receiver that
+  -- begins anew.
+  erased : (begins keeps (kind w sent) || (anew && is_this_page (kind w sent))) ≡ true
+      → cell new.page row column ≡ space
+  -- At another header the cell stays, or becomes a space.
+  repeated : is_this_page (kind w sent) ≡ true
+      → (cell new.page row column ≡ cell old.page row column)
+      ⊎ (cell new.page row column ≡ space)
+  -- It stays but at headers of the page, and at packets of its row while the page is open.
   stays : is_this_page (kind w sent) ≡ false
       → (old.is_open && is_row row (kind w sent)) ≡ false
       → cell new.page row column ≡ cell old.page row column
@@ -132,140 +141,332 @@ record AtItem
       → HasOddText sent
       → TakesCode class row column sent arrival old new
 
--- It is so of a packet that is got and not dropped.
-at_step : (w : PageIdValue) (row column : ℕ) (sent got : List ℕ) (old new : State)
-    → IsCell row column
-    → HasExactWords sent
-    → ErasesPage w sent
-    → AreNear sent got
-    → Step w old got new
-    → AtItem Storing w row column sent (Some got) old new
-at_step w row column sent got old new named exact erases near step =
-    grind (arith, nat_tests, kind-near, near_at, even_from_changed)
-
--- It is so of a packet that is lost.
-at_lost : (class : ReceiverClass) (w : PageIdValue) (row column : ℕ) (sent : List ℕ) (old : State)
-    → IsCell row column
-    → MayBeLost sent
-    → AtItem class w row column sent None old old
-at_lost class w row column sent old named may = search (rules, lost_is_no_header, excused_here)
-
--- It is so of a packet that is got.
-at_got : (class : ReceiverClass) (w : PageIdValue) (row column : ℕ) (sent got : List ℕ)
-    (old new : State)
-    → IsCell row column
-    → HasExactWords sent
-    → ErasesPage w sent
-    → AreNear sent got
-    → StepBy class w old got new
-    → AtItem class w row column sent (Some got) old new
-at_got Storing w row column sent got old new named exact erases near goes = search (rules, at_step)
-at_got Dropping w row column sent got old new named exact erases near goes =
-    elim (cases_Bool (is_dropped w got)) [
-      | inl drop ↦
-          let stays = rw drop at goes in
-          let same = kind-near w sent got exact near in
-          let excused : HasOddText sent → ExcusedBy Dropping (Loses sent (Some got)) row column =
-          λ odd. dropped_loses w sent got row column odd drop in
-          grind (arith, nat_tests)
-      | inr hear ↦
-          let at =
-          at_step w row column sent got old new named exact erases near (rw hear at goes) in
-          record {
-            heard = at.heard;
-            is_open = at.is_open;
-            erased = at.erased;
-            stays = at.stays;
-            stores = grind (arith, nat_tests, excused_here);
-          }
-    ]
-
 -- Each cell of the blank page is a space.
 cell-blank : (row column : ℕ) → IsCell row column → cell blank row column ≡ space
 unfolding blank blank_row
 cell-blank row column named =
     grind (arith, nat_tests, get_or-replicate, get_or-replicate 40 column space 0 named.2)
 
+-- It is so of a packet that is got and not dropped.
+at_step : (keeps anew : Bool) (w : PageIdValue) (row column : ℕ) (sent got : List ℕ)
+    (old new : State)
+    → IsCell row column
+    → HasExactWords sent
+    → (IsFalse keeps → ErasesPage w sent)
+    → AreNear sent got
+    → ForgetsAt (kind w got) got old new
+    → BeginsAnew anew w got new
+    → AtItem keeps anew Storing w row column sent (Some got) old new
+at_step keeps anew w row column sent got old new named exact erases near step begins_anew =
+    let blanks = cell-blank row column named in
+    grind (arith, nat_tests, kind-near, near_at, even_from_changed)
+
+-- It is so of a packet that is lost.
+at_lost : (keeps anew : Bool) (class : ReceiverClass) (w : PageIdValue) (row column : ℕ)
+    (sent : List ℕ) (old : State)
+    → IsCell row column
+    → MayBeLost sent
+    → AtItem keeps anew class w row column sent None old old
+at_lost keeps anew class w row column sent old named may =
+    let lost = lost_is_no_header w sent may in
+    let header = begins_is_header keeps (kind w sent) in
+    grind (arith, nat_tests, excused_here)
+
+-- It is so of a packet that is got.
+at_got : (keeps anew : Bool) (class : ReceiverClass) (w : PageIdValue) (row column : ℕ)
+    (sent got : List ℕ) (old new : State)
+    → IsCell row column
+    → HasExactWords sent
+    → (IsFalse keeps → ErasesPage w sent)
+    → AreNear sent got
+    → StepForgetting class anew w old got new
+    → AtItem keeps anew class w row column sent (Some got) old new
+at_got keeps anew Storing w row column sent got old new named exact erases near goes =
+    at_step keeps anew w row column sent got old new named exact erases near goes.0 goes.1
+at_got keeps anew Dropping w row column sent got old new named exact erases near goes =
+    elim (cases_Bool (is_dropped w got)) [
+      | inl drop ↦
+          let stays = rw drop at goes in
+          let same = kind-near w sent got exact near in
+          let header = begins_is_header keeps (kind w sent) in
+          let excused : HasOddText sent → ExcusedBy Dropping (Loses sent (Some got)) row column =
+          λ odd. dropped_loses w sent got row column odd drop in
+          grind (arith, nat_tests)
+      | inr hear ↦
+          let step = rw hear at goes in
+          let at =
+          at_step keeps anew w row column sent got old new named exact erases near step.0 step.1 in
+          record {
+            heard = at.heard;
+            is_open = at.is_open;
+            erased = at.erased;
+            repeated = at.repeated;
+            stays = at.stays;
+            stores = grind (arith, nat_tests, excused_here);
+          }
+    ]
+
 -- ---- a run
 
+-- Of tests that pass together, each.
+both_left : (x y : Bool) → (x && y) ≡ true → x ≡ true
+both_left x y e = grind (arith, nat_tests)
+
+both_right : (x y : Bool) → (x && y) ≡ true → y ≡ true
+both_right x y e = grind (arith, nat_tests)
+
 -- One cell of the page, the code that it is to show, and what excuses a space in its place.
-module _ (class : ReceiverClass) (w : PageIdValue) (row column code : ℕ) (Excuse : Type 0) where
-  -- Each packet of the row is odd, has the code at the column, and gives an excuse where it loses
-  -- its byte.
+module _ (keeps anew : Bool) (class : ReceiverClass) (w : PageIdValue) (row column code : ℕ)
+    (Excuse : Type 0) where
+  -- Each packet of the row in the long span is odd, and has the code at the column.
   abbrev pub AreTargets : List Item → Type 0
   AreTargets items =
       (item : Item)
-      → Contains items item
+      → Contains (text_span keeps (kind_of_item w) items) item
       → kind w item.0 ≡ Row row
-      → HasOddText item.0
-      × (code_of (text_byte item.0 column) ≡ code)
-      × (ExcusedBy class (Loses item.0 item.1) row column → Excuse)
+      → HasOddText item.0 × (code_of (text_byte item.0 column) ≡ code)
+
+  -- Each packet of the row in the span gives an excuse where it loses its byte.
+  abbrev pub GiveExcuses : List Item → Type 0
+  GiveExcuses items =
+      (item : Item)
+      → Contains (span (kind_of_item w) items) item
+      → kind w item.0 ≡ Row row
+      → ExcusedBy class (Loses item.0 item.1) row column
+      → Excuse
+
+  -- The page was not open, and the cell a space.
+  abbrev pub WasBlank : State → Type 0
+  WasBlank start = (start.is_open ≡ false) × (cell start.page row column ≡ space)
+
+  -- What the cell was before is forgotten.
+  abbrev pub IsFreshCell : State → List Item → Type 0
+  IsFreshCell start items =
+      (anew ≡ true)
+      ⊎ ((holds_beginning keeps (kind_of_item w) items ≡ true) ⊎ WasBlank start)
 
   -- What has become of a receiver by these items.
   pub record Becomes (start : State) (items : List Item) (now : State) : Type 0 where
     pub heard : now.heard ≡ (holds_header (kind_of_item w) items || start.heard)
     pub is_open : (holds_header (kind_of_item w) items || not start.is_open) ≡ true
         → now.is_open ≡ is_open_after (kind_of_item w) items
-    -- After a header of the page, the cell is the code, or a space: excused, or since the span has
-    -- no packet of the row.
+    -- Before a header of the page, a page that is blank and not open stays so.
+    pub waits : holds_header (kind_of_item w) items ≡ false → WasBlank start → WasBlank now
+    -- After one, the cell is the code or a space.
+    pub code_or_space : holds_header (kind_of_item w) items ≡ true
+        → IsFreshCell start items
+        → AreTargets items
+        → (cell now.page row column ≡ code) ⊎ (cell now.page row column ≡ space)
+    -- And it is the code, or excused, or the span has no packet of the row.
     pub cell_is : holds_header (kind_of_item w) items ≡ true
-        → AreTargets (span (kind_of_item w) items)
+        → IsFreshCell start items
+        → AreTargets items
+        → GiveExcuses items
         → (cell now.page row column ≡ code)
-        ⊎ ((cell now.page row column ≡ space)
-        × (Excuse
+        ⊎ (Excuse
         ⊎ (list_any (λ (item : Item). is_row row (kind w item.0)) (span (kind_of_item w) items)
-        ≡ false)))
+        ≡ false))
 
   -- One item more.
-  Becomes-push : (start : State) (items : List Item) (sent : List ℕ) (arrival : Option (List ℕ))
-      (old new : State)
-      → IsCell row column
-      → AtItem class w row column sent arrival old new
-      → Becomes start items old
-      → Becomes start (items ++ (sent, arrival) ∷ []) new
-  Becomes-push start items sent arrival old new named at was =
-      let item : Item = (sent, arrival) in
-      let K = kind_of_item w in
-      let old_span = span K items in
-      let held_header = holds-push K items item in
-      let spanned = span-push K items item in
-      let this = open-this K items item in
-      let other = open-other K items item in
-      let blanks = cell-blank row column named in
-      record {
-        heard = grind (arith, nat_tests);
-        is_open = grind (arith, nat_tests);
-        cell_is = λ holds targets. elim (cases_Bool (is_this_page (kind w sent))) [
-          | inl header ↦ rw spanned (grind (arith, nat_tests))
-          | inr packet ↦
-              elim (cases_Bool (is_open_after K items && not (ends_page (kind w sent)))) [
-                | inl on ↦
-                    let more : span K (items ++ item ∷ []) ≡ old_span ++ item ∷ [] = search rules in
-                    let among = rw more at targets in
-                    let here = among item (Contains-push old_span item) in
-                    let stores :
-                    kind w sent ≡ Row row
-                    → old.is_open ≡ true
-                    → TakesCode class row column sent arrival old new = grind (arith, nat_tests) in
-                    let cell_was = was.cell_is (grind (arith, nat_tests))
-                    (λ x within. among x (Contains-append_left old_span (item ∷ []) x within)) in
-                    let rows =
-                    list_any-append (λ (x : Item). is_row row (kind w x.0)) old_span (item ∷ []) in
-                    rw more (grind (arith, nat_tests))
-                | inr off ↦ grind (arith, nat_tests)
+  module _ (start : State) (items : List Item) (sent : List ℕ) (arrival : Option (List ℕ))
+      (old new : State) (at : AtItem keeps anew class w row column sent arrival old new)
+      (was : Becomes start items old) where
+    abbrev item : Item
+    item = (sent, arrival)
+
+    abbrev K : Item → PacketKind
+    K = kind_of_item w
+
+    abbrev old_span : List Item
+    old_span = span K items
+
+    abbrev old_text : List Item
+    old_text = text_span keeps K items
+
+    -- The packets before it are targets where all are, but at a header with which the text begins.
+    targets_before : begins keeps (kind w sent) ≡ false
+        → AreTargets (items ++ item ∷ [])
+        → AreTargets items
+    targets_before no_begin targets x within =
+        let pushed = text_span-push K keeps items item in
+        let more = Contains-append_left old_text (item ∷ []) x within in
+        targets x (grind (arith, nat_tests))
+
+    -- They give excuses where all do, but at a header.
+    excuses_before : is_this_page (kind w sent) ≡ false
+        → GiveExcuses (items ++ item ∷ [])
+        → GiveExcuses items
+    excuses_before packet gives x within =
+        let pushed = span-push K items item in
+        let more = Contains-append_left old_span (item ∷ []) x within in
+        gives x (grind (arith, nat_tests))
+
+    -- The item is in both spans, where the page is open and it is a packet of the row.
+    among : kind w sent ≡ Row row
+        → is_open_after K items ≡ true
+        → Contains (text_span keeps K (items ++ item ∷ [])) item
+        × Contains (span K (items ++ item ∷ [])) item
+    among is up =
+        let in_text = text_span-push K keeps items item in
+        let in_span = span-push K items item in
+        let last_text = Contains-push old_text item in
+        let last_span = Contains-push old_span item in
+        let k : K item ≡ Row row = is in
+        (rw (in_text, k, up) last_text, rw (in_span, k, up) last_span)
+
+    -- It is fresh by the packets before it, where it is by all and the text does not begin here.
+    fresh_before : begins keeps (kind w sent) ≡ false
+        → IsFreshCell start (items ++ item ∷ [])
+        → IsFreshCell start items
+    fresh_before no_begin fresh = let more = beginning-push K keeps items item in
+        grind (arith, nat_tests)
+
+    -- At a header: a space, or as it was.
+    coarse_at_header : is_this_page (kind w sent) ≡ true
+        → IsFreshCell start (items ++ item ∷ [])
+        → AreTargets (items ++ item ∷ [])
+        → (cell new.page row column ≡ code) ⊎ (cell new.page row column ≡ space)
+    coarse_at_header header fresh targets =
+        elim (cases_Bool (begins keeps (kind w sent) || (anew && is_this_page (kind w sent)))) [
+          | inl erased ↦ inr (at.erased erased)
+          | inr keeping ↦
+              let no_begin : begins keeps (kind w sent) ≡ false = grind (arith, nat_tests) in
+              let none : anew ≡ false = grind (arith, nat_tests) in
+              let before = fresh_before no_begin fresh in
+              let old_targets = targets_before no_begin targets in
+              let beginning = beginning_is_header K keeps items in
+              let stays = at.repeated header in
+              elim (cases_Bool (holds_header K items)) [
+                | inl some ↦
+                    let coarse = was.code_or_space some before old_targets in
+                    grind (arith, nat_tests)
+                | inr first ↦
+                    let waits = was.waits first in
+                    grind (arith, nat_tests)
               ]
-        ];
-      }
+        ]
+
+    -- At a packet of its row.
+    coarse_at_packet : is_this_page (kind w sent) ≡ false
+        → holds_header K items ≡ true
+        → IsFreshCell start (items ++ item ∷ [])
+        → AreTargets (items ++ item ∷ [])
+        → (cell new.page row column ≡ code) ⊎ (cell new.page row column ≡ space)
+    coarse_at_packet packet holds fresh targets =
+        let header = begins_is_header keeps (kind w sent) in
+        let no_begin : begins keeps (kind w sent) ≡ false = grind (arith, nat_tests) in
+        let coarse =
+        was.code_or_space holds (fresh_before no_begin fresh) (targets_before no_begin targets) in
+        let up = was.is_open in
+        let in_both = among in
+        let target = targets item in
+        let row_is = row_from_test row (kind w sent) in
+        grind (arith, nat_tests)
+
+    -- The packet is of the row.
+    abbrev row_test : Item → Bool
+    row_test x = is_row row (kind w x.0)
+
+    -- Where the span had no packet of the row, it has none after a packet of another one.
+    rows_stay : (is_open_after K items && is_row row (kind w sent)) ≡ false
+        → list_any row_test old_span ≡ false
+        → list_any row_test (span K (items ++ item ∷ [])) ≡ false
+    rows_stay passed none =
+        subst (λ (xs : List Item). list_any row_test xs ≡ false) (sym (span-push K items item))
+        (go (is_this_page (K item)) (is_open_after K items) (ends_page (K item)) refl)
+      where
+        go :
+            (t o e : Bool)
+            → is_open_after K items ≡ o
+            → list_any row_test (cond t [] (cond (o && not e) (old_span ++ item ∷ []) old_span))
+            ≡ false
+        go true o e q = refl
+        go false true true q = none
+        go false false e q = none
+        go false true false q =
+            let other : row_test item ≡ false = rw q at passed in
+            list_any-append row_test old_span (item ∷ []) ∙ rw (none, other) refl
+
+    fine_at_packet : is_this_page (kind w sent) ≡ false
+        → holds_header K items ≡ true
+        → IsFreshCell start (items ++ item ∷ [])
+        → AreTargets (items ++ item ∷ [])
+        → GiveExcuses (items ++ item ∷ [])
+        → (cell new.page row column ≡ code)
+        ⊎ (Excuse
+        ⊎ (list_any (λ (x : Item). is_row row (kind w x.0)) (span K (items ++ item ∷ [])) ≡ false))
+    fine_at_packet packet holds fresh targets gives =
+        let header = begins_is_header keeps (kind w sent) in
+        let no_begin : begins keeps (kind w sent) ≡ false = grind (arith, nat_tests) in
+        let up : old.is_open ≡ is_open_after K items = was.is_open (rw holds refl) in
+        elim (cases_Bool (is_open_after K items && is_row row (kind w sent))) [
+          | inl stored ↦
+              let opened : is_open_after K items ≡ true = both_left _ _ stored in
+              let is : kind w sent ≡ Row row = row_from_test row _ (both_right _ _ stored) in
+              let within = among is opened in
+              let target = targets item within.0 is in
+              elim (at.stores is (up ∙ opened) target.0) [
+                | inl taken ↦ inl (taken ∙ target.1)
+                | inr lost ↦ inr (inl (gives item within.1 is lost.0))
+              ]
+          | inr passed ↦
+              let same = at.stays packet (ap (λ b. b && is_row row (kind w sent)) up ∙ passed) in
+              elim (was.cell_is holds (fresh_before no_begin fresh)
+              (targets_before no_begin targets) (excuses_before packet gives)) [
+                | inl coded ↦ inl (same ∙ coded)
+                | inr (inl excuse) ↦ inr (inl excuse)
+                | inr (inr none) ↦ inr (inr (rows_stay passed none))
+              ]
+        ]
+
+    Becomes-push : Becomes start (items ++ item ∷ []) new
+    Becomes-push =
+        let held_header = holds-push K items item in
+        let this = open-this K items item in
+        let other = open-other K items item in
+        let spanned = span-push K items item in
+        record {
+          heard = let h = at.heard in let before = was.heard in grind (arith, nat_tests);
+          is_open =
+              let o = at.is_open in let before = was.is_open in grind (arith, nat_tests);
+          waits =
+              let o = at.is_open in
+              let before = was.waits in
+              let stays = at.stays in
+              grind (arith, nat_tests);
+          code_or_space = λ holds fresh targets. elim (cases_Bool (is_this_page (kind w sent))) [
+            | inl header ↦ coarse_at_header header fresh targets
+            | inr packet ↦
+                coarse_at_packet packet (grind (arith, nat_tests)) fresh targets
+          ];
+          cell_is = λ holds fresh targets gives. elim (cases_Bool (is_this_page (kind w sent))) [
+            | inl header ↦
+                let k : is_this_page (K item) ≡ true = header in
+                inr (inr (rw (spanned, k) refl))
+            | inr packet ↦
+                fine_at_packet packet (grind (arith, nat_tests)) fresh targets gives
+          ];
+        }
+
+  -- No items leave it as it was.
+  pub starts : (start : State) → Becomes start [] start
+  starts start = record {
+    heard = refl;
+    is_open = grind (arith, nat_tests);
+    waits = λ none was. was;
+    code_or_space = λ holds. grind arith;
+    cell_is = λ holds. grind arith;
+  }
 
   -- What is sent more, and kept or lost: by induction from the front, after any items.
   pub over : (start : State) (items : List Item) (sent : List (List ℕ)) (marks : List Bool)
       (got : List (List ℕ)) (old new : State)
       → IsCell row column
       → AllByRecursion HasExactWords sent
-      → AllByRecursion (ErasesPage w) sent
+      → AllByRecursion (λ packet. IsFalse keeps → ErasesPage w packet) sent
       → AllZip MayBeMarked sent marks
       → AllZip AreNear (items_where_true marks sent) got
-      → HearsBy class w old got new
+      → HearsForgetting class anew w old got new
       → Becomes start items old
       → Becomes start (items ++ zip sent (arrivals_of marks got)) new
   over start items [] [] [] old new named exact erases may near hears was =
@@ -276,12 +477,13 @@ module _ (class : ReceiverClass) (w : PageIdValue) (row column code : ℕ) (Excu
   over start items (p ∷ ps) (false ∷ ms) got old new named exact erases may near hears was =
       rw (← append_assoc items ((p, None) ∷ []) (zip ps (arrivals_of ms got)))
       (over start _ ps ms got old new named exact.1 erases.1 may.1 near hears
-      (Becomes-push start items p None old old named
-      (at_lost class w row column p old named (may.0 refl)) was))
+      (Becomes-push start items p None old old
+      (at_lost keeps anew class w row column p old named (may.0 refl)) was))
   over start items (p ∷ ps) (true ∷ ms) [] old new named exact erases may near hears was =
       elim near [ ]
   over start items (p ∷ ps) (true ∷ ms) (g ∷ gs) old new named exact erases may near hears was =
       rw (← append_assoc items ((p, Some g) ∷ []) (zip ps (arrivals_of ms gs)))
       (over start _ ps ms gs hears.0 new named exact.1 erases.1 may.1 near.1 hears.2
-      (Becomes-push start items p (Some g) old hears.0 named
-      (at_got class w row column p g old hears.0 named exact.0 erases.0 near.0 hears.1) was))
+      (Becomes-push start items p (Some g) old hears.0
+      (at_got keeps anew class w row column p g old hears.0 named exact.0 erases.0 near.0 hears.1)
+      was))

@@ -9,7 +9,10 @@ use Rattle.ttx_page.specs.LostRows.{MayBeMarked}
 use Rattle.ttx_page.specs.PacketKind.{kind}
 use Rattle.ttx_page.specs.Receiver.{HearsBy, ReceiverClass, StepBy}
 use Rattle.ttx_page.specs.Span.{holds_header}
+use Rattle.ttx_page.specs.Repeats.{HearsForgetting, LawOfForgettingScreen, ShowsForgetting}
+use Rattle.ttx_page.specs.Repeats.{StepForgetting}
 use Rattle.ttx_page.specs.Screen.{Display, ShowsBy, LawOfScreen}
+use Rattle.ttx_page.proofs.RepeatLaws.{forgets}
 use Rattle.ttx_page.proofs.NoiseSteps.{lost_is_no_header, kind-near}
 use Rattle.ttx_page.proofs.RunLemmas.{RunsBy-as}
 
@@ -20,17 +23,36 @@ abbrev IsSettled : Display → Type 0
 IsSettled d = IsFalse d.held.is_open → d.screen ≡ Some d.held.page
 
 -- A header of the page settles the screen, and it stays settled.
-settles : (class : ReceiverClass) (w : PageIdValue) (packets : List (List ℕ)) (old new : Display)
-    → ShowsBy class w old packets new
+settles :
+    (class : ReceiverClass) (anew : Bool) (w : PageIdValue) (packets : List (List ℕ))
+    (old new : Display)
+    → ShowsForgetting class anew w old packets new
     → (holds_header (kind w) packets ≡ false → IsSettled old)
     → IsSettled new
-settles class w [] old new run was = rw run (was refl)
-settles class w (p ∷ ps) old new run was =
-    settles class w ps run.0 new run.2 (λ none shut. grind (arith, nat_tests))
+settles class anew w [] old new run was = rw run (was refl)
+settles class anew w (p ∷ ps) old new run was =
+    settles class anew w ps run.0 new run.2 (λ none shut. grind (arith, nat_tests))
+
+-- The law of the screen of a receiver that may forget.
+pub law_of_forgetting_screen : LawOfForgettingScreen
+law_of_forgetting_screen class anew w packets old new run holds shut =
+    grind (arith, nat_tests, settles)
+
+-- A receiver that keeps is one of these. Also for a checker's laws.
+pub shows_forgetting :
+    (class : ReceiverClass) (w : PageIdValue) (packets : List (List ℕ)) (old new : Display)
+    → ShowsBy class w old packets new
+    → ShowsForgetting class false w old packets new
+shows_forgetting class w packets old new run =
+    RunsBy-as _ _ (λ (d : Display). d) packets old new
+    (λ before packet after step.
+    (forgets class w before.held packet after.held step.0, step.1)) run
 
 -- The law of the screen.
 pub law_of_screen : LawOfScreen
-law_of_screen class w packets old new run holds shut = grind (arith, nat_tests, settles)
+law_of_screen class w packets old new run holds shut =
+    law_of_forgetting_screen class false w packets old new
+    (shows_forgetting class w packets old new run) holds shut
 
 -- ---- for a checker's laws
 
@@ -41,6 +63,16 @@ pub held_by :
     → HearsBy class w old.held packets new.held
 held_by class w packets old new run =
     RunsBy-as _ (StepBy class w) (λ (d : Display). d.held) packets old new
+    (λ before packet after step. step.0) run
+
+-- What is held goes by the relation of receivers that may forget.
+pub held_forgetting :
+    (class : ReceiverClass) (anew : Bool) (w : PageIdValue) (packets : List (List ℕ))
+    (old new : Display)
+    → ShowsForgetting class anew w old packets new
+    → HearsForgetting class anew w old.held packets new.held
+held_forgetting class anew w packets old new run =
+    RunsBy-as _ (StepForgetting class anew w) (λ (d : Display). d.held) packets old new
     (λ before packet after step. step.0) run
 
 -- Where a header of the page is sent, one is got.

@@ -68,7 +68,7 @@ list_any-map f test [] = refl
 list_any-map f test (x ∷ xs) = ap (λ b. test (f x) || b) (list_any-map f test xs)
 
 -- A choice between mapped lists.
-map-cond : {A B : Type 0} (f : A → B) (b : Bool) (xs ys : List A)
+pub map-cond : {A B : Type 0} (f : A → B) (b : Bool) (xs ys : List A)
     → map f (cond b xs ys) ≡ cond b (map f xs) (map f ys)
 map-cond f b xs ys = grind (arith, nat_tests)
 

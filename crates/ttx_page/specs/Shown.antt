@@ -1,12 +1,12 @@
 -- What a list of packets shows of a page, and which of its cells noise has hit.
-use Rattle.std.specs.Prelude.{◌≡◌, ◌≢◌, ℕ, List, Any, find, zip, option_map, unwrap_or}
+use Rattle.std.specs.Prelude.{◌≡◌, ◌≢◌, ℕ, Bool, List, Any, find, zip, option_map, unwrap_or}
 use Rattle.ttx_packet.specs.Parity.{code_of}
 use Rattle.ttx_packet.specs.PageId.{PageIdValue}
 use Rattle.ttx_packet.specs.RowPacket.{text_byte}
 use Rattle.ttx_page.specs.declared.packet_kind.PacketKind.TheVariants.{Row}
 use Rattle.ttx_page.specs.Page.{space}
 use Rattle.ttx_page.specs.PacketKind.{kind, is_row}
-use Rattle.ttx_page.specs.Span.{span}
+use Rattle.ttx_page.specs.Span.{span, text_span}
 
 -- What a cell shows: the code in the first packet of its row in the span; a space where there is
 -- none.
@@ -15,6 +15,16 @@ shown w packets row column =
     unwrap_or
     (option_map (λ p. code_of (text_byte p column))
     (find (λ p. is_row row (kind w p)) (span (kind w) packets)))
+    space
+
+-- What is kept in a cell where repeats may keep what was sent before them: the code in the first
+-- packet of its row in the long span; a space where there is none. Where they may not it is what
+-- the cell shows.
+abbrev pub kept : Bool → PageIdValue → List (List ℕ) → ℕ → ℕ → ℕ
+kept keeps w packets row column =
+    unwrap_or
+    (option_map (λ p. code_of (text_byte p column))
+    (find (λ p. is_row row (kind w p)) (text_span keeps (kind w) packets)))
     space
 
 -- The byte of a cell was hit: at some packet of its row in the span of what was sent, the packet at

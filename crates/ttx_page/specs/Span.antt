@@ -5,10 +5,10 @@
 -- The items of a list are packets, or packets with something beside each; `kind_of` is the kind of
 -- an item's packet. So one span serves what was sent, what was got, and both side by side.
 use Rattle.std.specs.Prelude.{◌≡◌, ℕ, ◌-◌, ◌<◌, ◌≤◌, ◌⊎◌, Bool, ◌&&◌, not, List, [], ◌∷◌, length}
-use Rattle.std.specs.Prelude.{if◌then◌else◌, slice_range, All, HoldsAt, IsTrue, IsFalse}
+use Rattle.std.specs.Prelude.{false, if◌then◌else◌, slice_range, true, All, HoldsAt, IsTrue, IsFalse}
 use Rattle.std.specs.List.{list_any, AllWithin}
 use Rattle.ttx_page.specs.declared.packet_kind.PacketKind.{PacketKind}
-use Rattle.ttx_page.specs.PacketKind.{is_this_page, ends_page}
+use Rattle.ttx_page.specs.PacketKind.{begins, is_this_page, ends_page}
 
 -- Some item is a header of the page.
 abbrev pub holds_header : {A : Type 0} → (A → PacketKind) → List A → Bool
@@ -39,6 +39,34 @@ is_unended kind_of items =
 -- The page is open after the list: there was a header of it, and none ended it since.
 abbrev pub is_open_after : {A : Type 0} → (A → PacketKind) → List A → Bool
 is_open_after kind_of items = holds_header kind_of items && is_unended kind_of items
+
+-- ---- where repeats may keep
+
+-- Some item is a header with which the text begins.
+abbrev pub holds_beginning : {A : Type 0} → Bool → (A → PacketKind) → List A → Bool
+holds_beginning keeps kind_of items = list_any (λ x. begins keeps (kind_of x)) items
+
+-- What stands from the last header on with which the text begins; all where there is none.
+abbrev pub from_beginning : {A : Type 0} → Bool → (A → PacketKind) → List A → List A
+from_beginning keeps kind_of [] = []
+from_beginning keeps kind_of (x ∷ xs) =
+    if holds_beginning keeps kind_of xs then from_beginning keeps kind_of xs else x ∷ xs
+
+-- The items that come while the page is open, its headers left out, where it is open before them or
+-- is not: those of the spans of all headers of the page.
+abbrev pub while_open : {A : Type 0} → (A → PacketKind) → Bool → List A → List A
+while_open kind_of is_open [] = []
+while_open kind_of is_open (x ∷ xs) =
+    if is_this_page (kind_of x)
+    then while_open kind_of true xs
+    else (if is_open && not (ends_page (kind_of x))
+    then x ∷ while_open kind_of true xs
+    else while_open kind_of false xs)
+
+-- The long span, of a page whose repeats may keep what was sent before them: the spans of its
+-- headers, from the last one that erases it on. Where repeats may not keep it is the span.
+abbrev pub text_span : {A : Type 0} → Bool → (A → PacketKind) → List A → List A
+text_span keeps kind_of items = while_open kind_of false (from_beginning keeps kind_of items)
 
 -- ---- the span by places
 

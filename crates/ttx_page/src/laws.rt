@@ -6,6 +6,7 @@ ghost use Rattle.ttx_page.specs.DroppedRows.{LawOfDropping};
 ghost use Rattle.ttx_page.specs.LostRows.{LawOfLostRows, LawOfNothingLost};
 ghost use Rattle.ttx_page.specs.Noise.{LawOfNoise, LawOfQuiet};
 ghost use Rattle.ttx_page.specs.Recovery.{LawOfRecovery};
+ghost use Rattle.ttx_page.specs.Repeats.{LawOfForgetting, LawOfForgettingScreen, LawOfRepeats};
 ghost use Rattle.ttx_page.specs.Screen.{LawOfScreen};
 ghost use Rattle.ttx_page.specs.Span.{LawOfSpan};
 
@@ -62,4 +63,24 @@ pub fn law_of_recovery()
 #[tactic(auto, using(crate::proofs::ScreenLaws::law_of_screen))]
 pub fn law_of_screen()
     ensures { LawOfScreen }
+{}
+
+/// Where repeats may keep the page: whatever a receiver does at a header that does not erase it, it
+/// hears its page as ever; and where what it held before is forgotten, each cell has the code of
+/// the text that is sent, or a space, which the next repeat mends.
+pub fn law_of_repeats()
+    ensures { LawOfRepeats }
+{}
+
+/// A receiver that keeps its page at such a header is one of those.
+#[tactic(auto, using(crate::proofs::RepeatLaws::law_of_forgetting))]
+pub fn law_of_forgetting()
+    ensures { LawOfForgetting }
+{}
+
+/// Whatever such a receiver held and showed before: where it has heard a header of its page, and
+/// the page is not open, the page that it holds is on its screen.
+#[tactic(auto, using(crate::proofs::ScreenLaws::law_of_forgetting_screen))]
+pub fn law_of_forgetting_screen()
+    ensures { LawOfForgettingScreen }
 {}

@@ -1,0 +1,191 @@
+-- The law of repeats, `law_of_repeats`, by what a run over items leaves; and that receivers that
+-- keep are among those that may forget, `law_of_forgetting`.
+use Rattle.std.proofs.Common.{◌≡◌, ℕ, suc, ◌<◌, ◌⊎◌, inl, inr, Bool, true, false, not, ◌||◌}
+use Rattle.std.proofs.Common.{List, [], ◌∷◌, find, length, map, option_map, unwrap_or, zip, Option}
+use Rattle.std.proofs.Common.{Some, None}
+use Rattle.std.proofs.Common.{All, Contains, IsTrue, refl, ap, ◌∙◌, arith}
+use Rattle.std.specs.List.{list_any, AllZip, items_where_true}
+use Rattle.std.proofs.lemmas.Bool.Decides.{nat_tests}
+use Rattle.std.proofs.lemmas.List.{length-map, get_or-map}
+use Rattle.std.proofs.lemmas.List.Elements.{recursion_from_All, All-contains}
+use Rattle.std.proofs.lemmas.Slice.Zip.{firsts-zip, AllZip-long}
+use Rattle.ttx_packet.specs.OneBit.{AreNear}
+use Rattle.ttx_packet.specs.PageId.{PageIdValue}
+use Rattle.ttx_packet.specs.Parity.{code_of}
+use Rattle.ttx_packet.specs.RowPacket.{text_byte}
+use Rattle.ttx_page.specs.Shown.{kept, shown}
+use Rattle.ttx_page.specs.Page.{space, cell, IsCell}
+use Rattle.ttx_page.specs.PacketKind.{kind, is_row}
+use Rattle.ttx_page.specs.DroppedRows.{ExcusedBy}
+use Rattle.ttx_page.specs.Receiver.{ReceiverClass, State, StepBy}
+use Rattle.ttx_page.specs.Receiver.ReceiverClass.{Dropping, Storing}
+use Rattle.ttx_page.specs.Repeats.{EndsForgetting, HasCodes, HasNoRow, HearsForgetting, IsFresh}
+use Rattle.ttx_page.specs.Repeats.{LawOfForgetting, LawOfRepeats, SendsText, StepForgetting}
+use Rattle.ttx_page.specs.Span.{holds_beginning, holds_header, is_unended, is_open_after, span}
+use Rattle.ttx_page.specs.Span.{text_span}
+use Rattle.ttx_page.specs.Noise.{IsOddRow}
+use Rattle.ttx_page.specs.LostRows.{IsHitOrLost, MayBeMarked, arrivals_of}
+use Rattle.ttx_page.proofs.RunLemmas.{RunsBy-as}
+use Rattle.ttx_page.proofs.SpanLists.{list_any-map, after-map, span-map}
+use Rattle.ttx_page.proofs.TextSpan.{text_span-map, text_span-none_keeps}
+use Rattle.ttx_page.proofs.NoiseSteps.{AreTargets, Becomes, IsFreshCell, Item, excused_as}
+use Rattle.ttx_page.proofs.NoiseSteps.{kind_of_item, over, starts}
+
+-- There is an arrival for each mark.
+length-arrivals_of :
+    (marks : List Bool) (got : List (List ℕ)) → length (arrivals_of marks got) ≡ length marks
+length-arrivals_of [] got = refl
+length-arrivals_of (false ∷ ms) got = ap suc (length-arrivals_of ms got)
+length-arrivals_of (true ∷ ms) [] = ap suc (length-arrivals_of ms [])
+length-arrivals_of (true ∷ ms) (g ∷ gs) = ap suc (length-arrivals_of ms gs)
+
+-- What is sent, with what arrives of it.
+module _ (class : ReceiverClass) (w : PageIdValue) (sent : List (List ℕ)) (marks : List Bool)
+    (got : List (List ℕ)) (may : AllZip MayBeMarked sent marks)
+    (near : AllZip AreNear (items_where_true marks sent) got) where
+  abbrev arrivals : List (Option (List ℕ))
+  arrivals = arrivals_of marks got
+
+  abbrev items : List Item
+  items = zip sent arrivals
+
+  abbrev sent_of : Item → List ℕ
+  sent_of item = item.0
+
+  -- The packets of the items are those that were sent.
+  sent-items : sent ≡ map sent_of items
+  sent-items = grind (arith, nat_tests, firsts-zip, length-arrivals_of, AllZip-long)
+
+  -- The packets of the items' span are the span of the packets.
+  span-items : span (kind w) sent ≡ map sent_of (span (kind_of_item w) items)
+  span-items = ap (span (kind w)) sent-items ∙ span-map (kind w) sent_of items
+
+  -- The packet of an item in the span is in the span.
+  sent-in_span : (item : Item)
+      → Contains (span (kind_of_item w) items) item
+      → Contains (span (kind w) sent) item.0
+  sent-in_span item within = grind (arith, nat_tests, span-items, length-map, get_or-map)
+
+  -- And so it is of the long span.
+  text-items : (keeps : Bool)
+      → text_span keeps (kind w) sent ≡ map sent_of (text_span keeps (kind_of_item w) items)
+  text-items keeps =
+      ap (text_span keeps (kind w)) sent-items ∙ text_span-map (kind w) sent_of keeps items
+
+  sent-in_text : (keeps : Bool) (item : Item)
+      → Contains (text_span keeps (kind_of_item w) items) item
+      → Contains (text_span keeps (kind w) sent) item.0
+  sent-in_text keeps item within = grind (arith, nat_tests, text-items, length-map, get_or-map)
+
+  -- The text begins with them where it begins with the packets.
+  beginning-items : (keeps : Bool)
+      → holds_beginning keeps (kind w) sent ≡ holds_beginning keeps (kind_of_item w) items
+  beginning-items keeps = grind (arith, nat_tests, sent-items, list_any-map)
+
+  -- They hold a header of the page where the packets do.
+  holds-items : holds_header (kind w) sent ≡ holds_header (kind_of_item w) items
+  holds-items = grind (arith, nat_tests, sent-items, list_any-map)
+
+  -- Their span ends where that of the packets does.
+  is_unended-items : is_unended (kind w) sent ≡ is_unended (kind_of_item w) items
+  is_unended-items = grind (arith, nat_tests, sent-items, after-map, list_any-map, kind_of_item)
+
+  -- Their span has a packet of a row where that of the packets does.
+  row-items : (row : ℕ)
+      → list_any (λ p. is_row row (kind w p)) (span (kind w) sent)
+      ≡ list_any (λ (item : Item). is_row row (kind w item.0)) (span (kind_of_item w) items)
+  row-items row = grind (arith, nat_tests, span-items, list_any-map, kind_of_item)
+
+  module _ (keeps anew : Bool) (text : ℕ → ℕ → ℕ) (old new : State)
+      (sends : SendsText keeps w sent text) (hears : HearsForgetting class anew w old got new) where
+    -- What excuses a space.
+    abbrev Excused : ℕ → ℕ → Type 0
+    Excused = ExcusedBy class (IsHitOrLost w sent arrivals)
+
+    -- What has become of a receiver and of one cell.
+    becomes : (row column : ℕ)
+        → IsCell row column
+        → Becomes keeps anew class w row column (text row column) (Excused row column) old items new
+    becomes row column named =
+        over keeps anew class w row column _ _ old [] sent marks got old new named
+        (recursion_from_All _ sent sends.exact)
+        (recursion_from_All _ sent (λ k d l none. sends.erases none k d l)) may near hears
+        (starts keeps anew class w row column (text row column) (Excused row column) old)
+
+    -- Each cell, after a header of the page, where what was before is forgotten.
+    cell_kept :
+        holds_header (kind w) sent ≡ true
+        → IsFresh keeps anew w sent old
+        → (row column : ℕ)
+        → IsCell row column
+        → (cell new.page row column ≡ text row column)
+        ⊎ ((cell new.page row column ≡ space)
+        × (Excused row column ⊎ HasNoRow w sent row))
+    cell_kept holds fresh row column named =
+        let end = becomes row column named in
+        let some : holds_header (kind_of_item w) items ≡ true = rw (← holds-items) holds in
+        let beginning = beginning-items keeps in
+        let fresh_cell :
+        IsFreshCell keeps anew class w row column (text row column) (Excused row column) old items =
+        elim fresh [
+          | inl anew_is ↦ inl anew_is
+          | inr (inl begun) ↦ inr (inl (rw (← beginning) begun))
+          | inr (inr blank_was) ↦ inr (inr (blank_was.0, blank_was.1 row column named))
+        ] in
+        let targets :
+        AreTargets keeps anew class w row column (text row column) (Excused row column) items =
+        λ item within is.
+        let sent_within = sent-in_text keeps item within in (
+          All-contains (IsOddRow w) _ item.0 sends.odd sent_within row is,
+          All-contains (HasCodes w text) _ item.0 sends.codes sent_within row column is named.2,
+        ) in
+        let coarse = end.code_or_space some fresh_cell targets in
+        let fine = end.cell_is some fresh_cell targets
+        (λ item within is.
+        excused_as class _ _ row column
+        (λ other lost_byte. (within.0, item, within.1, within.2, (is, lost_byte)))) in
+        let rows = row-items row in
+        grind (arith, nat_tests)
+
+    -- What has become of a receiver.
+    pub ends : EndsForgetting keeps anew w sent text Excused old new
+    ends =
+        let end = becomes 1 0 (omega arith, omega arith, omega arith) in
+        let heard_is = end.heard in
+        let open_is = end.is_open in
+        let holds_is = holds-items in
+        let unended_is = is_unended-items in
+        record {
+          heard = grind (arith, nat_tests);
+          is_open = grind (arith, nat_tests);
+          cells = cell_kept;
+        }
+
+-- The law of repeats.
+pub law_of_repeats : LawOfRepeats
+law_of_repeats keeps anew class w sent marks got text old new sends may near hears =
+    ends class w sent marks got may near keeps anew text old new sends hears
+
+-- Where repeats may not keep, what is kept is what is shown. For a checker's laws.
+pub kept_shown : (w : PageIdValue) (packets : List (List ℕ)) (row column : ℕ)
+    → kept false w packets row column ≡ shown w packets row column
+kept_shown w packets row column =
+    ap (λ (ps : List (List ℕ)).
+    unwrap_or
+    (option_map (λ p. code_of (text_byte p column)) (find (λ p. is_row row (kind w p)) ps)) space)
+    (text_span-none_keeps (kind w) packets)
+
+-- ---- receivers that keep
+
+-- A step of one is a step of one that may forget.
+pub forgets : (class : ReceiverClass) (w : PageIdValue) (old : State) (packet : List ℕ) (new : State)
+    → StepBy class w old packet new
+    → StepForgetting class false w old packet new
+forgets Storing w old packet new step = grind (arith, nat_tests)
+forgets Dropping w old packet new step = grind (arith, nat_tests)
+
+-- A receiver that keeps is one of those that may forget.
+pub law_of_forgetting : LawOfForgetting
+law_of_forgetting class w packets old new hears =
+    RunsBy-as (StepBy class w) (StepForgetting class false w) (λ s. s) packets old new
+    (forgets class w) hears

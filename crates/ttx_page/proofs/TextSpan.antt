@@ -1,0 +1,277 @@
+-- The long span: what one more packet makes of it, `text_span-push`; that it is the span where each
+-- header begins the text, `text_span-same`; that with items before it holds all of it,
+-- `text_span-later`; and of a mapped list, `text_span-map`.
+use Rattle.std.proofs.Common.{◌≡◌, Bool, true, false, not, ◌&&◌, ◌||◌, cond, List, [], ◌∷◌, ◌++◌}
+use Rattle.std.proofs.Common.{refl, sym, ap, ◌∙◌, map, arith, append_assoc}
+use Rattle.std.specs.List.{AllByRecursion, list_any}
+use Rattle.std.proofs.lemmas.Bool.Decides.{nat_tests}
+use Rattle.std.proofs.lemmas.List.Folds.{list_any-append}
+use Rattle.ttx_page.proofs.SpanLists.{after-none, list_any-map, map-cond}
+use Rattle.ttx_page.proofs.SpanPush.{list_any-push}
+use Rattle.ttx_page.specs.declared.packet_kind.PacketKind.{PacketKind}
+use Rattle.ttx_page.specs.PacketKind.{begins, is_this_page, ends_page}
+use Rattle.ttx_page.specs.Span.{holds_header, after_last_header, before_end, is_open_after, span}
+use Rattle.ttx_page.specs.Span.{from_beginning, holds_beginning, is_unended, text_span, while_open}
+
+-- A header with which the text begins is a header of the page.
+pub begins_is_header : (keeps : Bool) (k : PacketKind)
+    → begins keeps k ≡ true
+    → is_this_page k ≡ true
+begins_is_header keeps k e = grind (arith, nat_tests)
+
+-- Where repeats may not keep, each header begins it.
+pub begins_where_none_keeps : (k : PacketKind) → begins false k ≡ is_this_page k
+begins_where_none_keeps k = grind (arith, nat_tests)
+
+module _ {A : Type 0} (kind_of : A → PacketKind) where
+  -- Whether the page is open after items, where it is open before them or is not.
+  abbrev open_from : Bool → List A → Bool
+  open_from is_open [] = is_open
+  open_from is_open (x ∷ xs) =
+      open_from (is_this_page (kind_of x) || (is_open && not (ends_page (kind_of x)))) xs
+
+  -- By the headers.
+  open_from-is : (is_open : Bool) (xs : List A)
+      → open_from is_open xs
+      ≡ cond (holds_header kind_of xs) (is_unended kind_of xs)
+      (is_open && not (list_any (λ x. ends_page (kind_of x)) xs))
+  open_from-is is_open [] = grind (arith, nat_tests)
+  open_from-is is_open (x ∷ xs) =
+      let rest =
+      open_from-is (is_this_page (kind_of x) || (is_open && not (ends_page (kind_of x)))) xs in
+      grind (arith, nat_tests)
+
+  -- What comes while the page is open, one item on.
+  while_open-push : (is_open : Bool) (xs : List A) (x : A)
+      → while_open kind_of is_open (xs ++ x ∷ [])
+      ≡ cond
+      (open_from is_open xs && not (is_this_page (kind_of x)) && not (ends_page (kind_of x)))
+      (while_open kind_of is_open xs ++ x ∷ []) (while_open kind_of is_open xs)
+  while_open-push is_open [] x = grind (arith, nat_tests)
+  while_open-push is_open (y ∷ ys) x =
+      let headed = while_open-push true ys x in
+      let ended = while_open-push false ys x in
+      grind (arith, nat_tests)
+
+  module _ (keeps : Bool) where
+    -- Whether the text begins, one item on.
+    pub beginning-push : (xs : List A) (x : A)
+        → holds_beginning keeps kind_of (xs ++ x ∷ [])
+        ≡ (begins keeps (kind_of x) || holds_beginning keeps kind_of xs)
+    beginning-push xs x = grind (arith, nat_tests, list_any-push)
+
+    -- Where the text begins there is a header of the page.
+    pub beginning_is_header : (xs : List A)
+        → holds_beginning keeps kind_of xs ≡ true
+        → holds_header kind_of xs ≡ true
+    beginning_is_header [] e = grind arith
+    beginning_is_header (x ∷ xs) e =
+        let rest = beginning_is_header xs in
+        let here = begins_is_header keeps (kind_of x) in
+        grind (arith, nat_tests)
+
+    -- What stands from the last beginning on, one item on.
+    from-push : (xs : List A) (x : A)
+        → from_beginning keeps kind_of (xs ++ x ∷ [])
+        ≡ cond (begins keeps (kind_of x)) (x ∷ []) (from_beginning keeps kind_of xs ++ x ∷ [])
+    from-push [] x = grind (arith, nat_tests)
+    from-push (y ∷ ys) x = grind (arith, nat_tests, beginning-push, from-push ys x)
+
+    -- The page is open after it where it is after all.
+    from-open : (xs : List A)
+        → is_open_after kind_of (from_beginning keeps kind_of xs) ≡ is_open_after kind_of xs
+    from-open [] = refl
+    from-open (x ∷ xs) =
+        let rest = from-open xs in
+        let header = beginning_is_header xs in
+        grind (arith, nat_tests)
+
+    -- So it is after these items alone.
+    from-open_from : (xs : List A)
+        → open_from false (from_beginning keeps kind_of xs) ≡ is_open_after kind_of xs
+    from-open_from xs =
+        let is = open_from-is false (from_beginning keeps kind_of xs) in
+        let opened = from-open xs in
+        grind (arith, nat_tests)
+
+    -- The long span: nothing after a header with which the text begins; else one item more, where
+    -- the page is open, and the item is no header of it and does not end it.
+    pub text_span-push : (xs : List A) (x : A)
+        → text_span keeps kind_of (xs ++ x ∷ [])
+        ≡ cond (begins keeps (kind_of x)) []
+        (cond
+        (is_open_after kind_of xs && not (is_this_page (kind_of x)) && not (ends_page (kind_of x)))
+        (text_span keeps kind_of xs ++ x ∷ []) (text_span keeps kind_of xs))
+    text_span-push xs x =
+        let pushed = from-push xs x in
+        let more = while_open-push false (from_beginning keeps kind_of xs) x in
+        let one = while_open-push false [] x in
+        let opened = from-open_from xs in
+        let header = begins_is_header keeps (kind_of x) in
+        grind (arith, nat_tests)
+
+    -- ---- where each header begins the text
+
+    -- Each header of the page begins the text.
+    abbrev pub EachBegins : List A → Type 0
+    EachBegins xs =
+        AllByRecursion
+        (λ x. is_this_page (kind_of x) ≡ true → begins keeps (kind_of x) ≡ true) xs
+
+    -- Then one is held where the other is.
+    pub beginning-same : (xs : List A)
+        → EachBegins xs
+        → holds_beginning keeps kind_of xs ≡ holds_header kind_of xs
+    beginning-same [] each = refl
+    beginning-same (x ∷ xs) each =
+        let rest = beginning-same xs each.1 in
+        let first = each.0 in
+        let header = begins_is_header keeps (kind_of x) in
+        grind (arith, nat_tests)
+
+    -- What comes while the page is open, where no header of it does.
+    while_open-before : (is_open : Bool) (xs : List A)
+        → holds_header kind_of xs ≡ false
+        → while_open kind_of is_open xs ≡ cond is_open (before_end kind_of xs) []
+    while_open-before is_open [] e = grind (arith, nat_tests)
+    while_open-before is_open (x ∷ xs) e =
+        let on = while_open-before true xs in
+        let off = while_open-before false xs in
+        grind (arith, nat_tests)
+
+    -- And the long span is the span.
+    pub text_span-same : (xs : List A)
+        → EachBegins xs
+        → text_span keeps kind_of xs ≡ span kind_of xs
+    text_span-same [] each = refl
+    text_span-same (x ∷ xs) each =
+        let rest = text_span-same xs each.1 in
+        let same = beginning-same xs each.1 in
+        let on = while_open-before true xs in
+        let off = while_open-before false xs in
+        let none = after-none kind_of xs in
+        grind (arith, nat_tests)
+
+  -- Where repeats may not keep, each does.
+  each_begins : (xs : List A) → EachBegins false xs
+  each_begins [] = tt
+  each_begins (x ∷ xs) =
+      (λ this. begins_where_none_keeps (kind_of x) ∙ this, each_begins xs)
+
+  -- So there the long span is the span, and the text begins with each header.
+  pub text_span-none_keeps : (xs : List A) → text_span false kind_of xs ≡ span kind_of xs
+  text_span-none_keeps xs = text_span-same false xs (each_begins xs)
+
+  pub beginning-none_keeps : (xs : List A)
+      → holds_beginning false kind_of xs ≡ holds_header kind_of xs
+  beginning-none_keeps xs = beginning-same false xs (each_begins xs)
+
+-- ---- who starts late
+
+module _ {A : Type 0} (kind_of : A → PacketKind) where
+  -- What comes while the page is open, of two lists joined.
+  while_open-append : (is_open : Bool) (xs ys : List A)
+      → while_open kind_of is_open (xs ++ ys)
+      ≡ while_open kind_of is_open xs ++ while_open kind_of (open_from kind_of is_open xs) ys
+  while_open-append is_open [] ys = refl
+  while_open-append is_open (x ∷ xs) ys =
+      let on = while_open-append true xs ys in
+      let off = while_open-append false xs ys in
+      grind (arith, nat_tests)
+
+  -- Where the page was open before, there may be more of it in front.
+  while_open-more : (is_open : Bool) (xs : List A)
+      → (more : List A)
+      × (while_open kind_of is_open xs ≡ more ++ while_open kind_of false xs)
+  while_open-more false xs = ([], refl)
+  while_open-more true [] = ([], refl)
+  while_open-more true (x ∷ xs) =
+      go (is_this_page (kind_of x)) (ends_page (kind_of x)) (while_open-more true xs)
+    where
+      go :
+          (this ends : Bool)
+          → (more : List A)
+          × (while_open kind_of true xs ≡ more ++ while_open kind_of false xs)
+          → (more : List A)
+          × (cond this (while_open kind_of true xs)
+          (cond (true && not ends) (x ∷ while_open kind_of true xs) (while_open kind_of false xs))
+          ≡ more
+          ++ cond this (while_open kind_of true xs)
+          (cond (false && not ends) (x ∷ while_open kind_of true xs)
+          (while_open kind_of false xs)))
+      go true ends rest = ([], refl)
+      go false true rest = ([], refl)
+      go false false rest = (x ∷ rest.0, ap (λ zs. x ∷ zs) rest.1)
+
+  module _ (keeps : Bool) where
+    -- Where the text does not begin, all stands from its beginning on.
+    from-none : (xs : List A)
+        → holds_beginning keeps kind_of xs ≡ false
+        → from_beginning keeps kind_of xs ≡ xs
+    from-none [] e = refl
+    from-none (x ∷ xs) e = grind (arith, nat_tests)
+
+    from-append : (xs ys : List A)
+        → from_beginning keeps kind_of (xs ++ ys)
+        ≡ cond (holds_beginning keeps kind_of ys) (from_beginning keeps kind_of ys)
+        (from_beginning keeps kind_of xs ++ ys)
+    from-append [] ys =
+        let none = from-none ys in grind (arith, nat_tests)
+    from-append (x ∷ xs) ys =
+        let rest = from-append xs ys in
+        let both = list_any-append (λ y. begins keeps (kind_of y)) xs ys in
+        grind (arith, nat_tests)
+
+    -- The long span with items before it is more of it in front, and then all of it.
+    pub text_span-later : (xs ys : List A)
+        → (more : List A)
+        × (text_span keeps kind_of (xs ++ ys) ≡ more ++ text_span keeps kind_of ys)
+    text_span-later xs ys =
+        go (holds_beginning keeps kind_of ys) refl
+      where
+        first : List A
+        first = from_beginning keeps kind_of xs
+
+        go :
+            (b : Bool)
+            → holds_beginning keeps kind_of ys ≡ b
+            → (more : List A)
+            × (text_span keeps kind_of (xs ++ ys) ≡ more ++ text_span keeps kind_of ys)
+        go true e =
+            ([], ap (while_open kind_of false) (from-append xs ys ∙ rw e refl))
+        go false e =
+            let rest = while_open-more (open_from kind_of false first) ys in
+            let none = from-none ys e in (
+              while_open kind_of false first ++ rest.0,
+              ap (while_open kind_of false) (from-append xs ys ∙ rw e refl)
+                  ∙ while_open-append false first ys
+                  ∙ ap (λ zs. while_open kind_of false first ++ zs) rest.1
+                  ∙ sym (append_assoc (while_open kind_of false first) rest.0
+                  (while_open kind_of false ys))
+                  ∙ ap (λ zs. (while_open kind_of false first ++ rest.0)
+                  ++ while_open kind_of false zs) (sym none),
+            )
+
+-- ---- of a mapped list
+
+module _ {A B : Type 0} (kind_of : B → PacketKind) (f : A → B) where
+  while_open-map : (is_open : Bool) (xs : List A)
+      → while_open kind_of is_open (map f xs)
+      ≡ map f (while_open (λ x. kind_of (f x)) is_open xs)
+  while_open-map is_open [] = refl
+  while_open-map is_open (x ∷ xs) =
+      let on = while_open-map true xs in
+      let off = while_open-map false xs in
+      grind (arith, nat_tests, map-cond)
+
+  from_beginning-map : (keeps : Bool) (xs : List A)
+      → from_beginning keeps kind_of (map f xs)
+      ≡ map f (from_beginning keeps (λ x. kind_of (f x)) xs)
+  from_beginning-map keeps [] = refl
+  from_beginning-map keeps (x ∷ xs) =
+      let rest = from_beginning-map keeps xs in grind (arith, nat_tests, list_any-map, map-cond)
+
+  -- The long span of a mapped list is that of the list, mapped.
+  pub text_span-map : (keeps : Bool) (xs : List A)
+      → text_span keeps kind_of (map f xs) ≡ map f (text_span keeps (λ x. kind_of (f x)) xs)
+  text_span-map keeps xs = grind (arith, nat_tests, while_open-map, from_beginning-map)
