@@ -1,4 +1,5 @@
-# Completion of the command line of subttx, and of the tools that are installed with it, for bash.
+# Completion of the command line of subttx, and of the tools that are installed with it, for bash;
+# dev/make-pages writes the parts between `made` and `end`.
 # tools/install puts it where bash looks for it; else: source tools/completion.bash
 
 # Words that begin as the one that is typed; files where there are none to choose from.
@@ -15,14 +16,16 @@ _subttx_files() {
 # What an option takes; status 1 where the word before is none with a value to choose.
 _subttx_value() {
     case $1 in
+# made: values
         --option) _subttx_words 'english german swedish italian french spanish czech' "$2" ;;
-        --receiver) _subttx_words 'blank drop keep' "$2" ;;
+        --receiver) _subttx_words 'blank keep drop' "$2" ;;
         --packet-size) _subttx_words '188 192 204' "$2" ;;
-        --page | --every | --within | --origin | --at | --skip | --flip | --lose | --from | --to | \
-            --pid | --part | --jobs | --settled | --patience | --stall | --breaks | --run | \
-            --start | --pes | --around-pes)
+        --around-pes | --at | --breaks | --every | --flip | --from | --jobs | --lose | \
+            --origin | --page | --part | --patience | --pes | --pid | --run | --settled | \
+            --skip | --stall | --start | --to | --within | -c)
             COMPREPLY=()
             ;;
+# end
         *) return 1 ;;
     esac
 }
@@ -30,30 +33,29 @@ _subttx_value() {
 _subttx() {
     local word=${COMP_WORDS[COMP_CWORD]} before=${COMP_WORDS[COMP_CWORD - 1]}
     local command='' at options
+# made: commands
+    local commands='check schedule listen extract show normal packets packet'
+# end
     for ((at = 1; at < COMP_CWORD; at++)); do
-        case ${COMP_WORDS[at]} in
-            packet | packets | show | normal | schedule | check | listen | extract)
-                command=${COMP_WORDS[at]}
-                break
-                ;;
-        esac
+        if [[ " $commands " == *" ${COMP_WORDS[at]} "* ]]; then
+            command=${COMP_WORDS[at]}
+            break
+        fi
     done
     case $command in
         '')
-            _subttx_words 'packet packets show normal schedule check listen extract' "$word"
+            _subttx_words "$commands" "$word"
             return
             ;;
+# made: options
+        check) options='--page --every --origin --option --complete --within --all --pid
+            --packet-size --pes' ;;
         schedule) options='--page --every --origin --option --serial' ;;
-        check)
-            options='--page --every --origin --option --complete --all --within'
-            options+=' --pid --packet-size --pes'
-            ;;
-        listen)
-            options='--page --origin --within --at --skip --flip --lose --receiver --complete'
-            options+=' --pid --packet-size --pes'
-            ;;
-        packets) options='--pid --packet-size --pes' ;;
+        listen) options='--page --origin --complete --within --at --skip --flip --lose --receiver
+            --pid --packet-size --pes' ;;
         extract) options='--pid --packet-size' ;;
+        packets) options='--pid --packet-size --pes' ;;
+# end
         *) options= ;;
     esac
     _subttx_value "$before" "$word" && return

@@ -1,7 +1,29 @@
-"""What the scripts of dev/ share, one idea each; dev/README.md has a row for each.
+"""What the scripts of dev/ share, one idea each.
 
-It stands on the packages of tools/subtitles, which know nothing of it. A script imports something
-of it before anything of those, so that they are found.
+proved        what PROVED says of the built program
+prefix        what is installed, and taken away again
+debian        a package of it
+pages         man pages and completion, made of the help and one table of options
+crates        the crates, and what each stands on
+prover        how one is proved
+sizes         how many lines they have of what
+definitions   the definitions of specs/, and what a name or a clause rests on
+signs         the signs of antt, with their meaning
+promises      the index of clauses in ASSURANCE
+cited         names that documents cite
+shown         the command lines of documents, with what they print there
+edits         wrong programs
+bugs          what a tired programmer gets wrong, by ast
+planting      the tests that call a function, run with a bug in it
+looks         how a report looks in a browser
+compiled      the tools compiled once for many calls of tests
+mending       a pair mended by what is told
+trial         a run in which something fails, and what has to happen
+every_place   the second implementation; on purpose it shares no more than codes, times and layouts
+tests         the tests of check-tools, of unittest: a module for a tool or an idea
+
+It stands on the packages of tools/subtitles, which know nothing of it.
+A script imports something of it before anything of those, so that they are found.
 """
 from __future__ import annotations
 

@@ -4,11 +4,10 @@ from __future__ import annotations
 
 import os
 import re
-from typing import Callable, Iterator
+from typing import Iterator
 
-from subtitles.core.words import Stop
 from .definitions import Library, counts
-from .promises import ROW as INDEX
+from .promises import ROW as INDEX, index_of
 
 # The documents, and with what a line begins that is looked at.
 DOCUMENTS = {"docs/HEADLINE.md": "", "docs/ASSURANCE.md": "", "docs/WRONG-PROGRAMS.md": "",
@@ -79,18 +78,6 @@ class Sources:
         return path in self.paths or any(map(form.fullmatch, self.paths))
 
 
-def rewrite(path: str, made: Callable[[str], str]) -> None:
-    """Makes a document anew of what it is."""
-    try:
-        with open(path, "r+", encoding="utf-8") as file:
-            text = made(file.read())
-            file.seek(0)
-            file.truncate()
-            file.write(text)
-    except OSError as error:
-        raise Stop(f"{path}: {error.strerror}") from error
-
-
 def unknown_names(top: str) -> dict[str, list[str]]:
     """By document, `DOCUMENT:LINE: NAME` of each name that is quoted and that no source has."""
     sources = Sources(top)
@@ -99,7 +86,8 @@ def unknown_names(top: str) -> dict[str, list[str]]:
         with open(os.path.join(top, name), encoding="utf-8") as file:
             text = file.read()
         text = BLOCK.sub(lambda block: "\n" * block[0].count("\n"), text)
-        text = INDEX.sub(lambda row: row[0].replace(row[2], ""), text)  # its clauses have a test
+        index = index_of(text)  # its clauses have a test
+        text = text.replace(index, INDEX.sub(lambda row: row[0].replace(row[2], ""), index))
         if start:
             text = "\n".join(line if line.startswith(start) else "" for line in text.split("\n"))
         found[name] = [f"{name}:{text.count(chr(10), 0, quoted.start()) + 1}: {one}"

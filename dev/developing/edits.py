@@ -17,7 +17,6 @@ from subtitles.core.words import Stop
 from .crates import CRATES
 
 TRIED_BY_GATE = "must-fail"
-MADE = "<!-- What follows is made by dev/edits --table from the edits. -->\n"
 TRIED_BEFORE_RELEASE = "release-edits"
 FOLDERS = (TRIED_BY_GATE, TRIED_BEFORE_RELEASE)
 NAME = re.compile(r"[A-Za-z0-9_-]+\.edit")
@@ -140,33 +139,6 @@ def replaced(name: str, text: str, old: str, new: str) -> str:
     if text.count(old) != 1:
         raise Stop(f"{name}: its text stands there {text.count(old)} times: {old}")
     return text.replace(old, new)
-
-
-def tables() -> str:
-    """The edits as tables: those that the gate tries, and of the others how many."""
-    lines = ["", "## Tried by the gate", "", "| Crate | Wrong program | It changes |",
-             "|---|---|---|"]
-    for edit in edits_in(TRIED_BY_GATE):
-        lines_of = lines_in(edit.path())
-        files = dict.fromkeys(rest.strip() for kind, rest in lines_of if kind == "file")
-        changed = ", ".join(f"`{file}`" for file in files)
-        lines.append(f"| `{edit.crate}` | `{edit.name}` | {changed} |")
-    others = edits_in(TRIED_BEFORE_RELEASE)
-    tested = Counter(edit.crate for edit in others if test_of(edit))
-    lines += ["", "## Tried before a release", "",
-              "| Crate | Wrong programs | A stored test rejects too |", "|---|---|---|"]
-    lines += [f"| `{crate}` | {number} | {tested[crate]} |"
-              for crate, number in sorted(Counter(edit.crate for edit in others).items())]
-    lines.append(f"| all | {len(others)} | {sum(tested.values())} |")
-    return "\n".join(lines) + "\n"
-
-
-def with_tables(text: str) -> str:
-    """A document in which the tables stand behind the line that tells how they are made."""
-    before, mark, _ = text.partition(MADE)
-    if not mark:
-        raise Stop(f"no line says where the tables begin: {MADE.strip()}")
-    return before + mark + tables()
 
 
 def stored_tests() -> dict[str, tuple[str, str]]:

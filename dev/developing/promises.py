@@ -1,40 +1,34 @@
-"""The index of clauses in docs/ASSURANCE.md: of each promise the clauses that make it, and, as the
-sources have them, the definitions that these name."""
+"""The index of clauses in docs/ASSURANCE.md: each promise, and the clauses of contracts that state
+it."""
 from __future__ import annotations
 
 import re
-from typing import Iterator
 
-from .definitions import Definition, Library, Meant
+from subtitles.core.words import Stop
+from .definitions import Library
 
 CLAUSE = re.compile(r"`(\w+/[\w.]+)`")
-ROW = re.compile(r"^(\| .* \| (`\w+/[\w.]+`(?:, `\w+/[\w.]+`)*) \|).*\|$", re.M)
-DEVICES = "sub_io"  # whose words, as that a source tells its bytes, are left out above it
-CLOSED = re.compile(r"^[^:(]* : Type 0\b(?! →)")  # a type of values, or a law: nothing is left open
+ROW = re.compile(r"^\| (.*) \| (`\w+/[\w.]+`(?:, `\w+/[\w.]+`)*) \|$", re.M)
+HEAD = "\n## The index of clauses\n"
 
 
-def facts(library: Library, named: list[Meant]) -> Iterator[Definition]:
-    """The definitions among what is named; of a law what it names, and no type of values."""
-    for one in named:
-        if not isinstance(one, Definition):
-            continue
-        if not CLOSED.match(one.text[0]):
-            yield one
-        elif one.name.startswith("LawOf"):
-            yield from facts(library, library.used_by(one))
+def index_of(text: str) -> str:
+    """The part of a document that is the index; all of it where no heading says where it begins."""
+    return text.rpartition(HEAD)[2].partition("\n## ")[0]
 
 
-def named_by(library: Library, clause: str) -> list[str]:
-    """The names of the definitions that a clause CRATE/FUNCTION.CLAUSE names."""
-    crate = clause.partition("/")[0]
-    return [one.name for one in facts(library, library.roots(clause))
-            if crate == DEVICES or one.file.crate != DEVICES]
+def clauses_in(text: str) -> list[str]:
+    """The clauses that the rows name, each once: CRATE/FUNCTION.CLAUSE, or a law by its name."""
+    return list(dict.fromkeys(
+        clause for row in ROW.finditer(index_of(text)) for clause in CLAUSE.findall(row[2])))
 
 
-def with_definitions(text: str, library: Library) -> str:
-    """The document, in which the last cell of each row of the index is made."""
-    def made(row: re.Match[str]) -> str:
-        names = dict.fromkeys(name for clause in CLAUSE.findall(row[2])
-                              for name in named_by(library, clause))
-        return f"{row[1]} {', '.join(f'`{name}`' for name in names)} |"
-    return ROW.sub(made, text)
+def unknown_clauses(text: str, library: Library) -> list[str]:
+    """Why a clause that a row names is none of the sources, for each such clause."""
+    found: list[str] = []
+    for clause in clauses_in(text):
+        try:
+            library.roots(clause)
+        except Stop as reason:
+            found.append(str(reason))
+    return found

@@ -12,6 +12,7 @@ from .bench import Case
 NAMES = ["*.md", "docs/*.md", "docs/manual/*.md", "examples/*.md", "tools/*.md", "dev/*.md"]
 LINK = re.compile(r"\]\(([^)\s]*)\)")
 HEADING = re.compile(r"^#+ (.*)$", re.M)
+ANCHOR = re.compile(r'<a id="([^"]+)"></a>')
 BLOCK = re.compile(r"^```(\w*)\n(.*?)^```$", re.M | re.S)
 CODE = re.compile(r"`[^`\n]*`")
 
@@ -24,10 +25,10 @@ def documents() -> Iterator[tuple[str, str]]:
 
 
 def anchors(text: str) -> set[str]:
-    """The headings of a document as links name them."""
+    """The headings and anchors of a document, as links name them."""
     text = BLOCK.sub("", text)
-    return {re.sub(r"[^\w\- ]", "", found.lower()).replace(" ", "-")
-            for found in HEADING.findall(text)}
+    return {*ANCHOR.findall(text), *(re.sub(r"[^\w\- ]", "", found.lower()).replace(" ", "-")
+                                     for found in HEADING.findall(text))}
 
 
 def sources() -> str:

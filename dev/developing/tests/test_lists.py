@@ -6,15 +6,16 @@ import re
 
 from subtitles.core.built import TOP, read
 from ..definitions import Library
-from ..edits import with_tables
-from ..promises import with_definitions
+from ..promises import clauses_in, unknown_clauses
+from ..sizes import KINDS, counted, total
 from .bench import Case
 
-# The READMEs, each with its folder and with the package whose modules it lists too.
-FOLDERS = {"tools": "subtitles", "dev": "developing"}
+# The READMEs, each with its folder, and the folder of packages in there; whether it has a row for
+# each of these.
+FOLDERS = [("tools", "subtitles", True), ("dev", "developing", False)]
 PACKAGES = [*(os.path.join("tools", "subtitles", name)
               for name in ("core", "reading", "qc", "preview", "calls")),
-            os.path.join("dev", "developing", "every_place")]
+            os.path.join("dev", "developing"), os.path.join("dev", "developing", "every_place")]
 ROW = re.compile(r"^\| (`.*?) \|", re.M)  # a row of a README: the names in its first cell
 LINE = re.compile(r"^([a-z_]+) +\S", re.M)  # a line of the list of a package, in its __init__.py
 
@@ -30,14 +31,15 @@ class Lists(Case):
     """The lists of the READMEs and of the packages."""
 
     def test_are_whole(self) -> None:
-        """The README of a folder lists its scripts, and the modules that they share. One of tools/
+        """The README of a folder lists its scripts, that of tools/ the packages too. One of tools/
         that calls the script of dev/ with its name may be listed there alone."""
         elsewhere = set(entries(os.path.join(TOP, "dev")))
-        for name, package in FOLDERS.items():
+        for name, package, is_listed in FOLDERS:
             folder = os.path.join(TOP, name)
             text = read(os.path.join(folder, "README.md")) or ""
             rows = re.findall(r"`(.+?)`", " ".join(ROW.findall(text)))
-            wanted = [one for one in [*entries(folder), *entries(os.path.join(folder, package))]
+            inside = entries(os.path.join(folder, package)) if is_listed else []
+            wanted = [one for one in [*entries(folder), *inside]
                       if one not in ("README.md", package + "/")]
             if name == "tools":
                 wanted = [one for one in wanted if one in rows or one not in elsewhere]
@@ -48,18 +50,24 @@ class Lists(Case):
         for name in PACKAGES:
             folder = os.path.join(TOP, name)
             rows = LINE.findall((read(os.path.join(folder, "__init__.py")) or "").split('"""')[1])
-            wanted = [one for one in entries(folder) if "." not in one and "-" not in one]
+            wanted = [one.rstrip("/") for one in entries(folder)
+                      if "." not in one and "-" not in one]
             self.must(name, sorted(rows) == wanted, set(rows) ^ set(wanted))
 
-    def test_are_those_of_the_edits(self) -> None:
-        """The tables of wrong programs are those of the edits: dev/edits --table writes them."""
-        text = read(os.path.join(TOP, "docs", "WRONG-PROGRAMS.md")) or ""
-        self.must("dev/edits --table docs/WRONG-PROGRAMS.md", text == with_tables(text))
-
     def test_are_those_of_the_clauses(self) -> None:
-        """The index of clauses is that of the sources: tools/reading-list --table writes it."""
+        """Each clause that the index names is one of the sources."""
         text = read(os.path.join(TOP, "docs", "ASSURANCE.md")) or ""
-        made = with_definitions(text, Library(TOP))
-        self.must("tools/reading-list --table docs/ASSURANCE.md", text == made)
-        self.must("rows", made.count("`sub_check/check_files.accepted`, ") == 1
-                  and "| `AreAccepted`, `IsChecked` |" in made)
+        unknown = unknown_clauses(text, Library(TOP))
+        self.must("docs/ASSURANCE.md", not unknown, unknown)
+        self.must("rows", "sub_check/check_files.accepted" in clauses_in(text)
+                  and len(clauses_in(text)) > 100, len(clauses_in(text)))
+
+    def test_are_those_of_the_sizes(self) -> None:
+        """The sizes that ASSURANCE tells are right to a tenth: dev/sizes counts them."""
+        text = read(os.path.join(TOP, "docs", "ASSURANCE.md")) or ""
+        _, _, told = text.partition("(`dev/sizes`): ")
+        numbers = [int(one.replace(",", "")) for one in re.findall(r"\d+,\d+", told)[:len(KINDS)]]
+        counts = total(counted(TOP))
+        self.must("sizes", len(numbers) == len(KINDS) and all(
+            abs(number - counts[kind]) * 10 < counts[kind]
+            for number, kind in zip(numbers, KINDS)), (numbers, counts))

@@ -5,7 +5,7 @@ import os
 
 from subtitles.core.words import Stop
 from ..definitions import Library, counts
-from ..promises import with_definitions
+from ..promises import clauses_in, unknown_clauses
 from .bench import Case
 
 FILES = {
@@ -99,12 +99,12 @@ class ReadingLists(Case):
                 told = str(reason)
             self.must(name, why in told, told)
 
-    def test_makes_an_index(self) -> None:
-        """The last cell of a row has what its clauses name, once; other rows stay as they are."""
+    def test_reads_an_index(self) -> None:
+        """The clauses of a row's last cell, each once; one that is not there is told."""
         them = library(self)
-        text = "| one | `low/none` |\n| a | `high/count.{}`, `high/law` | {} |\n"
-        made = with_definitions(text.format("other", "`old`"), them)
-        self.must("made", made == text.format("other", "`IsSize`, `size`"), made)
-        self.must("made again", with_definitions(made, them) == made)
-        with self.assertRaisesRegex(Stop, "high/count.gone is no"):
-            with_definitions(text.format("gone", ""), them)
+        text = "| one | two |\n| a | `high/count.other`, `high/law` |\n| b | `high/law` |\n"
+        self.must("clauses", clauses_in(text) == ["high/count.other", "high/law"],
+                  clauses_in(text))
+        self.must("all there", unknown_clauses(text, them) == [])
+        told = unknown_clauses(text.replace("count.other", "count.gone"), them)
+        self.must("one gone", len(told) == 1 and "high/count.gone is no" in told[0], told)
