@@ -1,6 +1,6 @@
 -- `IsFile`: a file is what is read, and its first bytes decide that; main lemmas: file_read,
 -- one_file, outcome_of-first.
-use Rattle.std.proofs.Common.{◌≡◌, ◌*◌, ℕ, false, List, [], length, refl, sym, ap, ◌∙◌, arith}
+use Rattle.std.proofs.Common.{◌≡◌, ◌*◌, ℕ, false, List, [], ◌++◌, length, refl, sym, ap, ◌∙◌, arith}
 use Rattle.std.proofs.Common.{length-append, take, drop, None, Result, Ok, Err, subst, ◌+◌, ◌≤◌}
 use Rattle.std.proofs.Common.{inl, inr, length-take-le, ltb}
 use Rattle.std.proofs.lemmas.Bool.Decides.{nat_tests}
@@ -9,69 +9,85 @@ use Rattle.std.proofs.lemmas.List.{take_all, take-take, drop-take, take-append-d
 use Rattle.std.proofs.lemmas.Bool.{cases_lt, le-ltb}
 use Rattle.std.specs.List.{concat}
 use Rattle.stl_file.specs.declared.fault.StlFault.{StlFault}
+use Rattle.stl_file.specs.declared.scope.Scope.{Scope}
 use Rattle.stl_file.specs.Tti.{most_blocks}
-use Rattle.stl_file.specs.Reader.{ReaderValue, findings_of, findings_opened, opened, opened_at}
-use Rattle.stl_file.specs.Reader.{outcome_from, outcome_of}
-use Rattle.stl_file.specs.Gsi.{gsi_at, IsGsi}
+use Rattle.stl_file.specs.Reader.{findings_for, findings_of, findings_opened, gsi_of, outcome_of}
+use Rattle.stl_file.specs.Resuming.{ResumingValue, begun_at}
+use Rattle.stl_file.specs.Gsi.{gsi_at, IsGsiFor}
+use Rattle.stl_file.specs.Scope.{whole}
 use Rattle.stl_file.specs.Subtitle.{SubtitleValue}
-use Rattle.stl_file.specs.File.{IsFile}
+use Rattle.stl_file.specs.File.{IsFile, IsFileFor}
 use Rattle.stl_file.specs.NormalForm.{subtitles_of}
-use Rattle.stl_file.specs.Reading.{stopped}
+use Rattle.stl_file.specs.Reading.{breaks, findings_from, stopped}
 use Rattle.stl_file.proofs.FindingsLemmas.{findings_at-first}
 use Rattle.stl_file.proofs.RestLemmas.{read_complete, read_sound}
 use Rattle.stl_file.proofs.GsiLemmas.{gsi_complete}
-use Rattle.stl_file.proofs.OpeningLemmas.{good, opened_sound, file_gsi}
+use Rattle.stl_file.proofs.OpeningLemmas.{gsi_of-sound, file_gsi}
 
 -- A file that was read was opened.
-judged_ok : (b : List ℕ) (o : Result ReaderValue StlFault) (ts : List SubtitleValue)
-    → subtitles_of (stopped (findings_opened b o)) ≡ Ok ts
-    → (r : ReaderValue) × (o ≡ good r) × (subtitles_of (outcome_from 0 b) ≡ Ok ts)
-judged_ok b o ts e = grind (arith, nat_tests)
+judged_ok : (scope : Scope) (b : List ℕ) (o : Result (List ℕ) StlFault) (ts : List SubtitleValue)
+    → subtitles_of (stopped (findings_opened scope b o)) ≡ Ok ts
+    → (g : List ℕ) × (o ≡ Ok g)
+    × (subtitles_of (stopped (findings_from scope 0 None b)) ≡ Ok ts)
+judged_ok scope b o ts e = grind (arith, nat_tests)
 
 -- The bytes after a GSI block that is taken.
-pub body_sound : (s : List ℕ) (ts : List SubtitleValue)
-    → 1024 ≤ length s
-    → IsGsi (take 1024 s)
-    → subtitles_of (outcome_from 0 (drop 1024 s)) ≡ Ok ts
-    → IsFile s (take 1024 s) ts
-body_sound s ts le g e =
-    let sound = read_sound most_blocks None [] (drop 1024 s) ts refl e in
-    grind (arith, nat_tests, take-append-drop 1024 s)
+pub body_sound : (scope : Scope) (s : List ℕ) (ts : List SubtitleValue)
+    → IsGsiFor scope.takes_open (take 1024 s)
+    → subtitles_of (stopped (findings_from scope 0 None (drop 1024 s))) ≡ Ok ts
+    → IsFileFor scope s (take 1024 s) ts
+body_sound scope s ts g e =
+    let sound = read_sound scope most_blocks None [] (drop 1024 s) ts refl e in
+    record {
+      gsi = g;
+      blocks = sound.blocks;
+      bytes = sym (take-append-drop 1024 s)
+          ∙ ap (λ (x : List ℕ). take 1024 s ++ x) sound.bytes;
+      rest = record {
+        each = sound.each;
+        few = sound.few;
+        groups = sound.groups;
+        kept = sound.kept;
+        outside = sound.outside;
+        are_of = sound.are_groups;
+      };
+    }
 
 -- Bytes that are read without a fault are a file.
-pub file_sound : (s : List ℕ) (ts : List SubtitleValue)
-    → subtitles_of (outcome_of s) ≡ Ok ts
-    → IsFile s (take 1024 s) ts
-unfolding findings_of
-file_sound s ts e =
-    let j = judged_ok (drop 1024 s) (opened_at s) ts e in
-    let o = opened_sound s j.0 j.1 in
-    body_sound s ts o.0 o.1 j.2
+pub file_sound : (scope : Scope) (s : List ℕ) (ts : List SubtitleValue)
+    → subtitles_of (stopped (findings_for scope s)) ≡ Ok ts
+    → IsFileFor scope s (take 1024 s) ts
+unfolding findings_for
+file_sound scope s ts e =
+    let j = judged_ok scope (drop 1024 s) (gsi_of scope.takes_open s) ts e in
+    let o = gsi_of-sound scope.takes_open s j.0 j.1 in
+    body_sound scope s ts o.1 j.2
 
 -- A file is read without a fault.
-pub file_complete : (s g : List ℕ) (ts : List SubtitleValue)
-    → IsFile s g ts
-    → (take 1024 s ≡ g) × (subtitles_of (outcome_of s) ≡ Ok ts)
-unfolding findings_of opened_at
-file_complete s g ts h =
+pub file_complete : (scope : Scope) (s g : List ℕ) (ts : List SubtitleValue)
+    → IsFileFor scope s g ts
+    → (take 1024 s ≡ g) × (subtitles_of (stopped (findings_for scope s)) ≡ Ok ts)
+unfolding findings_for gsi_of
+file_complete scope s g ts h =
     let size = h.gsi.size in
     let whole = ap length h.bytes in
     let parts = length-append g (concat h.blocks) in
-    let front = file_gsi s g ts h in
+    let front = file_gsi scope s g ts h in
     let back : drop 1024 s ≡ concat h.blocks =
     ap (drop 1024) h.bytes ∙ drop_at g (concat h.blocks) 1024 size in
     let long : ltb (length s) 1024 ≡ false = le-ltb _ _ (omega arith) in (
       front,
-      rw (long, front, back, gsi_complete g h.gsi)
-          (read_complete h.blocks most_blocks ts h.rest),
+      rw (long, front, back, gsi_complete scope.takes_open g h.gsi)
+          (read_complete scope h.blocks most_blocks ts h.rest),
     )
 
 -- A file is what is read.
-pub file_read : (s g : List ℕ) (ts : List SubtitleValue)
-    → IsFile s g ts ↔ ((g ≡ take 1024 s) × (subtitles_of (outcome_of s) ≡ Ok ts))
-file_read s g ts = (
-  λ h. let c = file_complete s g ts h in (sym c.0, c.1),
-  λ h. subst (λ (x : List ℕ). IsFile s x ts) (sym h.0) (file_sound s ts h.1),
+pub file_read : (scope : Scope) (s g : List ℕ) (ts : List SubtitleValue)
+    → IsFileFor scope s g ts
+    ↔ ((g ≡ take 1024 s) × (subtitles_of (stopped (findings_for scope s)) ≡ Ok ts))
+file_read scope s g ts = (
+  λ h. let c = file_complete scope s g ts h in (sym c.0, c.1),
+  λ h. subst (λ (x : List ℕ). IsFileFor scope s x ts) (sym h.0) (file_sound scope s ts h.1),
 )
 
 -- A file has one GSI block and one list of subtitles.
@@ -79,25 +95,39 @@ pub one_file : (s g h : List ℕ) (ts us : List SubtitleValue)
     → IsFile s g ts
     → IsFile s h us
     → (g ≡ h) × (ts ≡ us)
-one_file s g h ts us a b = grind (arith, nat_tests, file_complete s g ts a, file_complete s h us b)
+one_file s g h ts us a b =
+    grind (arith, nat_tests, file_complete whole s g ts a, file_complete whole s h us b)
+
+-- What a file gives, by what opening it gives. For `stl_rows`.
+pub findings_for-begun : (scope : Scope) (s : List ℕ) (reader : ResumingValue)
+    → begun_at scope s ≡ (let r : Result ResumingValue StlFault = Ok reader in r)
+    → findings_for scope s ≡ findings_from scope 0 None (drop 1024 s)
+unfolding findings_for
+findings_for-begun scope s reader e = grind (arith, nat_tests)
+
+pub findings_for-refused : (scope : Scope) (s : List ℕ) (fault : StlFault)
+    → begun_at scope s ≡ (let r : Result ResumingValue StlFault = Err fault in r)
+    → findings_for scope s ≡ breaks fault 0
+unfolding findings_for
+findings_for-refused scope s fault e = grind (arith, nat_tests)
 
 -- ---- the first bytes
 
 -- One byte more than the longest file has decides what a file that was opened gives.
-opened-first : (r : Result (List ℕ) StlFault) (b : List ℕ)
-    → findings_opened (take (128 * 99999 + 1) b) (opened r) ≡ findings_opened b (opened r)
-opened-first (Err e) b = refl
-opened-first (Ok g) b = findings_at-first 99999 false None b
+opened-first : (scope : Scope) (r : Result (List ℕ) StlFault) (b : List ℕ)
+    → findings_opened scope (take (128 * 99999 + 1) b) r ≡ findings_opened scope b r
+opened-first scope (Err e) b = refl
+opened-first scope (Ok g) b = findings_at-first scope 99999 None b
 
 -- One byte more than the longest file has decides what any bytes give.
 findings_of-first : (s : List ℕ) → findings_of (take 12800897 s) ≡ findings_of s
-unfolding findings_of opened_at
+unfolding findings_for gsi_of
 findings_of-first s = elim (cases_lt 12800897 (length s)) [
   | inr short ↦ ap findings_of (take_all 12800897 s short)
   | inl long ↦
       let size : length (take 12800897 s) ≡ 12800897 = length-take-le 12800897 s (omega arith) in
       rw (size, le-ltb (length s) 1024 (omega arith), take-take 1024 12800897 s (omega arith))
-      (rw (drop-take 1024 (128 * 99999 + 1) s) (opened-first (gsi_at (take 1024 s)) (drop 1024 s)))
+      (rw (drop-take 1024 (128 * 99999 + 1) s) (opened-first whole (gsi_at false (take 1024 s)) (drop 1024 s)))
 ]
 
 pub outcome_of-first : (s : List ℕ) → outcome_of (take 12800897 s) ≡ outcome_of s

@@ -1,6 +1,6 @@
 -- `findings_at` by cases, the bytes that decide it, and the blocks that it names; main lemmas:
 -- findings_block, findings_at-first, finds_from.
-use Rattle.std.proofs.Common.{◌≡◌, ◌*◌, ℕ, Bool, List, [], ◌∷◌, ◌++◌, length, refl, arith}
+use Rattle.std.proofs.Common.{◌≡◌, ◌*◌, ℕ, List, [], ◌∷◌, ◌++◌, length, refl, arith}
 use Rattle.std.proofs.Common.{length-append, length-take, take, drop, Option, Some, None, Result}
 use Rattle.std.proofs.Common.{zero, suc, ◌+◌, ◌-◌, ◌<◌, ◌≤◌, inl, inr}
 use Rattle.std.proofs.lemmas.List.{take_all, take-take, drop-take, take_at, drop_at}
@@ -12,6 +12,7 @@ use Rattle.stl_file.specs.Tti.{most_blocks}
 use Rattle.stl_file.specs.Reader.{FindsFrom}
 use Rattle.stl_file.specs.Reading.{Begun, BlockStep, Findings, breaks, findings_after, findings_at}
 use Rattle.stl_file.specs.Reading.{finds, no_more, refuses, step_at}
+use Rattle.stl_file.specs.declared.scope.Scope.{Scope}
 
 -- ---- the function by cases
 
@@ -20,55 +21,56 @@ abbrev pub findings_nil : ℕ → Option Begun → Findings
 findings_nil room None = no_more
 findings_nil room (Some begun) = breaks fault.Unfinished (most_blocks - room)
 
--- No byte is left.
-pub findings_end : (room : ℕ) (is : Bool) (begun : Option Begun)
-    → findings_at room is begun [] ≡ findings_nil room begun
-unfolding findings_at
-findings_end room is begun = grind arith
+module _ (scope : Scope) where
+  -- No byte is left.
+  pub findings_end : (room : ℕ) (begun : Option Begun)
+      → findings_at scope room begun [] ≡ findings_nil room begun
+  unfolding findings_at
+  findings_end room begun = grind arith
 
--- One block too many.
-pub findings_full : (is : Bool) (begun : Option Begun) (b : List ℕ)
-    → 0 < length b
-    → findings_at 0 is begun b ≡ breaks fault.TooManyBlocks (most_blocks + 1)
-unfolding findings_at
-findings_full is begun b h = grind arith
+  -- One block too many.
+  pub findings_full : (begun : Option Begun) (b : List ℕ)
+      → 0 < length b
+      → findings_at scope 0 begun b ≡ breaks fault.TooManyBlocks (most_blocks + 1)
+  unfolding findings_at
+  findings_full begun b h = grind arith
 
--- A block that is cut.
-pub findings_short : (room : ℕ) (is : Bool) (begun : Option Begun) (b : List ℕ)
-    → 0 < length b
-    → length b < 128
-    → findings_at (suc room) is begun b ≡ breaks fault.Truncated (most_blocks - room)
-unfolding findings_at
-findings_short room is begun b h lt = grind (arith, nat_tests)
+  -- A block that is cut.
+  pub findings_short : (room : ℕ) (begun : Option Begun) (b : List ℕ)
+      → 0 < length b
+      → length b < 128
+      → findings_at scope (suc room) begun b ≡ breaks fault.Truncated (most_blocks - room)
+  unfolding findings_at
+  findings_short room begun b h lt = grind (arith, nat_tests)
 
--- A whole block.
-pub findings_step : (room : ℕ) (is : Bool) (begun : Option Begun) (b : List ℕ)
-    → 128 ≤ length b
-    → findings_at (suc room) is begun b
-    ≡ findings_after room (λ is' next. findings_at room is' next (drop 128 b)) is (take 128 b)
-    (step_at begun (take 128 b))
-unfolding findings_at
-findings_step room is begun [] le = absurd (let no : 128 ≤ 0 = le in omega arith)
-findings_step room is None (x ∷ b) le = rw (le-ltb _ _ le) refl
-findings_step room is (Some o) (x ∷ b) le = rw (le-ltb _ _ le) refl
+  -- A whole block.
+  pub findings_step : (room : ℕ) (begun : Option Begun) (b : List ℕ)
+      → 128 ≤ length b
+      → findings_at scope (suc room) begun b
+      ≡ findings_after room (λ next. findings_at scope room next (drop 128 b)) (take 128 b)
+      (step_at scope begun (take 128 b))
+  unfolding findings_at
+  findings_step room begun [] le = absurd (let no : 128 ≤ 0 = le in omega arith)
+  findings_step room None (x ∷ b) le = rw (le-ltb _ _ le) refl
+  findings_step room (Some o) (x ∷ b) le = rw (le-ltb _ _ le) refl
 
--- A block in front of other bytes.
-pub findings_block : (room next : ℕ) (is : Bool) (begun : Option Begun) (b rest : List ℕ)
-    → room ≡ suc next
-    → length b ≡ 128
-    → findings_at room is begun (b ++ rest)
-    ≡ findings_after next (λ is' begun'. findings_at next is' begun' rest) is b (step_at begun b)
-findings_block room next is begun b rest e size =
-    rw (e, findings_step next is begun (b ++ rest) (omega (arith, length-append b rest)))
-    (rw (take_at b rest 128 size, drop_at b rest 128 size) refl)
+  -- A block in front of other bytes.
+  pub findings_block : (room next : ℕ) (begun : Option Begun) (b rest : List ℕ)
+      → room ≡ suc next
+      → length b ≡ 128
+      → findings_at scope room begun (b ++ rest)
+      ≡ findings_after next (λ begun'. findings_at scope next begun' rest) b (step_at scope begun b)
+  findings_block room next begun b rest e size =
+      rw (e, findings_step next begun (b ++ rest) (omega (arith, length-append b rest)))
+      (rw (take_at b rest 128 size, drop_at b rest 128 size) refl)
 
 -- ---- the bytes that decide
 
 -- One byte more than `room` blocks have decides what they give.
-pub findings_at-first : (room : ℕ) (is : Bool) (begun : Option Begun) (b : List ℕ)
-    → findings_at room is begun (take (128 * room + 1) b) ≡ findings_at room is begun b
-findings_at-first zero is begun b = grind (arith, nat_tests, findings_full)
-findings_at-first (suc room) is begun b = elim (cases_lt (length b) 128) [
+pub findings_at-first : (scope : Scope) (room : ℕ) (begun : Option Begun) (b : List ℕ)
+    → findings_at scope room begun (take (128 * room + 1) b) ≡ findings_at scope room begun b
+findings_at-first scope zero begun b = grind (arith, nat_tests, findings_full)
+findings_at-first scope (suc room) begun b = elim (cases_lt (length b) 128) [
   | inl short ↦ rw (take_all (128 * suc room + 1) b (omega arith)) refl
   | inr long ↦
       let k : ℕ = 128 * room + 1 in
@@ -76,10 +78,10 @@ findings_at-first (suc room) is begun b = elim (cases_lt (length b) 128) [
       let size : 128 ≤ length (take (128 + k) b) = omega (arith, length-take (128 + k) b) in
       rw (
         m,
-        findings_step room is begun (take (128 + k) b) size,
-        findings_step room is begun b long,
+        findings_step scope room begun (take (128 + k) b) size,
+        findings_step scope room begun b long,
       ) (rw (take-take 128 (128 + k) b (omega arith), drop-take 128 k b)
-      (simp (findings_at-first room)))
+      (simp (findings_at-first scope room)))
 ]
 
 -- ---- the blocks that are named
@@ -92,23 +94,23 @@ finds-before block (finds s at o) h = (grind arith, finds-before block o h.1)
 finds-before block (refuses f at o) h = (grind arith, finds-before block o h.1)
 
 -- What comes of a block, where all after it names no block before the next one.
-finds-after : (room block : ℕ) (next : Bool → Option Begun → Findings) (is : Bool) (b : List ℕ)
+finds-after : (room block : ℕ) (next : Option Begun → Findings) (b : List ℕ)
     (r : Result BlockStep StlFault)
     → block ≤ most_blocks - room
-    → ((is' : Bool) (begun : Option Begun) → FindsFrom (block + 1) (next is' begun))
-    → FindsFrom block (findings_after room next is b r)
-finds-after room block next is b r le n = grind (arith, finds-before)
+    → ((begun : Option Begun) → FindsFrom (block + 1) (next begun))
+    → FindsFrom block (findings_after room next b r)
+finds-after room block next b r le n = grind (arith, finds-before)
 
 -- What bytes give after `block` blocks names none of these.
-pub finds_from : (room block : ℕ) (is : Bool) (begun : Option Begun) (b : List ℕ)
+pub finds_from : (scope : Scope) (room block : ℕ) (begun : Option Begun) (b : List ℕ)
     → block + room ≡ most_blocks
-    → FindsFrom (block + 1) (findings_at room is begun b)
-finds_from room block is begun [] e = rw findings_end (grind arith)
-finds_from zero block is begun (x ∷ b) e =
-    rw (findings_full is begun (x ∷ b) (omega arith)) (omega arith)
-finds_from (suc room) block is begun (x ∷ b) e = elim (cases_lt (length (x ∷ b)) 128) [
-  | inl cut ↦ rw (findings_short room is begun (x ∷ b) (omega arith) cut) (omega arith)
-  | inr whole ↦ rw (findings_step room is begun (x ∷ b) whole)
-      (finds-after room (block + 1) _ _ _ _ (omega arith)
-      (λ is' next. finds_from room (block + 1) is' next _ (omega arith)))
+    → FindsFrom (block + 1) (findings_at scope room begun b)
+finds_from scope room block begun [] e = rw findings_end (grind arith)
+finds_from scope zero block begun (x ∷ b) e =
+    rw (findings_full scope begun (x ∷ b) (omega arith)) (omega arith)
+finds_from scope (suc room) block begun (x ∷ b) e = elim (cases_lt (length (x ∷ b)) 128) [
+  | inl cut ↦ rw (findings_short scope room begun (x ∷ b) (omega arith) cut) (omega arith)
+  | inr long ↦ rw (findings_step scope room begun (x ∷ b) long)
+      (finds-after room (block + 1) _ (take 128 (x ∷ b)) _ (omega arith)
+      (λ next. finds_from scope room (block + 1) next _ (omega arith)))
 ]

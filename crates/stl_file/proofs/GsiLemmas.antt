@@ -1,7 +1,8 @@
 -- The GSI block as it is read, and with other counts; main lemmas: gsi_sound, gsi_complete,
 -- counted_is_gsi.
-use Rattle.std.proofs.Common.{◌≡◌, ℕ, List, ◌++◌, length, refl, sym, ap, ◌∙◌, append_assoc, arith}
-use Rattle.std.proofs.Common.{length-append, take, drop, Ok, ◌+◌, ◌≤◌}
+use Rattle.std.proofs.Common.{◌≡◌, ℕ, Bool, List, ◌++◌, length, refl, sym, ap, ◌∙◌, append_assoc, arith}
+use Rattle.std.proofs.Common.{length-append, take, drop, false, Ok, ◌+◌, ◌≤◌}
+use Rattle.std.specs.Prelude.{bytes_eq, not, ◌&&◌, ◌||◌, ◌==◌}
 use Rattle.std.proofs.lemmas.List.{drop-take, take-append-drop, length-drop, length-take}
 use Rattle.std.proofs.lemmas.List.{length-take-le, take_at, drop_at, take-append-le, take-take}
 use Rattle.std.proofs.lemmas.List.{get_or-take}
@@ -9,17 +10,48 @@ use Rattle.std.proofs.lemmas.Bool.Decides.{nat_tests}
 use Rattle.std.proofs.lemmas.Slice.Eq.{bytes_eq-Decides}
 use Rattle.std.proofs.lemmas.Slice.{take-put_mid, drop-put_mid}
 use borrow.Rule.Slice.PartMut.{put_mid}
-use Rattle.stl_file.specs.Gsi.{with_counts, gsi_at, IsGsi, field, five_digits}
+use Rattle.stl_file.specs.Gsi.{with_counts, gsi_at, IsGsi, IsGsiFor, field}
+use Rattle.stl_file.specs.Gsi.{IsDisplay, asked_of_gsi, dfc, dsc, five_digits, level_1, level_2}
+use Rattle.stl_file.specs.Gsi.{no_display, open_subtitles, stl_25, stl_30}
+use Rattle.stl_file.proofs.StepLemmas.{asked-right}
+
+-- What was asked of it.
+format_sound : (g : List ℕ)
+    → not (bytes_eq (dfc g) stl_25) && not (bytes_eq (dfc g) stl_30) ≡ false
+    → bytes_eq (dfc g) stl_30 ≡ false
+    → dfc g ≡ stl_25
+format_sound g a b = grind (arith, nat_tests, bytes_eq-Decides)
+
+display_sound : (takes_open : Bool) (d : ℕ)
+    → not (d == level_1) && not (d == level_2)
+    && not (takes_open && ((d == open_subtitles) || (d == no_display))) ≡ false
+    → IsDisplay takes_open d
+display_sound takes_open d e = grind (arith, nat_tests)
 
 -- A GSI block without a fault is taken, as it is.
-pub gsi_sound : (g h : List ℕ) → length g ≡ 1024 → gsi_at g ≡ Ok h → (h ≡ g) × IsGsi g
+pub gsi_sound : (takes_open : Bool) (g h : List ℕ)
+    → length g ≡ 1024
+    → gsi_at takes_open g ≡ Ok h
+    → (h ≡ g) × IsGsiFor takes_open g
 unfolding gsi_at
-gsi_sound g h size e = grind (arith, nat_tests, bytes_eq-Decides)
+gsi_sound takes_open g h size e =
+    let right = asked-right (asked_of_gsi takes_open g) (Ok g) h e in
+    let a = right.1 in (
+      grind (arith, nat_tests),
+      record {
+        size = size;
+        format = format_sound g a.0 a.1.0;
+        display = display_sound takes_open (dsc g) a.1.1.0;
+        alphabet = grind (arith, nat_tests, bytes_eq-Decides);
+      },
+    )
 
 -- A block that is taken is read as itself.
-pub gsi_complete : (g : List ℕ) → IsGsi g → gsi_at g ≡ Ok g
+pub gsi_complete : (takes_open : Bool) (g : List ℕ)
+    → IsGsiFor takes_open g
+    → gsi_at takes_open g ≡ Ok g
 unfolding gsi_at
-gsi_complete g h = grind (arith, nat_tests, bytes_eq-Decides)
+gsi_complete takes_open g h = grind (arith, nat_tests, bytes_eq-Decides)
 
 -- ---- the counts
 

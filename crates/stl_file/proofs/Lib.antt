@@ -1,4 +1,5 @@
 pub mod TimeCodeLemmas
+pub mod ScopeLemmas
 pub mod SubtitleLemmas
 pub mod SubtitleBlocksLemmas
 pub mod StepLemmas
@@ -12,3 +13,4 @@ pub mod ReaderLemmas
 pub mod BlocksOfLemmas
 pub mod NormalCountsLemmas
 pub mod NormalFormLemmas
+pub mod TakenOutLemmas

@@ -1,7 +1,7 @@
 -- The normal form: a file of the same subtitles, and what `normal` answers; main lemmas:
 -- normal_is_file, normal_twice, refused_body, whole_written.
 use Rattle.std.proofs.Common.{rules, ◌≡◌, ℕ, List, [], ◌∷◌, ◌++◌, length, refl, ap, ◌∙◌, arith}
-use Rattle.std.proofs.Common.{length-append, take, drop, Option, Ok, Err}
+use Rattle.std.proofs.Common.{length-append, take, drop, false, Option, Ok, Err}
 use Rattle.std.specs.Prelude.{filter}
 use Rattle.std.specs.List.{AllByRecursion, concat, AllZip}
 use Rattle.std.specs.Io.KnownBytes.{Appends, Keeps}
@@ -14,8 +14,9 @@ use Rattle.stl_file.specs.declared.fault.NormalFault.{NormalFault}
 use Rattle.stl_file.specs.declared.fault.NormalFault.TheVariants.{Refused, Write}
 use Rattle.stl_file.specs.Tti.{is_kept, most_blocks}
 use Rattle.stl_file.specs.SubtitleBlocks.{IsBlock, AreLinked, IsRest, AreBlocksOf}
-use Rattle.stl_file.specs.Reader.{ReaderValue, findings_of, outcome_from, outcome_of}
+use Rattle.stl_file.specs.Reader.{ReaderValue, findings_for, gsi_of, outcome_from, outcome_of}
 use Rattle.stl_file.specs.Reader.{opened_at}
+use Rattle.stl_file.specs.Scope.{whole}
 use Rattle.stl_file.specs.Gsi.{with_counts}
 use Rattle.stl_file.specs.Subtitle.{SubtitleValue}
 use Rattle.stl_file.specs.File.{IsFile}
@@ -24,9 +25,10 @@ use Rattle.stl_file.specs.NormalForm.{WritesNormal, WritesPrefix, NormalAnswers,
 use Rattle.stl_file.specs.NormalCounts.{normal_counts, given}
 use Rattle.stl_file.proofs.SubtitleBlocksLemmas.{kept_few}
 use Rattle.stl_file.proofs.GsiLemmas.{counted_is_gsi, counts_twice}
-use Rattle.stl_file.proofs.OpeningLemmas.{good, opened_sound}
+use Rattle.stl_file.proofs.OpeningLemmas.{good, opened_bad, opened_good, opened_sound}
 use Rattle.stl_file.proofs.FileLemmas.{body_sound, one_file}
 use Rattle.stl_file.proofs.RestLemmas.{groups_of}
+use Rattle.stl_file.proofs.ScopeLemmas.{all_inside, none_outside}
 use Rattle.stl_file.proofs.BlocksOfLemmas.{blocks_again}
 
 -- ---- blocks of subtitles
@@ -51,7 +53,7 @@ each_append (x ∷ xs) ys h k = (h.0, each_append xs ys h.1 k)
 -- The subtitles of a file have blocks of their own, and no more than the file has.
 respelled : (ss : List SubtitleValue) (gs : List (List (List ℕ)))
     → AllZip AreBlocksOf ss gs
-    → IsRest (length (groups_of gs)) (all_blocks ss) ss
+    → IsRest whole (length (groups_of gs)) (all_blocks ss) ss
 respelled [] gs h = grind (arith, nat_tests)
 respelled (s ∷ ss) [] h = absurd h
 respelled (s ∷ ss) (g ∷ gs) h =
@@ -67,16 +69,27 @@ respelled (s ∷ ss) (g ∷ gs) h =
         length-append (blocks_of s) (all_blocks ss),
         length-append g (groups_of gs),
       );
-      parts = blocks_of s ∷ rest.parts;
+      groups = blocks_of s ∷ rest.groups;
       kept = filter-append is_kept (blocks_of s) (all_blocks ss) ∙ rw (own.1, rest.kept) refl;
-      are_of = (one.0, rest.are_of);
+      outside = rw (none_outside (blocks_of s ∷ rest.groups)) tt;
+      are_of = rw (all_inside (blocks_of s ∷ rest.groups))
+          (one.0, rw (all_inside rest.groups) at rest.are_of);
     }
 
 -- The blocks that are made for the subtitles of a file are those of a file.
 own_rest : (bs : List (List ℕ)) (ts : List SubtitleValue)
-    → IsRest most_blocks bs ts
-    → IsRest most_blocks (all_blocks ts) ts
-own_rest bs ts r = grind (arith, nat_tests, respelled, kept_few)
+    → IsRest whole most_blocks bs ts
+    → IsRest whole most_blocks (all_blocks ts) ts
+own_rest bs ts r =
+    let own = respelled ts r.groups (rw (all_inside r.groups) at r.are_of) in
+    record {
+      each = own.each;
+      few = omega (arith, own.few, ap length r.kept, kept_few bs, r.few);
+      groups = own.groups;
+      kept = own.kept;
+      outside = own.outside;
+      are_of = own.are_of;
+    }
 
 -- ---- the laws
 
@@ -105,15 +118,17 @@ keeps_same o = grind (arith, nat_tests)
 pub refused_open : (s : List ℕ) (f : StlFault) (old : Option (List ℕ))
     → opened_at s ≡ Err f
     → NormalAnswers s old old (Err (Refused f 0))
-unfolding findings_of
-refused_open s f old e = (rw e refl, keeps_same old)
+unfolding findings_for
+refused_open s f old e =
+    (rw (opened_bad (gsi_of false s) f e) refl, keeps_same old)
 
 -- After a GSI block that is taken, a file gives what its body gives.
 file_body : (s : List ℕ) (r : ReaderValue)
     → opened_at s ≡ good r
     → subtitles_of (outcome_of s) ≡ subtitles_of (outcome_from 0 (drop 1024 s))
-unfolding findings_of
-file_body s r e = rw e refl
+unfolding findings_for
+file_body s r e =
+    rw (opened_good (gsi_of false s) r e).0 refl
 
 -- A file whose blocks are refused, as `normal` answers it.
 pub refused_body : (s : List ℕ) (r : ReaderValue) (f : NormalFault) (old : Option (List ℕ))
@@ -149,7 +164,7 @@ accepted s r c opened judged =
     let j = counted_ok _ c judged in
     record {
       ts = j.0;
-      is_file = body_sound s j.0 o.0 o.1 j.1;
+      is_file = body_sound whole s j.0 o.1 j.1;
       count = j.3;
       form = cc (ap given j.1, ap (λ (x : ReaderValue). x.gsi) o.2);
     }

@@ -1,7 +1,9 @@
--- `opened_at`, and that no file begins with what `open` refuses; main lemmas: opened_sound,
+-- `gsi_of`, and that no file begins with what is refused; main lemmas: gsi_of-sound, opened_sound,
 -- open_whole, bad_opening.
-use Rattle.std.proofs.Common.{◌≡◌, ℕ, List, ◌++◌, length, refl, sym, ap, ◌∙◌, arith, length-append}
-use Rattle.std.proofs.Common.{take, drop, Option, Some, Result, Ok, Err, ◌<◌, ◌≤◌, length-take}
+use Rattle.std.proofs.Common.{◌≡◌, ℕ, Bool, List, ◌++◌, length, refl, sym, ap, ◌∙◌, arith}
+use Rattle.std.proofs.Common.{length-append, take, drop, Option, Some, Result, Ok, Err, ◌<◌, ◌≤◌}
+use Rattle.std.proofs.Common.{length-take, false}
+use Rattle.std.specs.Prelude.{IfErr, IfOk}
 use Rattle.std.proofs.lemmas.List.{take_all, length-take-le, take_at, drop_at}
 use Rattle.std.proofs.lemmas.Bool.{le-ltb}
 use Rattle.std.proofs.lemmas.Bool.Decides.{nat_tests}
@@ -10,65 +12,103 @@ use Rattle.sub_io.specs.Device.{Fills, Told}
 use Rattle.stl_file.specs.declared.fault.StlFault.{StlFault}
 use Rattle.stl_file.specs.declared.fault.StlFault.TheVariants as fault
 use Rattle.stl_file.specs.declared.progress.Progress.TheVariants.{Reading}
-use Rattle.stl_file.specs.Reader.{ReaderValue, opened_at, opened, RefusesOpening}
-use Rattle.stl_file.specs.Gsi.{gsi_at, IsGsi}
+use Rattle.stl_file.specs.declared.scope.Scope.{Scope}
+use Rattle.stl_file.specs.Reader.{ReaderValue, opened, opened_at, gsi_of, RefusesOpeningFor}
+use Rattle.stl_file.specs.Gsi.{gsi_at, IsGsi, IsGsiFor}
 use Rattle.stl_file.specs.Subtitle.{SubtitleValue}
-use Rattle.stl_file.specs.File.{IsFile}
+use Rattle.stl_file.specs.File.{IsFileFor}
 use Rattle.stl_file.proofs.GsiLemmas.{gsi_sound, gsi_complete}
+
+-- What holds of any answer. For `read_gsi`.
+pub if_ok : {A E P : Type 0} (r : Result A E) → P → IfOk r (λ a. P)
+if_ok (Ok a) p = p
+if_ok (Err e) p = tt
+
+pub if_err : {A E : Type 0} (r : Result A E) (P : E → Type 0)
+    → ((e : E) → r ≡ Err e → P e)
+    → IfErr r P
+if_err (Ok a) P h = tt
+if_err (Err e) P h = h e refl
 
 -- A reader without a fault.
 abbrev pub good : ReaderValue → Result ReaderValue StlFault
 good r = Ok r
 
--- A reader that was opened has a GSI block that is taken.
-opened_good : (g : List ℕ) (r : ReaderValue)
-    → length g ≡ 1024
-    → opened (gsi_at g) ≡ good r
-    → IsGsi g × (r ≡ record { gsi = g; block = 0; progress = Reading })
-opened_good g r size e = grind (arith, gsi_sound g)
+-- A GSI block that is taken is that of the file's first bytes.
+pub gsi_of-sound : (takes_open : Bool) (s g : List ℕ)
+    → gsi_of takes_open s ≡ Ok g
+    → (1024 ≤ length s) × IsGsiFor takes_open (take 1024 s) × (g ≡ take 1024 s)
+unfolding gsi_of
+gsi_of-sound takes_open s g e =
+    let le : 1024 ≤ length s = grind (arith, nat_tests) in
+    let own = gsi_sound takes_open (take 1024 s) g (length-take-le 1024 s le)
+    (rw (le-ltb _ _ le) at e) in
+    (le, own.1, own.0)
+
+-- A reader that was opened has the GSI block that is taken. Also for `sub_listing`.
+pub opened_good : (g : Result (List ℕ) StlFault) (r : ReaderValue)
+    → opened g ≡ good r
+    → (g ≡ Ok r.gsi) × (r ≡ record { gsi = r.gsi; block = 0; progress = Reading })
+opened_good (Err f) r e = absurd cc
+opened_good (Ok g) r e = grind arith
+
+-- One that was not tells the fault of the GSI block. For `sub_listing`.
+pub opened_bad : (g : Result (List ℕ) StlFault) (f : StlFault)
+    → opened g ≡ (let r : Result ReaderValue StlFault = Err f in r)
+    → g ≡ Err f
+opened_bad (Err f') f e = grind arith
+opened_bad (Ok g) f e = absurd cc
 
 -- A file that was opened begins with a GSI block that is taken.
 pub opened_sound : (s : List ℕ) (r : ReaderValue)
     → opened_at s ≡ good r
     → (1024 ≤ length s) × IsGsi (take 1024 s)
     × (r ≡ record { gsi = take 1024 s; block = 0; progress = Reading })
-unfolding opened_at
 opened_sound s r e =
-    let le : 1024 ≤ length s = grind (arith, nat_tests) in
-    let o = opened_good (take 1024 s) r (length-take-le 1024 s le) (rw (le-ltb _ _ le) at e) in
-    (le, o.0, o.1)
+    let own = opened_good (gsi_of false s) r e in
+    let is = gsi_of-sound false s r.gsi own.0 in
+    (is.0, is.1, own.1 ∙ ap started is.2)
+  where
+    started : List ℕ → ReaderValue
+    started g = record { gsi = g; block = 0; progress = Reading }
 
 -- A file begins with its GSI block.
-pub file_gsi : (s g : List ℕ) (ts : List SubtitleValue) → IsFile s g ts → take 1024 s ≡ g
-file_gsi s g ts h = ap (take 1024) h.bytes ∙ take_at g (concat h.blocks) 1024 h.gsi.size
+pub file_gsi : (scope : Scope) (s g : List ℕ) (ts : List SubtitleValue)
+    → IsFileFor scope s g ts
+    → take 1024 s ≡ g
+file_gsi scope s g ts h = ap (take 1024) h.bytes ∙ take_at g (concat h.blocks) 1024 h.gsi.size
 
 module _ {old new : Option (List ℕ)} {n : ℕ} {block : List ℕ} (f : Fills old n new block)
     (size : length block ≡ 1024) where
   -- A GSI block with a fault begins no file.
-  pub bad_opening : (x : StlFault) → 1024 ≤ n → gsi_at block ≡ Err x → RefusesOpening old new x
-  bad_opening x le bad = record {
+  pub bad_opening : (scope : Scope) (x : StlFault)
+      → 1024 ≤ n
+      → gsi_at scope.takes_open block ≡ Err x
+      → RefusesOpeningFor scope old new x
+  bad_opening scope x le bad = record {
     bytes = block;
     consumed = rw (take_all n block (omega arith)) at f.bytes;
     none = λ more cut g ts h.
-        let same = sym (take_at block more 1024 size) ∙ file_gsi (block ++ more) g ts h in
-        let no = sym bad ∙ ap gsi_at same ∙ gsi_complete g h.gsi in
+        let same = sym (take_at block more 1024 size) ∙ file_gsi scope (block ++ more) g ts h in
+        let no = sym bad ∙ ap (gsi_at scope.takes_open) same
+        ∙ gsi_complete scope.takes_open g h.gsi in
         cc;
   }
 
 module _ {bytes : List ℕ} {n : ℕ} {new : Option (List ℕ)} {block : List ℕ}
     (t : Told bytes n new block) (bound : n ≤ length block) (size : length block ≡ 1024) where
   -- Fewer bytes than a GSI block.
-  pub open_short : n < 1024 → opened_at bytes ≡ Err fault.Truncated
-  unfolding opened_at
-  open_short lt = grind (arith, nat_tests, length-append, length-take)
+  pub open_short : (takes_open : Bool) → n < 1024 → gsi_of takes_open bytes ≡ Err fault.Truncated
+  unfolding gsi_of
+  open_short takes_open lt = grind (arith, nat_tests, length-append, length-take)
 
   -- What a whole GSI block is read as.
-  pub open_whole : (r : Result (List ℕ) StlFault)
+  pub open_whole : (takes_open : Bool) (r : Result (List ℕ) StlFault)
       → 1024 ≤ n
-      → gsi_at block ≡ r
-      → opened_at bytes ≡ opened r
-  unfolding opened_at
-  open_whole r le e =
+      → gsi_at takes_open block ≡ r
+      → gsi_of takes_open bytes ≡ r
+  unfolding gsi_of
+  open_whole takes_open r le e =
       let long : 1024 ≤ length bytes =
       omega (arith, ap length t.parts, length-append (take n block) t.rest, length-take n block) in
       rw (le-ltb _ _ long, t.parts, take_all n block (omega arith))

@@ -1,11 +1,11 @@
 -- The loop over blocks: what they and any more bytes give; main lemmas: reads_on, leads_given,
 -- leads_refused, fails_reading.
-use Rattle.std.proofs.Common.{rules, ◌≡◌, ◌*◌, ℕ, Bool, false, true, List, [], ◌++◌, length, refl}
+use Rattle.std.proofs.Common.{rules, ◌≡◌, ◌*◌, ℕ, false, true, List, [], ◌++◌, length, refl}
 use Rattle.std.proofs.Common.{sym, ap, ◌∙◌}
 use Rattle.std.proofs.Common.{append_assoc, arith, length-append, take, drop, Option, None, Result}
 use Rattle.std.proofs.Common.{Ok, Err, suc, ◌+◌, ◌-◌, ◌<◌, ◌≤◌, ◌/◌, length-take}
 use Rattle.std.proofs.lemmas.Bool.Decides.{nat_tests}
-use Rattle.std.specs.Prelude.{is_ok, is_some}
+use Rattle.std.specs.Prelude.{is_ok}
 use Rattle.std.specs.Io.KnownBytes.{Consumes}
 use Rattle.std.proofs.lemmas.List.{append-nil, take_all, nil_from_length, drop_at}
 use Rattle.std.proofs.KnownBytes.{Consumes-trans}
@@ -18,7 +18,8 @@ use Rattle.stl_file.specs.Tti.{most_blocks}
 use Rattle.stl_file.specs.Reader.{FailsReading, LastIsKept, block_after}
 use Rattle.stl_file.specs.Subtitle.{SubtitleValue}
 use Rattle.stl_file.specs.Reading.{Begun, More, Give, findings_after, findings_at, findings_from}
-use Rattle.stl_file.specs.Reading.{refused_at, step_at}
+use Rattle.stl_file.specs.Reading.{passed_at, step_at}
+use Rattle.stl_file.specs.declared.scope.Scope.{Scope}
 use Rattle.stl_file.specs.Resuming.{LeadsOn, findings_by, finds_end, found_of}
 use Rattle.stl_file.specs.Fault.{is_cut, is_of_block}
 use Rattle.stl_file.proofs.StepLemmas.{step_gives}
@@ -29,48 +30,39 @@ use Rattle.stl_file.proofs.FindingsLemmas.{finds_from}
 
 -- The bytes that were taken in this call, after `from` blocks: they are whole blocks, up to
 -- `block`, and what they and any more bytes give is known.
-pub record HasRead (from : ℕ) (refused : Option Begun) (old now : Option (List ℕ)) (block : ℕ)
+pub record HasRead
+    (scope : Scope) (from : ℕ) (refused : Option Begun) (old now : Option (List ℕ)) (block : ℕ)
     (begun : Option Begun)
     : Type 0 where
   pub bytes : List ℕ
   pub consumed : Consumes old now bytes
   pub size : 128 * from + length bytes ≡ 128 * block
   pub goes : (more : List ℕ)
-      → findings_from from refused (bytes ++ more)
-      ≡ findings_at (most_blocks - block) (is_some refused) begun more
+      → findings_from scope from refused (bytes ++ more)
+      ≡ findings_at scope (most_blocks - block) begun more
 
 -- Fewer than 128 bytes were taken after them, and the source failed.
-pub fails_reading : (from block : ℕ) (refused : Option Begun) (old mid new : Option (List ℕ))
-    (begun : Option Begun) (bytes : List ℕ)
-    → HasRead from refused old mid block begun
+pub fails_reading : (scope : Scope) (from block : ℕ) (refused : Option Begun)
+    (old mid new : Option (List ℕ)) (begun : Option Begun) (bytes : List ℕ)
+    → HasRead scope from refused old mid block begun
     → block ≤ most_blocks
     → length bytes < 128
     → Consumes mid new bytes
-    → FailsReading from (block + 1) refused old new
-fails_reading from block refused old mid new begun bytes h few lt c = record {
+    → FailsReading scope from (block + 1) refused old new
+fails_reading scope from block refused old mid new begun bytes h few lt c = record {
   bytes = h.bytes ++ bytes;
   consumed = Consumes-trans old mid new h.bytes bytes h.consumed c;
   block = let s = h.size in omega (arith, length-append h.bytes bytes);
   none = λ more.
       rw (append_assoc h.bytes bytes more, h.goes (bytes ++ more))
-      (finds_from (most_blocks - block) block (is_some refused) begun (bytes ++ more)
-      (omega arith));
+      (finds_from scope (most_blocks - block) block begun (bytes ++ more) (omega arith));
 }
-
--- The last block of a subtitle, which is given only if it was not refused.
-given_by : (is : Bool) (to : ℕ) (b more : List ℕ) (s : SubtitleValue)
-    → most_blocks - (most_blocks - to) ≡ to
-    → findings_after (most_blocks - to) (λ is' begun. findings_at (most_blocks - to) is' begun more)
-    is b (Ok (Give s))
-    ≡ findings_by to None more s (found_of is (Ok true))
-given_by true to b more s number = refl
-given_by false to b more s number = rw number refl
 
 -- ---- one turn of the loop: the bytes that came after them
 
-module _ {from : ℕ} {refused : Option Begun} {old mid new : Option (List ℕ)} {n block : ℕ}
-    {begun : Option Begun} {buffer : List ℕ} (h : HasRead from refused old mid block begun)
-    (f : Fills mid n new buffer) (size : length buffer ≡ 128) (next : Option Begun)
+module _ {scope : Scope} {from : ℕ} {refused : Option Begun} {old mid new : Option (List ℕ)}
+    {n block : ℕ} {begun : Option Begun} {buffer : List ℕ}
+    (h : HasRead scope from refused old mid block begun) (f : Fills mid n new buffer) (size : length buffer ≡ 128) (next : Option Begun)
     (s : SubtitleValue) where
   -- The bytes that came.
   length_front : length (take n buffer) ≡ n
@@ -84,10 +76,10 @@ module _ {from : ℕ} {refused : Option Begun} {old mid new : Option (List ℕ)}
       → (finds_end r ≡ true → n < 128)
       → ((more : List ℕ)
       → (finds_end r ≡ true → more ≡ [])
-      → findings_at (most_blocks - block) (is_some refused) begun (take n buffer ++ more)
-      ≡ findings_by to next more s r)
+      → findings_at scope (most_blocks - block) begun (take n buffer ++ more)
+      ≡ findings_by scope to next more s r)
       → (r ≡ Ok found.Subtitle → LastIsKept (h.bytes ++ take n buffer))
-      → LeadsOn from to refused next old new s r
+      → LeadsOn scope from to refused next old new s r
   leads to r at whole some cut gives kept =
       let both = Consumes-trans old mid new h.bytes (take n buffer) h.consumed f.bytes in
       let l = length-append h.bytes (take n buffer) in
@@ -99,15 +91,14 @@ module _ {from : ℕ} {refused : Option Begun} {old mid new : Option (List ℕ)}
       → block ≤ most_blocks
       → finds_end r ≡ true
       → (r ≡ Ok found.Subtitle → ⊥)
-      → findings_at (most_blocks - block) (is_some refused) begun []
-      ≡ findings_by block next [] s r
-      → LeadsOn from block refused next old new s r
+      → findings_at scope (most_blocks - block) begun [] ≡ findings_by scope block next [] s r
+      → LeadsOn scope from block refused next old new s r
   leads_end r z le cut never gives = grind (arith, nat_tests, nil_from_length, length_front, leads)
 
   -- A byte came, and no block may follow.
   pub leads_too_many : (n ≡ 0 → ⊥)
       → block ≡ most_blocks
-      → LeadsOn from (block + 1) refused next old new s (Err fault.TooManyBlocks)
+      → LeadsOn scope from (block + 1) refused next old new s (Err fault.TooManyBlocks)
   leads_too_many some full =
       let positive : 0 < n = grind (arith, nat_tests) in
       search (rules, length_front, leads, findings_full, length-append)
@@ -116,7 +107,7 @@ module _ {from : ℕ} {refused : Option Begun} {old mid new : Option (List ℕ)}
   pub leads_truncated : (n ≡ 0 → ⊥)
       → block < most_blocks
       → n < 128
-      → LeadsOn from (block + 1) refused next old new s (Err fault.Truncated)
+      → LeadsOn scope from (block + 1) refused next old new s (Err fault.Truncated)
   leads_truncated some few lt =
       let room : most_blocks - block ≡ suc (most_blocks - (block + 1)) = omega arith in
       grind (arith, nat_tests, length_front, leads, append-nil, findings_short)
@@ -124,13 +115,13 @@ module _ {from : ℕ} {refused : Option Begun} {old mid new : Option (List ℕ)}
   module _ (few : block < most_blocks) (long : 128 ≤ n) where
     -- What a whole block gives.
     one_block : (more : List ℕ)
-        → findings_at (most_blocks - block) (is_some refused) begun (take n buffer ++ more)
+        → findings_at scope (most_blocks - block) begun (take n buffer ++ more)
         ≡ findings_after (most_blocks - (block + 1))
-        (λ is begun'. findings_at (most_blocks - (block + 1)) is begun' more) (is_some refused)
-        buffer (step_at begun buffer)
+        (λ begun'. findings_at scope (most_blocks - (block + 1)) begun' more) buffer
+        (step_at scope begun buffer)
     one_block more = rw (take_all n buffer (omega arith))
-        (findings_block (most_blocks - block) (most_blocks - (block + 1)) (is_some refused) begun
-        buffer more (omega arith) size)
+        (findings_block scope (most_blocks - block) (most_blocks - (block + 1)) begun buffer more
+        (omega arith) size)
 
     -- Its number.
     number : most_blocks - (most_blocks - (block + 1)) ≡ block + 1
@@ -139,26 +130,24 @@ module _ {from : ℕ} {refused : Option Begun} {old mid new : Option (List ℕ)}
     -- A block with a fault.
     pub leads_refused : (x : StlFault)
         → is_of_block x ≡ true
-        → next ≡ refused_at buffer
-        → step_at begun buffer ≡ Err x
-        → LeadsOn from (block_after (block + 1) x) refused next old new s
-        (found_of (is_some refused) (Err x))
+        → next ≡ passed_at buffer
+        → step_at scope begun buffer ≡ Err x
+        → LeadsOn scope from (block_after (block + 1) x) refused next old new s (found_of (Err x))
     leads_refused x own is step =
         let same : block_after (block + 1) x ≡ block + 1 = grind arith in
         let whole : is_cut x ≡ true → n < 128 = grind arith in
-        rw same (leads (block + 1) (found_of (is_some refused) (Err x)) (omega arith)
+        rw same (leads (block + 1) (found_of (Err x)) (omega arith)
         (λ _. omega arith) (λ _. omega arith) (grind arith)
         (λ more _. one_block more ∙ rw (step, number, is) (grind arith)) (grind arith))
 
     -- The last block of a subtitle.
     pub leads_given : next ≡ None
-        → step_at begun buffer ≡ Ok (Give s)
-        → LeadsOn from (block + 1) refused next old new s (found_of (is_some refused) (Ok true))
+        → step_at scope begun buffer ≡ Ok (Give s)
+        → LeadsOn scope from (block + 1) refused next old new s (Ok found.Subtitle)
     leads_given is step =
-        leads (block + 1) (found_of (is_some refused) (Ok true)) (omega arith) (λ _. omega arith)
+        leads (block + 1) (Ok found.Subtitle) (omega arith) (λ _. omega arith)
         (λ _. omega arith) (grind arith)
-        (λ more _. one_block more
-        ∙ rw (step, is) (given_by (is_some refused) (block + 1) buffer more s number))
+        (λ more _. one_block more ∙ rw (step, is, number) refl)
         (λ _ front last e is.
         let l = length-append front last in
         let k = length-append h.bytes (take n buffer) in
@@ -166,11 +155,11 @@ module _ {from : ℕ} {refused : Option Begun} {old mid new : Option (List ℕ)}
         let m = length_front in
         let same = sym (drop_at h.bytes (take n buffer) (length front) (omega arith))
         ∙ ap (drop (length front)) e ∙ drop_at front last (length front) refl in
-        rw (← take_all n buffer (omega arith), same) at (step_gives begun buffer s step))
+        rw (← take_all n buffer (omega arith), same) at (step_gives scope begun buffer s step))
 
     -- The blocks go on.
-    pub reads_on : step_at begun buffer ≡ Ok (More next)
-        → HasRead from refused old new (block + 1) next
+    pub reads_on : step_at scope begun buffer ≡ Ok (More next)
+        → HasRead scope from refused old new (block + 1) next
     reads_on step =
         let both = Consumes-trans old mid new h.bytes (take n buffer) h.consumed f.bytes in
         let l = length-append h.bytes (take n buffer) in

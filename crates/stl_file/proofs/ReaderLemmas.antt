@@ -14,19 +14,22 @@ use Rattle.stl_file.specs.Tti.{is_kept, most_blocks}
 use Rattle.stl_file.specs.SubtitleBlocks.{IsBlock, AreBlocksOf}
 use Rattle.stl_file.specs.Reader.{EndsKept, LastIsKept, Refuses, TakesPassed, TakesSubtitle}
 use Rattle.stl_file.specs.Subtitle.{SubtitleValue}
-use Rattle.stl_file.specs.Reading.{Begun, fails, findings_from, refused_by, stopped}
+use Rattle.stl_file.specs.Reading.{Begun, fails, findings_from, passed_by, stopped}
+use Rattle.stl_file.specs.Scope.{whole}
+use Rattle.stl_file.specs.declared.scope.Scope.{Scope}
 use Rattle.stl_file.specs.Resuming.{LeadsOn, findings_by, finds_end, found_of}
 use Rattle.stl_file.proofs.SubtitleBlocksLemmas.{length-concat}
 use Rattle.stl_file.proofs.FindingsLemmas.{findings_end}
 use Rattle.stl_file.proofs.RestLemmas.{read_complete, read_sound, groups_of}
+use Rattle.stl_file.proofs.ScopeLemmas.{all_inside}
 
 -- What was left is what was found, and what is left after it. For `stl_rows`.
-pub left-then : (old new : Option (List ℕ)) (rest : List ℕ) {from to : ℕ}
+pub left-then : (old new : Option (List ℕ)) (rest : List ℕ) {scope : Scope} {from to : ℕ}
     {refused next : Option Begun} {t : SubtitleValue} {result : Result Found StlFault}
-    → LeadsOn from to refused next old new t result
+    → LeadsOn scope from to refused next old new t result
     → old ≡ Some rest
     → (more : List ℕ) × (new ≡ Some more)
-    × (findings_from from refused rest ≡ findings_by to next more t result)
+    × (findings_from scope from refused rest ≡ findings_by scope to next more t result)
 left-then None new rest l is = absurd cc
 left-then (Some all) None rest l is = absurd l.consumed
 left-then (Some all) (Some more) rest l is =
@@ -37,24 +40,24 @@ left-then (Some all) (Some more) rest l is =
 
 -- A fault ends what it gives, also where reading could go on behind it.
 by_fault : (to : ℕ) (next : Option Begun) (more : List ℕ) (s : SubtitleValue) (f : StlFault)
-    → stopped (findings_by to next more s (found_of false (Err f))) ≡ fails f to
+    → stopped (findings_by whole to next more s (found_of (Err f))) ≡ fails f to
 by_fault to next more s f = grind arith
 
 -- More bytes might cure only a file that is cut.
-is_cut-by : (f : StlFault) → finds_end (found_of false (Err f)) ≡ true → is_cut f ≡ true
+is_cut-by : (f : StlFault) → finds_end (found_of (Err f)) ≡ true → is_cut f ≡ true
 is_cut-by f e = grind arith
 
 -- No file goes on with a first fault.
 pub refuses : (from to : ℕ) (old new : Option (List ℕ)) (s : SubtitleValue) (next : Option Begun)
     (x : StlFault)
-    → LeadsOn from to None next old new s (found_of false (Err x))
+    → LeadsOn whole from to None next old new s (found_of (Err x))
     → Refuses from to old new x
 refuses from to old new s next x l = record {
   bytes = l.bytes;
   consumed = l.consumed;
   block = l.block;
   none = λ more cut bs ts r e.
-      let good = read_complete bs (most_blocks - from) ts r in
+      let good = read_complete whole bs (most_blocks - from) ts r in
       let bad = ap stopped (l.findings more (λ end. cut (is_cut-by x end)))
       ∙ by_fault to next more s x in
       grind arith;
@@ -92,13 +95,13 @@ ends_group s (b ∷ bs) a h k = ends_kept [] b bs h k
 pub takes_subtitle : (from to : ℕ) (old new : Option (List ℕ)) (s : SubtitleValue)
     (kept : Option (List ℕ))
     → kept ≡ None
-    → LeadsOn from to None (option_map refused_by kept) old new s (Ok found.Subtitle)
+    → LeadsOn whole from to None (option_map passed_by kept) old new s (Ok found.Subtitle)
     → TakesSubtitle from to old new s
 takes_subtitle from to old new s kept over l =
-    let r = read_sound (most_blocks - from) None [] l.bytes (s ∷ []) refl
+    let r = read_sound whole (most_blocks - from) None [] l.bytes (s ∷ []) refl
     (let o = rw over at (l.findings [] (λ e. refl)) in grind (arith, append-nil, findings_end)) in
     let are_of : AreBlocksOf s (filter is_kept r.blocks) =
-    rw r.kept (one_group s r.groups r.are_groups) in
+    rw r.kept (one_group s r.groups (rw (all_inside r.groups) at r.are_groups)) in
     record {
       blocks = r.blocks;
       counted = omega (arith, length-concat r.blocks r.each, ap length r.bytes);
@@ -111,12 +114,25 @@ takes_subtitle from to old new s kept over l =
 -- No subtitle is that of passed blocks alone.
 pub takes_passed : (from to : ℕ) (old new : Option (List ℕ)) (s : SubtitleValue)
     (next : Option Begun)
-    → LeadsOn from to None next old new s (Ok found.End)
+    → LeadsOn whole from to None next old new s (Ok found.End)
     → TakesPassed from to old new
 takes_passed from to old new s next l =
-    let r = read_sound (most_blocks - from) None [] l.bytes [] refl
+    let r = read_sound whole (most_blocks - from) None [] l.bytes [] refl
     (let o = l.findings [] (λ e. refl) in grind (arith, append-nil)) in
-    grind (arith, nat_tests, read_sound, append-nil, length-concat, no_group)
+    let none : groups_of r.groups ≡ [] =
+    no_group r.groups (rw (all_inside r.groups) at r.are_groups) in
+    record {
+      blocks = r.blocks;
+      counted =
+          let size = length-concat r.blocks r.each in
+          let same = ap length r.bytes in
+          let at = l.block in
+          omega arith;
+      each = r.each;
+      passed = r.kept ∙ none;
+      consumed = rw r.bytes at l.consumed;
+      ended = l.ended refl;
+    }
 
 -- What bytes that lead to an answer say of it. For `next_into`.
 pub ruleset led = (takes_subtitle, takes_passed, refuses)

@@ -9,16 +9,18 @@ use Rattle.std.proofs.lemmas.List.{append-nil}
 use Rattle.std.proofs.lemmas.Bool.Decides.{nat_tests}
 use Rattle.stl_file.specs.declared.fault.StlFault.{StlFault}
 use Rattle.stl_file.specs.Questions.{Questions, asked}
-use Rattle.stl_file.specs.Tti.{is_kept, ebn, cf, text_of, is_passed_block}
-use Rattle.stl_file.specs.SubtitleBlocks.{BelongsTo, AreLinked, Begins, AreBlocksOf}
+use Rattle.stl_file.specs.Tti.{is_kept, ebn, cf, sgn, sn, text_of, is_passed_block}
+use Rattle.stl_file.specs.SubtitleBlocks.{BelongsTo, AreLinked, AreOutside, Begins, AreBlocksOf}
 use Rattle.stl_file.specs.Subtitle.{SubtitleValue}
+use Rattle.stl_file.specs.Scope.{begins_outside, is_outside}
+use Rattle.stl_file.specs.declared.scope.Scope.{Scope}
 use Rattle.stl_file.specs.Reading.{Begun, BlockStep, More, Give, step_at, closed, first_at, kept_at}
-use Rattle.stl_file.specs.Reading.{asked_of_first}
+use Rattle.stl_file.specs.Reading.{asked_of_first, passed_by}
 
 -- ---- a first block
 
--- Where there is an answer, no question is answered wrongly.
-asked-right : {X : Type 0} (qs : Questions) (answer : Result X StlFault) (x : X)
+-- Where there is an answer, no question is answered wrongly. Also for `GsiLemmas`.
+pub asked-right : {X : Type 0} (qs : Questions) (answer : Result X StlFault) (x : X)
     → asked qs answer ≡ Ok x
     → (answer ≡ Ok x) × AllByRecursion (λ (q : StlFault × Bool). q.1 ≡ false) qs
 asked-right [] answer x e = (e, tt)
@@ -39,22 +41,40 @@ first_complete : (b : List ℕ) (s : SubtitleValue)
 unfolding first_at
 first_complete b s h = grind (arith, nat_tests)
 
+-- A subtitle of which the first block was read.
+abbrev pub first_begun : SubtitleValue → List ℕ → Begun
+first_begun s b =
+    record { subtitle = record s { text = text_of b }; blocks = 1; is_passed = false }
+
 -- A block that begins a subtitle is kept.
-pub first_kept : (s : SubtitleValue) (b : List ℕ)
+pub first_kept : (scope : Scope) (s : SubtitleValue) (b : List ℕ)
+    → begins_outside scope b ≡ false
     → Begins s b
-    → kept_at None b ≡ Ok (closed (ebn b) (record s { text = text_of b }) 1)
+    → kept_at scope None b ≡ Ok (closed (ebn b) (first_begun s b))
 unfolding kept_at
-first_kept s b h = rw (first_complete b s h) refl
+first_kept scope s b inside h = rw (inside, first_complete b s h) refl
+
+-- One that is outside begins one that is passed over.
+pub outside_kept : (scope : Scope) (b : List ℕ)
+    → begins_outside scope b ≡ true
+    → kept_at scope None b ≡ Ok (closed (ebn b) (passed_by b))
+unfolding kept_at
+outside_kept scope b outside = rw outside (grind (arith, nat_tests))
+
+-- A subtitle with a further block.
+abbrev pub longer : Begun → List ℕ → Begun
+longer o b = record o {
+  subtitle = record o.subtitle { text = o.subtitle.text ++ text_of b };
+  blocks = o.blocks + 1;
+}
 
 -- A further block of a subtitle is kept.
-pub further_kept : (o : Begun) (b : List ℕ)
+pub further_kept : (scope : Scope) (o : Begun) (b : List ℕ)
     → BelongsTo o.subtitle.sgn o.subtitle.sn b
     → o.blocks < 9
-    → kept_at (Some o) b
-    ≡ Ok (closed (ebn b) (record o.subtitle { text = o.subtitle.text ++ text_of b })
-    (o.blocks + 1))
+    → kept_at scope (Some o) b ≡ Ok (closed (ebn b) (longer o b))
 unfolding kept_at
-further_kept o b belongs few = grind (arith, nat_tests)
+further_kept scope o b belongs few = grind (arith, nat_tests)
 
 -- ---- subtitles that are not whole
 
@@ -62,24 +82,30 @@ further_kept o b belongs few = grind (arith, nat_tests)
 abbrev pub Within : ℕ → ℕ → List ℕ → Type 0
 Within sgn_is sn_is b = BelongsTo sgn_is sn_is b × (ebn b < 240)
 
--- The blocks of a subtitle before its last one.
-pub record IsOpen (s : SubtitleValue) (g : List (List ℕ)) : Type 0 where
+-- The blocks of a subtitle before its last one. One that is passed over is outside.
+pub record IsOpen (scope : Scope) (o : Begun) (g : List (List ℕ)) : Type 0 where
   pub first : List ℕ
   pub others : List (List ℕ)
   pub blocks : g ≡ first ∷ others
-  pub begins : Begins s first
-  pub each : AllByRecursion (Within s.sgn s.sn) g
-  pub text_is : s.text ≡ flat_map text_of g
+  pub passed : begins_outside scope first ≡ o.is_passed
+  pub own : (sgn first ≡ o.subtitle.sgn) × (sn first ≡ o.subtitle.sn)
+  pub begins : o.is_passed ≡ false
+      → Begins o.subtitle first × (o.subtitle.text ≡ flat_map text_of g)
+  pub each : AllByRecursion (Within o.subtitle.sgn o.subtitle.sn) g
+  pub size : length g ≡ o.blocks
+  pub few : o.blocks ≤ 9
 
 -- The blocks so far of the subtitle that was begun.
-abbrev pub Represents : Option Begun → List (List ℕ) → Type 0
-Represents None kept = kept ≡ []
-Represents (Some o) kept = IsOpen o.subtitle kept × (length kept ≡ o.blocks) × (o.blocks ≤ 9)
+abbrev pub Represents : Scope → Option Begun → List (List ℕ) → Type 0
+Represents scope None kept = kept ≡ []
+Represents scope (Some o) kept = IsOpen scope o kept
 
--- What a step makes of the kept blocks.
-abbrev pub Reaches : List (List ℕ) → BlockStep → Type 0
-Reaches kept (More begun) = Represents begun kept
-Reaches kept (Give s) = AreBlocksOf s kept
+-- What a step makes of the kept blocks: where nothing is begun behind them they are none, or those
+-- of a subtitle that is outside.
+abbrev pub Reaches : Scope → List (List ℕ) → BlockStep → Type 0
+Reaches scope kept (More None) = (kept ≡ []) ⊎ AreOutside scope kept
+Reaches scope kept (More (Some o)) = IsOpen scope o kept
+Reaches scope kept (Give s) = AreBlocksOf s kept × (is_outside scope kept ≡ false)
 
 -- One block more that is not the last.
 all_push : (sgn_is sn_is : ℕ) (g : List (List ℕ)) (b : List ℕ)
@@ -100,54 +126,83 @@ chain_push sgn_is sn_is (x ∷ []) b h w e = (h.0.0, h.0.1, (w, e))
 chain_push sgn_is sn_is (x ∷ y ∷ g) b h w e =
     (h.0.0, h.0.1, chain_push sgn_is sn_is (y ∷ g) b h.1 w e)
 
--- A kept block that was read belongs to the subtitle.
-kept_sound : (begun : Option Begun) (kept : List (List ℕ)) (b : List ℕ) (r : BlockStep)
+-- The first block of a subtitle that was read.
+kept_first : (scope : Scope) (b : List ℕ) (r : BlockStep)
     → length b ≡ 128
     → cf b ≡ 0
     → (ebn b < 240) ⊎ (ebn b ≡ 255)
-    → Represents begun kept
-    → kept_at begun b ≡ Ok r
-    → Reaches (kept ++ b ∷ []) r
+    → kept_at scope None b ≡ Ok r
+    → Reaches scope (b ∷ []) r
 unfolding kept_at
-kept_sound begun kept b r size none e h k =
+kept_first scope b r size none e k = grind (arith, nat_tests, first_sound, append-nil)
+
+-- A further one.
+kept_further : (scope : Scope) (o : Begun) (kept : List (List ℕ)) (b : List ℕ) (r : BlockStep)
+    → length b ≡ 128
+    → cf b ≡ 0
+    → (ebn b < 240) ⊎ (ebn b ≡ 255)
+    → IsOpen scope o kept
+    → kept_at scope (Some o) b ≡ Ok r
+    → Reaches scope (kept ++ b ∷ []) r
+unfolding kept_at
+kept_further scope o kept b r size none e h k =
     grind (
       arith,
       nat_tests,
       all_push,
       chain_push,
       length-append,
-      first_sound,
       flat_map-append,
       append-nil,
     )
 
--- A block that was read without a fault goes with the kept ones, or is passed over.
-pub step_sound : (begun : Option Begun) (kept : List (List ℕ)) (b : List ℕ) (r : BlockStep)
+-- A kept block that was read belongs to the subtitle.
+kept_sound : (scope : Scope) (begun : Option Begun) (kept : List (List ℕ)) (b : List ℕ)
+    (r : BlockStep)
     → length b ≡ 128
-    → Represents begun kept
-    → step_at begun b ≡ Ok r
-    → Reaches (kept ++ cond (is_kept b) (b ∷ []) []) r
+    → cf b ≡ 0
+    → (ebn b < 240) ⊎ (ebn b ≡ 255)
+    → Represents scope begun kept
+    → kept_at scope begun b ≡ Ok r
+    → Reaches scope (kept ++ b ∷ []) r
+kept_sound scope None kept b r size none e h k = rw h (kept_first scope b r size none e k)
+kept_sound scope (Some o) kept b r size none e h k = kept_further scope o kept b r size none e h k
+
+-- What was begun stays so.
+stays_begun : (scope : Scope) (begun : Option Begun) (kept : List (List ℕ))
+    → Represents scope begun kept
+    → Reaches scope kept (More begun)
+stays_begun scope begun kept h = grind (arith, nat_tests)
+
+-- A block that was read without a fault goes with the kept ones, or is passed over.
+pub step_sound : (scope : Scope) (begun : Option Begun) (kept : List (List ℕ)) (b : List ℕ)
+    (r : BlockStep)
+    → length b ≡ 128
+    → Represents scope begun kept
+    → step_at scope begun b ≡ Ok r
+    → Reaches scope (kept ++ cond (is_kept b) (b ∷ []) []) r
 unfolding step_at
-step_sound begun kept b r size h e = grind (arith, nat_tests, append-nil, kept_sound)
+step_sound scope begun kept b r size h e =
+    grind (arith, nat_tests, append-nil, kept_sound, stays_begun)
 
 -- A subtitle is given at a kept block.
-pub step_gives : (begun : Option Begun) (b : List ℕ) (s : SubtitleValue)
-    → step_at begun b ≡ Ok (Give s)
+pub step_gives : (scope : Scope) (begun : Option Begun) (b : List ℕ) (s : SubtitleValue)
+    → step_at scope begun b ≡ Ok (Give s)
     → is_kept b ≡ true
 unfolding step_at
-step_gives begun b s e = grind (arith, nat_tests)
+step_gives scope begun b s e = grind (arith, nat_tests)
 
 -- A block of a subtitle is kept.
-pub step_kept : (begun : Option Begun) (b : List ℕ)
+pub step_kept : (scope : Scope) (begun : Option Begun) (b : List ℕ)
     → (ebn b < 240) ⊎ (ebn b ≡ 255)
     → cf b ≡ 0
-    → step_at begun b ≡ kept_at begun b
+    → step_at scope begun b ≡ kept_at scope begun b
 unfolding step_at
-step_kept begun b e c = grind (arith, nat_tests)
+step_kept scope begun b e c = grind (arith, nat_tests)
 
 -- A comment or user data is passed over.
-pub step_passed : (begun : Option Begun) (b : List ℕ)
+pub step_passed : (scope : Scope) (begun : Option Begun) (b : List ℕ)
     → is_passed_block b ≡ true
-    → step_at begun b ≡ Ok (More begun)
+    → step_at scope begun b ≡ Ok (More begun)
 unfolding step_at
-step_passed begun b p = grind (arith, nat_tests)
+step_passed scope begun b p = grind (arith, nat_tests)

@@ -1,15 +1,22 @@
 -- What a subtitle file is (EBU Tech 3264): a GSI block that is taken, then at most 99,999 TTI
--- blocks that hold the blocks of its subtitles, with comments and user data between them.
+-- blocks that hold the blocks of its subtitles, with comments, user data and what is outside the
+-- scope between them.
 use Rattle.std.specs.Prelude.{◌≡◌, ℕ, List, ◌++◌}
 use Rattle.std.specs.List.{concat}
 use Rattle.stl_file.specs.Tti.{most_blocks}
 use Rattle.stl_file.specs.Subtitle.{SubtitleValue}
 use Rattle.stl_file.specs.SubtitleBlocks.{IsRest}
-use Rattle.stl_file.specs.Gsi.{IsGsi}
+use Rattle.stl_file.specs.Gsi.{IsGsiFor}
+use Rattle.stl_file.specs.Scope.{whole}
+use Rattle.stl_file.specs.declared.scope.Scope.{Scope}
 
--- The bytes s are a file with the GSI block g and the subtitles ts.
-pub record IsFile (s g : List ℕ) (ts : List SubtitleValue) : Type 0 where
-  pub gsi : IsGsi g
+-- The bytes s are a file with the GSI block g, and what of it is taken is the subtitles ts.
+pub record IsFileFor (scope : Scope) (s g : List ℕ) (ts : List SubtitleValue) : Type 0 where
+  pub gsi : IsGsiFor scope.takes_open g
   pub blocks : List (List ℕ)
   pub bytes : s ≡ g ++ concat blocks
-  pub rest : IsRest most_blocks blocks ts
+  pub rest : IsRest scope most_blocks blocks ts
+
+-- They are a file for Teletext with these subtitles in all.
+abbrev pub IsFile : List ℕ → List ℕ → List SubtitleValue → Type 0
+IsFile s g ts = IsFileFor whole s g ts

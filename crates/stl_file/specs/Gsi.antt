@@ -20,8 +20,9 @@
 --   TNS  243   5   number of subtitles
 --
 -- DFC, DSC and CCT decide whether a file is taken; all other bytes are kept and not looked at.
-use Rattle.std.specs.Prelude.{◌≡◌, ℕ, ◌+◌, ◌/◌, ◌%◌, not, ◌&&◌, ◌==◌, ◌⊎◌, List, []}
-use Rattle.std.specs.Prelude.{◌∷◌, ◌++◌, length, take, drop, slice_index, bytes_eq, Result, Ok}
+use Rattle.std.specs.Prelude.{◌≡◌, ℕ, ◌+◌, ◌/◌, ◌%◌, Bool, false, true, not, ◌&&◌, ◌||◌, ◌==◌}
+use Rattle.std.specs.Prelude.{◌⊎◌, List, [], ◌∷◌, ◌++◌, length, take, drop, slice_index}
+use Rattle.std.specs.Prelude.{bytes_eq, Result, Ok}
 use Rattle.stl_file.specs.declared.fault.StlFault.{StlFault}
 use Rattle.stl_file.specs.declared.fault.StlFault.TheVariants as fault
 use Rattle.stl_file.specs.Questions.{Questions, asked}
@@ -62,29 +63,52 @@ level_1 = 0x31
 abbrev pub level_2 : ℕ
 level_2 = 0x32
 
+-- The DSC "0": open subtitles, which are part of the picture.
+abbrev pub open_subtitles : ℕ
+open_subtitles = 0x30
+
+-- The DSC " ": the file does not say.
+abbrev pub no_display : ℕ
+no_display = 0x20
+
 -- The CCT "00": the Latin table.
 abbrev pub latin : List ℕ
 latin = 0x30 ∷ 0x30 ∷ []
 
--- A GSI block that is taken: 25 frames a second, Teletext of level 1 or 2, the Latin table.
-pub record IsGsi (g : List ℕ) : Type 0 where
+-- A display that is taken: Teletext of level 1 or 2, and where open subtitles are taken these and
+-- those of a file that does not say.
+abbrev pub IsDisplay : Bool → ℕ → Type 0
+IsDisplay takes_open display =
+    (display ≡ level_1) ⊎ (display ≡ level_2)
+    ⊎ ((takes_open ≡ true) × ((display ≡ open_subtitles) ⊎ (display ≡ no_display)))
+
+-- A GSI block that is taken: 25 frames a second, such a display, the Latin table.
+pub record IsGsiFor (takes_open : Bool) (g : List ℕ) : Type 0 where
   pub size : length g ≡ gsi_size
   pub format : dfc g ≡ stl_25
-  pub display : (dsc g ≡ level_1) ⊎ (dsc g ≡ level_2)
+  pub display : IsDisplay takes_open (dsc g)
   pub alphabet : cct g ≡ latin
 
+-- One that is taken where the file is for Teletext.
+abbrev pub IsGsi : List ℕ → Type 0
+IsGsi g = IsGsiFor false g
+
 -- What is asked of the block.
-abbrev pub asked_of_gsi : List ℕ → Questions
-asked_of_gsi g =
+abbrev pub asked_of_gsi : Bool → List ℕ → Questions
+asked_of_gsi takes_open g =
     (fault.Format, not (bytes_eq (dfc g) stl_25) && not (bytes_eq (dfc g) stl_30))
     ∷ (fault.Rate, bytes_eq (dfc g) stl_30)
-    ∷ (fault.Display, not (dsc g == level_1) && not (dsc g == level_2))
+    ∷ (
+      fault.Display,
+      not (dsc g == level_1) && not (dsc g == level_2)
+          && not (takes_open && ((dsc g == open_subtitles) || (dsc g == no_display))),
+    )
     ∷ (fault.Alphabet, not (bytes_eq (cct g) latin))
     ∷ []
 
 -- The block itself, or its first fault.
-unfoldable pub gsi_at : List ℕ → Result (List ℕ) StlFault
-gsi_at g = asked (asked_of_gsi g) (Ok g)
+unfoldable pub gsi_at : Bool → List ℕ → Result (List ℕ) StlFault
+gsi_at takes_open g = asked (asked_of_gsi takes_open g) (Ok g)
 
 -- The ASCII digit of a number below ten.
 abbrev pub digit : ℕ → ℕ

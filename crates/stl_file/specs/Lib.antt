@@ -9,6 +9,8 @@ pub mod Reader
 pub mod Reading
 pub mod Subtitle
 pub mod SubtitleBlocks
+pub mod TakenOut
 pub mod TimeCode
 pub mod Tti
 pub mod Resuming
+pub mod Scope

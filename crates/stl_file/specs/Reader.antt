@@ -10,12 +10,14 @@ use Rattle.stl_file.specs.declared.progress.Progress.{Progress}
 use Rattle.stl_file.specs.declared.progress.Progress.TheVariants.{Reading, AtEnd, Broken}
 use Rattle.stl_file.specs.Fault.{is_cut}
 use Rattle.stl_file.specs.Gsi.{gsi_size, gsi_at}
+use Rattle.stl_file.specs.Scope.{whole}
+use Rattle.stl_file.specs.declared.scope.Scope.{Scope}
 use Rattle.stl_file.specs.Tti.{most_blocks, is_kept}
 use Rattle.stl_file.specs.Subtitle.{SubtitleValue}
 use Rattle.stl_file.specs.SubtitleBlocks.{IsBlock, AreBlocksOf, IsRest}
 use Rattle.stl_file.specs.Reading.{Begun, Findings, breaks, findings_from, finds, no_more, refuses}
 use Rattle.stl_file.specs.Reading.{Outcome, ends, fails, gives, stopped}
-use Rattle.stl_file.specs.File.{IsFile}
+use Rattle.stl_file.specs.File.{IsFileFor}
 
 -- A reader: the GSI block, the last TTI block that was read or begun (0 before the first), and how
 -- far it has come.
@@ -40,7 +42,7 @@ given_subtitle (Err f) s = Err f
 
 -- What these bytes give after `block` TTI blocks, where the next one begins a subtitle.
 abbrev pub outcome_from : ℕ → List ℕ → Outcome
-outcome_from block b = stopped (findings_from block None b)
+outcome_from block b = stopped (findings_from whole block None b)
 
 -- What a reader has still to give, where these bytes are left.
 abbrev pub outcome_in : Progress → ℕ → List ℕ → Outcome
@@ -127,7 +129,7 @@ pub record Refuses (from to : ℕ) (old new : Option (List ℕ)) (f : StlFault) 
       → (is_cut f ≡ true → more ≡ [])
       → (bs : List (List ℕ))
       → (ts : List SubtitleValue)
-      → IsRest (most_blocks - from) bs ts
+      → IsRest whole (most_blocks - from) bs ts
       → concat bs ≡ bytes ++ more
       → ⊥
 
@@ -146,12 +148,13 @@ FindsFrom block (refuses f at more) = (block ≤ at) × FindsFrom block more
 
 -- The source failed: the block is that of the byte that was asked for, the first one after those
 -- that were taken. Whatever comes after these, nothing is found before that block.
-pub record FailsReading (from to : ℕ) (refused : Option Begun) (old new : Option (List ℕ))
+pub record FailsReading
+    (scope : Scope) (from to : ℕ) (refused : Option Begun) (old new : Option (List ℕ))
     : Type 0 where
   pub bytes : List ℕ
   pub consumed : Consumes old new bytes
   pub block : to ≡ from + length bytes / 128 + 1
-  pub none : (more : List ℕ) → FindsFrom to (findings_from from refused (bytes ++ more))
+  pub none : (more : List ℕ) → FindsFrom to (findings_from scope from refused (bytes ++ more))
 
 -- How far a reader has come after an answer.
 abbrev pub progress_after_answer : Progress → Result (Option SubtitleValue) StlFault → Progress
@@ -166,34 +169,49 @@ abbrev pub opened : Result (List ℕ) StlFault → Result ReaderValue StlFault
 opened (Err f) = Err f
 opened (Ok g) = Ok (record { gsi = g; block = 0; progress = Reading })
 
+-- The GSI block of a file's bytes, or its first fault.
+unfoldable pub gsi_of : Bool → List ℕ → Result (List ℕ) StlFault
+gsi_of takes_open s =
+    if nat_lt (length s) gsi_size then Err fault.Truncated
+    else gsi_at takes_open (take gsi_size s)
+
 -- What `open` answers over these bytes.
-unfoldable pub opened_at : List ℕ → Result ReaderValue StlFault
-opened_at s =
-    if nat_lt (length s) gsi_size then Err fault.Truncated else opened (gsi_at (take gsi_size s))
+abbrev pub opened_at : List ℕ → Result ReaderValue StlFault
+opened_at s = opened (gsi_of false s)
 
 -- No file begins with the bytes that were taken; for a file that was cut, none is these bytes
 -- alone.
-pub record RefusesOpening (old new : Option (List ℕ)) (f : StlFault) : Type 0 where
-  pub bytes : List ℕ
-  pub consumed : Consumes old new bytes
-  pub none :
-      (more : List ℕ)
-      → (is_cut f ≡ true → more ≡ [])
-      → (g : List ℕ)
-      → (ts : List SubtitleValue)
-      → IsFile (bytes ++ more) g ts
-      → ⊥
+pub record RefusesOpeningFor (scope : Scope) (old new : Option (List ℕ)) (f : StlFault) : Type 0
+  where
+    pub bytes : List ℕ
+    pub consumed : Consumes old new bytes
+    pub none :
+        (more : List ℕ)
+        → (is_cut f ≡ true → more ≡ [])
+        → (g : List ℕ)
+        → (ts : List SubtitleValue)
+        → IsFileFor scope (bytes ++ more) g ts
+        → ⊥
+
+-- No file for Teletext does.
+abbrev pub RefusesOpening : Option (List ℕ) → Option (List ℕ) → StlFault → Type 0
+RefusesOpening old new f = RefusesOpeningFor whole old new f
 
 -- ---- a whole file
 
 -- What the bytes of a whole file give: a fault of the GSI block names block 0.
-abbrev pub findings_opened : List ℕ → Result ReaderValue StlFault → Findings
-findings_opened b (Err f) = breaks f 0
-findings_opened b (Ok r) = findings_from 0 None b
+abbrev pub findings_opened : Scope → List ℕ → Result (List ℕ) StlFault → Findings
+findings_opened scope b (Err f) = breaks f 0
+findings_opened scope b (Ok g) = findings_from scope 0 None b
 
--- What reading the bytes of a whole file gives.
-unfoldable pub findings_of : List ℕ → Findings
-findings_of s = findings_opened (drop gsi_size s) (opened_at s)
+-- What reading the bytes of a whole file gives, of what is taken.
+unfoldable pub findings_for : Scope → List ℕ → Findings
+findings_for scope s =
+    findings_opened scope (drop gsi_size s) (gsi_of scope.takes_open s)
+
+-- What reading all of a file for Teletext gives.
+abbrev pub findings_of : List ℕ → Findings
+findings_of s = findings_for whole s
 
 -- What reading the bytes of a whole file gives, up to the first fault.
 abbrev pub outcome_of : List ℕ → Outcome

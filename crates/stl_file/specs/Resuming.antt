@@ -1,7 +1,7 @@
 -- A reader of a subtitle file that goes on after a subtitle that is refused, and what each of its
 -- calls takes and leaves.
 use Rattle.std.specs.Prelude.{◌≡◌, ⊤, ℕ, ◌+◌, ◌*◌, ◌/◌, ◌<◌, Bool, true, false, List, [], ◌++◌}
-use Rattle.std.specs.Prelude.{length, if◌then◌else◌, Option, Result, Ok, Err, is_ok}
+use Rattle.std.specs.Prelude.{length, if◌then◌else◌, Option, None, Result, Ok, Err, is_ok}
 use Rattle.std.specs.Io.KnownBytes.{Consumes, IsAtEnd}
 use Rattle.stl_file.specs.declared.fault.StlFault.{StlFault}
 use Rattle.stl_file.specs.declared.progress.Progress.{Progress}
@@ -11,25 +11,36 @@ use Rattle.stl_file.specs.declared.resuming.Found.TheVariants as found
 use Rattle.stl_file.specs.Fault.{is_cut, is_of_first}
 use Rattle.stl_file.specs.Subtitle.{SubtitleValue}
 use Rattle.stl_file.specs.Reading.{Begun, Findings, breaks, findings_from, finds, no_more, refuses}
-use Rattle.stl_file.specs.Reader.{LastIsKept}
+use Rattle.stl_file.specs.Reader.{LastIsKept, gsi_of}
+use Rattle.stl_file.specs.declared.scope.Scope.{Scope}
 
--- A reader: the last TTI block that was read or begun (0 before the first), how far it has come,
--- and the subtitle that was refused, where more of its blocks may follow.
+-- A reader: what it takes, the last TTI block that was read or begun (0 before the first), how far
+-- it has come, and the subtitle that was refused, where more of its blocks may follow.
 pub record ResumingValue : Type 0 where
+  pub scope : Scope
   pub block : ℕ
   pub progress : Progress
   pub refused : Option Begun
 
+-- A reader after a GSI block that is taken.
+abbrev pub begun_after : Scope → Result (List ℕ) StlFault → Result ResumingValue StlFault
+begun_after scope (Err f) = Err f
+begun_after scope (Ok g) =
+    Ok (record { scope = scope; block = 0; progress = Reading; refused = None })
+
+-- What `open` answers over these bytes.
+abbrev pub begun_at : Scope → List ℕ → Result ResumingValue StlFault
+begun_at scope s = begun_after scope (gsi_of scope.takes_open s)
+
 -- What an answer that names this block says of all that was left, where `rest` is left after it.
 abbrev pub findings_by :
-    ℕ → Option Begun → List ℕ → SubtitleValue → Result Found StlFault → Findings
-findings_by block refused rest s (Err f) = breaks f block
-findings_by block refused rest s (Ok found.End) = no_more
-findings_by block refused rest s (Ok found.Subtitle) =
-    finds s block (findings_from block refused rest)
-findings_by block refused rest s (Ok (found.Refused f)) =
-    refuses f block (findings_from block refused rest)
-findings_by block refused rest s (Ok found.Passed) = findings_from block refused rest
+    Scope → ℕ → Option Begun → List ℕ → SubtitleValue → Result Found StlFault → Findings
+findings_by scope block refused rest s (Err f) = breaks f block
+findings_by scope block refused rest s (Ok found.End) = no_more
+findings_by scope block refused rest s (Ok found.Subtitle) =
+    finds s block (findings_from scope block refused rest)
+findings_by scope block refused rest s (Ok (found.Refused f)) =
+    refuses f block (findings_from scope block refused rest)
 
 -- The answer is told of the end of the file, and more bytes might change it.
 abbrev pub finds_end : Result Found StlFault → Bool
@@ -40,8 +51,8 @@ finds_end (Ok _) = false
 -- The bytes that were taken after `from` blocks lead to the answer, which names the block `to`,
 -- whatever comes after them; where it tells the end, nothing does. All blocks but one that ends
 -- reading are whole, and a subtitle is given at a block that is not passed over.
-pub record LeadsOn (from to : ℕ) (refused next : Option Begun) (old new : Option (List ℕ))
-    (s : SubtitleValue) (result : Result Found StlFault) : Type 0 where
+pub record LeadsOn (scope : Scope) (from to : ℕ) (refused next : Option Begun)
+    (old new : Option (List ℕ)) (s : SubtitleValue) (result : Result Found StlFault) : Type 0 where
   pub bytes : List ℕ
   pub consumed : Consumes old new bytes
   pub block : to ≡ from + (length bytes + 127) / 128
@@ -50,7 +61,8 @@ pub record LeadsOn (from to : ℕ) (refused next : Option Begun) (old new : Opti
   pub findings :
       (more : List ℕ)
       → (finds_end result ≡ true → more ≡ [])
-      → findings_from from refused (bytes ++ more) ≡ findings_by to next more s result
+      → findings_from scope from refused (bytes ++ more)
+      ≡ findings_by scope to next more s result
   pub ended : finds_end result ≡ true → IsAtEnd new
   pub kept : result ≡ Ok found.Subtitle → LastIsKept bytes
 
@@ -65,9 +77,8 @@ abbrev pub IsOfFirst : Found → Type 0
 IsOfFirst (found.Refused f) = is_of_first f ≡ true
 IsOfFirst _ = ⊤
 
--- The answer of a reader where blocks were read up to the last of a subtitle, the end or a fault,
--- by whether the subtitle was refused.
-abbrev pub found_of : Bool → Result Bool StlFault → Result Found StlFault
-found_of is_refused (Ok true) = Ok (if is_refused then found.Passed else found.Subtitle)
-found_of is_refused (Ok false) = Ok found.End
-found_of is_refused (Err f) = if is_of_first f then Ok (found.Refused f) else Err f
+-- The answer of a reader where blocks were read up to the last of a subtitle, the end or a fault.
+abbrev pub found_of : Result Bool StlFault → Result Found StlFault
+found_of (Ok true) = Ok found.Subtitle
+found_of (Ok false) = Ok found.End
+found_of (Err f) = if is_of_first f then Ok (found.Refused f) else Err f

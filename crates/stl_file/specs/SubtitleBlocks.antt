@@ -8,6 +8,8 @@ use Rattle.stl_file.specs.Tti.{block_size, most_of_subtitle, first_reserved, las
 use Rattle.stl_file.specs.Tti.{not_cumulative, no_comment, tci, tco}
 use Rattle.stl_file.specs.Tti.{sgn, sn, ebn, cs, vp, jc, cf, text_of, is_kept}
 use Rattle.stl_file.specs.Subtitle.{SubtitleValue}
+use Rattle.stl_file.specs.Scope.{begins_outside, is_inside, is_outside}
+use Rattle.stl_file.specs.declared.scope.Scope.{Scope}
 
 -- A block has 128 bytes.
 abbrev pub IsBlock : List ℕ → Type 0
@@ -57,12 +59,24 @@ pub record AreBlocksOf (s : SubtitleValue) (bs : List (List ℕ)) : Type 0 where
   pub linked : AreLinked s.sgn s.sn bs
   pub text_is : s.text ≡ flat_map text_of bs
 
+-- These 1 to 9 blocks are those of one subtitle that is outside: but for its TCI nothing is asked
+-- of what the first says.
+pub record AreOutside (scope : Scope) (bs : List (List ℕ)) : Type 0 where
+  pub first : List ℕ
+  pub others : List (List ℕ)
+  pub blocks : bs ≡ first ∷ others
+  pub few : length bs ≤ most_of_subtitle
+  pub linked : AreLinked (sgn first) (sn first) bs
+  pub outside : begins_outside scope first ≡ true
+
 -- The blocks of a file from a place on where a subtitle may begin, `most` at most: where the
--- passed blocks are taken out, the blocks of these subtitles are left, one subtitle after the
--- other.
-pub record IsRest (most : ℕ) (bs : List (List ℕ)) (ts : List SubtitleValue) : Type 0 where
-  pub each : AllByRecursion IsBlock bs
-  pub few : length bs ≤ most
-  pub parts : List (List (List ℕ))
-  pub kept : filter is_kept bs ≡ flat_map (λ part. part) parts
-  pub are_of : AllZip AreBlocksOf ts parts
+-- passed blocks are taken out, groups of blocks are left, one subtitle after the other. Those that
+-- are outside are taken out too, and the others are those of these subtitles.
+pub record IsRest (scope : Scope) (most : ℕ) (bs : List (List ℕ)) (ts : List SubtitleValue) : Type 0
+  where
+    pub each : AllByRecursion IsBlock bs
+    pub few : length bs ≤ most
+    pub groups : List (List (List ℕ))
+    pub kept : filter is_kept bs ≡ flat_map (λ group. group) groups
+    pub outside : AllByRecursion (AreOutside scope) (filter (is_outside scope) groups)
+    pub are_of : AllZip AreBlocksOf ts (filter (is_inside scope) groups)

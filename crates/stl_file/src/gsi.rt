@@ -2,7 +2,7 @@
 
 ghost use Rattle.std.specs.Prelude.{◌≡◌, ◌+◌, ◌<◌, ◌≤◌, IfErr, IfOk, length, true};
 ghost use Rattle.stl_file.specs.Fault.{is_format};
-ghost use Rattle.stl_file.specs.Gsi.{IsGsi, cct, dfc, dsc, field, five_digits, gsi_at, with_counts};
+ghost use Rattle.stl_file.specs.Gsi.{IsGsiFor, cct, dfc, dsc, field, five_digits, gsi_at, with_counts};
 ghost use Rattle.stl_file.specs.GsiFields.{cd, co, cpn, dsn, ecd, en, lc, mnc, mnr, oet, opt};
 ghost use Rattle.stl_file.specs.GsiFields.{publisher, rd, rn, slr, spare, tcd, tcf, tcp, tcs};
 ghost use Rattle.stl_file.specs.GsiFields.{tet, tn, tnb, tnd, tng, tns, tpt, uda};
@@ -97,10 +97,10 @@ impl Gsi {
 
     // The block, where a file with it is taken, or its first fault.
     #[tactic(auto, unfolding(crate::specs::Gsi::gsi_at))]
-    pub(crate) fn checked(self) -> Result<Gsi, StlFault>
-        ensures exact { gsi_at self ≡ result }
+    pub(crate) fn checked(self, takes_open: bool) -> Result<Gsi, StlFault>
+        ensures exact { gsi_at takes_open self ≡ result }
         ensures kind { IfErr result (λ fault. is_format fault ≡ true) }
-        ensures sound { IfOk result (λ g. (g ≡ self) × IsGsi g) }
+        ensures sound { IfOk result (λ g. (g ≡ self) × IsGsiFor takes_open g) }
     {
         let dfc = self.dfc();
         if dfc != STL_25.as_slice() && dfc != STL_30.as_slice() {
@@ -110,7 +110,8 @@ impl Gsi {
             return Err(StlFault::Rate);
         }
         let dsc = self.dsc();
-        if dsc != b'1' && dsc != b'2' {
+        let is_open = takes_open && (dsc == b'0' || dsc == b' ');
+        if dsc != b'1' && dsc != b'2' && !is_open {
             return Err(StlFault::Display);
         }
         if self.cct() != LATIN.as_slice() {
@@ -142,7 +143,7 @@ impl Gsi {
         self.field_at(3, 8)
     }
 
-    /// DSC, the display standard code: `1` or `2` in a file that is taken.
+    /// DSC, the display standard code: `1` or `2` in a file for Teletext.
     pub fn dsc(&self) -> u8
         ensures { result ≡ dsc self.now }
     {

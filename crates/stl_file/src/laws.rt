@@ -1,18 +1,32 @@
 //! What holds of files and their normal forms.
 
 ghost use Rattle.std.specs.Prelude.{◌≡◌, ◌↔◌, ℕ, List, Ok, take};
-ghost use Rattle.stl_file.specs.File.{IsFile};
+ghost use Rattle.stl_file.specs.File.{IsFile, IsFileFor};
 ghost use Rattle.stl_file.specs.NormalForm.{counted_gsi, normal_form, subtitles_of};
-ghost use Rattle.stl_file.specs.Reader.{outcome_of};
+ghost use Rattle.stl_file.specs.Reader.{findings_for};
+ghost use Rattle.stl_file.specs.Reading.{stopped};
 ghost use Rattle.stl_file.specs.Subtitle.{SubtitleValue};
+ghost use Rattle.stl_file.specs.TakenOut.{LawOfDay, LawOfScope};
+ghost use Rattle.stl_file.specs.declared.scope.Scope.{Scope};
 
-/// Bytes are a file with these subtitles exactly where reading gives these subtitles and no fault.
+/// Bytes are a file of which these subtitles are taken exactly where reading gives these subtitles
+/// and no fault.
 ///
 /// So what a reader gives is what a file is, and nothing of how it reads has to be known.
 pub fn law_of_files()
-    ensures { (s g : List ℕ)
+    ensures { (scope : Scope)
+        → (s g : List ℕ)
         → (ts : List SubtitleValue)
-        → IsFile s g ts ↔ ((g ≡ take 1024 s) × (subtitles_of (outcome_of s) ≡ Ok ts)) }
+        → IsFileFor scope s g ts
+        ↔ ((g ≡ take 1024 s) × (subtitles_of (stopped (findings_for scope s)) ≡ Ok ts)) }
+{}
+
+/// What is read of a file within a scope is what is read of all the day of the file from which the
+/// blocks of the subtitles outside were taken out, block numbers aside; and nothing is outside the
+/// day.
+pub fn law_of_scope()
+    ensures part { LawOfScope }
+    ensures day { LawOfDay }
 {}
 
 /// A file has one GSI block and one list of subtitles.

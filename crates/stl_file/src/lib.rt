@@ -21,6 +21,7 @@ mod normal_form;
 mod progress;
 mod reader;
 mod resuming;
+mod scope;
 mod subtitle;
 mod subtitle_blocks;
 mod time_code;
@@ -29,11 +30,14 @@ mod writer;
 
 pub use fault::{NormalFault, StlFault};
 pub use gsi::{Gsi, five_digits_of};
-pub use laws::{law_of_files, law_of_normal_form, law_of_normal_form_again, law_of_one_reading};
+pub use laws::{
+    law_of_files, law_of_normal_form, law_of_normal_form_again, law_of_one_reading, law_of_scope,
+};
 pub use normal_form::normal;
 pub use progress::Progress;
 pub use reader::StlReader;
 pub use resuming::{Found, ResumingReader};
+pub use scope::Scope;
 pub use subtitle::Subtitle;
 pub use time_code::TimeCode;
 pub use tti::Tti;

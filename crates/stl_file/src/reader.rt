@@ -3,25 +3,28 @@
 ghost use Rattle.std.specs.Prelude.{◌≡◌, ◌≢◌, ◌↔◌, ◌+◌, ◌-◌, ◌<◌, ◌≤◌, if◌then◌else◌, drop, ℕ};
 ghost use Rattle.std.specs.Prelude.{List, length};
 ghost use Rattle.std.specs.Prelude.{false, true, None, Some, Ok, Err, IfErr, IfNone, IfOk, IfSome};
-ghost use Rattle.std.specs.Prelude.{is_some, option_map};
+ghost use Rattle.std.specs.Prelude.{option_map};
 ghost use Rattle.std.specs.Io.KnownBytes.{Consumes};
 ghost use Rattle.sub_io.specs.Device.{CanFail, CountsIf, failed};
 ghost use Rattle.sub_io.specs.Reading.{IfTold};
 ghost use Rattle.stl_file.specs.declared.fault.StlFault.TheVariants.{Ended};
 ghost use Rattle.stl_file.specs.Fault.{is_format, is_read};
-ghost use Rattle.stl_file.specs.Gsi.{IsGsi};
-ghost use Rattle.stl_file.specs.Reader.{block_after, block_by, opened_at, FailsReading};
-ghost use Rattle.stl_file.specs.Reader.{HasPlace, GivesNext, Refuses, RefusesOpening, TakesPassed};
+ghost use Rattle.stl_file.specs.Gsi.{IsGsi, IsGsiFor};
+ghost use Rattle.stl_file.specs.Reader.{block_after, block_by, gsi_of, opened_at, FailsReading};
+ghost use Rattle.stl_file.specs.Reader.{HasPlace, GivesNext, Refuses, RefusesOpening};
+ghost use Rattle.stl_file.specs.Reader.{RefusesOpeningFor, TakesPassed};
 ghost use Rattle.stl_file.specs.Reader.{TakesSubtitle, given_subtitle, progress_after_answer};
-ghost use Rattle.stl_file.specs.Reading.{begun_in, refused_by};
+ghost use Rattle.stl_file.specs.Reading.{begun_in, passed_by};
 ghost use Rattle.stl_file.specs.Resuming.{LeadsOn, found_of};
+ghost use Rattle.stl_file.specs.Scope.{whole};
 ghost use Rattle.stl_file.specs.Tti.{most_blocks};
 
 use crate::fault::StlFault;
 use crate::gsi::Gsi;
 use crate::progress::Progress;
+use crate::scope::Scope;
 use crate::subtitle::Subtitle;
-use crate::subtitle_blocks::take_block;
+use crate::subtitle_blocks::{BlocksRead, take_block};
 use crate::tti::Tti;
 use std::marker::Model;
 use sub_io::{Source, fill};
@@ -78,13 +81,10 @@ impl StlReader {
         ensures never { IfErr result (λ fault. fault ≢ Ended) }
         ensures count { CountsIf S.failure_count source.old (failed is_read result) source.new }
     {
-        let mut bytes = [0; 1024];
-        let got = fill(source, &mut bytes)?;
-        if got < 1024 {
-            return Err(StlFault::Truncated);
+        match read_gsi(source, Scope::whole()) {
+            Ok(gsi) => Ok(StlReader::behind(gsi)),
+            Err(fault) => Err(fault),
         }
-        let gsi = Gsi::read(&bytes).checked()?;
-        Ok(StlReader::behind(gsi))
     }
 
     // A reader after this GSI block.
@@ -150,7 +150,7 @@ impl StlReader {
             (S.remaining source.old) (S.remaining source.new) fault) }
         // A source that failed failed at this block.
         ensures failed { self.old.progress ≡ Reading → failed is_read result ≡ true →
-            FailsReading self.old.block self.new.block None
+            FailsReading whole self.old.block self.new.block None
             (S.remaining source.old) (S.remaining source.new) }
 
         ensures progress { self.new.progress ≡ progress_after_answer self.old.progress result }
@@ -209,7 +209,7 @@ impl StlReader {
             (S.remaining source.old) (S.remaining source.new) fault) }
         // A source that failed failed at this block.
         ensures failed { self.old.progress ≡ Reading → failed is_read result ≡ true →
-            FailsReading self.old.block self.new.block None
+            FailsReading whole self.old.block self.new.block None
             (S.remaining source.old) (S.remaining source.new) }
 
         ensures progress { self.new.progress ≡ progress_after_answer self.old.progress
@@ -231,7 +231,7 @@ impl StlReader {
         };
         // A subtitle that is refused is a fault as any other here: reading stops.
         let mut refused = None;
-        match read_blocks(&mut block, source, subtitle, &mut refused) {
+        match read_blocks(Scope::whole(), &mut block, source, subtitle, &mut refused) {
             Ok(true) => {
                 self.block = block;
                 Ok(true)
@@ -250,10 +250,36 @@ impl StlReader {
     }
 }
 
-// Reads blocks after `block` of a file, up to the last of a subtitle, the end or a fault. `refused`
-// is the first block of the subtitle that these go on with, where that was refused; after a fault
-// of a subtitle's first block it is that one, unless it is the last block too.
+// Reads a file's GSI block and takes nothing after it.
+pub(crate) fn read_gsi<S: Source>(source: &mut S, scope: Scope) -> Result<Gsi, StlFault>
+    requires { CanFail (S.failure_count source.old) }
+    ensures exact { IfTold (S.remaining source.old) (λ bytes.
+        failed is_read result ≡ false → gsi_of scope.takes_open bytes ≡ result) }
+    ensures taken { IfOk result (λ gsi. IsGsiFor scope.takes_open gsi
+        × Consumes (S.remaining source.old) (S.remaining source.new) gsi) }
+    ensures left { IfTold (S.remaining source.old) (λ bytes.
+        IfOk result (λ gsi. S.remaining source.new ≡ Some (drop 1024 bytes))) }
+    ensures refused { IfErr result (λ fault. is_format fault ≡ true →
+        RefusesOpeningFor scope (S.remaining source.old) (S.remaining source.new) fault) }
+    ensures failed { failed is_read result ≡ true → (bytes : List ℕ) × (length bytes < 1024)
+        × Consumes (S.remaining source.old) (S.remaining source.new) bytes }
+    ensures never { IfErr result (λ fault. fault ≢ Ended) }
+    ensures count { CountsIf S.failure_count source.old (failed is_read result) source.new }
+{
+    let mut bytes = [0; 1024];
+    let got = fill(source, &mut bytes)?;
+    if got < 1024 {
+        return Err(StlFault::Truncated);
+    }
+    Gsi::read(&bytes).checked(scope.takes_open)
+}
+
+// Reads blocks after `block` of a file, up to the last of a subtitle that is not passed over, the
+// end or a fault. `refused` is the first block of the subtitle that these go on with, where that
+// was refused; after a fault of a subtitle's first block it is that one, unless it is the last
+// block too.
 pub(crate) fn read_blocks<S: Source>(
+    scope: Scope,
     block: &mut u32,
     source: &mut S,
     subtitle: &mut Subtitle,
@@ -262,24 +288,23 @@ pub(crate) fn read_blocks<S: Source>(
     requires few { block.old ≤ most_blocks }
     requires count { CanFail (S.failure_count source.old) }
     ensures leads { failed is_read result ≡ false →
-        LeadsOn block.old (block_by block.new (given_subtitle result subtitle.new))
-        (option_map refused_by refused.old) (option_map refused_by refused.new)
-        (S.remaining source.old) (S.remaining source.new) subtitle.new
-        (found_of (is_some (option_map refused_by refused.old)) result) }
+        LeadsOn scope block.old (block_by block.new (given_subtitle result subtitle.new))
+        (option_map passed_by refused.old) (option_map passed_by refused.new)
+        (S.remaining source.old) (S.remaining source.new) subtitle.new (found_of result) }
     ensures failed { failed is_read result ≡ true →
-        FailsReading block.old (block.new + 1) (option_map refused_by refused.old)
+        FailsReading scope block.old (block.new + 1) (option_map passed_by refused.old)
         (S.remaining source.old) (S.remaining source.new) }
     ensures never { IfErr result (λ fault. fault ≢ Ended) }
     ensures over { result ≡ Ok true → refused.new ≡ None }
     ensures few { block.new ≤ most_blocks }
     ensures count { CountsIf S.failure_count source.old (failed is_read result) source.new }
 {
-    let mut count = resume(subtitle, refused);
+    let mut read = resume(subtitle, refused);
     loop {
         let mut bytes = [0; 128];
         let got = fill(source, &mut bytes)?;
         if got == 0 {
-            return if count == 0 {
+            return if read.count == 0 {
                 Ok(false)
             } else {
                 Err(StlFault::Unfinished)
@@ -293,7 +318,7 @@ pub(crate) fn read_blocks<S: Source>(
             return Err(StlFault::Truncated);
         }
         let tti = Tti::read(&bytes);
-        match take_block(subtitle, &mut count, &tti) {
+        match take_block(scope, subtitle, &mut read, &tti) {
             Ok(false) => {}
             Ok(true) => {
                 *refused = None;
@@ -308,16 +333,20 @@ pub(crate) fn read_blocks<S: Source>(
 }
 
 // Makes the subtitle the one that goes on after a first block that was refused, where there is one;
-// answers how many of its blocks were read.
-fn resume(subtitle: &mut Subtitle, refused: &Option<Tti>) -> u8
-    ensures { begun_in subtitle.new result ≡ option_map refused_by refused.now }
+// answers what was read of its blocks.
+fn resume(subtitle: &mut Subtitle, refused: &Option<Tti>) -> BlocksRead
+    ensures { begun_in subtitle.new result ≡ option_map passed_by refused.now }
 {
-    match refused {
+    let count = match refused {
         None => 0,
         Some(block) => {
-            subtitle.refuse(block);
+            subtitle.pass(block);
             1
         }
+    };
+    BlocksRead {
+        count,
+        is_passed: true,
     }
 }
 

@@ -1,17 +1,22 @@
 //! Reading a subtitle file past subtitles that are refused.
 
-ghost use Rattle.std.specs.Prelude.{◌≡◌, ◌≢◌, false, true, IfErr, IfOk, None, is_some, option_map};
+ghost use Rattle.std.specs.Prelude.{◌≡◌, ◌≢◌, ◌<◌, false, true, IfErr, IfOk, List, None, Some};
+ghost use Rattle.std.specs.Prelude.{drop, length, option_map, ℕ};
+ghost use Rattle.std.specs.Io.KnownBytes.{Consumes};
 ghost use Rattle.sub_io.specs.Device.{CanFail, CountsIf, failed};
+ghost use Rattle.sub_io.specs.Reading.{IfTold};
 ghost use Rattle.stl_file.specs.declared.fault.StlFault.TheVariants.{Ended};
 ghost use Rattle.stl_file.specs.declared.progress.Progress.TheVariants.{Reading};
-ghost use Rattle.stl_file.specs.Fault.{is_read};
-ghost use Rattle.stl_file.specs.Reader.{FailsReading, HasPlace};
-ghost use Rattle.stl_file.specs.Reading.{refused_by};
-ghost use Rattle.stl_file.specs.Resuming.{IsOfFirst, LeadsOn, found_of, progress_found};
+ghost use Rattle.stl_file.specs.Fault.{is_format, is_read};
+ghost use Rattle.stl_file.specs.Gsi.{IsGsiFor};
+ghost use Rattle.stl_file.specs.Reader.{FailsReading, HasPlace, RefusesOpeningFor};
+ghost use Rattle.stl_file.specs.Reading.{passed_by};
+ghost use Rattle.stl_file.specs.Resuming.{IsOfFirst, LeadsOn, begun_at, found_of, progress_found};
 
 use crate::fault::StlFault;
 use crate::progress::Progress;
-use crate::reader::{block_of, read_blocks};
+use crate::reader::{block_of, read_blocks, read_gsi};
+use crate::scope::Scope;
 use crate::subtitle::Subtitle;
 use crate::tti::Tti;
 use std::marker::Model;
@@ -25,19 +30,18 @@ pub enum Found {
     /// The first block of a subtitle that is refused: `Cumulative`, `Justify`, `Row`, `Time` or
     /// `EmptyTime`. It is no record.
     Refused(StlFault),
-    /// The other blocks of the subtitle that was refused.
-    Passed,
     /// The end of the file.
     End,
 }
 
-/// A reader of the TTI blocks of a subtitle file that goes on after a subtitle whose first block is
+/// A reader of what is taken of a subtitle file that goes on after a subtitle whose first block is
 /// refused: where the next one begins is known. It keeps no source.
 ///
-/// Contracts see it as the last TTI block that was read or begun, how far it has come, and the
-/// subtitle that was refused, where more of its blocks may follow.
+/// Contracts see it as its scope, the last TTI block that was read or begun, how far it has come,
+/// and the subtitle that was refused, where more of its blocks may follow.
 #[derive(Drop)]
 pub struct ResumingReader {
+    scope: Scope,
     block: u32,
     progress: Progress,
     // The first block of a subtitle that was refused and goes on.
@@ -47,29 +51,56 @@ pub struct ResumingReader {
 impl Model for ResumingReader {
     ghost use Rattle.std.specs.Prelude.{option_map};
     ghost use Rattle.stl_file.specs.Reader.{HasPlace};
-    ghost use Rattle.stl_file.specs.Reading.{refused_by};
+    ghost use Rattle.stl_file.specs.Reading.{passed_by};
     ghost use Rattle.stl_file.specs.Resuming.{ResumingValue};
 
     ghost Value = { ResumingValue };
 
     ghost view = { λ r. record {
+      scope = r.scope;
       block = r.block;
       progress = r.progress;
-      refused = option_map refused_by r.refused;
+      refused = option_map passed_by r.refused;
     } };
 
     ghost invariant = { λ r. HasPlace r.progress r.block };
 }
 
 impl ResumingReader {
-    /// A reader after the GSI block, which `StlReader::open` reads.
-    pub fn after_gsi() -> ResumingReader
-        ensures { result ≡ record { block = 0; progress = Reading; refused = None } }
+    /// Reads a file's GSI block and takes nothing after it, to read on what the scope takes.
+    ///
+    /// # Errors
+    ///
+    /// Those of `StlReader::open`; `Display` by what the scope takes.
+    pub fn open<S: Source>(source: &mut S, scope: Scope) -> Result<ResumingReader, StlFault>
+        requires { CanFail (S.failure_count source.old) }
+        // Where the source tells its bytes and does not fail, they decide the answer.
+        ensures exact { IfTold (S.remaining source.old) (λ bytes.
+            failed is_read result ≡ false → begun_at scope bytes ≡ result) }
+        // The GSI block alone is taken.
+        ensures taken { IfOk result (λ reader. (gsi : List ℕ) × IsGsiFor scope.takes_open gsi
+            × Consumes (S.remaining source.old) (S.remaining source.new) gsi) }
+        ensures left { IfTold (S.remaining source.old) (λ bytes.
+            IfOk result (λ reader. S.remaining source.new ≡ Some (drop 1024 bytes))) }
+        ensures start { IfOk result (λ reader. reader
+            ≡ record { scope = scope; block = 0; progress = Reading; refused = None }) }
+        // No file begins with the bytes that were refused.
+        ensures refused { IfErr result (λ fault. is_format fault ≡ true →
+            RefusesOpeningFor scope (S.remaining source.old) (S.remaining source.new) fault) }
+        // A source that failed failed within the GSI block.
+        ensures failed { failed is_read result ≡ true → (bytes : List ℕ) × (length bytes < 1024)
+            × Consumes (S.remaining source.old) (S.remaining source.new) bytes }
+        ensures never { IfErr result (λ fault. fault ≢ Ended) }
+        ensures count { CountsIf S.failure_count source.old (failed is_read result) source.new }
     {
-        ResumingReader {
-            block: 0,
-            progress: Progress::Reading,
-            refused: None,
+        match read_gsi(source, scope) {
+            Ok(_) => Ok(ResumingReader {
+                scope,
+                block: 0,
+                progress: Progress::Reading,
+                refused: None,
+            }),
+            Err(fault) => Err(fault),
         }
     }
 
@@ -88,7 +119,8 @@ impl ResumingReader {
     /// it answers `End` or a fault.
     ///
     /// A subtitle is what `StlReader::next` would give. Where none is found, nothing is said of
-    /// what it holds. Comments and user data are passed over, within refused subtitles too.
+    /// what it holds. Comments, user data and subtitles that are outside are passed over, and so
+    /// are the other blocks of a subtitle that was refused.
     ///
     /// # Errors
     ///
@@ -103,32 +135,29 @@ impl ResumingReader {
         requires reading { self.old.progress ≡ Reading }
         // The bytes that are taken decide the answer, its block and what is left.
         ensures leads { failed is_read result ≡ false →
-            LeadsOn self.old.block self.new.block self.old.refused self.new.refused
+            LeadsOn self.old.scope self.old.block self.new.block self.old.refused self.new.refused
             (S.remaining source.old) (S.remaining source.new) subtitle.new result }
         // A source that failed failed at this block.
         ensures failed { failed is_read result ≡ true →
-            FailsReading self.old.block self.new.block self.old.refused
+            FailsReading self.old.scope self.old.block self.new.block self.old.refused
             (S.remaining source.old) (S.remaining source.new) }
         ensures first { IfOk result IsOfFirst }
         ensures never { IfErr result (λ fault. fault ≢ Ended) }
+        ensures scope { self.new.scope ≡ self.old.scope }
         ensures progress { self.new.progress ≡ progress_found result }
         ensures place { HasPlace self.new.progress self.new.block }
         ensures count { CountsIf S.failure_count source.old (failed is_read result) source.new }
     {
         let mut block = self.block;
-        let is_refused = self.refused.is_some();
-        match read_blocks(&mut block, source, subtitle, &mut self.refused) {
-            Ok(is_one) => {
+        match read_blocks(self.scope, &mut block, source, subtitle, &mut self.refused) {
+            Ok(true) => {
                 self.block = block;
-                if !is_one {
-                    self.progress = Progress::AtEnd;
-                    return Ok(Found::End);
-                }
-                Ok(if is_refused {
-                    Found::Passed
-                } else {
-                    Found::Subtitle
-                })
+                Ok(Found::Subtitle)
+            }
+            Ok(false) => {
+                self.block = block;
+                self.progress = Progress::AtEnd;
+                Ok(Found::End)
             }
             Err(fault) => {
                 self.block = block_of(block, &fault);

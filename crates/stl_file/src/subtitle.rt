@@ -206,8 +206,8 @@ impl Subtitle {
         Ok(())
     }
 
-    // Becomes the subtitle that a first block begins which was refused.
-    pub(crate) fn refuse(&mut self, block: &Tti)
+    // Becomes the subtitle that a first block begins which is passed over.
+    pub(crate) fn pass(&mut self, block: &Tti)
         ensures { self.new ≡ record empty_subtitle { sgn = sgn block.now; sn = sn block.now } }
     {
         *self = Subtitle::empty();

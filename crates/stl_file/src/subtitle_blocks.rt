@@ -2,31 +2,43 @@
 
 ghost use Rattle.std.specs.Prelude.{◌≡◌, IfErr, OnOk, None, Some, true};
 ghost use Rattle.stl_file.specs.Fault.{is_of_block};
-ghost use Rattle.stl_file.specs.Reading.{BegunFits, begun_in, kept_at, step_at, step_in};
+ghost use Rattle.stl_file.specs.Reading.{BegunFits, begun_by, begun_in, kept_at, step_at, step_in};
 
 use crate::fault::StlFault;
+use crate::scope::Scope;
 use crate::subtitle::Subtitle;
 use crate::tti::Tti;
 
-/// What the next block of a file brings: `true` where it is the last of a subtitle.
+/// What was read of the blocks of a subtitle.
+#[derive(Clone, Copy)]
+pub(crate) struct BlocksRead {
+    // How many; before the first block 0, and what the subtitle holds counts for nothing.
+    pub(crate) count: u8,
+    // The subtitle is passed over, since it is outside or was refused.
+    pub(crate) is_passed: bool,
+}
+
+/// What the next block of a file brings: `true` where it is the last of a subtitle that is not
+/// passed over.
 ///
-/// The subtitle is read in place, since one is a kilobyte to be moved. Before its first block
-/// `count` is 0, and what the subtitle holds counts for nothing.
+/// The subtitle is read in place, since one is a kilobyte to be moved.
 ///
 /// # Errors
 ///
 /// `Extension`, `CommentFlag`; then of a block that is not passed over, within a subtitle
-/// `Sequence`, `TooLong`, else `Cumulative`, `Justify`, `Row`, `Time`, `EmptyTime`.
+/// `Sequence`, `TooLong`, else, where it is not outside, `Cumulative`, `Justify`, `Row`, `Time`,
+/// `EmptyTime`.
 #[tactic(auto, unfolding(crate::specs::Reading::step_at))]
 pub(crate) fn take_block(
+    scope: Scope,
     subtitle: &mut Subtitle,
-    count: &mut u8,
+    read: &mut BlocksRead,
     block: &Tti,
 ) -> Result<bool, StlFault>
-    requires { BegunFits (begun_in subtitle.old count.old) }
-    ensures exact { step_at (begun_in subtitle.old count.old) block.now
-        ≡ step_in subtitle.new count.new result }
-    ensures room { OnOk result (BegunFits (begun_in subtitle.new count.new)) }
+    requires { BegunFits (begun_in subtitle.old read.old) }
+    ensures exact { step_at scope (begun_in subtitle.old read.old) block.now
+        ≡ step_in subtitle.new read.new result }
+    ensures room { OnOk result (BegunFits (begun_in subtitle.new read.new)) }
     ensures own { IfErr result (λ fault. is_of_block fault ≡ true) }
 {
     let ebn = block.ebn();
@@ -43,52 +55,80 @@ pub(crate) fn take_block(
     if comment == 1 {
         return Ok(false);
     }
-    take_kept(subtitle, count, block)
+    take_kept(scope, subtitle, read, block)
 }
 
 // A block that is not passed over.
-fn take_kept(subtitle: &mut Subtitle, count: &mut u8, block: &Tti) -> Result<bool, StlFault>
-    requires { BegunFits (begun_in subtitle.old count.old) }
-    ensures exact { kept_at (begun_in subtitle.old count.old) block.now
-        ≡ step_in subtitle.new count.new result }
-    ensures room { OnOk result (BegunFits (begun_in subtitle.new count.new)) }
+fn take_kept(
+    scope: Scope,
+    subtitle: &mut Subtitle,
+    read: &mut BlocksRead,
+    block: &Tti,
+) -> Result<bool, StlFault>
+    requires { BegunFits (begun_in subtitle.old read.old) }
+    ensures exact { kept_at scope (begun_in subtitle.old read.old) block.now
+        ≡ step_in subtitle.new read.new result }
+    ensures room { OnOk result (BegunFits (begun_in subtitle.new read.new)) }
     ensures own { IfErr result (λ fault. is_of_block fault ≡ true) }
 {
-    if *count == 0 {
-        take_first(subtitle, count, block)
+    if read.count == 0 {
+        take_first(scope, subtitle, read, block)
     } else {
-        take_further(subtitle, count, block)
+        take_further(scope, subtitle, read, block)
     }
 }
 
 // The first block of a subtitle.
 #[tactic(auto, unfolding(crate::specs::Reading::kept_at))]
-fn take_first(subtitle: &mut Subtitle, count: &mut u8, block: &Tti) -> Result<bool, StlFault>
-    ensures exact { kept_at None block.now ≡ step_in subtitle.new count.new result }
-    ensures room { OnOk result (BegunFits (begun_in subtitle.new count.new)) }
+fn take_first(
+    scope: Scope,
+    subtitle: &mut Subtitle,
+    read: &mut BlocksRead,
+    block: &Tti,
+) -> Result<bool, StlFault>
+    ensures exact { kept_at scope None block.now ≡ step_in subtitle.new read.new result }
+    ensures room { OnOk result (BegunFits (begun_in subtitle.new read.new)) }
     ensures own { IfErr result (λ fault. is_of_block fault ≡ true) }
 {
+    let is_last = block.ebn() == 0xff;
+    if scope.is_outside(block) {
+        subtitle.pass(block);
+        read.count = if is_last { 0 } else { 1 };
+        read.is_passed = true;
+        return Ok(false);
+    }
     subtitle.begin(block)?;
-    *count = 1;
-    Ok(block.ebn() == 0xff)
+    read.count = 1;
+    read.is_passed = false;
+    Ok(is_last)
 }
 
 // A further block of a subtitle.
 #[tactic(auto, unfolding(crate::specs::Reading::kept_at))]
-fn take_further(subtitle: &mut Subtitle, count: &mut u8, block: &Tti) -> Result<bool, StlFault>
-    requires { BegunFits (Some (record { subtitle = subtitle.old; blocks = count.old })) }
-    ensures exact { kept_at (Some (record { subtitle = subtitle.old; blocks = count.old }))
-        block.now ≡ step_in subtitle.new count.new result }
-    ensures room { OnOk result (BegunFits (begun_in subtitle.new count.new)) }
+fn take_further(
+    scope: Scope,
+    subtitle: &mut Subtitle,
+    read: &mut BlocksRead,
+    block: &Tti,
+) -> Result<bool, StlFault>
+    requires { BegunFits (Some (begun_by subtitle.old read.old)) }
+    ensures exact { kept_at scope (Some (begun_by subtitle.old read.old)) block.now
+        ≡ step_in subtitle.new read.new result }
+    ensures room { OnOk result (BegunFits (begun_in subtitle.new read.new)) }
     ensures own { IfErr result (λ fault. is_of_block fault ≡ true) }
 {
     if !subtitle.is_of(block) {
         return Err(StlFault::Sequence);
     }
-    if *count == 9 {
+    if read.count == 9 {
         return Err(StlFault::TooLong);
     }
     subtitle.extend(block);
-    *count += 1;
-    Ok(block.ebn() == 0xff)
+    let is_last = block.ebn() == 0xff;
+    if is_last && read.is_passed {
+        read.count = 0;
+        return Ok(false);
+    }
+    read.count += 1;
+    Ok(is_last)
 }

@@ -10,6 +10,7 @@ use Rattle.sub_io.specs.Telling.{Tells}
 use Rattle.sub_io.proofs.TellingLemmas.{Tells-none}
 use Rattle.stl_file.specs.declared.fault.StlFault.{StlFault}
 use Rattle.stl_file.specs.declared.resuming.Found.{Found}
+use Rattle.stl_file.specs.declared.scope.Scope.{Scope}
 use Rattle.stl_file.specs.Subtitle.{SubtitleValue}
 use Rattle.stl_file.specs.Reading.{Begun, findings_from}
 use Rattle.stl_file.specs.Reader.{FailsReading, FindsFrom, block_of_byte}
@@ -27,9 +28,9 @@ pub record HasTaken (old now : Option (List ℕ)) (block : ℕ) : Type 0 where
   pub long : length bytes ≡ 1024 + 128 * block
 
 -- The blocks of an answer after which reading goes on were taken too.
-pub has_taken-next : {old mid now : Option (List ℕ)} {from to : ℕ} {refused next : Option Begun}
-    {t : SubtitleValue} {result : Result Found StlFault}
-    → LeadsOn from to refused next mid now t result
+pub has_taken-next : {old mid now : Option (List ℕ)} {scope : Scope} {from to : ℕ}
+    {refused next : Option Begun} {t : SubtitleValue} {result : Result Found StlFault}
+    → LeadsOn scope from to refused next mid now t result
     → is_ok result ≡ true
     → HasTaken old mid from
     → HasTaken old now to
@@ -59,16 +60,16 @@ none_before-0 (f ∷ fs) = grind (arith, nat_tests, none_before-0 fs)
 -- While a subtitle is read.
 pub fails-next : {national : National} {start old new : Option (List ℕ)} {before : Option Times}
     {kept : Option (List SubtitleValue)} {early : List LoadFault} {D : Type 0}
-    {IsTold : D → LoadFault → D → Type 0} {told_old told_new : D} (reader : ResumingValue)
-    {block : ℕ}
+    {IsTold : D → LoadFault → D → Type 0} {told_old told_new : D} {scope : Scope}
+    (reader : ResumingValue) {block : ℕ}
     → HasTaken start old reader.block
     → All (IsToldBy reader.block) early
     → Tells IsTold told_old told_new early
     → ((all : List ℕ) → start ≡ Some all → (rest : List ℕ) × (old ≡ Some rest)
-    × GoesOn national all (findings_from reader.block reader.refused rest) before kept early)
-    → FailsReading reader.block block reader.refused old new
+    × GoesOn national all (findings_from scope reader.block reader.refused rest) before kept early)
+    → FailsReading scope reader.block block reader.refused old new
     → FailsTelling national start new IsTold told_old told_new block
-fails-next {start = start} {old} {new} reader {block} taken early_told told goes failed =
+fails-next {start = start} {old} {new} {scope = scope} reader {block} taken early_told told goes failed =
     record {
       bytes = taken.bytes ++ failed.bytes;
       consumed =
@@ -77,7 +78,7 @@ fails-next {start = start} {old} {new} reader {block} taken early_told told goes
       told = λ all is.
           let here = goes all is in
           let left = left_over here.0 new failed.bytes (rw here.1 at failed.consumed) in
-          let names : FindsFrom block (findings_from reader.block reader.refused here.0) =
+          let names : FindsFrom block (findings_from scope reader.block reader.refused here.0) =
           rw left.1 (failed.none left.0) in
           tells-unread reader.block block (omega (arith, failed.block)) early_told names here.2
           told;

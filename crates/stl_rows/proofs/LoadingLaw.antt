@@ -156,7 +156,7 @@ loading_is file n s ts = (there, back)
         let l = faultless n [] (findings_of s) own.0 in
         let same = ap (λ (p : ProgrammeValue). p.records) own.1 in
         let is = (file s (take 1024 s) ts).1 (refl, l.all ∙ ap Ok same) in
-        let each = all_subtitles ts is.rest.parts is.rest.are_of in
+        let each = all_subtitles ts _ is.rest.are_of in
         let ok : IsProgramme n ts =
         rw same at (l.programme (IsProgramme-none n) (rw same each)) in
         (take 1024 s, is, ok.in_order, ok.drawable)
@@ -167,7 +167,7 @@ loading_is file n s ts = (there, back)
         ≡ Ok (record { national = n; records = ts })
     back h =
         let all = given_faultless n [] (findings_of s) ts ((file s h.0 ts).0 h.1).1 (record {
-          each = all_subtitles ts h.1.rest.parts h.1.rest.are_of;
+          each = all_subtitles ts _ h.1.rest.are_of;
           in_order = h.2;
           drawable = h.3;
         }) in

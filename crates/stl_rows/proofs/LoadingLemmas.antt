@@ -21,9 +21,8 @@ use Rattle.stl_file.specs.declared.fault.StlFault.{StlFault}
 use Rattle.stl_file.specs.declared.fault.StlFault.TheVariants.{Ended}
 use Rattle.stl_file.specs.Fault.{is_of_first, is_read}
 use Rattle.stl_file.specs.Reading.{Findings, breaks, finds, no_more, refuses}
-use Rattle.stl_file.specs.Gsi.{gsi_size}
 use Rattle.stl_file.specs.Subtitle.{IsSubtitle, SubtitleValue}
-use Rattle.stl_file.specs.Reader.{FindsFrom, ReaderValue, findings_of, findings_opened, opened_at}
+use Rattle.stl_file.specs.Reader.{FindsFrom, findings_of}
 use Rattle.stl_rows.specs.declared.national.National.{National}
 use Rattle.stl_rows.specs.declared.fault.LoadFault.{LoadFault}
 use Rattle.stl_rows.specs.declared.fault.LoadFaultKind.{LoadFaultKind}
@@ -38,13 +37,6 @@ use Rattle.stl_rows.specs.Programme.{IsProgramme, follow_faults, order_faults, r
 use Rattle.stl_rows.specs.Programme.{times_before, times_of}
 use Rattle.stl_rows.proofs.ProgrammeLemmas.{IsProgramme-push, last_of-push}
 use Rattle.stl_rows.specs.TextCode.{first_of}
-
--- What reading a file gives, by what opening it gives.
-pub findings_of-opened : (bytes : List ℕ) (r : Result ReaderValue StlFault)
-    → opened_at bytes ≡ r
-    → findings_of bytes ≡ findings_opened (drop gsi_size bytes) r
-unfolding findings_of
-findings_of-opened bytes r h = ap (findings_opened (drop gsi_size bytes)) h
 
 -- ---- what was told of subtitles
 

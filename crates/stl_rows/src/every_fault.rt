@@ -24,7 +24,7 @@ use crate::programme::Programme;
 use crate::text_faults::first_fault;
 use crate::times::Times;
 use std::alloc::{Allocator, Global};
-use stl_file::{Found, ResumingReader, StlFault, StlReader, Subtitle};
+use stl_file::{Found, ResumingReader, Scope, StlFault, Subtitle};
 use sub_io::{Audience, Source, Stopped};
 
 /// Loads the subtitles of an STL file as `load` does, and tells a device every fault of the file.
@@ -123,8 +123,8 @@ pub fn load_all_in<A: Allocator + Drop, S: Source, D: Audience<LoadFault>>(
     ensures kinds { IfErr result (λ f. (f.kind ≡ Memory) ⊎ (f.kind ≡ File Read)) }
     ensures count { CountsIf S.failure_count source.old (failed is_read result) source.new }
 {
-    let mut reader = match StlReader::open(source) {
-        Ok(_) => ResumingReader::after_gsi(),
+    let mut reader = match ResumingReader::open(source, Scope::whole()) {
+        Ok(reader) => reader,
         Err(fault) => match tell_end(fault, 0, audience) {
             Ok(()) => return Ok(None),
             Err(failed) => return Err(failed),
@@ -140,7 +140,6 @@ pub fn load_all_in<A: Allocator + Drop, S: Source, D: Audience<LoadFault>>(
                 Err(failed) => return Err(failed),
             },
             Ok(Found::End) => return Ok(kept),
-            Ok(Found::Passed) => {}
             Ok(Found::Refused(fault)) => {
                 let kind = Some(LoadFaultKind::File(fault));
                 let Ok(_) = tell_fault(kind, reader.block(), audience) else {

@@ -20,9 +20,10 @@ use Rattle.ttx_pes.proofs.OutcomeLemmas.{outcome_after-next}
 use Rattle.stl_file.specs.Fault as stl_fault
 use Rattle.stl_file.specs.Gsi.{IsGsi, gsi_size}
 use Rattle.stl_file.specs.Reader.{EndsKept, ReaderValue, RefusesOpening, TakesSubtitle, opened_at}
-use Rattle.stl_file.specs.Reader.{findings_of, outcome_left, outcome_of}
+use Rattle.stl_file.specs.Reader.{findings_for, gsi_of, outcome_left, outcome_of}
 use Rattle.stl_file.specs.Reading.{ends, fails}
 use Rattle.stl_file.specs.Subtitle.{SubtitleValue}
+use Rattle.stl_file.proofs.OpeningLemmas.{opened_bad, opened_good}
 use Rattle.stl_file.specs.declared.fault.StlFault.{StlFault}
 use Rattle.stl_file.specs.declared.progress.Progress.TheVariants as progress
 use Rattle.sub_listing.specs.Faults.{kind_by, stl_told}
@@ -312,7 +313,7 @@ pub gives-opened :
     → IfTold told (λ bytes. left ≡ Some (drop gsi_size bytes))
     → IfTold told (λ bytes. opened_at bytes ≡ Ok r)
     → Gives (ListsFrom None count) (ListsFrom (Some r) count) told left [] None
-unfolding findings_of
+unfolding findings_for
 gives-opened count r told left start reading gsi taken rest opened =
     gives-next _ (subtitles_listing count) (subtitles_listing count) outcome_of (outcome_left r)
     ReadsFile (λ failed. ReadsSubtitles failed r.block) (λ o. o) told left [] (λ o. refl)
@@ -320,7 +321,7 @@ gives-opened count r told left start reading gsi taken rest opened =
     (λ bytes is. (
       drop gsi_size bytes,
       rest bytes is,
-      rw (opened bytes is, start, reading) refl,
+      rw ((opened_good (gsi_of false bytes) r (opened bytes is)).0, start, reading) refl,
     ))
     ends
 
@@ -334,11 +335,11 @@ pub gives-refused :
     → (stl_fault.is_format f ≡ true → RefusesOpening told left f)
     → ListsFrom None count told left (Some (status_of (kind_by (stl_fault.is_read f))))
     (record { text = text; status = status_of (kind_by (stl_fault.is_read f)) })
-unfolding findings_of
+unfolding findings_for
 gives-refused count f told left text line exact failed refused =
     gives-last _ (subtitles_listing count) outcome_of ReadsFile told left (fails f 0) text
     (stl_fault.is_read f) line (kind_by-failed (stl_fault.is_read f))
-    (λ bytes is fine. rw (exact bytes is fine) refl)
+    (λ bytes is fine. rw (opened_bad (gsi_of false bytes) f (exact bytes is fine)) refl)
     (inl (record {
       fault = f;
       outcome_is = refl;

@@ -13,6 +13,7 @@ use Rattle.stl_file.specs.File.{IsFile}
 use Rattle.stl_file.specs.NormalForm.{NormalAnswers, subtitles_of}
 use Rattle.stl_file.specs.Reader.{block_of_byte}
 use Rattle.stl_file.specs.Gsi.{gsi_size}
+use Rattle.stl_file.specs.Scope.{whole}
 use Rattle.stl_file.specs.Subtitle.{SubtitleValue}
 use Rattle.stl_file.proofs.FileLemmas.{file_complete, file_sound, outcome_of-first}
 use Rattle.sub_listing.specs.Writing.{TellsRead, most_read}
@@ -25,7 +26,8 @@ first-is_file : (s : List ℕ) (ts : List SubtitleValue)
     → IsFile (take most_read s) (take gsi_size (take most_read s)) ts
     → IsFile s (take gsi_size s) ts
 first-is_file s ts is =
-    file_sound s ts (ap subtitles_of (sym (outcome_of-first s)) ∙ (file_complete _ _ ts is).1)
+    file_sound whole s ts
+    (ap subtitles_of (sym (outcome_of-first s)) ∙ (file_complete whole _ _ ts is).1)
 
 -- The bytes that are read decide what all of them do.
 pub answers_first : (s read : List ℕ) (old new : Option (List ℕ)) (answer : Result ℕ NormalFault)

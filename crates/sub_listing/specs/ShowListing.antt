@@ -7,6 +7,7 @@ use Rattle.stl_file.specs.Gsi.{IsGsi, gsi_size}
 use Rattle.stl_file.specs.Reader.{FailsReading, Refuses, RefusesOpening, TakesPassed, ReaderValue}
 use Rattle.stl_file.specs.Reader.{TakesSubtitle, outcome_left, outcome_of}
 use Rattle.stl_file.specs.Reading.{Outcome, ends, fails, gives}
+use Rattle.stl_file.specs.Scope.{whole}
 use Rattle.stl_file.specs.Tti.{most_blocks}
 use Rattle.stl_file.specs.declared.fault.StlFault.{StlFault}
 use Rattle.stl_file.specs.declared.progress.Progress.TheVariants.{Reading}
@@ -22,7 +23,7 @@ ReadsSubtitles failed from told ends left =
     (failed ≡ false) × (to : ℕ) × TakesPassed from to told left
 ReadsSubtitles failed from told (fails f block) left =
     (is_read f ≡ failed)
-    × (failed ≡ true → FailsReading from block None told left)
+    × (failed ≡ true → FailsReading whole from block None told left)
     × (is_format f ≡ true → Refuses from block told left f)
 ReadsSubtitles failed from told (gives s block more) left =
     (behind : Option (List ℕ)) × TakesSubtitle from block told behind s

@@ -2,16 +2,17 @@
 
 use crate::asserting::assert_same;
 use fixtures::file_of_three;
-use stl_file::{Found, ResumingReader, StlFault, Subtitle};
+use stl_file::{Found, ResumingReader, Scope, StlFault, Subtitle};
 use sub_io::MemSource;
 
-// The blocks at which a subtitle, one of two blocks that is refused, its last block and the end are
-// found in these bytes.
-fn blocks_found(bytes: &[u8]) -> [u32; 4] {
-    let mut source = MemSource::new(bytes);
-    let mut reader = ResumingReader::after_gsi();
+// The blocks at which a subtitle, one of two blocks that is refused and the end are found in a file.
+fn blocks_found(file: &[u8]) -> [u32; 3] {
+    let mut source = MemSource::new(file);
     let mut subtitle = Subtitle::empty();
-    let mut blocks = [0; 4];
+    let mut blocks = [0; 3];
+    let Ok(mut reader) = ResumingReader::open(&mut source, Scope::whole()) else {
+        return blocks;
+    };
     let Ok(Found::Subtitle) = reader.next_into(&mut source, &mut subtitle) else {
         return blocks;
     };
@@ -21,14 +22,10 @@ fn blocks_found(bytes: &[u8]) -> [u32; 4] {
         return blocks;
     };
     blocks[1] = reader.block();
-    let Ok(Found::Passed) = reader.next_into(&mut source, &mut subtitle) else {
-        return blocks;
-    };
-    blocks[2] = reader.block();
     let Ok(Found::End) = reader.next_into(&mut source, &mut subtitle) else {
         return blocks;
     };
-    blocks[3] = reader.block();
+    blocks[2] = reader.block();
     blocks
 }
 
@@ -36,6 +33,43 @@ fn blocks_found(bytes: &[u8]) -> [u32; 4] {
 fn finds_what_comes_after_a_refused_subtitle(rt: HostRuntime) {
     let mut file = file_of_three(2, 1);
     file[1155] = 0; // EBN: the third block is the last one of the second subtitle
-    let (_, blocks) = file.split_at(1024);
-    assert_same(&rt, &blocks_found(blocks), &[1, 2, 3, 3]);
+    assert_same(&rt, &blocks_found(&file), &[1, 2, 3]);
+}
+
+// How many subtitles are taken of a file that has three at 900,000, 900,050 and 900,100, where the
+// second is cumulative; 9 where it is refused.
+fn taken(display: u8, takes_open: bool, from: u32, to: u32) -> u32 {
+    let mut file = file_of_three(2, 1);
+    file[11] = display;
+    let scope = Scope {
+        takes_open,
+        from,
+        to,
+    };
+    let mut source = MemSource::new(&file);
+    let mut subtitle = Subtitle::empty();
+    let Ok(mut reader) = ResumingReader::open(&mut source, scope) else {
+        return 9;
+    };
+    for count in 0..4 {
+        let Ok(Found::Subtitle) = reader.next_into(&mut source, &mut subtitle) else {
+            return count;
+        };
+    }
+    4
+}
+
+#[test]
+fn takes_what_is_in_the_scope(rt: HostRuntime) {
+    assert_same(&rt, &taken(b'1', false, 0, 2_160_000), &1);
+    assert_same(&rt, &taken(b'1', false, 900_000, 900_050), &1);
+    assert_same(&rt, &taken(b'1', false, 900_051, 2_160_000), &1);
+    assert_same(&rt, &taken(b'1', false, 0, 900_000), &0);
+    assert_same(&rt, &taken(b'1', false, 900_101, 2_160_000), &0);
+    assert_same(&rt, &taken(b'1', false, 900_100, 900_000), &0);
+    assert_same(&rt, &taken(b'0', false, 0, 2_160_000), &9);
+    assert_same(&rt, &taken(b'0', true, 0, 2_160_000), &1);
+    assert_same(&rt, &taken(b' ', true, 0, 2_160_000), &1);
+    assert_same(&rt, &taken(b'2', true, 0, 2_160_000), &1);
+    assert_same(&rt, &taken(b'3', true, 0, 2_160_000), &9);
 }

@@ -13,31 +13,31 @@ loop-got-init g c = grind (arith, nat_tests)
 pub returns-in_err-got-clause-failed : goal.returns-in_err-got-clause-failed
 returns-in_err-got-clause-failed g c = λ _.
     let e = c.in_err-got.ensures.err in
-    fails_reading c.args.block.now c.loop-got.block _ _ _ _ _ e.0
-    c.loop-got.invariant.read c.loop-got.invariant.few
+    fails_reading c.args.scope c.args.block.now c.loop-got.block _ _ _ _ _ e.0
+    c.loop-got.invariant.taken c.loop-got.invariant.few
     (let l = e.1 in let s = c.fill.auto.to in omega arith) e.2
 
-pub returns-then-count-eq0-clause-leads : goal.returns-then-count-eq0-clause-leads
-returns-then-count-eq0-clause-leads g c = grind (arith, nat_tests, leads_end, findings_end)
+pub returns-then-read-eq0-clause-leads : goal.returns-then-read-eq0-clause-leads
+returns-then-read-eq0-clause-leads g c = grind (arith, nat_tests, leads_end, findings_end)
 
-pub returns-else-count-eq0-clause-leads : goal.returns-else-count-eq0-clause-leads
-returns-else-count-eq0-clause-leads g c = grind (arith, nat_tests, leads_end, findings_end, ne_eqb)
+pub returns-else-read-eq0-clause-leads : goal.returns-else-read-eq0-clause-leads
+returns-else-read-eq0-clause-leads g c = grind (arith, nat_tests, leads_end, findings_end, ne_eqb)
 
 pub returns-then-block-eq99999-clause-leads : goal.returns-then-block-eq99999-clause-leads
 returns-then-block-eq99999-clause-leads g c = λ _.
-    leads_too_many c.loop-got.invariant.read c.in_ok-got.ensures.fills (search rules) _ _
+    leads_too_many c.loop-got.invariant.taken c.in_ok-got.ensures.fills (search rules) _ _
     c.if-got-eq0.false c.if-block-eq99999.true
 
 pub returns-then-got-lt128-clause-leads : goal.returns-then-got-lt128-clause-leads
 returns-then-got-lt128-clause-leads g c = λ _.
-    leads_truncated c.loop-got.invariant.read c.in_ok-got.ensures.fills (search rules) _ _
+    leads_truncated c.loop-got.invariant.taken c.in_ok-got.ensures.fills (search rules) _ _
     c.if-got-eq0.false
     (let e = c.if-block-eq99999.false in let f = c.loop-got.invariant.few in omega arith)
     c.if-got-lt128.true
 
 pub returns-in-Ok-true-clause-leads : goal.returns-in-Ok-true-clause-leads
 returns-in-Ok-true-clause-leads g c = λ _.
-    leads_given c.loop-got.invariant.read c.in_ok-got.ensures.fills (search rules) _
+    leads_given c.loop-got.invariant.taken c.in_ok-got.ensures.fills (search rules) _
     c.take_block.new.subtitle
     (let e = c.if-block-eq99999.false in let f = c.loop-got.invariant.few in omega arith)
     c.if-got-lt128.false refl
@@ -45,14 +45,14 @@ returns-in-Ok-true-clause-leads g c = λ _.
 
 pub returns-then-ebn-clause-leads : goal.returns-then-ebn-clause-leads
 returns-then-ebn-clause-leads g c = λ _.
-    leads_refused c.loop-got.invariant.read c.in_ok-got.ensures.fills (search rules) _ _
+    leads_refused c.loop-got.invariant.taken c.in_ok-got.ensures.fills (search rules) _ _
     (let e = c.if-block-eq99999.false in let f = c.loop-got.invariant.few in omega arith)
     c.if-got-lt128.false c.in-Err.fault c.in-Err.ensures.own (grind (arith, nat_tests))
     (rw c.read-tti.ensures at c.in-Err.ensures.exact)
 
 pub returns-else-ebn-clause-leads : goal.returns-else-ebn-clause-leads
 returns-else-ebn-clause-leads g c = λ _.
-    leads_refused c.loop-got.invariant.read c.in_ok-got.ensures.fills (search rules) _ _
+    leads_refused c.loop-got.invariant.taken c.in_ok-got.ensures.fills (search rules) _ _
     (let e = c.if-block-eq99999.false in let f = c.loop-got.invariant.few in omega arith)
     c.if-got-lt128.false c.in-Err.fault c.in-Err.ensures.own (grind (arith, nat_tests, ne_eqb))
     (rw c.read-tti.ensures at c.in-Err.ensures.exact)
@@ -60,7 +60,7 @@ returns-else-ebn-clause-leads g c = λ _.
 pub loop-got-preserved : goal.loop-got-preserved
 loop-got-preserved g c = record {
   fits = c.in-Ok-false.ensures.room;
-  read = reads_on c.loop-got.invariant.read c.in_ok-got.ensures.fills (search rules) _
+  taken = reads_on c.loop-got.invariant.taken c.in_ok-got.ensures.fills (search rules) _
       c.take_block.new.subtitle
       (let e = c.if-block-eq99999.false in let f = c.loop-got.invariant.few in omega arith)
       c.if-got-lt128.false

@@ -1,6 +1,6 @@
 -- What was told and what is left to be told, at each step of the loop and at each way out:
 -- goes_on-next, tells-end, tells-stop, fails-next.
-use Rattle.std.proofs.Common.{◌≡◌, ◌++◌, None, Ok, refl, rules, [], ◌∷◌, map, arith}
+use Rattle.std.proofs.Common.{◌≡◌, ◌∙◌, ◌++◌, None, Ok, refl, rules, [], ◌∷◌, map, arith}
 use Rattle.std.proofs.Common.{drop, length-append}
 use Rattle.std.proofs.lemmas.Bool.Decides.{nat_tests}
 use Rattle.std.proofs.lemmas.Bool.{lt-ltb}
@@ -11,11 +11,13 @@ use Rattle.stl_rows.specs.declared.fault.LoadFaultKind.TheVariants.{File}
 use Rattle.stl_rows.specs.EveryFault.{load_fault}
 use Rattle.stl_rows.specs.Loading.{loaded}
 use Rattle.stl_rows.specs.Programme.{follow_faults}
-use Rattle.std.proofs.lemmas.List.Elements.{All-nil, All-weaker}
+use Rattle.std.proofs.lemmas.List.Elements.{All-nil}
+use Rattle.stl_file.specs.Scope.{whole}
+use Rattle.stl_file.proofs.FileLemmas.{findings_for-begun, findings_for-refused}
 use Rattle.stl_file.proofs.ReaderLemmas.{left-then}
 use Rattle.stl_rows.proofs.FailedReadLemmas.{fails-next, has_taken-next, reads-nothing}
 use Rattle.stl_rows.proofs.LoadingLemmas.{are_kept-next, ends-here, goes_on-next, goes_on-start}
-use Rattle.stl_rows.proofs.LoadingLemmas.{if_kept, of_file-end, of_file-stopped, findings_of-opened}
+use Rattle.stl_rows.proofs.LoadingLemmas.{if_kept, of_file-end, of_file-stopped}
 use Rattle.stl_rows.proofs.LoadingLemmas.{IsToldBy, some-next, some_items, tells-end, told-none}
 use Rattle.stl_rows.proofs.LoadingLemmas.{first_kind, goes_on-refused, loads-all}
 use Rattle.stl_rows.proofs.LoadingLemmas.{tells-none, tells-refused, tells-stop, told-next}
@@ -27,18 +29,24 @@ pub subtitles-init : goal.subtitles-init
 subtitles-init g c = rw c.new.ensures.items (record {
   early = [];
   told = Tells-none _;
-  early_told = All-nil (IsToldBy c.after_gsi-reader.result.block);
+  early_told = All-nil (IsToldBy c.in-Ok.reader.block);
   are_kept = grind (arith, nat_tests, IsProgramme-none);
   some = λ h. absurd cc;
   listens = c.requires.listens;
-  reading = search rules;
+  reading = rw c.in-Ok.ensures.start refl;
+  scope = rw c.in-Ok.ensures.start c.whole.ensures;
   count = search rules;
-  taken = grind (arith, nat_tests);
+  taken = rw c.in-Ok.ensures.start (record {
+    bytes = c.in-Ok.ensures.taken.0;
+    consumed = c.in-Ok.ensures.taken.2;
+    long = c.in-Ok.ensures.taken.1.size;
+  });
   goes_on = λ bytes e. (
     drop 1024 bytes,
     c.in-Ok.ensures.left bytes e,
-    rw c.after_gsi-reader.ensures
-        (rw (findings_of-opened bytes _ (c.in-Ok.ensures.exact bytes e refl))
+    rw c.in-Ok.ensures.start
+        (rw (findings_for-begun whole bytes _
+        (rw c.whole.ensures at (c.in-Ok.ensures.exact bytes e refl)))
         at (goes_on-start c.args.national bytes)),
   );
 })
@@ -48,7 +56,7 @@ subtitles-preserved g c =
     let i = c.subtitles.invariant in
     let t = c.next_into.new.subtitle in
     let here = c.next_into.new.self.block in
-    let l = rw c.in-Ok-Subtitle.field-0-is at (c.in-Ok-Subtitle.ensures.leads refl) in
+    let l = rw (c.in-Ok-Subtitle.field-0-is, i.scope) at (c.in-Ok-Subtitle.ensures.leads refl) in
     let is_clean = c.in-Ok-tell_faults.ensures.clean in
     rw (c.in_default-keep.ensures.all, c.of.ensures.value) (record {
       early = i.early ++ map (load_fault here) (follow_faults c.args.national c.subtitles.before t);
@@ -59,6 +67,7 @@ subtitles-preserved g c =
       some = some-next t here is_clean i.are_kept i.some;
       listens = search rules;
       reading = rw c.in-Ok-Subtitle.field-0-is at c.in-Ok-Subtitle.ensures.progress;
+      scope = c.in-Ok-Subtitle.ensures.scope ∙ i.scope;
       count = search rules;
       taken = has_taken-next l refl i.taken;
       goes_on = λ bytes e.
@@ -72,7 +81,7 @@ subtitles-preserved-in-Ok-Refused g c =
     let i = c.subtitles.invariant in
     let here = c.next_into.new.self.block in
     let fault = c.in-Ok-Refused.fault in
-    let l = rw c.in-Ok-Refused.field-0-is at (c.in-Ok-Refused.ensures.leads refl) in
+    let l = rw (c.in-Ok-Refused.field-0-is, i.scope) at (c.in-Ok-Refused.ensures.leads refl) in
     let first = rw c.in-Ok-Refused.field-0-is at c.in-Ok-Refused.ensures.first in
     let told = rw c.block-in-Ok-Refused.ensures.value at c.in-Ok-tell_fault.ensures.told in
     record {
@@ -84,6 +93,7 @@ subtitles-preserved-in-Ok-Refused g c =
       some = λ none. omega (arith, length-append i.early (load_fault here (File fault) ∷ []));
       listens = search rules;
       reading = rw c.in-Ok-Refused.field-0-is at c.in-Ok-Refused.ensures.progress;
+      scope = c.in-Ok-Refused.ensures.scope ∙ i.scope;
       count = search rules;
       taken = has_taken-next l refl i.taken;
       goes_on = λ bytes e.
@@ -92,34 +102,12 @@ subtitles-preserved-in-Ok-Refused g c =
           (now.0, now.1, goes_on-refused fault here (rw now.2 at was.2));
     }
 
-pub subtitles-preserved-in-Ok-Passed : goal.subtitles-preserved-in-Ok-Passed
-subtitles-preserved-in-Ok-Passed g c =
-    let i = c.subtitles.invariant in
-    let l = rw c.in-Ok-Passed.field-0-is at (c.in-Ok-Passed.ensures.leads refl) in
-    let b = l.block in
-    record {
-      early = i.early;
-      told = i.told;
-      early_told = All-weaker (IsToldBy c.subtitles.reader.block)
-          (IsToldBy c.next_into.new.self.block)
-          (λ f told. (told.0, omega (arith, b, told.1))) i.early i.early_told;
-      are_kept = i.are_kept;
-      some = i.some;
-      listens = i.listens;
-      reading = rw c.in-Ok-Passed.field-0-is at c.in-Ok-Passed.ensures.progress;
-      count = search rules;
-      taken = has_taken-next l refl i.taken;
-      goes_on = λ bytes e.
-          let was = i.goes_on bytes e in
-          let now = left-then _ _ was.0 l was.1 in
-          (now.0, now.1, rw now.2 at was.2);
-    }
-
 pub returns-in-Ok-tell_end-clause-told : goal.returns-in-Ok-tell_end-clause-told
 returns-in-Ok-tell_end-clause-told g c = λ bytes e none.
-    let opened = c.in-Err.ensures.exact bytes e c.in-Ok-tell_end.ensures.file in
+    let refused =
+    rw c.whole.ensures at (c.in-Err.ensures.exact bytes e c.in-Ok-tell_end.ensures.file) in
     tells-end (goes_on-start c.args.national bytes) (Tells-none _)
-    (findings_of-opened bytes _ opened) c.in-Ok-tell_end.ensures.told
+    (findings_for-refused whole bytes _ refused) c.in-Ok-tell_end.ensures.told
 
 pub returns-in-Err-tell_end-clause-read : goal.returns-in-Err-tell_end-clause-read
 returns-in-Err-tell_end-clause-read g c = grind (arith, nat_tests, lt-ltb, reads-nothing)
@@ -128,7 +116,7 @@ pub returns-in-Ok-tell_end-2-clause-told : goal.returns-in-Ok-tell_end-2-clause-
 returns-in-Ok-tell_end-2-clause-told g c = λ bytes e none.
     let i = c.subtitles.invariant in
     let here = i.goes_on bytes e in
-    let l = c.in-Err-next_into.ensures.leads c.in-Ok-tell_end-2.ensures.file in
+    let l = rw i.scope at (c.in-Err-next_into.ensures.leads c.in-Ok-tell_end-2.ensures.file) in
     let end = left-then _ _ here.0 l here.1 in
     tells-end here.2 i.told end.2
     (rw c.block.ensures.value at c.in-Ok-tell_end-2.ensures.told)
@@ -146,13 +134,13 @@ returns-in-Err-tell_end-2-clause-read g c = λ is.
     let failed = c.in-Err-tell_end-2.ensures.read in
     rw (failed.1, failed.2, c.block.ensures.value)
     (fails-next c.subtitles.reader i.taken i.early_told i.told i.goes_on
-    (c.in-Err-next_into.ensures.failed (rw failed.0 refl)))
+    (rw i.scope at (c.in-Err-next_into.ensures.failed (rw failed.0 refl))))
 
 pub returns-in_default-clause-told : goal.returns-in_default-clause-told
 returns-in_default-clause-told g c = λ bytes e none.
     let i = c.subtitles.invariant in
     let here = i.goes_on bytes e in
-    let l = rw c.in-Ok-Refused.field-0-is at (c.in-Ok-Refused.ensures.leads refl) in
+    let l = rw (c.in-Ok-Refused.field-0-is, i.scope) at (c.in-Ok-Refused.ensures.leads refl) in
     let now = left-then _ _ here.0 l here.1 in
     tells-refused here.2 i.told _ now.2 c.in_default.ensures.stopped
     (rw c.block-in-Ok-Refused.ensures.value at c.in_default.ensures.told)
@@ -169,7 +157,7 @@ pub returns-in_default-tell_faults-clause-told : goal.returns-in_default-tell_fa
 returns-in_default-tell_faults-clause-told g c = λ bytes e none.
     let i = c.subtitles.invariant in
     let here = i.goes_on bytes e in
-    let l = rw c.in-Ok-Subtitle.field-0-is at (c.in-Ok-Subtitle.ensures.leads refl) in
+    let l = rw (c.in-Ok-Subtitle.field-0-is, i.scope) at (c.in-Ok-Subtitle.ensures.leads refl) in
     let now = left-then _ _ here.0 l here.1 in
     tells-stop here.2 i.told _ now.2 c.in_default-tell_faults.ensures.stopped
     (rw c.block-block.ensures.value at c.in_default-tell_faults.ensures.stops)
@@ -177,7 +165,7 @@ returns-in_default-tell_faults-clause-told g c = λ bytes e none.
 pub returns-in_default-tell_faults-clause-some : goal.returns-in_default-tell_faults-clause-some
 returns-in_default-tell_faults-clause-some g c = λ none.
     let i = c.subtitles.invariant in
-    let l = rw c.in-Ok-Subtitle.field-0-is at (c.in-Ok-Subtitle.ensures.leads refl) in
+    let l = rw (c.in-Ok-Subtitle.field-0-is, i.scope) at (c.in-Ok-Subtitle.ensures.leads refl) in
     of_file-stopped i.early _
     (told-next c.args.national c.subtitles.before c.next_into.new.subtitle
     c.subtitles.reader.block c.next_into.new.self.block i.early (let b = l.block in omega arith)
@@ -187,7 +175,7 @@ pub returns-in-Err-keep-clause-memory : goal.returns-in-Err-keep-clause-memory
 returns-in-Err-keep-clause-memory g c = λ bytes e is.
     let i = c.subtitles.invariant in
     let here = i.goes_on bytes e in
-    let l = rw c.in-Ok-Subtitle.field-0-is at (c.in-Ok-Subtitle.ensures.leads refl) in
+    let l = rw (c.in-Ok-Subtitle.field-0-is, i.scope) at (c.in-Ok-Subtitle.ensures.leads refl) in
     let now = left-then _ _ here.0 l here.1 in
     let refused = c.in-Err-keep.ensures.some in
     rw c.block-block.ensures.value
@@ -215,7 +203,7 @@ pub returns-in-Ok-End-clause-exact : goal.returns-in-Ok-End-clause-exact
 returns-in-Ok-End-clause-exact g c = λ bytes e.
     let i = c.subtitles.invariant in
     let here = i.goes_on bytes e in
-    let l = rw c.in-Ok-End.field-0-is at (c.in-Ok-End.ensures.leads refl) in
+    let l = rw (c.in-Ok-End.field-0-is, i.scope) at (c.in-Ok-End.ensures.leads refl) in
     let end = left-then _ _ here.0 l here.1 in
     if_kept (λ v. v.items)
     (λ records. loaded c.args.national bytes
@@ -227,7 +215,7 @@ pub returns-in-Ok-End-clause-told : goal.returns-in-Ok-End-clause-told
 returns-in-Ok-End-clause-told g c = λ bytes e none.
     let i = c.subtitles.invariant in
     let here = i.goes_on bytes e in
-    let l = rw c.in-Ok-End.field-0-is at (c.in-Ok-End.ensures.leads refl) in
+    let l = rw (c.in-Ok-End.field-0-is, i.scope) at (c.in-Ok-End.ensures.leads refl) in
     let end = left-then _ _ here.0 l here.1 in
     let is : c.subtitles.kept ≡ None = cc in
     tells-none here.2 i.told end.2 (i.some (rw is refl))

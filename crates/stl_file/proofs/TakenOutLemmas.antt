@@ -1,0 +1,373 @@
+-- A file from which the blocks of subtitles outside were taken out gives the same, block numbers
+-- aside; main lemmas: scope_law, day_law.
+use Rattle.std.proofs.Common.{◌≡◌, ℕ, Bool, false, true, List, [], ◌∷◌, ◌++◌, length, refl, ap}
+use Rattle.std.proofs.Common.{arith, length-append, take, drop, Option, Some, None, Result, Ok, Err}
+use Rattle.std.proofs.Common.{zero, suc, ◌+◌, ◌-◌, ◌<◌, ◌≤◌, ◌⊎◌, inl, inr, ◌∙◌, sym, ltb}
+use Rattle.std.proofs.lemmas.List.{take_at, drop_at}
+use Rattle.std.proofs.lemmas.Bool.{cases_Bool, le-ltb}
+use Rattle.std.proofs.lemmas.Bool.Decides.{nat_tests}
+use Rattle.std.specs.Prelude.{◌==◌}
+use Rattle.std.specs.List.{AllByRecursion, concat}
+use Rattle.stl_file.specs.declared.fault.StlFault.{StlFault}
+use Rattle.stl_file.specs.declared.scope.Scope.{Scope}
+use Rattle.stl_file.specs.Fault.{is_of_first}
+use Rattle.stl_file.specs.Gsi.{gsi_at}
+use Rattle.stl_file.specs.Reader.{findings_for, findings_opened, gsi_of}
+use Rattle.stl_file.specs.Reading.{Begun, BlockStep, Findings, Give, More, findings_after}
+use Rattle.stl_file.specs.Reading.{findings_at, kept_at, passed_at, step_at}
+use Rattle.stl_file.specs.Scope.{begins_outside}
+use Rattle.stl_file.specs.Subtitle.{SubtitleValue}
+use Rattle.stl_file.specs.SubtitleBlocks.{IsBlock}
+use Rattle.stl_file.specs.TakenOut.{LawOfDay, LawOfScope, all_day, is_read_whole, stays, taken_out}
+use Rattle.stl_file.specs.TakenOut.{unnumbered, within_after}
+use Rattle.stl_file.specs.Tti.{cf, ebn, is_passed_block, last_block, most_blocks, tci}
+use Rattle.stl_file.proofs.FindingsLemmas.{findings_block, findings_end, findings_full}
+use Rattle.stl_file.proofs.StepLemmas.{step_kept, step_passed}
+use Rattle.stl_file.proofs.TimeCodeLemmas.{in_day}
+
+-- Nothing is outside the day.
+pub day_law : LawOfDay
+unfolding begins_outside
+day_law scope b = grind (arith, nat_tests, in_day (tci b))
+
+-- ---- the two readings
+
+-- What both have begun: nothing, the same subtitle, or the one of the file a subtitle that is passed
+-- over, of which the other has no block.
+abbrev HaveBegun : Option Bool → Option Begun → Option Begun → Type 0
+HaveBegun None full cut = (full ≡ None) × (cut ≡ None)
+HaveBegun (Some true) full cut = (o : Begun) × (full ≡ Some o) × (cut ≡ Some o)
+HaveBegun (Some false) full cut =
+    (o : Begun) × (full ≡ Some o) × (o.is_passed ≡ true) × (cut ≡ None)
+
+-- What comes of the same step in both.
+same_after : (room room' : ℕ) (next next' : Option Begun → Findings) (b : List ℕ)
+    (step : Result BlockStep StlFault) (within : Option Bool)
+    → ((n : Option Begun) → step ≡ Ok (More n) → HaveBegun within n n)
+    → ((s : SubtitleValue) → step ≡ Ok (Give s) → HaveBegun within None None)
+    → HaveBegun within (passed_at b) (passed_at b)
+    → ((full cut : Option Begun) → HaveBegun within full cut → is_read_whole (next full) ≡ true
+    → unnumbered (next full) ≡ unnumbered (next' cut))
+    → is_read_whole (findings_after room next b step) ≡ true
+    → unnumbered (findings_after room next b step) ≡ unnumbered (findings_after room' next' b step)
+same_after room room' next next' b (Err f) within more give passed on read =
+    let rest = on (passed_at b) (passed_at b) passed in grind (arith, nat_tests)
+same_after room room' next next' b (Ok (More n)) within more give passed on read =
+    on n n (more n refl) read
+same_after room room' next next' b (Ok (Give s)) within more give passed on read =
+    let rest = on None None (give s refl) read in grind (arith, nat_tests)
+
+-- ---- one block
+
+-- A block after which reading goes on is one of a subtitle, or is passed over.
+kept_block : (scope : Scope) (begun : Option Begun) (b : List ℕ) (room : ℕ)
+    (next : Option Begun → Findings)
+    → is_passed_block b ≡ false
+    → is_read_whole (findings_after room next b (step_at scope begun b)) ≡ true
+    → ((ebn b < 240) ⊎ (ebn b ≡ 255)) × (cf b ≡ 0)
+unfolding step_at
+kept_block scope begun b room next kept read = grind (arith, nat_tests)
+
+-- A subtitle that is not outside is the same all the day.
+kept_first_same : (scope : Scope) (b : List ℕ)
+    → begins_outside scope b ≡ false
+    → kept_at scope None b ≡ kept_at (all_day scope) None b
+unfolding kept_at
+kept_first_same scope b inside = rw (inside, day_law scope b) refl
+
+-- And so is a further block.
+kept_further_same : (scope : Scope) (o : Begun) (b : List ℕ)
+    → kept_at scope (Some o) b ≡ kept_at (all_day scope) (Some o) b
+unfolding kept_at
+kept_further_same scope o b = refl
+
+-- EBN FF alone ends a subtitle.
+ends_first : (scope : Scope) (b : List ℕ) (n : Option Begun)
+    → begins_outside scope b ≡ false
+    → kept_at scope None b ≡ Ok (More n)
+    → HaveBegun (within_after scope None b) n n
+unfolding kept_at
+ends_first scope b n inside e = grind (arith, nat_tests)
+
+gives_first : (scope : Scope) (b : List ℕ) (begun : Option Begun) (within : Option Bool) (s : SubtitleValue)
+    → kept_at scope begun b ≡ Ok (Give s)
+    → HaveBegun (within_after scope within b) None None
+unfolding kept_at
+gives_first scope b None within s e = grind (arith, nat_tests)
+gives_first scope b (Some o) within s e = grind (arith, nat_tests)
+
+ends_further : (scope : Scope) (o : Begun) (b : List ℕ) (n : Option Begun)
+    → kept_at scope (Some o) b ≡ Ok (More n)
+    → HaveBegun (within_after scope (Some true) b) n n
+unfolding kept_at
+ends_further scope o b n e = grind (arith, nat_tests)
+
+passed_both : (scope : Scope) (b : List ℕ) (within : Option Bool)
+    → stays scope within b ≡ true
+    → HaveBegun (within_after scope within b) (passed_at b) (passed_at b)
+passed_both scope b within stay = grind (arith, nat_tests)
+
+-- The first block of a subtitle that is outside.
+outside_step : (scope : Scope) (b : List ℕ)
+    → begins_outside scope b ≡ true
+    → kept_at scope None b ≡ Ok (More (passed_at b))
+unfolding kept_at
+outside_step scope b outside = rw outside refl
+
+outside_begun : (scope : Scope) (b : List ℕ)
+    → begins_outside scope b ≡ true
+    → HaveBegun (within_after scope None b) (passed_at b) None
+outside_begun scope b outside = grind (arith, nat_tests)
+
+-- A further one.
+ends_passed : (scope : Scope) (o : Begun) (b : List ℕ) (n : Option Begun)
+    → o.is_passed ≡ true
+    → kept_at scope (Some o) b ≡ Ok (More n)
+    → HaveBegun (within_after scope (Some false) b) n None
+unfolding kept_at
+ends_passed scope o b n passed e = grind (arith, nat_tests)
+
+gives_none : (scope : Scope) (o : Begun) (b : List ℕ) (s : SubtitleValue)
+    → o.is_passed ≡ true
+    → kept_at scope (Some o) b ≡ Ok (Give s)
+    → ⊥
+unfolding kept_at
+gives_none scope o b s passed e = grind (arith, nat_tests)
+
+fault_of_further : (scope : Scope) (o : Begun) (b : List ℕ) (f : StlFault)
+    → kept_at scope (Some o) b ≡ Err f
+    → is_of_first f ≡ false
+unfolding kept_at
+fault_of_further scope o b f e = grind (arith, nat_tests)
+
+-- ---- the blocks that are left
+
+-- A block that stays, and one that does not.
+stays_is : (scope : Scope) (within : Option Bool) (b : List ℕ) (bs : List (List ℕ))
+    → is_passed_block b ≡ false
+    → stays scope within b ≡ true
+    → taken_out scope within (b ∷ bs) ≡ b ∷ taken_out scope (within_after scope within b) bs
+stays_is scope within b bs kept stay = rw (kept, stay) refl
+
+gone_is : (scope : Scope) (within : Option Bool) (b : List ℕ) (bs : List (List ℕ))
+    → is_passed_block b ≡ false
+    → stays scope within b ≡ false
+    → taken_out scope within (b ∷ bs) ≡ taken_out scope (within_after scope within b) bs
+gone_is scope within b bs kept gone = rw (kept, gone) refl
+
+module _ (scope : Scope) (b : List ℕ) (bs : List (List ℕ)) (within : Option Bool) (room room' : ℕ)
+    (size : length b ≡ 128) (kept : is_passed_block b ≡ false) (le : suc room ≤ room')
+    (on : (full cut : Option Begun) (more : ℕ) → HaveBegun (within_after scope within b) full cut
+    → room ≤ more
+    → is_read_whole (findings_at scope room full (concat bs)) ≡ true
+    → unnumbered (findings_at scope room full (concat bs))
+    ≡ unnumbered (findings_at (all_day scope) more cut
+    (concat (taken_out scope (within_after scope within b) bs)))) where
+  -- What comes after the block in the file.
+  abbrev next : Option Begun → Findings
+  next n = findings_at scope room n (concat bs)
+
+  -- And in the one from which blocks were taken out.
+  abbrev next' : Option Begun → Findings
+  next' n = findings_at (all_day scope) (room' - 1) n
+      (concat (taken_out scope (within_after scope within b) bs))
+
+  -- The same step in both.
+  stays_cut : (begun : Option Begun)
+      → stays scope within b ≡ true
+      → step_at (all_day scope) begun b ≡ step_at scope begun b
+      → ((n : Option Begun) → step_at scope begun b ≡ Ok (More n)
+      → HaveBegun (within_after scope within b) n n)
+      → ((s : SubtitleValue) → step_at scope begun b ≡ Ok (Give s)
+      → HaveBegun (within_after scope within b) None None)
+      → is_read_whole (findings_after room next b (step_at scope begun b)) ≡ true
+      → unnumbered (findings_after room next b (step_at scope begun b))
+      ≡ unnumbered (findings_at (all_day scope) room' begun (concat (taken_out scope within (b ∷ bs))))
+  stays_cut begun stay same more give read =
+      rw (
+        stays_is scope within b bs kept stay,
+        findings_block (all_day scope) room' (room' - 1) begun b
+            (concat (taken_out scope (within_after scope within b) bs)) (omega arith) size,
+        same,
+      )
+      (same_after room (room' - 1) next next' b (step_at scope begun b)
+      (within_after scope within b) more give (passed_both scope b within stay)
+      (λ full cut h. on full cut (room' - 1) h (omega arith)) read)
+
+  -- A step of the file alone.
+  gone_cut : (step : Result BlockStep StlFault)
+      → stays scope within b ≡ false
+      → ((n : Option Begun) → step ≡ Ok (More n)
+      → HaveBegun (within_after scope within b) n None)
+      → ((s : SubtitleValue) → step ≡ Ok (Give s) → ⊥)
+      → ((f : StlFault) → step ≡ Err f → is_of_first f ≡ false)
+      → is_read_whole (findings_after room next b step) ≡ true
+      → unnumbered (findings_after room next b step)
+      ≡ unnumbered (findings_at (all_day scope) room' None (concat (taken_out scope within (b ∷ bs))))
+  gone_cut (Err f) gone more give fault read =
+      absurd (let no = fault f refl in grind (arith, nat_tests))
+  gone_cut (Ok (Give s)) gone more give fault read = absurd (give s refl)
+  gone_cut (Ok (More n)) gone more give fault read =
+      rw (gone_is scope within b bs kept gone)
+      (on n None room' (more n refl) (omega arith) read)
+
+-- A step that goes on is one, gives nothing and tells nothing.
+same_step : {step : Result BlockStep StlFault} {n m : Option Begun}
+    → step ≡ Ok (More n)
+    → step ≡ Ok (More m)
+    → m ≡ n
+same_step a b = cc
+
+no_gift : {step : Result BlockStep StlFault} {n : Option Begun} {s : SubtitleValue}
+    → step ≡ Ok (More n)
+    → step ≡ Ok (Give s)
+    → ⊥
+no_gift a b = cc
+
+no_fault : {step : Result BlockStep StlFault} {n : Option Begun} {f : StlFault}
+    → step ≡ Ok (More n)
+    → step ≡ Err f
+    → ⊥
+no_fault a b = cc
+
+-- A block that is kept, by what both have begun.
+kept_cut : (scope : Scope) (b : List ℕ) (bs : List (List ℕ)) (within : Option Bool)
+    (full cut : Option Begun) (room room' : ℕ)
+    → length b ≡ 128
+    → is_passed_block b ≡ false
+    → suc room ≤ room'
+    → HaveBegun within full cut
+    → ((full' cut' : Option Begun) (more : ℕ) → HaveBegun (within_after scope within b) full' cut'
+    → room ≤ more
+    → is_read_whole (findings_at scope room full' (concat bs)) ≡ true
+    → unnumbered (findings_at scope room full' (concat bs))
+    ≡ unnumbered (findings_at (all_day scope) more cut'
+    (concat (taken_out scope (within_after scope within b) bs))))
+    → is_read_whole (findings_after room (λ n. findings_at scope room n (concat bs)) b
+    (step_at scope full b)) ≡ true
+    → unnumbered (findings_after room (λ n. findings_at scope room n (concat bs)) b
+    (step_at scope full b))
+    ≡ unnumbered (findings_at (all_day scope) room' cut (concat (taken_out scope within (b ∷ bs))))
+kept_cut scope b bs None full cut room room' size kept le begun on read =
+    let now = rw begun.0 at read in
+    let is = kept_block scope None b room (λ n. findings_at scope room n (concat bs)) kept now in
+    let step = step_kept scope None b is.0 is.1 in
+    rw (begun.0, begun.1)
+    (elim (cases_Bool (begins_outside scope b)) [
+      | inl outside ↦
+          let own = step ∙ outside_step scope b outside in
+          gone_cut scope b bs None room room' size kept le on (step_at scope None b)
+          (rw outside refl)
+          (λ n e. rw (same_step own e) (outside_begun scope b outside))
+          (λ s e. no_gift own e) (λ f e. absurd (no_fault own e)) now
+      | inr inside ↦
+          let same = step_kept (all_day scope) None b is.0 is.1
+          ∙ sym (kept_first_same scope b inside) ∙ sym step in
+          stays_cut scope b bs None room room' size kept le on None (rw inside refl) same
+          (λ n e. ends_first scope b n inside (sym step ∙ e))
+          (λ s e. gives_first scope b None None s (sym step ∙ e)) now
+    ])
+kept_cut scope b bs (Some true) full cut room room' size kept le begun on read =
+    let o = begun.0 in
+    let now = rw begun.1 at read in
+    let is = kept_block scope (Some o) b room (λ n. findings_at scope room n (concat bs)) kept now in
+    let step = step_kept scope (Some o) b is.0 is.1 in
+    let same = step_kept (all_day scope) (Some o) b is.0 is.1
+    ∙ sym (kept_further_same scope o b) ∙ sym step in
+    rw (begun.1, begun.2)
+    (stays_cut scope b bs (Some true) room room' size kept le on (Some o) refl same
+    (λ n e. ends_further scope o b n (sym step ∙ e))
+    (λ s e. gives_first scope b (Some o) (Some true) s (sym step ∙ e)) now)
+kept_cut scope b bs (Some false) full cut room room' size kept le begun on read =
+    let o = begun.0 in
+    let now = rw begun.1 at read in
+    let is = kept_block scope (Some o) b room (λ n. findings_at scope room n (concat bs)) kept now in
+    let step = step_kept scope (Some o) b is.0 is.1 in
+    rw (begun.1, begun.3)
+    (gone_cut scope b bs (Some false) room room' size kept le on (step_at scope (Some o) b) refl
+    (λ n e. ends_passed scope o b n begun.2 (sym step ∙ e))
+    (λ s e. gives_none scope o b s begun.2 (sym step ∙ e))
+    (λ f e. fault_of_further scope o b f (sym step ∙ e)) now)
+
+-- The end of both.
+ends_cut : (scope : Scope) (within : Option Bool) (full cut : Option Begun) (room room' : ℕ)
+    → HaveBegun within full cut
+    → is_read_whole (findings_at scope room full []) ≡ true
+    → unnumbered (findings_at scope room full [])
+    ≡ unnumbered (findings_at (all_day scope) room' cut [])
+ends_cut scope None full cut room room' begun read =
+    rw (begun.0, begun.1, findings_end scope room None, findings_end (all_day scope) room' None) refl
+ends_cut scope (Some true) full cut room room' begun read =
+    absurd (let e = rw (begun.1, findings_end scope room (Some begun.0)) at read in cc)
+ends_cut scope (Some false) full cut room room' begun read =
+    absurd (let e = rw (begun.1, findings_end scope room (Some begun.0)) at read in cc)
+
+-- All blocks.
+same_cut : (scope : Scope) (bs : List (List ℕ)) (within : Option Bool) (full cut : Option Begun)
+    (room room' : ℕ)
+    → AllByRecursion IsBlock bs
+    → HaveBegun within full cut
+    → room ≤ room'
+    → is_read_whole (findings_at scope room full (concat bs)) ≡ true
+    → unnumbered (findings_at scope room full (concat bs))
+    ≡ unnumbered (findings_at (all_day scope) room' cut (concat (taken_out scope within bs)))
+same_cut scope [] within full cut room room' each begun le read =
+    ends_cut scope within full cut room room' begun read
+same_cut scope (b ∷ bs) within full cut zero room' each begun le read =
+    absurd
+    (let e =
+    rw (findings_full scope full (b ++ concat bs) (omega (arith, each.0, length-append b (concat bs))))
+    at read in
+    cc)
+same_cut scope (b ∷ bs) within full cut (suc room) room' each begun le read =
+    let one = findings_block scope (suc room) room full b (concat bs) refl each.0 in
+    let now = rw one at read in
+    rw one
+    (elim (cases_Bool (is_passed_block b)) [
+      | inl passed ↦
+          rw (
+            passed,
+            step_passed scope full b passed,
+            findings_block (all_day scope) room' (room' - 1) cut b
+                (concat (taken_out scope within bs)) (omega arith) each.0,
+            step_passed (all_day scope) cut b passed,
+          )
+          (same_cut scope bs within full cut room (room' - 1) each.1 begun (omega arith)
+          (rw (step_passed scope full b passed) at now))
+      | inr kept ↦
+          kept_cut scope b bs within full cut room room' each.0 kept le begun
+          (λ full' cut' more h few.
+          same_cut scope bs (within_after scope within b) full' cut' room more each.1 h few) now
+    ])
+
+-- ---- the whole file
+
+module _ (g : List ℕ) (size : length g ≡ 1024) where
+  -- What a file gives behind its GSI block.
+  behind_gsi : (scope : Scope) (rest : List ℕ)
+      → findings_for scope (g ++ rest) ≡ findings_opened scope rest (gsi_at scope.takes_open g)
+  unfolding findings_for gsi_of
+  behind_gsi scope rest =
+      let long : ltb (length (g ++ rest)) 1024 ≡ false =
+      le-ltb _ _ (omega (arith, size, length-append g rest)) in
+      rw (long, drop_at g rest 1024 size, take_at g rest 1024 size) refl
+
+-- What comes after a GSI block that is taken.
+opened_law : (scope : Scope) (bs : List (List ℕ)) (gsi : Result (List ℕ) StlFault)
+    → AllByRecursion IsBlock bs
+    → is_read_whole (findings_opened scope (concat bs) gsi) ≡ true
+    → unnumbered (findings_opened scope (concat bs) gsi)
+    ≡ unnumbered (findings_opened (all_day scope) (concat (taken_out scope None bs)) gsi)
+opened_law scope bs (Err f) each read = absurd cc
+opened_law scope bs (Ok g) each read =
+    same_cut scope bs None None None most_blocks most_blocks each (refl, refl) (omega arith) read
+
+-- A part of a file is the file from which the rest was taken out.
+pub scope_law : LawOfScope
+scope_law scope g bs size each read =
+    rw (
+      behind_gsi g size scope (concat bs),
+      behind_gsi g size (all_day scope) (concat (taken_out scope None bs)),
+    )
+    (opened_law scope bs (gsi_at scope.takes_open g) each
+    (rw (behind_gsi g size scope (concat bs)) at read))

@@ -1,0 +1,25 @@
+-- What of a subtitle file is taken (own): for which displays it may be, and which of its subtitles,
+-- by their TCI.
+use Rattle.std.specs.Prelude.{ℕ, Bool, false, not, ◌&&◌, nat_le, nat_lt, List, [], ◌∷◌}
+use Rattle.stl_file.specs.declared.scope.Scope.{Scope}
+use Rattle.stl_file.specs.TimeCode.{day, frame_in, is_time}
+use Rattle.stl_file.specs.Tti.{tci}
+
+-- All subtitles of a file for Teletext.
+abbrev pub whole : Scope
+whole = record { takes_open = false; from = 0; to = day }
+
+-- The TCI of this block is a time code, but of none of the frames that are taken.
+unfoldable pub begins_outside : Scope → List ℕ → Bool
+begins_outside scope b =
+    is_time (tci b)
+    && not (nat_le scope.from (frame_in (tci b)) && nat_lt (frame_in (tci b)) scope.to)
+
+-- The blocks of one subtitle are outside where their first is.
+abbrev pub is_outside : Scope → List (List ℕ) → Bool
+is_outside scope [] = false
+is_outside scope (b ∷ bs) = begins_outside scope b
+
+-- The others are those that are read.
+abbrev pub is_inside : Scope → List (List ℕ) → Bool
+is_inside scope group = not (is_outside scope group)

@@ -1,0 +1,65 @@
+-- A file from which the blocks of all subtitles that are outside were taken out.
+use Rattle.std.specs.Prelude.{◌≡◌, ℕ, Bool, false, true, not, ◌==◌, if◌then◌else◌, List, [], ◌∷◌}
+use Rattle.std.specs.Prelude.{◌++◌, length, Option, Some, None}
+use Rattle.std.specs.List.{AllByRecursion, concat}
+use Rattle.stl_file.specs.declared.scope.Scope.{Scope}
+use Rattle.stl_file.specs.Gsi.{gsi_size}
+use Rattle.stl_file.specs.Reader.{findings_for}
+use Rattle.stl_file.specs.Reading.{Findings, breaks, finds, no_more, refuses}
+use Rattle.stl_file.specs.Scope.{begins_outside}
+use Rattle.stl_file.specs.SubtitleBlocks.{IsBlock}
+use Rattle.stl_file.specs.TimeCode.{day}
+use Rattle.stl_file.specs.Tti.{ebn, is_passed_block, last_block}
+
+-- Whether a block stays that is no comment and no user data: the first of a subtitle where that is
+-- not outside, each other one where the first does, which `within` tells.
+abbrev pub stays : Scope → Option Bool → List ℕ → Bool
+stays scope None b = not (begins_outside scope b)
+stays scope (Some stayed) b = stayed
+
+-- What is told of the next block: a subtitle begins after EBN FF.
+abbrev pub within_after : Scope → Option Bool → List ℕ → Option Bool
+within_after scope within b =
+    if ebn b == last_block then None else Some (stays scope within b)
+
+-- The blocks that are left. Comments and user data stay.
+abbrev pub taken_out : Scope → Option Bool → List (List ℕ) → List (List ℕ)
+taken_out scope within [] = []
+taken_out scope within (b ∷ bs) =
+    if is_passed_block b then b ∷ taken_out scope within bs
+    else if stays scope within b then b ∷ taken_out scope (within_after scope within b) bs
+    else taken_out scope (within_after scope within b) bs
+
+-- All subtitles of the day, for the same displays.
+abbrev pub all_day : Scope → Scope
+all_day scope = record scope { from = 0; to = day }
+
+-- Nothing ends reading before the end of the file: it is whole, and its blocks are linked.
+abbrev pub is_read_whole : Findings → Bool
+is_read_whole no_more = true
+is_read_whole (breaks f block) = false
+is_read_whole (finds s block more) = is_read_whole more
+is_read_whole (refuses f block more) = is_read_whole more
+
+-- Block numbers aside.
+abbrev pub unnumbered : Findings → Findings
+unnumbered no_more = no_more
+unnumbered (breaks f block) = breaks f 0
+unnumbered (finds s block more) = finds s 0 (unnumbered more)
+unnumbered (refuses f block more) = refuses f 0 (unnumbered more)
+
+-- What is read of a file within a scope is what is read of all the day of the file from which the
+-- blocks of the subtitles outside were taken out. So nobody has to cut a file to judge a part of
+-- it.
+abbrev pub LawOfScope : Type 0
+LawOfScope =
+    (scope : Scope) (gsi : List ℕ) (blocks : List (List ℕ))
+    → length gsi ≡ gsi_size
+    → AllByRecursion IsBlock blocks
+    → is_read_whole (findings_for scope (gsi ++ concat blocks)) ≡ true
+    → unnumbered (findings_for scope (gsi ++ concat blocks))
+    ≡ unnumbered (findings_for (all_day scope) (gsi ++ concat (taken_out scope None blocks)))
+
+-- Nothing is outside the day.
+abbrev pub LawOfDay : Type 0
+LawOfDay = (scope : Scope) (b : List ℕ) → begins_outside (all_day scope) b ≡ false
