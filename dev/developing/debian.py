@@ -13,7 +13,7 @@ from .prefix import PAGES, copy, files_below, install, link, sums_of, write
 
 NAME = "subttx"
 MACHINE = "amd64"
-DEPENDS = "libc6 (>= 2.34), python3"
+DEPENDS = "libc6 (>= 2.34), python3 (>= 3.9)"
 NOBODY = "subttx <subttx@example.com>"  # where the environment names no maintainer
 SUMMARY = "checks Teletext subtitles before they go on air"
 DESCRIPTION = """\

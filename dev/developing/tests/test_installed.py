@@ -199,7 +199,7 @@ class Installed(Case):
         done = self.call(["dpkg-deb", "-f", path, "Version", "Depends"])
         self.must("version, and what it needs", done.out.decode().splitlines() == [
             f"Version: {(read(os.path.join(TOP, 'VERSION')) or '').strip()}",
-            "Depends: libc6 (>= 2.34), python3"], done)
+            "Depends: libc6 (>= 2.34), python3 (>= 3.9)"], done)
         done = self.call(["dpkg-deb", "-x", path, "empty"])
         self.must("unpacked", done.status == 0, done)
         runs_the_whole_way(self, self.path("empty/usr"))
