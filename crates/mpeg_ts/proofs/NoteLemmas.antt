@@ -14,8 +14,9 @@ use Rattle.mpeg_ts.specs.Joining.{found_in}
 use Rattle.mpeg_ts.specs.Joining.{counter_goes_on, gave_packet, given_after, given_later, gone_on}
 use Rattle.mpeg_ts.specs.Joining.{grown, handed_over, has_ended, is_complete, link_after}
 use Rattle.mpeg_ts.specs.Joining.{remembering, repeats, settled_as, with_gap}
-use Rattle.mpeg_ts.specs.Parts.{is_break, is_cut}
-use Rattle.mpeg_ts.specs.TransportPacket.{announces_jump, begins, counter, has_payload, header}
+use Rattle.mpeg_ts.specs.Parts.{is_break, is_unlinked}
+use Rattle.mpeg_ts.specs.TransportPacket.{announces_jump, begins, counter, has_payload}
+use Rattle.mpeg_ts.specs.TransportPacket.{packet_header}
 use Rattle.mpeg_ts.specs.TransportPacket.{payload}
 use Rattle.mpeg_ts.specs.declared.joining.Given.{Given}
 use Rattle.mpeg_ts.specs.declared.joining.Given.TheVariants as given
@@ -30,7 +31,7 @@ use Rattle.mpeg_ts.proofs.OutcomeLemmas.{HavePayloads, by_bool, quiet_after}
 
 -- It is the last one.
 pub record IsLast (v : JoiningValue) (p : List ℕ) : Type 0 where
-  pub head : v.header ≡ header p
+  pub head : v.header ≡ packet_header p
   pub load : v.last ≡ payload p
   pub jump : v.announced ≡ announces_jump p
 
@@ -109,7 +110,7 @@ gone_on_fresh Ended v p = record {
 -- After a good packet it is the last one.
 good_fresh : (link : Link) (v : JoiningValue) (p : List ℕ) → IsFresh (after_good link v p) p
 good_fresh link v p =
-    by_choice (begins p || is_cut link)
+    by_choice (begins p || is_unlinked link)
     (begun (is_break link) (begins p) (remembering v p) (payload p))
     (gone_on v.part (remembering v p) (payload p))
     (begun_fresh (is_break link) (begins p) v p) (gone_on_fresh v.part v p)
@@ -177,21 +178,25 @@ repeats_by v s None p last repeat jump some =
     let differ : bytes_eq v.last (payload p) ≡ false =
     ap (λ (l : List ℕ). bytes_eq l (payload p)) last ∙ nil_not_some (payload p) some in
     ap (λ (b : Bool). not v.has_repeat && (not v.has_jump
-    && ((not (announces_jump p) || v.announced) && (bytes_eq v.header (header p) && b)))) differ
+    && ((not (announces_jump p) || v.announced)
+    && (bytes_eq v.header (packet_header p) && b)))) differ
     ∙ and_last v.has_repeat v.has_jump (not (announces_jump p) || v.announced)
-    (bytes_eq v.header (header p))
+    (bytes_eq v.header (packet_header p))
 repeats_by v s (Some q) p last repeat jump some =
     and_order v.has_repeat v.has_jump (not (announces_jump p) || v.announced)
-    (bytes_eq v.header (header p)) (bytes_eq v.last (payload p))
-    ∙ ap (λ (l : List ℕ). (bytes_eq l (header p) && bytes_eq v.last (payload p))
+    (bytes_eq v.header (packet_header p)) (bytes_eq v.last (payload p))
+    ∙ ap (λ (l : List ℕ). (bytes_eq l (packet_header p) && bytes_eq v.last (payload p))
     && not v.has_repeat && not v.has_jump && (not (announces_jump p) || v.announced)) last.0.head
-    ∙ ap (λ (l : List ℕ). (bytes_eq (header q) (header p) && bytes_eq l (payload p))
+    ∙ ap (λ (l : List ℕ). (bytes_eq (packet_header q) (packet_header p) && bytes_eq l (payload p))
     && not v.has_repeat && not v.has_jump && (not (announces_jump p) || v.announced)) last.0.load
-    ∙ ap (λ (b : Bool). (bytes_eq (header q) (header p) && bytes_eq (payload q) (payload p))
+    ∙ ap (λ (b : Bool).
+    (bytes_eq (packet_header q) (packet_header p) && bytes_eq (payload q) (payload p))
     && not b && not v.has_jump && (not (announces_jump p) || v.announced)) repeat
-    ∙ ap (λ (b : Bool). (bytes_eq (header q) (header p) && bytes_eq (payload q) (payload p))
+    ∙ ap (λ (b : Bool).
+    (bytes_eq (packet_header q) (packet_header p) && bytes_eq (payload q) (payload p))
     && not s.has_repeat && not b && (not (announces_jump p) || v.announced)) jump
-    ∙ ap (λ (b : Bool). (bytes_eq (header q) (header p) && bytes_eq (payload q) (payload p))
+    ∙ ap (λ (b : Bool).
+    (bytes_eq (packet_header q) (packet_header p) && bytes_eq (payload q) (payload p))
     && not s.has_repeat && not s.has_jump && (not (announces_jump p) || b)) last.0.jump
 
 -- What links a packet to a last one.
@@ -208,7 +213,7 @@ link_some v (x ∷ xs) p some = refl
 
 -- The counter stands in the first four bytes.
 counter_kept : (v : JoiningValue) (q p : List ℕ)
-    → v.header ≡ header q
+    → v.header ≡ packet_header q
     → counter_goes_on v.header p ≡ counts_on q p
 counter_kept v q p head =
     ap (λ (l : List ℕ). counter_goes_on l p) head
@@ -599,7 +604,7 @@ notes_joined v s (Valid p ∷ more) k sound =
 -- The first good packet begins a part.
 abbrev pub FirstIsCut : List GoodPacket → Type 0
 FirstIsCut [] = Unit {0}
-FirstIsCut (g ∷ more) = is_cut g.link ≡ true
+FirstIsCut (g ∷ more) = is_unlinked g.link ≡ true
 
 pub first_is_cut : (s : Since) (all : List Note)
     → s.good ≡ None
@@ -615,7 +620,7 @@ first_is_cut s (Valid p ∷ more) none =
     (λ again. subst IsCutFirst (sym (good-repeat s p more some again))
     (first_is_cut (record s { has_repeat = true }) more none))
     (λ other. subst IsCutFirst (sym (good-good s p more some other))
-    (ap (λ (o : Option (List ℕ)). is_cut (link_from o s p)) none)))
+    (ap (λ (o : Option (List ℕ)). is_unlinked (link_from o s p)) none)))
     (λ empty. subst IsCutFirst (sym (good-no_payload s p more empty))
     (first_is_cut (record s { has_jump = s.has_jump || announces_jump p }) more none))
 

@@ -1,15 +1,15 @@
--- The bytes that are ready to be given; main lemmas: ready-none, ready-front, passed_mark,
+-- The bytes that are ready to be given; main lemmas: ready-front, lent_whole, passed_mark,
 -- passed_bytes, passed_behind.
 use Rattle.std.proofs.Common.{◌≡◌, ℕ, ◌+◌, ◌-◌, ◌≤◌, ◌<◌, List, [], ◌++◌, length, take, drop}
 use Rattle.std.proofs.Common.{Bool, true, false, refl, sym, ap, ◌∙◌, arith, length-append}
 use Rattle.std.proofs.Common.{length-drop}
-use Rattle.std.proofs.Common.{drop-drop, slice_range}
+use Rattle.std.proofs.Common.{drop-drop, inr, slice_range}
 use Rattle.std.proofs.lemmas.List.{append-nil, drop-append-le, nil_from_length, drop_all}
 use Rattle.std.proofs.Math.Seq.{drop-append-add, take-append_seam, take-length}
 use Rattle.std.specs.Prelude.{if◌then◌else◌}
 use Rattle.sub_io.proofs.BufferLemmas.{held_length, held_past}
 use Rattle.mpeg_ts.specs.Carried.{mark, mark_where}
-use Rattle.mpeg_ts.specs.Joining.{JoiningValue, nothing_joined, ready_bytes}
+use Rattle.mpeg_ts.specs.Joining.{AreLentWhole, JoiningValue, nothing_joined, ready_bytes}
 
 -- A mark has 184 bytes.
 pub length-mark : length mark ≡ 184
@@ -93,6 +93,22 @@ ready-front false m s e behind bytes is =
     let gone : drop (184 - m) mark ≡ [] =
     drop_all (184 - m) mark (omega (arith, is, length-mark)) in
     ap (λ l. l ++ (slice_range bytes s e ++ mark_where behind)) gone
+
+-- ---- what is lent
+
+-- Where no byte of a mark is left, all but a mark behind it is. For `lent`.
+pub lent_whole : (m s e : ℕ) (behind : Bool) (bytes lent : List ℕ)
+    → m ≡ 0
+    → lent ≡ slice_range bytes s e
+    → AreLentWhole lent (ready_bytes m s e behind bytes)
+lent_whole m s e behind bytes lent is same =
+    let gone : drop (184 - m) mark ≡ [] =
+    drop_all (184 - m) mark (omega (arith, is, length-mark)) in
+    inr (
+      behind,
+      ap (λ l. l ++ (slice_range bytes s e ++ mark_where behind)) gone
+          ∙ ap (λ l. l ++ mark_where behind) (sym same),
+    )
 
 -- ---- what is passed over
 

@@ -7,6 +7,7 @@ use Rattle.std.proofs.lemmas.Option.{same_Some}
 use Rattle.std.specs.Io.KnownBytes.{Consumes, IsAtEnd, Keeps}
 use lib.Seq.{take-append-le}
 use Rattle.sub_io.specs.Device.{PassesOver}
+use Rattle.sub_io.proofs.AskingLemmas.{asks_none}
 use Rattle.sub_io.specs.Reading.{AreNext}
 use Rattle.mpeg_ts.specs.Stream.{StreamValue, given_of, still_given, stream_gives}
 use Rattle.mpeg_ts.proofs.StreamLemmas.{front_consumed, given_front}
@@ -78,7 +79,7 @@ passed_front told v count le = record {
       (sym (take-append-drop count v.joining.pending));
 }
 
-pub ruleset pulls = (gave, gave_ready, gave_none)
+pub ruleset pulls = (gave, gave_ready, gave_none, asks_none)
 
 pub ruleset lends = lends_front
 

@@ -4,24 +4,26 @@ use Rattle.std.proofs.Common.{◌≡◌, ◌≢◌, ℕ, zero, suc, ◌+◌, ◌
 use Rattle.std.proofs.Common.{length}
 use Rattle.std.proofs.Common.{take, drop, Option, Some, None, Bool, true, false, refl, sym, ap, ◌∙◌}
 use Rattle.std.proofs.Common.{arith, append_assoc, length-append, length-drop, drop-drop, rules}
-use Rattle.std.proofs.Common.{get_or, length-take}
+use Rattle.std.proofs.Common.{get_or, inl, length-take, length-take-le}
 use Rattle.std.proofs.lemmas.Bool.Decides.{nat_tests}
 use Rattle.std.proofs.lemmas.List.{append-nil, drop-append-le, drop-take, drop_all, get_or-take}
 use Rattle.std.proofs.lemmas.List.{take-take}
-use Rattle.std.proofs.Math.Seq.{drop-append-add, drop-append_seam}
+use Rattle.std.proofs.Math.Seq.{drop-append-add, drop-append_seam, take-append-add}
 use Rattle.std.proofs.KnownBytes.{Keeps-trans, Keeps-refl}
-use Rattle.std.specs.Prelude.{◌&&◌, ◌==◌, ◌%◌, ◌*◌, nat_lt, slice_index, if◌then◌else◌, IfSome}
+use Rattle.std.specs.Prelude.{◌&&◌, ◌||◌, ◌==◌, ◌%◌, ◌*◌, nat_lt, slice_index, if◌then◌else◌}
 use Rattle.std.specs.Io.KnownBytes.{Consumes, IsAtEnd, Keeps}
 use lib.Seq.{take-add, take-append-le}
+use Rattle.sub_io.specs.Asking.{Asks, asks_nothing, asks_on, asks_once}
 use Rattle.sub_io.specs.Device.{PassesOver}
 use Rattle.sub_io.specs.Reading.{AreNext}
+use Rattle.sub_io.proofs.AskingLemmas.{asked_behind, asks_none, passed_lent}
 use Rattle.mpeg_ts.specs.GoodPackets.{Note, Hole, hole_size, note_of, notes}
 use Rattle.mpeg_ts.specs.Joining.{JoiningValue, after_note, given_later, handed_over, has_ended}
-use Rattle.mpeg_ts.specs.PacketsInStep.{Packet, Skipped, begins_packet, items}
+use Rattle.mpeg_ts.specs.PacketsInStep.{Packet, Skipped, begins_packet, bytes_needed, items}
 use Rattle.mpeg_ts.specs.Stream.{StreamValue, after_packet, after_skipped, bytes_ahead}
-use Rattle.mpeg_ts.specs.Stream.{given_of, still_given, stream_gives}
+use Rattle.mpeg_ts.specs.Stream.{given_of, gives_some, still_given, stream_gives}
 use Rattle.mpeg_ts.specs.TransportPacket.{packet_size, pid}
-use Rattle.mpeg_ts.specs.Window.{WindowValue, held_and_left, left_to_take, to_come}
+use Rattle.mpeg_ts.specs.Window.{AsksUpTo, WindowValue, held_and_left, left_to_take, to_come}
 
 -- ---- items
 
@@ -290,11 +292,6 @@ index-ahead v bytes i lt =
     ∙ index-append i (drop v.lead v.window.held) (take v.window.left bytes)
     (omega (arith, length-drop v.lead v.window.held))
 
--- What is said of all bytes is so of those that a source tells.
-if_told : {P : List ℕ → Type 0} (told : Option (List ℕ)) → ((b : List ℕ) → P b) → IfSome told P
-if_told None all = tt
-if_told (Some b) all = all b
-
 -- ---- `need`
 
 -- Bytes that were taken are still to be looked at.
@@ -307,72 +304,114 @@ given-kept (Some xs) (Some ys) v w p =
     ap (λ (l : List ℕ). stream_gives v.distance v.number v.run v.in_step v.joining
     (drop v.lead l)) p
 
--- Fewer than so many bytes are left.
-pub short_ahead : (told : Option (List ℕ)) (v : StreamValue) (count : ℕ)
-    → v.lead < count
-    → length v.window.held < count
-    → IsAtEnd (left_to_take v.window told)
-    → IfSome told (λ bytes. length (bytes_ahead v bytes) < count - v.lead)
-short_ahead None v count some few end = tt
-short_ahead (Some b) v count some few end =
-    let none : length (take v.window.left b) ≡ 0 = ap length end in
-    omega (
-      arith,
-      none,
-      length-append v.window.held (take v.window.left b),
-      length-drop v.lead (held_and_left v.window b),
-    )
+-- A byte that is skipped may be the last of a hole, which gives nothing.
+hole_gives : (j : JoiningValue) (more : List Note)
+    → given_later (handed_over (record j { has_break = true })) more ≡ []
+    → given_later (handed_over j) (Hole ∷ more) ≡ []
+unfolding given_later
+hole_gives j more none =
+    by_bool (has_ended j.part) (λ ended. rw ended refl) (λ going. rw going none)
 
-pub ruleset needing = (given-kept, short_ahead)
-
--- ---- `begins_packet`
-
--- In step the first byte tells.
-pub in_step_begins : (told : Option (List ℕ)) (v : StreamValue)
-    → v.lead + 188 ≤ length v.window.held
-    → v.in_step ≡ true
-    → IfSome told (λ bytes. begins_packet v.distance v.in_step (bytes_ahead v bytes)
-    ≡ (slice_index (drop v.lead v.window.held) 0 == 0x47))
-in_step_begins told v there step = if_told told (λ b.
-    let at : slice_index (bytes_ahead v b) 0 ≡ slice_index (drop v.lead v.window.held) 0 =
-    index-ahead v b 0 (omega arith) in
-    rw (at, step) (and_true (slice_index (drop v.lead v.window.held) 0 == 0x47)))
-  where
-    and_true : (b : Bool) → (b && true) ≡ b
-    and_true true = refl
-    and_true false = refl
-
--- Out of step the one at the distance does too.
-pub out_of_step_begins : (told : Option (List ℕ)) (v : StreamValue)
-    → v.lead + v.distance + 1 ≤ length v.window.held
-    → v.in_step ≡ false
-    → IfSome told (λ bytes. begins_packet v.distance v.in_step (bytes_ahead v bytes)
-    ≡ ((slice_index (drop v.lead v.window.held) 0 == 0x47)
-    && (slice_index (drop v.lead v.window.held) v.distance == 0x47)))
-out_of_step_begins told v there step = if_told told (λ b.
-    let at : slice_index (bytes_ahead v b) 0 ≡ slice_index (drop v.lead v.window.held) 0 =
-    index-ahead v b 0 (omega arith) in
-    let behind : slice_index (bytes_ahead v b) v.distance
-    ≡ slice_index (drop v.lead v.window.held) v.distance =
-    index-ahead v b v.distance (omega arith) in
-    rw (at, behind, step) refl)
-
--- Where there is none, no packet stands next.
-pub no_packet_at_end : (told : Option (List ℕ)) (v : StreamValue)
-    → v.in_step ≡ false
-    → IfSome told (λ bytes. length (bytes_ahead v bytes) < (v.lead + v.distance + 1) - v.lead)
-    → IfSome told (λ bytes. begins_packet v.distance v.in_step (bytes_ahead v bytes) ≡ false)
-no_packet_at_end None v step few = tt
-no_packet_at_end (Some b) v step few =
-    let zero_behind : slice_index (bytes_ahead v b) v.distance ≡ 0 =
-    index-behind v.distance (bytes_ahead v b) (omega arith) in
-    rw (zero_behind, step) (and_false (slice_index (bytes_ahead v b) 0 == 0x47))
+-- Out of step no packet stands in so few bytes that none can be seen to have another behind it.
+skipped_give : (distance number run room : ℕ) (j : JoiningValue) (bytes : List ℕ)
+    → length bytes ≤ distance
+    → given_later (handed_over j) (notes distance number run (items distance false room bytes)) ≡ []
+unfolding notes items
+skipped_give distance number run zero j bytes few = later_end (handed_over j)
+skipped_give distance number run (suc room) j bytes few =
+    by_bool (nat_lt (length bytes) 188)
+    (λ lt. let short : length bytes < 188 = grind (arith, nat_tests) in
+    ap (λ l. given_later (handed_over j) (notes distance number run l))
+    (items_end distance false (suc room) bytes short) ∙ later_end (handed_over j))
+    (λ many. let long : 188 ≤ length bytes = grind (arith, nat_tests) in
+    let skips : begins_packet distance false bytes ≡ false =
+    rw (index-behind distance bytes few) (and_false (slice_index bytes 0 == 0x47)) in
+    let less : length (drop 1 bytes) ≤ distance = omega (arith, length-drop 1 bytes) in
+    ap (λ l. given_later (handed_over j) (notes distance number run l))
+    (items_skipped distance false room bytes long skips)
+    ∙ by_bool (run + 1 == hole_size distance)
+    (λ yes. rw yes (hole_gives j _ (skipped_give distance number (run + 1) room
+    (record j { has_break = true }) (drop 1 bytes) less)))
+    (λ no. rw no (skipped_give distance number (run + 1) room j (drop 1 bytes) less)))
   where
     and_false : (b : Bool) → (b && false) ≡ false
     and_false true = refl
     and_false false = refl
 
-pub ruleset beginning = (in_step_begins, out_of_step_begins, no_packet_at_end, Keeps-refl)
+-- Bytes that do not tell what stands next give nothing.
+stream_short : (distance number run : ℕ) (in_step : Bool) (j : JoiningValue) (bytes : List ℕ)
+    → length bytes < bytes_needed distance in_step
+    → j.pending ≡ []
+    → stream_gives distance number run in_step j bytes ≡ []
+unfolding stream_gives
+stream_short distance number run true j bytes few idle =
+    stream_end distance number run true j bytes few idle
+stream_short distance number run false j bytes few idle =
+    ap (λ l. l ++ given_later (handed_over j)
+    (notes distance number run (items distance false (length bytes) bytes))) idle
+    ∙ skipped_give distance number run (length bytes) j bytes (omega arith)
+
+-- At least a packet's bytes are needed. For `step`.
+pub needs_packet : (distance : ℕ) (in_step : Bool)
+    → 188 ≤ distance
+    → 188 ≤ bytes_needed distance in_step
+needs_packet distance true near = omega arith
+needs_packet distance false near = omega arith
+
+-- Where they are not there, nothing is left.
+pub need_end : (told : Option (List ℕ)) (v : StreamValue)
+    → 188 ≤ v.distance
+    → v.joining.pending ≡ []
+    → length v.window.held < v.lead + bytes_needed v.distance v.in_step
+    → IsAtEnd (left_to_take v.window told)
+    → IsAtEnd (still_given v told)
+need_end None v near idle few end = tt
+need_end (Some b) v near idle few end =
+    let none : length (take v.window.left b) ≡ 0 = ap length end in
+    stream_short v.distance v.number v.run v.in_step v.joining (bytes_ahead v b)
+    (omega (
+      arith,
+      none,
+      needs_packet v.distance v.in_step near,
+      length-append v.window.held (take v.window.left b),
+      length-drop v.lead (held_and_left v.window b),
+    )) idle
+
+-- No byte is asked for behind those that tell what stands next: fewer give nothing.
+pub need_asks : {D : Type 0} (IsPull : D → ℕ → Option ℕ → D → Type 0) (lent : D → List ℕ)
+    (remaining : D → Option (List ℕ)) (v : StreamValue) (w : WindowValue) (before after : D)
+    (ok : Bool) (count : ℕ)
+    → AsksUpTo IsPull lent remaining count v.window before ok w after
+    → count ≡ v.lead + bytes_needed v.distance v.in_step
+    → 188 ≤ v.distance
+    → v.joining.pending ≡ []
+    → Asks IsPull lent remaining (gives_some v) before ok
+    (gives_some (record v { window = w })) after
+need_asks IsPull lent remaining v w before after ok count asks is near idle =
+    asks.asks (λ bytes. nat_lt 0 (length
+    (stream_gives v.distance v.number v.run v.in_step v.joining (drop v.lead bytes))))
+    (λ bytes few. ap (λ (l : List ℕ). nat_lt 0 (length l))
+    (stream_short v.distance v.number v.run v.in_step v.joining (drop v.lead bytes)
+    (omega (arith, is, length-drop v.lead bytes, needs_packet v.distance v.in_step near)) idle))
+
+pub ruleset needing = (given-kept, need_end, need_asks)
+
+-- ---- `begins_packet`
+
+-- They tell it, whatever follows.
+pub begins_known : (v : StreamValue) (bytes : List ℕ)
+    → 188 ≤ v.distance
+    → v.lead + bytes_needed v.distance v.in_step ≤ length v.window.held
+    → begins_packet v.distance v.in_step (bytes_ahead v bytes)
+    ≡ ((slice_index (drop v.lead v.window.held) 0 == 0x47)
+    && (v.in_step || (slice_index (drop v.lead v.window.held) v.distance == 0x47)))
+begins_known v bytes near there =
+    rw (index-ahead v bytes 0 (omega (arith, needs_packet v.distance v.in_step near)))
+    (by_bool v.in_step
+    (λ yes. rw yes refl)
+    (λ no. let behind : v.lead + v.distance < length v.window.held =
+    omega (arith, there, ap (bytes_needed v.distance) no) in
+    rw (no, index-ahead v bytes v.distance behind) refl))
 
 -- ---- `advance`
 
@@ -490,25 +529,30 @@ pub ruleset skips = byte_skipped
 -- What is left after an item, where it is known what stands next.
 pub item_kept : (before told : Option (List ℕ)) (u v w : StreamValue) (begins : Bool)
     → Keeps (still_given u before) (still_given v told)
-    → IfSome told (λ bytes. begins_packet v.distance v.in_step (bytes_ahead v bytes) ≡ begins)
+    → ((bytes : List ℕ) → begins_packet v.distance v.in_step (bytes_ahead v bytes) ≡ begins)
     → ((bytes : List ℕ)
     → begins_packet v.distance v.in_step (bytes_ahead v bytes) ≡ begins
     → given_of w bytes ≡ given_of v bytes)
     → Keeps (still_given u before) (still_given w told)
 item_kept None told u v w begins keeps known gives = tt
 item_kept (Some xs) None u v w begins keeps known gives = absurd keeps
-item_kept (Some xs) (Some ys) u v w begins keeps known gives = gives ys known ∙ keeps
+item_kept (Some xs) (Some ys) u v w begins keeps known gives = gives ys (known ys) ∙ keeps
 
--- Nothing is left where fewer bytes are there than a packet has,
-pub none_at_end : (told : Option (List ℕ)) (v : StreamValue)
-    → v.joining.pending ≡ []
-    → IfSome told (λ bytes. length (bytes_ahead v bytes) < (v.lead + 188) - v.lead)
-    → IsAtEnd (still_given v told)
-none_at_end None v idle few = tt
-none_at_end (Some b) v idle few =
-    stream_end v.distance v.number v.run v.in_step v.joining (bytes_ahead v b) (omega arith) idle
+-- What was asked for it was asked for what comes then.
+pub item_asks : {D : Type 0} (IsPull : D → ℕ → Option ℕ → D → Type 0) (lent : D → List ℕ)
+    (remaining : D → Option (List ℕ)) (u v w : StreamValue) (before after : D) (begins : Bool)
+    → Asks IsPull lent remaining (gives_some u) before true (gives_some v) after
+    → ((bytes : List ℕ) → begins_packet v.distance v.in_step (bytes_ahead v bytes) ≡ begins)
+    → ((bytes : List ℕ)
+    → begins_packet v.distance v.in_step (bytes_ahead v bytes) ≡ begins
+    → given_of w bytes ≡ given_of v bytes)
+    → Asks IsPull lent remaining (gives_some u) before true (gives_some w) after
+item_asks IsPull lent remaining u v w before after begins asks known gives =
+    asks_on (gives_some u) (gives_some v) (gives_some w) before after after true asks
+    (asks_nothing (gives_some v) (gives_some w) after (asked_behind [] (gives_some v) (gives_some w)
+    (λ bytes. ap (λ (l : List ℕ). nat_lt 0 (length l)) (gives bytes (known bytes)))))
 
--- nor where it has ended.
+-- Nothing is left where it has ended.
 pub none_where_ended : (told : Option (List ℕ)) (v : StreamValue)
     → has_ended v.joining.part ≡ true
     → v.joining.pending ≡ []
@@ -517,9 +561,9 @@ none_where_ended None v ended idle = tt
 none_where_ended (Some b) v ended idle =
     stream_ended v.distance v.number v.run v.in_step v.joining (bytes_ahead v b) ended idle
 
-pub ruleset steps = (item_kept, none_at_end, Keeps-trans)
+pub ruleset steps = (item_kept, item_asks, asks_on, Keeps-trans)
 
-pub ruleset reads = (none_where_ended, Keeps-trans, Keeps-refl)
+pub ruleset reads = (none_where_ended, asks_on, asks_none, Keeps-trans, Keeps-refl)
 
 -- ---- giving
 
@@ -548,96 +592,31 @@ front_consumed (Some xs) (Some ys) u v rest got keeps front =
 
 -- ---- packets that are lent
 
--- A packet of another PID, of which a part is lent.
-pub other_passed : (distance number at : ℕ) (j : JoiningValue) (bytes rest : List ℕ)
-    → 188 ≤ distance
-    → at + distance ≤ length bytes
-    → slice_index (drop at bytes) 0 ≡ 0x47
-    → (pid (drop at bytes) ≡ number → ⊥)
-    → has_ended j.part ≡ false
-    → j.pending ≡ []
-    → stream_gives distance number 0 true j (drop (at + distance) (bytes ++ rest))
-    ≡ stream_gives distance number 0 true j (drop at (bytes ++ rest))
-other_passed distance number at j bytes rest near within sync other going idle =
-    let all = drop at (bytes ++ rest) in
-    let front : all ≡ drop at bytes ++ rest = drop-append-le at bytes rest (omega arith) in
-    let long : 188 ≤ length all =
-    omega (arith, length-drop at (bytes ++ rest), length-append bytes rest) in
-    let held : 188 ≤ length (drop at bytes) = omega (arith, length-drop at bytes) in
-    let byte : (i : ℕ) → i < 188 → slice_index all i ≡ slice_index (drop at bytes) i = λ i lt.
-    ap (λ (l : List ℕ). slice_index l i) front
-    ∙ index-append i (drop at bytes) rest (omega arith) in
-    let first : (i : ℕ) → i < 188 → slice_index (take 188 all) i ≡ slice_index (drop at bytes) i =
-    λ i lt. get_or-take 188 all i 0 lt ∙ byte i lt in
-    let begins : begins_packet distance true all ≡ true =
-    ap (λ (n : ℕ). (n == 0x47) && true) (byte 0 (omega arith) ∙ sync) in
-    let same : pid (take 188 all) ≡ pid (drop at bytes) =
-    ap (λ (n : ℕ). n % 0x20 * 0x100 + slice_index (take 188 all) 2) (first 1 (omega arith))
-    ∙ ap (λ (n : ℕ). slice_index (drop at bytes) 1 % 0x20 * 0x100 + n) (first 2 (omega arith)) in
-    let none : (pid (take 188 all) == number) ≡ false =
-    not_equal (pid (take 188 all)) number (λ e. other (sym same ∙ e)) in
-    ap (stream_gives distance number 0 true j) (sym (drop-drop distance at (bytes ++ rest)))
-    ∙ ap (λ (v : JoiningValue). stream_gives distance number 0 true v (drop distance all))
-    (sym (ap (λ (b : Bool). if b then after_note j (note_of (take 188 all)) else j) none))
-    ∙ stream_packet distance number 0 true j all near long begins going idle
-  where
-    not_equal : (m n : ℕ) → (m ≡ n → ⊥) → (m == n) ≡ false
-    not_equal m n differ = grind (arith, nat_tests)
-
--- What is left where packets of others were passed over.
-pub others_kept : (x y : Option (List ℕ)) (v w : StreamValue) (lent : List ℕ) (count : ℕ)
-    → AreNext lent x
-    → PassesOver x count y
-    → count ≤ length lent
-    → length lent ≤ v.window.left
+-- What a stream gives of bytes of which the first were taken, none being held.
+given_behind : (v w : StreamValue) (taken bytes : List ℕ)
     → v.window.held ≡ []
-    → v.in_step ≡ true
-    → v.run ≡ 0
-    → ((rest : List ℕ)
-    → stream_gives v.distance v.number 0 true v.joining (drop count (lent ++ rest))
-    ≡ stream_gives v.distance v.number 0 true v.joining (drop v.lead (lent ++ rest)))
-    → w ≡ record v {
-      window = record v.window { left = v.window.left - count };
-      lead = 0;
-    }
-    → Keeps (still_given v x) (still_given w y)
-others_kept None y v w lent count next passed few within none step run gives is = tt
-others_kept (Some xs) None v w lent count next passed few within none step run gives is =
-    absurd passed.consumed
-others_kept (Some xs) (Some ys) v w lent count next passed few within none step run gives is =
+    → length taken ≤ v.window.left
+    → ((rest : List ℕ) → stream_gives w.distance w.number w.run w.in_step w.joining rest
+    ≡ stream_gives v.distance v.number v.run v.in_step v.joining (drop v.lead (taken ++ rest)))
+    → w.lead ≡ 0
+    → w.window ≡ record v.window { left = v.window.left - length taken }
+    → given_of w bytes ≡ given_of v (taken ++ bytes)
+given_behind v w taken bytes none few gives lead window =
     let left = v.window.left in
-    let rest = take (left - length lent) (drop (length lent) xs) in
-    let whole : take left xs ≡ lent ++ rest =
-    ap (λ (n : ℕ). take n xs) (let e : left ≡ length lent + (left - length lent) = omega arith in e)
-    ∙ take-add (length lent) (left - length lent) xs
-    ∙ ap (λ (l : List ℕ). l ++ rest) (next xs refl) in
-    let behind : drop count xs ≡ ys =
-    ap (λ (n : ℕ). drop n xs) (sym passed.number)
-    ∙ ap (drop (length passed.bytes)) passed.consumed
-    ∙ drop-append_seam passed.bytes ys in
-    let after : take (left - count) ys ≡ drop count (lent ++ rest) =
-    ap (take (left - count)) (sym behind)
-    ∙ sym (drop-take count (left - count) xs)
-    ∙ ap (λ (n : ℕ). drop count (take n xs))
-    (let e : count + (left - count) ≡ left = omega arith in e)
-    ∙ ap (drop count) whole in
-    ap (λ (u : StreamValue). given_of u ys) is
+    let all : left ≡ length taken + (left - length taken) = omega arith in
+    ap (λ (n : ℕ). stream_gives w.distance w.number w.run w.in_step w.joining
+    (drop n (held_and_left w.window bytes))) lead
+    ∙ ap (λ (u : WindowValue). stream_gives w.distance w.number w.run w.in_step w.joining
+    (held_and_left u bytes)) window
+    ∙ ap (λ (l : List ℕ). stream_gives w.distance w.number w.run w.in_step w.joining
+    (l ++ take (left - length taken) bytes)) none
+    ∙ gives (take (left - length taken) bytes)
     ∙ ap (λ (l : List ℕ). stream_gives v.distance v.number v.run v.in_step v.joining
-    (l ++ take (left - count) ys)) none
-    ∙ ap (λ (n : ℕ). stream_gives v.distance v.number n v.in_step v.joining
-    (take (left - count) ys)) run
-    ∙ ap (λ (b : Bool). stream_gives v.distance v.number 0 b v.joining
-    (take (left - count) ys)) step
-    ∙ ap (stream_gives v.distance v.number 0 true v.joining) after
-    ∙ gives rest
-    ∙ ap (λ (l : List ℕ). stream_gives v.distance v.number 0 true v.joining (drop v.lead l))
-    (sym whole)
-    ∙ ap (λ (b : Bool). stream_gives v.distance v.number 0 b v.joining
-    (drop v.lead (take left xs))) (sym step)
-    ∙ ap (λ (n : ℕ). stream_gives v.distance v.number n v.in_step v.joining
-    (drop v.lead (take left xs))) (sym run)
+    (drop v.lead l))
+    (sym (take-append-add taken bytes (left - length taken))
+    ∙ ap (λ (n : ℕ). take n (taken ++ bytes)) (sym all))
     ∙ ap (λ (l : List ℕ). stream_gives v.distance v.number v.run v.in_step v.joining
-    (drop v.lead (l ++ take left xs))) (sym none)
+    (drop v.lead (l ++ take left (taken ++ bytes)))) (sym none)
 
 -- A source lends the bytes that begin what it lends.
 pub lent_within : (lent all : List ℕ) (count : ℕ)
@@ -646,6 +625,124 @@ pub lent_within : (lent all : List ℕ) (count : ℕ)
     → count ≤ length all
 lent_within lent all count front within =
     omega (arith, ap length front, length-take (length lent) all)
+
+-- So many bytes were passed over that the source lends: what is left is what it was, where it is
+-- given by those behind them.
+pub lent_passed : {D : Type 0} (IsPull : D → ℕ → Option ℕ → D → Type 0) (lent : D → List ℕ)
+    (remaining : D → Option (List ℕ)) (v w : StreamValue) (before after : D) (next : List ℕ)
+    (count : ℕ)
+    → AreNext next (remaining before)
+    → take (length next) (lent before) ≡ next
+    → count ≤ length next
+    → IsPull before count (Some count) after
+    → PassesOver (remaining before) count (remaining after)
+    → ((bytes : List ℕ) → given_of w bytes ≡ given_of v (take count next ++ bytes))
+    → Keeps (still_given v (remaining before)) (still_given w (remaining after))
+    × Asks IsPull lent remaining (gives_some v) before true (gives_some w) after
+lent_passed IsPull lent remaining v w before after next count are front fits pull passed gives =
+    let taken = take count next in
+    let long : length taken ≡ count = length-take-le count next fits in
+    let consumed = passed_lent (remaining before) (remaining after) next count are passed fits in (
+      kept (remaining before) (remaining after) consumed,
+      asks_once (gives_some v) (gives_some w) before after count taken
+          (inl (lent_within next (lent before) count front fits))
+          (rw long pull) consumed
+          (asked_behind taken (gives_some v) (gives_some w)
+          (λ bytes. ap (λ (l : List ℕ). nat_lt 0 (length l)) (gives bytes))),
+    )
+  where
+    kept : (x y : Option (List ℕ)) → Consumes x y (take count next)
+        → Keeps (still_given v x) (still_given w y)
+    kept None y consumed = tt
+    kept (Some xs) None consumed = absurd consumed
+    kept (Some xs) (Some ys) consumed = gives ys ∙ ap (given_of v) (sym consumed)
+
+-- A packet of another PID.
+unit_passed : (distance number : ℕ) (j : JoiningValue) (unit rest : List ℕ)
+    → 188 ≤ distance
+    → length unit ≡ distance
+    → slice_index unit 0 ≡ 0x47
+    → (pid unit ≡ number → ⊥)
+    → has_ended j.part ≡ false
+    → j.pending ≡ []
+    → stream_gives distance number 0 true j rest
+    ≡ stream_gives distance number 0 true j (unit ++ rest)
+unit_passed distance number j unit rest near long sync other going idle =
+    let all = unit ++ rest in
+    let byte : (i : ℕ) → i < 188 → slice_index (take 188 all) i ≡ slice_index unit i =
+    λ i lt. get_or-take 188 all i 0 lt ∙ index-append i unit rest (omega (arith, long)) in
+    let begins : begins_packet distance true all ≡ true =
+    ap (λ (n : ℕ). (n == 0x47) && true)
+    (index-append 0 unit rest (omega (arith, long)) ∙ sync) in
+    let same : pid (take 188 all) ≡ pid unit =
+    ap (λ (n : ℕ). n % 0x20 * 0x100 + slice_index (take 188 all) 2) (byte 1 (omega arith))
+    ∙ ap (λ (n : ℕ). slice_index unit 1 % 0x20 * 0x100 + n) (byte 2 (omega arith)) in
+    let none : (pid (take 188 all) == number) ≡ false =
+    not_equal (pid (take 188 all)) number (λ e. other (sym same ∙ e)) in
+    let behind : drop distance all ≡ rest =
+    ap (λ (n : ℕ). drop n all) (sym long) ∙ drop-append_seam unit rest in
+    ap (stream_gives distance number 0 true j) (sym behind)
+    ∙ ap (λ (v : JoiningValue). stream_gives distance number 0 true v (drop distance all))
+    (sym (ap (λ (b : Bool). if b then after_note j (note_of (take 188 all)) else j) none))
+    ∙ stream_packet distance number 0 true j all near
+    (omega (arith, long, length-append unit rest)) begins going idle
+  where
+    not_equal : (m n : ℕ) → (m ≡ n → ⊥) → (m == n) ≡ false
+    not_equal m n differ = grind (arith, nat_tests)
+
+-- One more of those that bytes begin with. For `place_behind_others`.
+pub other_passed : (distance number from at : ℕ) (j : JoiningValue) (bytes rest : List ℕ)
+    → 188 ≤ distance
+    → at + distance ≤ length bytes
+    → slice_index (drop at bytes) 0 ≡ 0x47
+    → (pid (drop at bytes) ≡ number → ⊥)
+    → has_ended j.part ≡ false
+    → j.pending ≡ []
+    → ((more : List ℕ) → stream_gives distance number 0 true j more
+    ≡ stream_gives distance number 0 true j (drop from (take at bytes ++ more)))
+    → stream_gives distance number 0 true j rest
+    ≡ stream_gives distance number 0 true j (drop from (take (at + distance) bytes ++ rest))
+other_passed distance number from at j bytes rest near within sync other going idle before =
+    let unit = take distance (drop at bytes) in
+    let long : length unit ≡ distance =
+    omega (arith, length-take distance (drop at bytes), length-drop at bytes) in
+    let byte : (i : ℕ) → i < distance → slice_index unit i ≡ slice_index (drop at bytes) i =
+    λ i lt. get_or-take distance (drop at bytes) i 0 lt in
+    let same : pid unit ≡ pid (drop at bytes) =
+    ap (λ (n : ℕ). n % 0x20 * 0x100 + slice_index unit 2) (byte 1 (omega arith))
+    ∙ ap (λ (n : ℕ). slice_index (drop at bytes) 1 % 0x20 * 0x100 + n) (byte 2 (omega arith)) in
+    unit_passed distance number j unit rest near long (byte 0 (omega arith) ∙ sync)
+    (λ e. other (sym same ∙ e)) going idle
+    ∙ before (unit ++ rest)
+    ∙ ap (λ (l : List ℕ). stream_gives distance number 0 true j (drop from l))
+    (sym (append_assoc (take at bytes) unit rest)
+    ∙ ap (λ (l : List ℕ). l ++ rest) (sym (take-add at distance bytes)))
+
+-- What is left where packets of others were passed over.
+pub others_given : (v w : StreamValue) (taken bytes : List ℕ) (count : ℕ)
+    → length taken ≡ count
+    → v.window.held ≡ []
+    → count ≤ v.window.left
+    → v.in_step ≡ true
+    → v.run ≡ 0
+    → ((rest : List ℕ) → stream_gives v.distance v.number 0 true v.joining rest
+    ≡ stream_gives v.distance v.number 0 true v.joining (drop v.lead (taken ++ rest)))
+    → w ≡ record v { window = record v.window { left = v.window.left - count }; lead = 0 }
+    → given_of w bytes ≡ given_of v (taken ++ bytes)
+others_given v w taken bytes count long none few step run gives is =
+    let less = v.window.left - count in
+    ap (λ (u : StreamValue). given_of u bytes) is
+    ∙ given_behind v (record v { window = record v.window { left = less }; lead = 0 }) taken bytes
+    none (omega (arith, long)) (λ rest. rw (step, run) (gives rest)) refl
+    (ap (λ n. record v.window { left = v.window.left - n }) (sym long))
+
+-- The first packet of bytes stands in the first so many. For `take_lent`.
+pub front_within : (lead distance : ℕ) (bytes : List ℕ)
+    → 188 ≤ distance
+    → take 188 (drop lead bytes) ≡ take 188 (drop lead (take (lead + distance) bytes))
+front_within lead distance bytes near =
+    sym (ap (take 188) (drop-take lead distance bytes)
+    ∙ take-take 188 distance (drop lead bytes) near)
 
 -- A packet of the PID.
 pub same_pid : (number : ℕ) (p : List ℕ) (j : JoiningValue)
@@ -656,17 +753,15 @@ same_pid number p j same =
     ap (λ (b : Bool). if b then after_note j (note_of p) else j) yes
 
 -- What is left after a packet that was lent.
-pub lent_taken : (x y : Option (List ℕ)) (v w : StreamValue) (lent p : List ℕ) (count : ℕ)
-    → AreNext lent x
-    → PassesOver x count y
+pub packet_given : (v w : StreamValue) (taken p bytes : List ℕ) (count : ℕ)
+    → length taken ≡ count
     → count ≡ v.lead + v.distance
-    → count ≤ length lent
-    → count ≤ v.window.left
     → v.window.held ≡ []
+    → count ≤ v.window.left
     → v.in_step ≡ true
     → v.run ≡ 0
     → 188 ≤ v.distance
-    → p ≡ take 188 (drop v.lead lent)
+    → p ≡ take 188 (drop v.lead taken)
     → slice_index p 0 ≡ 0x47
     → has_ended v.joining.part ≡ false
     → v.joining.pending ≡ []
@@ -675,59 +770,40 @@ pub lent_taken : (x y : Option (List ℕ)) (v w : StreamValue) (lent p : List �
       lead = 0;
       joining = after_packet v.number p v.joining;
     }
-    → Keeps (still_given v x) (still_given w y)
-lent_taken None y v w lent p count next passed sum few within none step run near packet sync going
-    idle is = tt
-lent_taken (Some xs) None v w lent p count next passed sum few within none step run near packet sync
-    going idle is = absurd passed.consumed
-lent_taken (Some xs) (Some ys) v w lent p count next passed sum few within none step run near packet
-    sync going idle is =
-    let left = v.window.left in
-    let head = v.lead + 188 in
-    let whole = take left xs in
-    let all = drop v.lead whole in
-    let front : take (length lent) xs ≡ lent = next xs refl in
-    let many : length lent ≤ length xs =
-    omega (arith, ap length front, length-take (length lent) xs) in
-    let long : 188 ≤ length all =
-    omega (arith, length-drop v.lead whole, length-take left xs) in
-    let heads : take 188 all ≡ p =
-    sym (drop-take v.lead 188 whole)
-    ∙ ap (drop v.lead) (take-take head left xs (omega arith)
-    ∙ sym (take-take head (length lent) xs (omega arith))
-    ∙ ap (take head) front)
-    ∙ drop-take v.lead 188 lent
-    ∙ sym packet in
-    let begins : begins_packet v.distance v.in_step all ≡ true =
-    ap (λ (b : Bool). begins_packet v.distance b all) step
-    ∙ ap (λ (n : ℕ). (n == 0x47) && true)
-    (sym (get_or-take 188 all 0 0 (omega arith))
-    ∙ ap (λ (l : List ℕ). slice_index l 0) heads ∙ sync) in
-    let behind : drop count xs ≡ ys =
-    ap (λ (n : ℕ). drop n xs) (sym passed.number)
-    ∙ ap (drop (length passed.bytes)) passed.consumed
-    ∙ drop-append_seam passed.bytes ys in
-    let after : take (left - count) ys ≡ drop v.distance all =
-    ap (take (left - count)) (sym behind)
-    ∙ sym (drop-take count (left - count) xs)
-    ∙ ap (λ (n : ℕ). drop count (take n xs))
-    (let e : count + (left - count) ≡ left = omega arith in e)
-    ∙ ap (λ (n : ℕ). drop n whole) sum
-    ∙ sym (drop-drop v.distance v.lead whole) in
-    ap (λ (u : StreamValue). given_of u ys) is
-    ∙ ap (λ (l : List ℕ). stream_gives v.distance v.number v.run v.in_step
-    (after_packet v.number p v.joining) (l ++ take (left - count) ys)) none
-    ∙ ap (λ (n : ℕ). stream_gives v.distance v.number n v.in_step
-    (after_packet v.number p v.joining) (take (left - count) ys)) run
-    ∙ ap (λ (b : Bool). stream_gives v.distance v.number 0 b
-    (after_packet v.number p v.joining) (take (left - count) ys)) step
-    ∙ ap (stream_gives v.distance v.number 0 true (after_packet v.number p v.joining)) after
-    ∙ ap (λ (l : List ℕ). stream_gives v.distance v.number 0 true
-    (after_packet v.number l v.joining) (drop v.distance all)) (sym heads)
-    ∙ stream_packet v.distance v.number v.run v.in_step v.joining all near long begins going idle
-    ∙ ap (λ (l : List ℕ). stream_gives v.distance v.number v.run v.in_step v.joining
-    (drop v.lead (l ++ whole))) (sym none)
+    → given_of w bytes ≡ given_of v (taken ++ bytes)
+packet_given v w taken p bytes count long sum none few step run near packet sync going idle is =
+    ap (λ (u : StreamValue). given_of u bytes) is
+    ∙ given_behind v (record v {
+      window = record v.window { left = v.window.left - count };
+      lead = 0;
+      joining = after_packet v.number p v.joining;
+    }) taken bytes none (omega (arith, long)) gives refl
+    (ap (λ n. record v.window { left = v.window.left - n }) (sym long))
+  where
+    gives : (rest : List ℕ)
+        → stream_gives v.distance v.number v.run v.in_step (after_packet v.number p v.joining) rest
+        ≡ stream_gives v.distance v.number v.run v.in_step v.joining (drop v.lead (taken ++ rest))
+    gives rest =
+        let unit = drop v.lead taken in
+        let size : length unit ≡ v.distance = omega (arith, long, sum, length-drop v.lead taken) in
+        let whole : drop v.lead (taken ++ rest) ≡ unit ++ rest =
+        drop-append-le v.lead taken rest (omega (arith, long, sum)) in
+        let heads : take 188 (unit ++ rest) ≡ p =
+        take-append-le 188 unit rest (omega (arith, size)) ∙ sym packet in
+        let begins : begins_packet v.distance true (unit ++ rest) ≡ true =
+        ap (λ (n : ℕ). (n == 0x47) && true)
+        (sym (get_or-take 188 (unit ++ rest) 0 0 (omega arith))
+        ∙ ap (λ (l : List ℕ). slice_index l 0) heads ∙ sync) in
+        let behind : drop v.distance (unit ++ rest) ≡ rest =
+        ap (λ (n : ℕ). drop n (unit ++ rest)) (sym size) ∙ drop-append_seam unit rest in
+        rw (step, run, whole)
+        (ap (stream_gives v.distance v.number 0 true (after_packet v.number p v.joining))
+        (sym behind)
+        ∙ ap (λ (l : List ℕ). stream_gives v.distance v.number 0 true
+        (after_packet v.number l v.joining) (drop v.distance (unit ++ rest))) (sym heads)
+        ∙ stream_packet v.distance v.number 0 true v.joining (unit ++ rest) near
+        (omega (arith, size, length-append unit rest)) begins going idle)
 
 pub ruleset others = other_passed
 
-pub ruleset skims = (others_kept, Keeps-refl)
+pub ruleset skims = (asks_none, Keeps-refl)

@@ -5,7 +5,7 @@ use Rattle.std.specs.Prelude.{ℕ, ◌+◌, ◌*◌, ◌%◌, ◌==◌, ◌&&◌
 use Rattle.std.specs.Prelude.{if◌then◌else◌, List, [], ◌∷◌, Option, Some, None, bytes_eq}
 use Rattle.mpeg_ts.specs.PacketsInStep.{Item, Packet, Skipped}
 use Rattle.mpeg_ts.specs.TransportPacket.{pid, is_wrong, has_payload, announces_jump, counter}
-use Rattle.mpeg_ts.specs.TransportPacket.{header, payload}
+use Rattle.mpeg_ts.specs.TransportPacket.{packet_header, payload}
 
 -- ---- what concerns a PID
 
@@ -71,7 +71,7 @@ nothing_since good = record {
 
 -- Two packets have the same bytes 0 to 3 and the same payload.
 abbrev pub is_same : List ℕ → List ℕ → Bool
-is_same p q = bytes_eq (header p) (header q) && bytes_eq (payload p) (payload q)
+is_same p q = bytes_eq (packet_header p) (packet_header q) && bytes_eq (payload p) (payload q)
 
 -- A packet with a payload is the repeat of a good packet: the same, the first such since, and with
 -- no jump announced between them, nor by it but where the good one announced it too.

@@ -1,6 +1,6 @@
 -- How the PES packets of a PID are put together, one note after another: what is kept, and what is
 -- given. What that is in the standard's terms says `Carried`.
-use Rattle.std.specs.Prelude.{◌≡◌, ℕ, ◌+◌, ◌-◌, ◌<◌, ◌≤◌, ◌%◌, ◌==◌, ◌&&◌, ◌||◌, not, nat_lt}
+use Rattle.std.specs.Prelude.{◌≡◌, ◌⊎◌, ℕ, ◌+◌, ◌-◌, ◌<◌, ◌≤◌, ◌%◌, ◌==◌, ◌&&◌, ◌||◌, not, nat_lt}
 use Rattle.std.specs.Prelude.{nat_le, Bool, true, false}
 use Rattle.std.specs.Prelude.{if◌then◌else◌, List, [], ◌∷◌, ◌++◌, length, take, bytes_eq}
 use Rattle.std.specs.Prelude.{slice_index}
@@ -9,8 +9,9 @@ use Rattle.ttx_pes.specs.Reading.{size_at}
 use Rattle.ttx_pes.specs.declared.fault.PesFault.{PesFault}
 use Rattle.mpeg_ts.specs.Carried.{mark, mark_where}
 use Rattle.mpeg_ts.specs.GoodPackets.{Note, Valid, Wrong, Hole, Link, First, Follows, Seam, Break}
-use Rattle.mpeg_ts.specs.Parts.{is_break, is_cut}
-use Rattle.mpeg_ts.specs.TransportPacket.{announces_jump, begins, counter, has_payload, header}
+use Rattle.mpeg_ts.specs.Parts.{is_break, is_unlinked}
+use Rattle.mpeg_ts.specs.TransportPacket.{announces_jump, begins, counter, has_payload}
+use Rattle.mpeg_ts.specs.TransportPacket.{packet_header}
 use Rattle.mpeg_ts.specs.TransportPacket.{payload}
 use Rattle.mpeg_ts.specs.declared.joining.PartState.{PartState}
 use Rattle.mpeg_ts.specs.declared.joining.PartState.TheVariants.{Headless, Open, Complete, Ended}
@@ -70,7 +71,7 @@ gave_packet _ = false
 abbrev pub repeats : JoiningValue → List ℕ → Bool
 repeats v p =
     not v.has_repeat && (not v.has_jump && ((not (announces_jump p) || v.announced)
-    && (bytes_eq v.header (header p) && bytes_eq v.last (payload p))))
+    && (bytes_eq v.header (packet_header p) && bytes_eq v.last (payload p))))
 
 -- The counter of a packet with those bytes 0 to 3 goes on to the one of a packet.
 abbrev pub counter_goes_on : List ℕ → List ℕ → Bool
@@ -88,7 +89,7 @@ link_after v (x ∷ xs) p =
 -- The packet is the last good one, but for its payload.
 abbrev pub remembering : JoiningValue → List ℕ → JoiningValue
 remembering v p = record v {
-  header = header p;
+  header = packet_header p;
   announced = announces_jump p;
   has_repeat = false;
   has_jump = false;
@@ -155,7 +156,7 @@ gone_on _ v more = holding false v more
 -- A good packet came, with that link to the last one.
 abbrev pub after_good : Link → JoiningValue → List ℕ → JoiningValue
 after_good link v p =
-    if begins p || is_cut link then
+    if begins p || is_unlinked link then
     begun (is_break link) (begins p) (remembering v p) (payload p)
     else gone_on v.part (remembering v p) (payload p)
 
@@ -190,6 +191,13 @@ given_later v (note ∷ more) =
 abbrev pub ready_bytes : ℕ → ℕ → ℕ → Bool → List ℕ → List ℕ
 ready_bytes mark_left start end mark_behind bytes =
     drop (184 - mark_left) mark ++ (slice_range bytes start end ++ mark_where mark_behind)
+
+-- Of what is ready so much is lent as stands together: the end of a mark, or all but a mark behind
+-- it. So a PES packet is lent whole.
+abbrev pub AreLentWhole : List ℕ → List ℕ → Type 0
+AreLentWhole lent pending =
+    ((place : ℕ) × (lent ≡ drop place mark))
+    ⊎ ((has_mark : Bool) × (pending ≡ lent ++ mark_where has_mark))
 
 -- What holds of the numbers that are kept, and of the bytes of the part.
 pub record IsJoining

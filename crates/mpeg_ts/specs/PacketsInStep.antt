@@ -20,6 +20,11 @@ begins_packet distance in_step bytes =
     (slice_index bytes 0 == sync_byte)
     && (in_step || (slice_index bytes distance == sync_byte))
 
+-- So many bytes tell what stands at their front.
+abbrev pub bytes_needed : ℕ → Bool → ℕ
+bytes_needed distance true = packet_size
+bytes_needed distance false = suc distance
+
 -- The items that bytes begin with, at most `room`, where that is the distance of packets. Fewer
 -- than 188 bytes at the end hold none.
 unfoldable pub items : ℕ → Bool → ℕ → List ℕ → List Item

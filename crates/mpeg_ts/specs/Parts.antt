@@ -23,14 +23,14 @@ is_break Break = true
 is_break _ = false
 
 -- A packet does not belong to the PES packet of the one before.
-abbrev pub is_cut : Link → Bool
-is_cut Follows = false
-is_cut _ = true
+abbrev pub is_unlinked : Link → Bool
+is_unlinked Follows = false
+is_unlinked _ = true
 
 -- A part begins with a good packet that begins a PES packet, or that does not follow the one
 -- before.
 abbrev pub begins_part : GoodPacket → Bool
-begins_part g = begins g.packet || is_cut g.link
+begins_part g = begins g.packet || is_unlinked g.link
 
 -- The part of a good packet alone.
 abbrev pub part_of : GoodPacket → Part

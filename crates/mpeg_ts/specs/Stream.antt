@@ -1,6 +1,7 @@
 -- How far a recording was read for one PID, and what is still to be given.
 use Rattle.std.specs.Prelude.{◌≡◌, ℕ, ◌+◌, ◌-◌, ◌^◌, ◌≤◌, ◌==◌, Bool, true, false, if◌then◌else◌}
-use Rattle.std.specs.Prelude.{List, [], ◌++◌, length, drop, Option, option_map}
+use Rattle.std.specs.Prelude.{List, [], ◌++◌, length, drop, nat_lt, Option, is_some, option_map}
+use Rattle.sub_io.specs.Asking.{Asks}
 use Rattle.mpeg_ts.specs.GoodPackets.{Hole, hole_size, note_of, notes}
 use Rattle.mpeg_ts.specs.Joining.{JoiningValue, after_note, given_later, handed_over}
 use Rattle.mpeg_ts.specs.Joining.{nothing_joined}
@@ -53,6 +54,10 @@ given_of v bytes =
 abbrev pub still_given : StreamValue → Option (List ℕ) → Option (List ℕ)
 still_given v told = option_map (given_of v) told
 
+-- Whether these bytes give any, where the source has them to give.
+abbrev pub gives_some : StreamValue → List ℕ → Bool
+gives_some v bytes = nat_lt 0 (length (given_of v bytes))
+
 -- How many bytes there may be from the next item on.
 abbrev pub bytes_at_most : StreamValue → ℕ
 bytes_at_most v = (length v.window.held + v.window.left) - v.lead
@@ -79,3 +84,13 @@ pub record IsStream (number distance lead run taken : ℕ) (in_step : Bool) : Ty
 pub record SourceValue (D : Type 0) : Type 0 where
   pub device : D
   pub stream : StreamValue
+
+-- A pull, or a passing over: the source inside is asked for no byte behind those that give some.
+abbrev pub AsksInside :
+    {D : Type 0}
+    → (D → ℕ → Option ℕ → D → Type 0) → (D → List ℕ) → (D → Option (List ℕ))
+    → SourceValue D → ℕ → Option ℕ → SourceValue D → Type 0
+AsksInside IsPull lent remaining old count answer new =
+    (gives : List ℕ → Bool)
+    × Asks IsPull lent remaining (gives_some old.stream) old.device (is_some answer)
+    gives new.device

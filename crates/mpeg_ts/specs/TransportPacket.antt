@@ -53,8 +53,8 @@ is_wrong p =
     || (has_adaptation p && has_payload p && nat_lt 182 (slice_index p 4))
 
 -- Bytes 0 to 3: what a packet that repeats another has in common with it, beside the payload.
-abbrev pub header : List ℕ → List ℕ
-header p = take 4 p
+abbrev pub packet_header : List ℕ → List ℕ
+packet_header p = take 4 p
 
 -- Where the payload begins.
 abbrev pub payload_place : List ℕ → ℕ

@@ -2,10 +2,10 @@
 ghost use Rattle.std.specs.Prelude.{◌≡◌, ℕ, ◌+◌, ◌≤◌, ◌<◌, ◌↔◌, ◌++◌, ◌||◌, drop, take, length, []};
 ghost use Rattle.std.specs.Prelude.{◌&&◌, if◌then◌else◌, IfSome, false, true};
 ghost use Rattle.mpeg_ts.specs.GoodPackets.{Wrong, Hole, note_of};
-ghost use Rattle.mpeg_ts.specs.Joining.{after_note, after_valid, begun, gone_on, grown};
-ghost use Rattle.mpeg_ts.specs.Joining.{has_ended, holding, is_complete, link_after, repeats};
-ghost use Rattle.mpeg_ts.specs.Joining.{nothing_joined, remembering};
-ghost use Rattle.mpeg_ts.specs.Parts.{is_break, is_cut};
+ghost use Rattle.mpeg_ts.specs.Joining.{AreLentWhole, after_note, after_valid, begun, gone_on};
+ghost use Rattle.mpeg_ts.specs.Joining.{grown, has_ended, holding, is_complete, link_after};
+ghost use Rattle.mpeg_ts.specs.Joining.{nothing_joined, remembering, repeats};
+ghost use Rattle.mpeg_ts.specs.Parts.{is_break, is_unlinked};
 ghost use Rattle.mpeg_ts.specs.TransportPacket.{has_payload, is_wrong, payload};
 
 use crate::mark::{MARK_SIZE, mark_end, mark_gap};
@@ -185,9 +185,9 @@ impl Joining {
             return;
         }
         let is_break = self.is_break(packet);
-        let is_cut = self.is_cut(packet);
+        let is_unlinked = self.is_unlinked(packet);
         self.remember(packet);
-        if begins(packet) || is_cut {
+        if begins(packet) || is_unlinked {
             self.begin_part(is_break, begins(packet), payload_of(packet));
         } else {
             self.go_on(payload_of(packet));
@@ -234,8 +234,8 @@ impl Joining {
     }
 
     // Whether this packet does not follow the last good one.
-    fn is_cut(&self, packet: &[u8; PACKET]) -> bool
-        ensures { result ≡ is_cut (link_after self.now self.now.last packet.now) }
+    fn is_unlinked(&self, packet: &[u8; PACKET]) -> bool
+        ensures { result ≡ is_unlinked (link_after self.now self.now.last packet.now) }
     {
         if self.last_payload().is_empty() {
             return true;
@@ -369,6 +369,7 @@ impl Joining {
         ensures next { take (length result.now) self.now.pending ≡ result.now }
         ensures within { length result.now ≤ length self.now.pending }
         ensures none { result.now ≡ [] → self.now.pending ≡ [] }
+        ensures whole { AreLentWhole result.now self.now.pending }
     {
         if self.mark_left > 0 {
             return mark_end(self.mark_left);

@@ -1,12 +1,14 @@
 //! The PES packets that the packets of a PID carry, as a source.
-ghost use Rattle.std.specs.Prelude.{◌≡◌, ◌≢◌, [], Ok, option_map};
+ghost use Rattle.std.specs.Prelude.{◌≡◌, ◌≢◌, [], Ok, is_ok, option_map};
 ghost use Rattle.std.specs.Io.KnownBytes.{IsAtEnd, Keeps};
+ghost use Rattle.sub_io.specs.Asking.{Asks};
 ghost use Rattle.sub_io.specs.Device.{CanFail, CountsFailure};
 ghost use Rattle.sub_io.specs.Lent.{BeginLent};
 ghost use Rattle.sub_io.specs.Reading.{AreNext};
 ghost use Rattle.mpeg_ts.specs.Carried.{carried};
+ghost use Rattle.mpeg_ts.specs.Joining.{AreLentWhole};
 ghost use Rattle.mpeg_ts.specs.PacketSize.{bytes_of};
-ghost use Rattle.mpeg_ts.specs.Stream.{start_of_stream, still_given};
+ghost use Rattle.mpeg_ts.specs.Stream.{AsksInside, gives_some, start_of_stream, still_given};
 
 use crate::stream::Stream;
 use crate::{PacketSize, Pid};
@@ -63,6 +65,9 @@ impl<S: Source> Source for PesSource<S> {
 
     ghost lent = { λ s. s.stream.joining.pending };
 
+    // The source inside is asked for no byte behind those that give some.
+    ghost is_pull = { AsksInside S.is_pull S.lent S.remaining };
+
     /// Gives bytes of a PES packet or of a mark. It reads on where none are ready.
     ///
     /// # Errors
@@ -86,6 +91,7 @@ impl<S: Source> Source for PesSource<S> {
             (still_given self.now.stream (S.remaining self.now.device)) }
         ensures lent { BeginLent result.now self.now.stream.joining.pending }
         ensures some { result.now ≡ [] → self.now.stream.joining.pending ≡ [] }
+        ensures whole { AreLentWhole result.now self.now.stream.joining.pending }
     {
         self.stream.lent()
     }
@@ -104,6 +110,10 @@ impl<S: Source> Source for PesSource<S> {
             → (self.new ≡ self.old) × (result ≡ Ok tt) }
         ensures end { result ≡ Ok tt → self.new.stream.joining.pending ≡ []
             → IsAtEnd (still_given self.new.stream (S.remaining self.new.device)) }
+        // No byte is asked for behind those that give some: a PES packet or a mark.
+        ensures asks { Asks S.is_pull S.lent S.remaining
+            (gives_some self.old.stream) self.old.device (is_ok result)
+            (gives_some self.new.stream) self.new.device }
         ensures count { CountsFailure
             (S.failure_count self.old.device) result (S.failure_count self.new.device) }
     {

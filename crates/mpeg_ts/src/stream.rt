@@ -1,16 +1,17 @@
 //! Reading a recording for one PID: its packets in step, and what they give.
 ghost use Rattle.std.specs.Prelude.{◌≡◌, ◌+◌, ◌-◌, ◌^◌, ◌<◌, ◌≤◌, ◌↔◌, List, ℕ, [], ◌++◌, drop};
 ghost use Rattle.std.specs.Prelude.{take, length};
-ghost use Rattle.std.specs.Prelude.{Ok, IfOk, IfSome, IsSome, false, slice_index, true};
-ghost use Rattle.std.specs.Io.KnownBytes.{IsAtEnd, Keeps, prepend_known};
+ghost use Rattle.std.specs.Prelude.{Ok, false, is_ok, slice_index, true};
+ghost use Rattle.std.specs.Io.KnownBytes.{IsAtEnd, Keeps};
+ghost use Rattle.sub_io.specs.Asking.{Asks};
 ghost use Rattle.sub_io.specs.Device.{CanFail, CountsFailure};
-ghost use Rattle.mpeg_ts.specs.Joining.{JoiningValue, has_ended};
+ghost use Rattle.mpeg_ts.specs.Joining.{AreLentWhole, JoiningValue, has_ended};
 ghost use Rattle.mpeg_ts.specs.PacketSize.{bytes_of};
-ghost use Rattle.mpeg_ts.specs.PacketsInStep.{begins_packet, lead_size};
+ghost use Rattle.mpeg_ts.specs.PacketsInStep.{begins_packet, bytes_needed, lead_size};
 ghost use Rattle.mpeg_ts.specs.Stream.{after_packet, after_skipped, bytes_ahead, bytes_at_most};
-ghost use Rattle.mpeg_ts.specs.Stream.{given_of, start_of_stream, still_given, stream_gives};
+ghost use Rattle.mpeg_ts.specs.Stream.{given_of, gives_some, start_of_stream, still_given};
+ghost use Rattle.mpeg_ts.specs.Stream.{stream_gives};
 ghost use Rattle.mpeg_ts.specs.TransportPacket.{pid, sync_byte};
-ghost use Rattle.mpeg_ts.specs.Window.{window_size};
 
 use crate::joining::Joining;
 use crate::transport_packet::{PACKET, SYNC_BYTE, pid_of};
@@ -95,8 +96,8 @@ fn place_behind_others(bytes: &[u8], from: usize, distance: usize, number: u16) 
     ensures gives { (rest : List ℕ) (joining : JoiningValue)
         → has_ended joining.part ≡ false
         → joining.pending ≡ []
-        → stream_gives distance number 0 true joining (drop result (bytes.now ++ rest))
-        ≡ stream_gives distance number 0 true joining (drop from (bytes.now ++ rest)) }
+        → stream_gives distance number 0 true joining rest
+        ≡ stream_gives distance number 0 true joining (drop from (take result bytes.now ++ rest)) }
 {
     let mut at = from;
     while bytes.len() - at >= distance {
@@ -135,25 +136,39 @@ impl Stream {
         }
     }
 
-    // Takes bytes until they are so many, and answers whether they are: fewer only at the end.
+    // Takes bytes until they tell what stands next, and answers whether they do: not at the end.
     #[tactic(auto, using(crate::proofs::StreamLemmas::needing))]
-    fn need<S: Source>(&mut self, source: &mut S, count: usize) -> Result<bool, Failed>
+    fn need<S: Source>(&mut self, source: &mut S) -> Result<bool, Failed>
         requires count { CanFail (S.failure_count source.old) }
-        requires some { self.old.lead < count }
-        requires room { count ≤ window_size }
+        requires idle { self.old.joining.pending ≡ [] }
         ensures keeps { Keeps (still_given self.old (S.remaining source.old))
             (still_given self.new (S.remaining source.new)) }
-        ensures there { result ≡ Ok true → count ≤ length self.new.window.held }
-        ensures end { result ≡ Ok false → IfSome (S.remaining source.new)
-            (λ bytes. length (bytes_ahead self.new bytes) < count - self.new.lead) }
+        ensures there { result ≡ Ok true → self.new.lead
+            + bytes_needed self.new.distance self.new.in_step ≤ length self.new.window.held }
+        ensures packet { result ≡ Ok true → self.new.lead + 188 ≤ length self.new.window.held }
+        ensures end { result ≡ Ok false
+            → IsAtEnd (still_given self.new (S.remaining source.new)) }
         ensures same { self.new ≡ record self.old { window = self.new.window } }
         ensures sum { length self.new.window.held + self.new.window.left
             ≡ length self.old.window.held + self.old.window.left }
-        ensures grows { length self.old.window.held ≤ length self.new.window.held }
+        ensures asks { Asks S.is_pull S.lent S.remaining
+            (gives_some self.old) source.old (is_ok result) (gives_some self.new) source.new }
         ensures count { CountsFailure
             (S.failure_count source.old) result (S.failure_count source.new) }
     {
+        let count = self.lead + self.needed();
         self.window.fill_to(source, count)
+    }
+
+    // So many bytes from the next item on tell what it is.
+    fn needed(&self) -> usize
+        ensures { result ≡ bytes_needed self.now.distance self.now.in_step }
+    {
+        if self.in_step {
+            PACKET
+        } else {
+            self.distance + 1
+        }
     }
 
     // The bytes that were taken from the next item on.
@@ -166,33 +181,15 @@ impl Stream {
     }
 
     // Whether a packet stands next.
-    #[tactic(auto, using(crate::proofs::StreamLemmas::beginning))]
-    fn begins_packet<S: Source>(&mut self, source: &mut S) -> Result<bool, Failed>
-        requires count { CanFail (S.failure_count source.old) }
-        requires there { self.old.lead + 188 ≤ length self.old.window.held }
-        ensures keeps { Keeps (still_given self.old (S.remaining source.old))
-            (still_given self.new (S.remaining source.new)) }
-        ensures begins { IfOk result (λ begins. IfSome (S.remaining source.new)
-            (λ bytes. begins_packet self.new.distance self.new.in_step
-            (bytes_ahead self.new bytes) ≡ begins)) }
-        ensures there { IfOk result (λ _.
-            self.new.lead + 188 ≤ length self.new.window.held) }
-        ensures same { self.new ≡ record self.old { window = self.new.window } }
-        ensures sum { length self.new.window.held + self.new.window.left
-            ≡ length self.old.window.held + self.old.window.left }
-        ensures count { CountsFailure
-            (S.failure_count source.old) result (S.failure_count source.new) }
+    #[tactic(auto, using(crate::proofs::StreamLemmas::begins_known))]
+    fn begins_packet(&self) -> bool
+        requires { self.now.lead + bytes_needed self.now.distance self.now.in_step
+            ≤ length self.now.window.held }
+        ensures { (bytes : List ℕ) → begins_packet self.now.distance self.now.in_step
+            (bytes_ahead self.now bytes) ≡ result }
     {
-        if self.in_step {
-            return Ok(self.ahead()[0] == SYNC_BYTE);
-        }
-        let distance = self.distance;
-        let count = self.lead + distance + 1;
-        if !self.need(source, count)? {
-            return Ok(false);
-        }
         let ahead = self.ahead();
-        Ok(ahead[0] == SYNC_BYTE && ahead[distance] == SYNC_BYTE)
+        ahead[0] == SYNC_BYTE && (self.in_step || ahead[self.distance] == SYNC_BYTE)
     }
 
     // Passes over so many bytes from the next item on.
@@ -300,14 +297,15 @@ impl Stream {
         ensures end { result ≡ Ok false
             → IsAtEnd (still_given self.new (S.remaining source.new)) }
         ensures fewer { result ≡ Ok true → bytes_at_most self.new < bytes_at_most self.old }
+        ensures asks { Asks S.is_pull S.lent S.remaining
+            (gives_some self.old) source.old (is_ok result) (gives_some self.new) source.new }
         ensures count { CountsFailure
             (S.failure_count source.old) result (S.failure_count source.new) }
     {
-        let count = self.lead + PACKET;
-        if !self.need(source, count)? {
+        if !self.need(source)? {
             return Ok(false);
         }
-        if self.begins_packet(source)? {
+        if self.begins_packet() {
             self.take_packet();
         } else {
             self.skip();
@@ -322,8 +320,10 @@ impl Stream {
         requires count { CanFail (S.failure_count source.old) }
         requires idle { self.old.joining.pending ≡ [] }
         requires going { has_ended self.old.joining.part ≡ false }
-        ensures keeps { Keeps (still_given self.old (S.remaining source.old))
-            (still_given self.new (S.remaining source.new)) }
+        ensures kept { Keeps (still_given self.old (S.remaining source.old))
+            (still_given self.new (S.remaining source.new))
+            × Asks S.is_pull S.lent S.remaining
+            (gives_some self.old) source.old true (gives_some self.new) source.new }
         ensures same { self.new
             ≡ record self.old { window = self.new.window; lead = self.new.lead } }
         ensures fewer { result ≡ true → bytes_at_most self.new < bytes_at_most self.old }
@@ -349,12 +349,15 @@ impl Stream {
     // Takes the packet that stands next, if it is one of the PID and the source lends all bytes up
     // to the one after it, and answers whether it did. It is looked at where the source lends it.
     #[inline(always)]
+    #[tactic(auto, using(crate::proofs::StreamLemmas::skims))]
     fn take_lent<S: Source>(&mut self, source: &mut S) -> bool
         requires count { CanFail (S.failure_count source.old) }
         requires idle { self.old.joining.pending ≡ [] }
         requires going { has_ended self.old.joining.part ≡ false }
-        ensures keeps { Keeps (still_given self.old (S.remaining source.old))
-            (still_given self.new (S.remaining source.new)) }
+        ensures kept { Keeps (still_given self.old (S.remaining source.old))
+            (still_given self.new (S.remaining source.new))
+            × Asks S.is_pull S.lent S.remaining
+            (gives_some self.old) source.old true (gives_some self.new) source.new }
         ensures fewer { result ≡ true → bytes_at_most self.new < bytes_at_most self.old }
         ensures none { result ≡ false → (self.new ≡ self.old) × (source.new ≡ source.old) }
         ensures count { S.failure_count source.new ≡ S.failure_count source.old }
@@ -393,6 +396,8 @@ impl Stream {
         ensures end { result ≡ Ok false
             → IsAtEnd (still_given self.new (S.remaining source.new)) }
         ensures fewer { result ≡ Ok true → bytes_at_most self.new < bytes_at_most self.old }
+        ensures asks { Asks S.is_pull S.lent S.remaining
+            (gives_some self.old) source.old (is_ok result) (gives_some self.new) source.new }
         ensures count { CountsFailure
             (S.failure_count source.old) result (S.failure_count source.new) }
     {
@@ -422,6 +427,8 @@ impl Stream {
             (still_given self.new (S.remaining source.new)) }
         ensures end { result ≡ Ok tt → self.new.joining.pending ≡ []
             → IsAtEnd (still_given self.new (S.remaining source.new)) }
+        ensures asks { Asks S.is_pull S.lent S.remaining
+            (gives_some self.old) source.old (is_ok result) (gives_some self.new) source.new }
         ensures count { CountsFailure
             (S.failure_count source.old) result (S.failure_count source.new) }
     {
@@ -442,11 +449,12 @@ impl Stream {
     }
 
     // The bytes that are given next, as far as they stand together.
-    #[inline(never)]
+    #[inline(always)]
     pub(crate) fn lent(&self) -> &[u8]
         ensures next { take (length result.now) self.now.joining.pending ≡ result.now }
         ensures within { length result.now ≤ length self.now.joining.pending }
         ensures none { result.now ≡ [] → self.now.joining.pending ≡ [] }
+        ensures whole { AreLentWhole result.now self.now.joining.pending }
     {
         self.joining.lent()
     }
@@ -460,7 +468,7 @@ impl Stream {
     }
 
     // Passes over so many of the bytes that are ready.
-    #[inline(never)]
+    #[inline(always)]
     pub(crate) fn pass(&mut self, count: usize)
         requires { count ≤ length self.old.joining.pending }
         ensures { self.new ≡ record self.old {
@@ -473,7 +481,7 @@ impl Stream {
     }
 
     // Gives bytes that are ready, as many as there is room for, and answers how many.
-    #[inline(never)]
+    #[inline(always)]
     pub(crate) fn give(&mut self, to: &mut [u8]) -> usize
         ensures bound { result ≤ length to.new }
         ensures bytes { self.old.joining.pending

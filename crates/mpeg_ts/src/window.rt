@@ -1,9 +1,9 @@
 //! The bytes of a recording that were taken and are to be looked at.
 ghost use Rattle.std.specs.Prelude.{◌≡◌, ◌+◌, ◌-◌, ◌<◌, ◌≤◌, [], drop, length, Ok, IfOk, IsErr};
-ghost use Rattle.std.specs.Prelude.{false, true};
+ghost use Rattle.std.specs.Prelude.{false, is_ok, true};
 ghost use Rattle.std.specs.Io.KnownBytes.{IsAtEnd, Keeps};
 ghost use Rattle.sub_io.specs.Device.{CanFail, CountsFailure};
-ghost use Rattle.mpeg_ts.specs.Window.{left_to_take, to_come, window_size};
+ghost use Rattle.mpeg_ts.specs.Window.{AsksUpTo, left_to_take, to_come, window_size};
 
 use arrayvec::ArrayVec;
 use std::marker::Model;
@@ -102,6 +102,8 @@ impl Window {
         ensures bound { IfOk result (λ n. n ≤ room) }
         ensures end { result ≡ Ok 0 → 0 < room → IsAtEnd (S.remaining source.new) }
         ensures err { IsErr result → self.new ≡ self.old }
+        ensures asks { AsksUpTo S.is_pull S.lent S.remaining (length self.old.held + room)
+            self.old source.old (is_ok result) self.new source.new }
         ensures count { CountsFailure
             (S.failure_count source.old) result (S.failure_count source.new) }
     {
@@ -132,6 +134,8 @@ impl Window {
         ensures sum { length self.new.held + self.new.left
             ≡ length self.old.held + self.old.left }
         ensures grows { length self.old.held ≤ length self.new.held }
+        ensures asks { AsksUpTo S.is_pull S.lent S.remaining count
+            self.old source.old (is_ok result) self.new source.new }
         ensures count { CountsFailure
             (S.failure_count source.old) result (S.failure_count source.new) }
     {

@@ -12,7 +12,7 @@ use Rattle.std.proofs.lemmas.Slice.Eq.{bytes_eq-Decides}
 use Rattle.mpeg_ts.specs.GoodPackets.{Note, Since, nothing_since, good_after, linked, is_repeat}
 use Rattle.mpeg_ts.specs.GoodPackets.{is_same, counts_on, with_good, GoodPacket, Follows, link_from}
 use Rattle.mpeg_ts.specs.Parts.{is_break}
-use Rattle.mpeg_ts.specs.TransportPacket.{pid, counter, begins, header}
+use Rattle.mpeg_ts.specs.TransportPacket.{pid, counter, begins, packet_header}
 use Rattle.mpeg_ts_laws.specs.Multiplex.{Carrier, IsCarrier, IsRepetition, IsNextCarrier, is_quiet}
 use Rattle.mpeg_ts_laws.specs.Multiplex.{carries, announces, items_of_carrier, AreNextCarriers}
 use Rattle.mpeg_ts_laws.proofs.RecordingLemmas.{noted}
@@ -72,9 +72,9 @@ is_repeat-again number p q h = grind (arith, nat_tests, h.same, h.jump)
 -- Two packets that are the same have the same counter.
 pub counter-same : (p q : List ℕ) → is_same p q ≡ true → counter p ≡ counter q
 counter-same p q same =
-    let equal = bytes_eq-Decides (header p) (header q) in
-    let heads : header p ≡ header q = grind (arith, nat_tests) in
-    let third : slice_index (header p) 3 ≡ slice_index (header q) 3 =
+    let equal = bytes_eq-Decides (packet_header p) (packet_header q) in
+    let heads : packet_header p ≡ packet_header q = grind (arith, nat_tests) in
+    let third : slice_index (packet_header p) 3 ≡ slice_index (packet_header q) 3 =
     ap (λ (x : List ℕ). slice_index x 3) heads in
     ap (λ (x : ℕ). x % 16) (sym (get_or-take 4 p 3 0 (omega arith)) ∙ third
     ∙ get_or-take 4 q 3 0 (omega arith))

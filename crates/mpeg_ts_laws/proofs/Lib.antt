@@ -10,3 +10,4 @@ pub mod NeighbourLemmas
 pub mod PartLemmas
 pub mod RecordingLemmas
 pub mod StartingLemmas
+pub mod WholeFileLemmas

@@ -13,9 +13,9 @@ use Rattle.std.proofs.lemmas.List.{get_or-take}
 use Rattle.std.proofs.lemmas.Slice.Eq.{bytes_eq-Decides}
 use Rattle.mpeg_ts.specs.GoodPackets.{Follows, Break, First, GoodPacket, Link, Note, good_after}
 use Rattle.mpeg_ts.specs.GoodPackets.{counts_on, is_repeat, is_same, linked, with_good}
-use Rattle.mpeg_ts.specs.Parts.{is_break, is_cut}
+use Rattle.mpeg_ts.specs.Parts.{is_break, is_unlinked}
 use Rattle.mpeg_ts.specs.PacketsInStep.{lead_size}
-use Rattle.mpeg_ts.specs.TransportPacket.{announces_jump, begins, counter, header, payload}
+use Rattle.mpeg_ts.specs.TransportPacket.{announces_jump, begins, counter, packet_header, payload}
 use Rattle.mpeg_ts_laws.specs.Losses.{Fated, any_wrong, are_few_gone, is_kept, is_there}
 use Rattle.mpeg_ts_laws.specs.Losses.{sent_packet, units_before, units_behind}
 use Rattle.mpeg_ts_laws.specs.Multiplex.{Carrier, IsRecordedUnit, IsRepetition, announces, carries}
@@ -37,8 +37,8 @@ pub record IsCopy (p h : List ℕ) : Type 0 where
 -- Two packets that are the same begin both, or neither.
 begins-same : (p q : List ℕ) → is_same p q ≡ true → begins p ≡ begins q
 begins-same p q same =
-    let equal = bytes_eq-Decides (header p) (header q) in
-    let heads : header p ≡ header q = grind (arith, nat_tests) in
+    let equal = bytes_eq-Decides (packet_header p) (packet_header q) in
+    let heads : packet_header p ≡ packet_header q = grind (arith, nat_tests) in
     let first : slice_index p 1 ≡ slice_index q 1 =
     sym (get_or-take 4 p 1 0 (omega arith)) ∙ ap (λ (x : List ℕ). slice_index x 1) heads
     ∙ get_or-take 4 q 1 0 (omega arith) in
@@ -161,7 +161,7 @@ break-left i n g h false first second small =
 
 -- Behind a good packet a link cuts where something is lost.
 pub cut-left : (g h : List ℕ) (wrong : Bool)
-    → is_cut (link_left (Some g) wrong h) ≡ is_break (link_left (Some g) wrong h)
+    → is_unlinked (link_left (Some g) wrong h) ≡ is_break (link_left (Some g) wrong h)
 cut-left g h true = refl
 cut-left g h false = elim (cases_Bool (counts_on g h)) [ inl e ↦ rw e | inr e ↦ rw e ]
 

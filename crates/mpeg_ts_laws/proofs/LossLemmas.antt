@@ -10,7 +10,7 @@ use Rattle.std.proofs.lemmas.List.{append-nil}
 use Rattle.ttx_pes.specs.Pieces.{IsPiece}
 use Rattle.mpeg_ts.specs.Carried.{mark_where, with_marks}
 use Rattle.mpeg_ts.specs.GoodPackets.{GoodPacket}
-use Rattle.mpeg_ts.specs.Parts.{Part, begins_part, part_bytes, is_cut, outcomes, part_of}
+use Rattle.mpeg_ts.specs.Parts.{Part, begins_part, part_bytes, is_unlinked, outcomes, part_of}
 use Rattle.mpeg_ts.specs.Parts.{parts_from, with_packet}
 use Rattle.mpeg_ts.specs.TransportPacket.{begins, counter, payload}
 use Rattle.mpeg_ts_laws.specs.Losses.{Fated, any_wrong, are_few_gone, are_there_after, is_there}
@@ -295,7 +295,7 @@ module _ (distance number : ℕ) (wrong_behind : Bool) where
       → IsOpen part c i (d ∷ cs) rest bytes
       → begins_part (next_good c d) ≡ (any_wrong (units_behind c) || any_wrong (units_before d))
   next-begins_part part c d i cs rest bytes o =
-      ap (λ (b : Bool). b || is_cut (next_good c d).link)
+      ap (λ (b : Bool). b || is_unlinked (next_good c d).link)
       (next-begins part c d i cs rest bytes o)
       ∙ cut-left g h wrong
       ∙ break-left i 0 g h wrong o.first (next-counter part c d i cs rest bytes o) (omega arith)

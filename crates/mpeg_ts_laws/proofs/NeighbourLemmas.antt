@@ -178,7 +178,7 @@ marks-alone true = (mark-piece, tt)
 marks-alone false = tt
 
 -- One list behind another.
-pieces-append : (xs ys : List (List ℕ))
+pub pieces-append : (xs ys : List (List ℕ))
     → AllByRecursion IsPiece xs
     → AllByRecursion IsPiece ys
     → AllByRecursion IsPiece (xs ++ ys)

@@ -9,7 +9,7 @@ use Rattle.std.proofs.lemmas.Bool.Decides.{nat_tests}
 use Rattle.std.proofs.lemmas.List.{append-nil}
 use Rattle.mpeg_ts.specs.Carried.{mark_where, with_marks}
 use Rattle.mpeg_ts.specs.GoodPackets.{GoodPacket}
-use Rattle.mpeg_ts.specs.Parts.{is_break, is_cut, outcomes, part_of, parts, parts_from}
+use Rattle.mpeg_ts.specs.Parts.{is_break, is_unlinked, outcomes, part_of, parts, parts_from}
 use Rattle.mpeg_ts.specs.TransportPacket.{begins, payload}
 use Rattle.mpeg_ts_laws.specs.Losses.{Fated, any_wrong, are_few_gone, are_there_after, arriving}
 use Rattle.mpeg_ts_laws.specs.Losses.{is_there, is_wrong_behind, sent_packet, units_before}
@@ -153,7 +153,7 @@ module _ (distance number : ℕ) (wrong_behind : Bool) where
       cut-here there =
           from_part-cut distance number wrong_behind part given gap front given' gap' g wrong
           s.first (s.others ++ rest) closes
-          there (ap (λ (b : Bool). b || is_cut good.link) begun)
+          there (ap (λ (b : Bool). b || is_unlinked good.link) begun)
 
       opened : is_there s.first ≡ true
           → IsOpen distance number wrong_behind (part_of good) s.first (i + 1 + n) s.others rest

@@ -1,6 +1,7 @@
 -- Laws of what is carried, over plain bytes.
 use Rattle.std.specs.Prelude.{◌≡◌, ℕ, List, ◌++◌}
-use Rattle.std.specs.List.{AllByRecursion, concat}
+use Rattle.std.specs.List.{AllByRecursion, AllZip, concat}
+use Rattle.ttx_pes.specs.PesPacket.{IsPesPacket, PesValue}
 use Rattle.ttx_pes.specs.Pieces.{IsPiece}
 use Rattle.mpeg_ts.specs.Carried.{carried, mark}
 use Rattle.mpeg_ts_laws.specs.Losses.{AreArriving, Fated, IsLossy}
@@ -35,3 +36,20 @@ LawOfNeighbours =
     → carried number distance recording ≡ concat (before ++ (run ++ behind))
     → AllByRecursion (λ p. p ≡ mark → ⊥) run
     → (earlier later : List (List ℕ)) × (pes_packets m ≡ earlier ++ (run ++ later))
+
+-- Where what is carried, or some pieces of it one after another, is a file of PES packets with
+-- Teletext, no mark is among them; and of those that a multiplexer sent between the first and the
+-- last of them none is missing.
+-- So where `check` accepts a recording, which it does of such a file alone, all is recorded.
+abbrev pub LawOfWholeFile : Type 0
+LawOfWholeFile =
+    (number distance : ℕ) (recording : List ℕ)
+    (before behind : List (List ℕ)) (values : List PesValue) (packets : List (List ℕ))
+    → AllByRecursion IsPiece before
+    → AllByRecursion IsPiece behind
+    → AllZip IsPesPacket values packets
+    → carried number distance recording ≡ concat (before ++ (packets ++ behind))
+    → AllByRecursion (λ p. p ≡ mark → ⊥) packets
+    × ((m : Multiplex Fated)
+    → IsLossy number distance m recording
+    → (earlier later : List (List ℕ)) × (pes_packets m ≡ earlier ++ (packets ++ later)))

@@ -2,6 +2,7 @@
 //!
 //! The functions do nothing: the contract of each is a law over the definitions of `specs/`.
 ghost use Rattle.mpeg_ts_laws.specs.Laws.{LawOfLosses, LawOfMultiplex, LawOfNeighbours};
+ghost use Rattle.mpeg_ts_laws.specs.Laws.{LawOfWholeFile};
 
 /// What a multiplexer sent in packets of a PID is what they carry.
 #[tactic(auto, using(crate::proofs::MultiplexLemmas::law_of_multiplex))]
@@ -20,4 +21,10 @@ pub fn law_of_losses()
 /// is missing between the first and the last of them.
 pub fn law_of_neighbours()
     ensures { LawOfNeighbours }
+{}
+
+/// Where a recording is accepted, no mark stands in what was judged: all PES packets that were sent
+/// between the first and the last of it are recorded.
+pub fn law_of_whole_file()
+    ensures { LawOfWholeFile }
 {}

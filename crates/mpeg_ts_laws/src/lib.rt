@@ -12,4 +12,4 @@
 
 mod laws;
 
-pub use laws::{law_of_losses, law_of_multiplex, law_of_neighbours};
+pub use laws::{law_of_losses, law_of_multiplex, law_of_neighbours, law_of_whole_file};

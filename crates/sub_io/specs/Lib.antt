@@ -1,3 +1,4 @@
+pub mod Asking
 pub mod Buffered
 pub mod Calls
 pub mod Closing

@@ -1,5 +1,5 @@
 -- All packets so far are those of others.
-use Rattle.std.proofs.Common.{◌≡◌, ◌≤◌, ◌-◌, List, [], ◌++◌, ℕ, drop, length, true, false}
+use Rattle.std.proofs.Common.{◌≡◌, ◌≤◌, ◌-◌, List, [], ◌++◌, ℕ, drop, length, take, true, false}
 use Rattle.mpeg_ts.specs.Joining.{JoiningValue, has_ended}
 use Rattle.mpeg_ts.specs.Stream.{stream_gives}
 use Rattle.mpeg_ts.proofs.stream.place_behind_others.Given as goal
@@ -12,8 +12,9 @@ invariant-loop-at l = record {
       (rest : List ℕ) (joining : JoiningValue)
       → has_ended joining.part ≡ false
       → joining.pending ≡ []
-      → stream_gives l.distance l.number 0 true joining (drop l.at (l.bytes ++ rest))
-      ≡ stream_gives l.distance l.number 0 true joining (drop l.from (l.bytes ++ rest));
+      → stream_gives l.distance l.number 0 true joining rest
+      ≡ stream_gives l.distance l.number 0 true joining
+      (drop l.from (take l.at l.bytes ++ rest));
 }
 
 abbrev pub decreases-loop-at : goal.decreases-loop-at

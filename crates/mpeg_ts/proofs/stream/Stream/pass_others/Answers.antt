@@ -1,29 +1,22 @@
--- What is left where packets of others were passed over: others_kept.
+-- What is left where packets of others were passed over: others_given, lent_passed.
 use Rattle.std.proofs.Common.{◌≡◌, ◌≤◌, [], length, true, false, ap, ◌∙◌, arith}
-use Rattle.std.proofs.Common.{rules}
+use Rattle.std.proofs.Common.{length-take-le, rules}
 use Rattle.std.proofs.lemmas.List.{nil_from_length}
 use Rattle.mpeg_ts.specs.Joining.{has_ended}
 use Rattle.mpeg_ts.specs.Stream.{StreamValue}
 use Rattle.mpeg_ts.specs.Window.{WindowValue}
 use Rattle.mpeg_ts.specs.contracts.stream.Stream.{the_view}
-use Rattle.mpeg_ts.proofs.StreamLemmas.{others_kept}
+use Rattle.mpeg_ts.proofs.StreamLemmas.{lent_passed, others_given}
 use Rattle.mpeg_ts.proofs.stream.Stream.pass_others.Goals as goal
 
-pub returns-clause-keeps : goal.returns-clause-keeps
-returns-clause-keeps g c =
+pub returns-clause-kept : goal.returns-clause-kept
+returns-clause-kept g c =
     let i = c.self.inside in
     let v : StreamValue = the_view i in
-    let w : StreamValue = record {
-      number = i.number;
-      distance = i.distance;
-      window = c.pass-2.new.self;
-      lead = 0;
-      in_step = i.in_step;
-      run = i.run;
-      joining = i.joining;
-    } in
+    let w : StreamValue = record v { window = c.pass-2.new.self; lead = 0 } in
     let lent = c.held-lent.result.now in
     let count = c.place_behind_others-count.result in
+    let fits = c.place_behind_others-count.ensures.within in
     let step : i.in_step ≡ true = search rules in
     let passed : c.pass.result ≡ true = search rules in
     let within : length lent ≤ i.window.left = omega arith in
@@ -33,8 +26,10 @@ returns-clause-keeps g c =
     let idle : i.joining.pending ≡ [] =
     ap (λ (s : StreamValue). s.joining.pending) c.self.view_is ∙ c.requires.idle in
     rw (← c.self.view_is)
-    (others_kept (g.S.Source.remaining c.args.source.now) (g.S.Source.remaining c.pass.new.self)
-    v w lent count c.held-lent.ensures.bytes (c.pass.ensures.bytes passed)
-    c.place_behind_others-count.ensures.within within none step (c.self.invariant.no_run step)
+    (lent_passed g.S.Source.is_pull g.S.Source.lent g.S.Source.remaining v w
+    c.args.source.now c.pass.new.self lent count c.held-lent.ensures.bytes
+    c.held-lent.ensures.lent fits (c.pass.ensures.call passed) (c.pass.ensures.bytes passed)
+    (λ bytes. others_given v w _ bytes count (length-take-le count lent fits) none
+    (omega (arith, fits, within)) step (c.self.invariant.no_run step)
     (λ rest. c.place_behind_others-count.ensures.gives rest i.joining going idle)
-    (ap (λ (u : WindowValue). record v { window = u; lead = 0 }) c.pass-2.ensures))
+    (ap (λ (u : WindowValue). record v { window = u; lead = 0 }) c.pass-2.ensures)))

@@ -1,7 +1,7 @@
 -- What was taken and what may be are what they were together, and no pull has failed.
-use Rattle.std.proofs.Common.{length, ◌+◌, ◌-◌, ◌≡◌, ◌≤◌}
+use Rattle.std.proofs.Common.{length, true, ◌+◌, ◌-◌, ◌≡◌, ◌≤◌}
 use Rattle.std.specs.Io.KnownBytes.{Keeps}
-use Rattle.mpeg_ts.specs.Window.{to_come}
+use Rattle.mpeg_ts.specs.Window.{AsksUpTo, to_come}
 use Rattle.mpeg_ts.proofs.window.Window.fill_to.Given as goal
 
 abbrev pub invariant-loop-have : goal.invariant-loop-have
@@ -13,6 +13,9 @@ invariant-loop-have g l = record {
       length l.self.held + l.self.left
       ≡ length l.initial.self.held + l.initial.self.left;
   grows : length l.initial.self.held ≤ length l.self.held;
+  asks :
+      AsksUpTo g.S.Source.is_pull g.S.Source.lent g.S.Source.remaining l.count
+      l.initial.self l.initial.source true l.self l.source;
   count : g.S.Source.failure_count l.source ≡ g.S.Source.failure_count l.initial.source;
 }
 

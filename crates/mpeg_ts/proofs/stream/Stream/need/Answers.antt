@@ -1,0 +1,28 @@
+-- Where it is known what stands next, at least a packet is held: needs_packet. No byte is asked for
+-- behind those that tell it: need_asks.
+use Rattle.std.proofs.Common.{◌≡◌, ◌≤◌, ◌+◌, ◌∙◌, [], ap, arith, is_ok, sym}
+use Rattle.mpeg_ts.specs.PacketsInStep.{bytes_needed}
+use Rattle.mpeg_ts.specs.Stream.{StreamValue}
+use Rattle.mpeg_ts.specs.contracts.stream.Stream.{the_view}
+use Rattle.mpeg_ts.proofs.StreamLemmas.{need_asks, needs_packet}
+use Rattle.mpeg_ts.proofs.stream.Stream.need.Goals as goal
+
+pub returns-clause-packet : goal.returns-clause-packet
+returns-clause-packet g c = λ ok.
+    let v = c.args.self.now in
+    let near : 188 ≤ v.distance =
+    omega (arith, c.self.invariant.near, ap (λ (s : StreamValue). s.distance) c.self.view_is) in
+    omega (arith, c.fill_to.ensures.there ok, c.needed.ensures, needs_packet v.distance v.in_step near)
+
+pub returns-clause-asks : goal.returns-clause-asks
+returns-clause-asks g c =
+    let i = c.self.inside in
+    let count : i.lead + c.needed.result ≡ i.lead + bytes_needed i.distance i.in_step =
+    ap (λ n. i.lead + n) (c.needed.ensures
+    ∙ ap (λ (s : StreamValue). bytes_needed s.distance s.in_step) (sym c.self.view_is)) in
+    let idle : i.joining.pending ≡ [] =
+    ap (λ (s : StreamValue). s.joining.pending) c.self.view_is ∙ c.requires.idle in
+    rw (← c.self.view_is)
+    (need_asks g.S.Source.is_pull g.S.Source.lent g.S.Source.remaining (the_view i)
+    c.fill_to.new.self c.args.source.now c.fill_to.new.source (is_ok c.fill_to.result)
+    (i.lead + c.needed.result) c.fill_to.ensures.asks count c.self.invariant.near idle)
