@@ -18,7 +18,7 @@ use Rattle.std.specs.Io.KnownBytes.{Consumes, IsAtEnd, Keeps, prepend_known}
 use Rattle.sub_io.specs.Device.{PassesOver, Pulls}
 use Rattle.sub_io.specs.Reading.{AreNext, IfTold}
 use Rattle.ttx_pes.specs.PieceRange.{AheadValue, IsAhead, KeepsIndex, PieceRangeValue, first_index}
-use Rattle.ttx_pes.specs.PieceRange.{behind_pieces, count_pieces, lent_of}
+use Rattle.ttx_pes.specs.PieceRange.{behind_pieces, by_piece, count_pieces, lent_of, most_held}
 use Rattle.ttx_pes.specs.PieceRange.{first_pieces, if_whole, piece_size, told_index, told_of}
 use Rattle.ttx_pes.specs.PieceRange.{told_piece, limited}
 use Rattle.ttx_pes.specs.Reading.{size_at}
@@ -164,6 +164,59 @@ pub index_then : (x y z : Option ℕ) → KeepsIndex x y → KeepsIndex y z → 
 index_then None y z p q = tt
 index_then (Some n) None z p q = absurd cc
 index_then (Some n) (Some m) z p q = q ∙ p
+
+-- ---- how many bytes are held
+
+-- A size that is told.
+ok_is : (r : Result ℕ PesFault) (size : ℕ) → result_ok r ≡ Some size → r ≡ Ok size
+ok_is (Err f) size e = absurd cc
+ok_is (Ok n) size e = cc
+
+told_size : (h : List ℕ) (size : ℕ) → told_piece h ≡ Some size → 6 ≤ size
+unfolding told_piece
+told_size h size e = elim (cases_lt (length h) 6) [
+  | inl lt ↦ let short = lt-ltb (length h) 6 lt in absurd cc
+  | inr le ↦
+      let long = le-ltb (length h) 6 le in
+      size_counts (take 6 h) size (ok_is (size_at (take 6 h)) size
+      (ap (λ c. cond c None (result_ok (size_at (take 6 h)))) (sym long) ∙ e))
+]
+
+-- Six bytes may be held in any case.
+six_most : (h : List ℕ) → 6 ≤ most_held h
+six_most h = by_told (told_piece h) (told_size h)
+  where
+    by_told : (o : Option ℕ)
+        → ((size : ℕ) → o ≡ Some size → 6 ≤ size)
+        → 6 ≤ by_piece o (λ size. size) 6
+    by_told None f = omega arith
+    by_told (Some size) f = f size refl
+
+-- Where as many were read no more are held than may be. For `pass_piece` and `decide`.
+pub holds_six : (old new : List ℕ)
+    → length old ≤ most_held old
+    → (length old ≤ 6 → length new ≤ 6)
+    → (6 ≤ length old → new ≡ old)
+    → length new ≤ most_held new
+holds_six old new le few none = elim (cases_lt (length old) 6) [
+  | inl lt ↦ omega (arith, few (omega arith), six_most new)
+  | inr ge ↦ rw (none ge) le
+]
+
+-- Nor where the piece that they tell of was read. For `pass_piece`.
+pub holds_size : (old new : List ℕ) (size : ℕ)
+    → told_piece old ≡ Some size
+    → length old ≤ most_held old
+    → take (length old) new ≡ old
+    → (length old ≤ size → length new ≤ size)
+    → length new ≤ most_held new
+holds_size old new size e le front few =
+    let behind = drop (length old) new in
+    let whole : new ≡ old ++ behind =
+    sym (take-append-drop (length old) new) ∙ ap (λ l. l ++ behind) front in
+    let told : told_piece new ≡ Some size =
+    ap told_piece whole ∙ told_by_six old behind (six_told old size e) ∙ e in
+    rw told (few (rw e at le))
 
 -- ---- pieces before the range
 

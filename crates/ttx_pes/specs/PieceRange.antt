@@ -1,6 +1,6 @@
 -- Some of the pieces of a PES file, from one number to another, counted from 0: which bytes these
 -- are, and what a source of them keeps.
-use Rattle.std.specs.Prelude.{◌≡◌, ℕ, zero, suc, ◌+◌, ◌-◌, ◌<◌, nat_le, nat_lt, if◌then◌else◌}
+use Rattle.std.specs.Prelude.{◌≡◌, ℕ, zero, suc, ◌+◌, ◌-◌, ◌<◌, ◌≤◌, nat_le, nat_lt, if◌then◌else◌}
 use Rattle.std.specs.Prelude.{◌==◌, ◌||◌, ⊤}
 use Rattle.std.specs.Prelude.{List, [], ◌++◌, length, take, drop, Option, Some, None, option_map}
 use Rattle.std.specs.Io.KnownBytes.{prepend_known}
@@ -133,6 +133,23 @@ IsDecided Passing left = ⊥
 IsDecided Between left = left ≡ Some 0
 IsDecided (Giving k) left = 0 < k
 IsDecided Open left = ⊤
+
+-- So many bytes are held at most of what comes next: its piece, or six while these tell of none.
+abbrev pub most_held : List ℕ → ℕ
+most_held held = by_piece (told_piece held) (λ size. size) 6
+
+-- No byte is held behind the piece that comes next, or that is given.
+abbrev pub HoldsNoMore : Phase → List ℕ → Type 0
+HoldsNoMore Passing held = length held ≤ most_held held
+HoldsNoMore Between held = length held ≤ most_held held
+HoldsNoMore (Giving k) held = length held ≤ k
+HoldsNoMore Open held = ⊤
+
+-- All of the range was given.
+abbrev pub IsAllGiven : Phase → Option ℕ → Type 0
+IsAllGiven Between left = left ≡ Some 0
+IsAllGiven (Giving k) left = (k ≡ 0) × (left ≡ Some 0)
+IsAllGiven _ left = ⊥
 
 -- ---- what that is, in a file that falls into pieces
 

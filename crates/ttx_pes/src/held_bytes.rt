@@ -1,5 +1,6 @@
 //! Bytes that were read before it is known whether they are given.
-ghost use Rattle.std.specs.Prelude.{◌≡◌, ◌<◌, ◌≤◌, [], ◌++◌, drop, length, min, take, OnOk};
+ghost use Rattle.std.specs.Prelude.{◌≡◌, ◌<◌, ◌≤◌, [], ◌++◌, drop, length, min, take, IfOk, OnErr};
+ghost use Rattle.std.specs.Prelude.{OnOk};
 ghost use Rattle.std.specs.Io.{ReadsAtMost};
 ghost use Rattle.std.specs.Io.KnownBytes.{Consumes, IsAtEnd, prepend_known};
 ghost use Rattle.sub_io.specs.Device.{CanFail, CountsFailure, Pulls};
@@ -45,6 +46,9 @@ fn read_on<S: Source>(
     ensures bytes { Consumes (prepend_known (take held room.old) (S.remaining source.old))
         (S.remaining source.new) (take result.0 room.new) }
     ensures from { held ≤ result.0 }
+    ensures kept { take held room.new ≡ take held room.old }
+    ensures few { held ≤ least → result.0 ≤ least }
+    ensures none { least ≤ held → (result.0 ≡ held) × (source.new ≡ source.old) }
     ensures room { result.0 ≤ length room.new }
     ensures end { OnOk result.1 (result.0 < least → IsAtEnd (S.remaining source.new)) }
     ensures count { CountsFailure (S.failure_count source.old) result.1
@@ -90,6 +94,9 @@ impl HeldBytes {
         requires least { least ≤ longest_packet }
         ensures bytes { Consumes (prepend_known self.old (S.remaining source.old))
             (S.remaining source.new) self.new }
+        ensures front { take (length self.old) self.new ≡ self.old }
+        ensures few { length self.old ≤ least → length self.new ≤ least }
+        ensures none { least ≤ length self.old → self.new ≡ self.old }
         ensures end { OnOk result (length self.new < least → IsAtEnd (S.remaining source.new)) }
         ensures count { CountsFailure (S.failure_count source.old) result
             (S.failure_count source.new) }
@@ -115,6 +122,8 @@ impl HeldBytes {
         ensures bound { ReadsAtMost result to.new }
         ensures bytes { Pulls (prepend_known self.old (S.remaining source.old))
             (prepend_known self.new (S.remaining source.new)) to.new result }
+        ensures held { IfOk result (λ n. self.new ≡ drop n self.old) }
+        ensures err { OnErr result (self.new ≡ self.old) }
         ensures lent { self.old ≡ [] → (self.new ≡ [])
             × GivesLent (S.lent source.old) (S.lent source.new) to.new result }
         ensures count { CountsFailure (S.failure_count source.old) result

@@ -1,13 +1,14 @@
 //! A source of some of the PES packets of a file.
 ghost use Rattle.std.specs.Prelude.{◌≡◌, ◌⊎◌, ◌<◌, ◌≤◌, ◌+◌, IfSome, OnOk};
-ghost use Rattle.std.specs.Prelude.{Ok, Some, [], option_map, ◌≢◌};
+ghost use Rattle.std.specs.Prelude.{Ok, Some, [], option_map, ◌≢◌, false, length, true};
 ghost use Rattle.std.specs.Io.{ReadsAtMost};
 ghost use Rattle.std.specs.Io.KnownBytes.{Keeps, prepend_known};
-ghost use Rattle.sub_io.specs.Device.{CanFail, CountsFailure, Pulls};
+ghost use Rattle.sub_io.specs.Device.{CanFail, CountsFailure, PassesOver, Pulls};
 ghost use Rattle.sub_io.specs.Lent.{GivesLent};
 ghost use Rattle.sub_io.specs.Reading.{IfTold};
-ghost use Rattle.ttx_pes.specs.PieceRange.{IsDecided, KeepsIndex, first_index, in_range, lent_of};
-ghost use Rattle.ttx_pes.specs.PieceRange.{told_index, told_of, told_piece};
+ghost use Rattle.ttx_pes.specs.PieceRange.{HoldsNoMore, IsAllGiven, IsDecided, KeepsIndex};
+ghost use Rattle.ttx_pes.specs.PieceRange.{first_index, in_range, lent_of, told_index, told_of};
+ghost use Rattle.ttx_pes.specs.PieceRange.{told_piece};
 ghost use Rattle.ttx_pes.specs.PesPacket.{longest_packet};
 
 use crate::held_bytes::HeldBytes;
@@ -66,6 +67,7 @@ impl<S: Source> RangeSource<S> {
             (S.remaining result.inner) ≡ option_map (in_range range) (S.remaining inner) }
         ensures first { told_index result.phase result.ahead result.held
             (S.remaining result.inner) ≡ option_map (first_index range) (S.remaining inner) }
+        ensures held { HoldsNoMore result.phase result.held }
         ensures count { S.failure_count result.inner ≡ S.failure_count inner }
     {
         RangeSource {
@@ -87,6 +89,8 @@ impl<S: Source> RangeSource<S> {
             (S.remaining self.old.inner))
             (told_of self.new.phase self.new.ahead.to_pass self.new.left self.new.held
             (S.remaining self.new.inner)) }
+        ensures held { HoldsNoMore self.old.phase self.old.held
+            → HoldsNoMore self.new.phase self.new.held }
         ensures index { KeepsIndex
             (told_index self.old.phase self.old.ahead self.old.held (S.remaining self.old.inner))
             (told_index self.new.phase self.new.ahead self.new.held (S.remaining self.new.inner)) }
@@ -122,6 +126,8 @@ impl<S: Source> RangeSource<S> {
             (S.remaining self.old.inner))
             (told_of self.new.phase self.new.ahead.to_pass self.new.left self.new.held
             (S.remaining self.new.inner)) }
+        ensures held { HoldsNoMore self.old.phase self.old.held
+            → HoldsNoMore self.new.phase self.new.held }
         ensures index { KeepsIndex
             (told_index self.old.phase self.old.ahead self.old.held (S.remaining self.old.inner))
             (told_index self.new.phase self.new.ahead self.new.held (S.remaining self.new.inner)) }
@@ -146,6 +152,7 @@ impl<S: Source> RangeSource<S> {
         ensures size { IfSome result (λ size.
             IfTold (prepend_known self.now.held (S.remaining self.now.inner))
             (λ bytes. told_piece bytes ≡ Some size)) }
+        ensures none { IfSome result (λ _. length self.now.held ≡ 0) }
         ensures range { IfSome result (λ size. (6 ≤ size) × (size ≤ longest_packet)) }
     {
         if !self.held.bytes().is_empty() {
@@ -164,6 +171,8 @@ impl<S: Source> RangeSource<S> {
             (S.remaining self.old.inner))
             (told_of self.new.phase self.new.ahead.to_pass self.new.left self.new.held
             (S.remaining self.new.inner)) }
+        ensures held { HoldsNoMore self.old.phase self.old.held
+            → HoldsNoMore self.new.phase self.new.held }
         ensures inner { self.new.inner ≡ self.old.inner }
     {
         let Some(left) = self.left else {
@@ -187,6 +196,10 @@ impl<S: Source> RangeSource<S> {
             (S.remaining self.old.inner))
             (told_of self.new.phase self.new.ahead.to_pass self.new.left self.new.held
             (S.remaining self.new.inner)) }
+        ensures held { HoldsNoMore self.old.phase self.old.held
+            → HoldsNoMore self.new.phase self.new.held }
+        ensures behind { IsAllGiven self.old.phase self.old.left
+            → (self.new.inner ≡ self.old.inner) × (self.new.phase ≡ Phase.Between) }
         ensures decided { OnOk result (IsDecided self.new.phase self.new.left) }
         ensures count { CountsFailure (S.failure_count self.old.inner) result
             (S.failure_count self.new.inner) }
@@ -222,6 +235,10 @@ impl<S: Source> RangeSource<S> {
             (S.remaining self.old.inner))
             (told_of self.new.phase self.new.ahead.to_pass self.new.left self.new.held
             (S.remaining self.new.inner)) }
+        ensures held { HoldsNoMore self.old.phase self.old.held
+            → HoldsNoMore self.new.phase self.new.held }
+        ensures behind { IsAllGiven self.old.phase self.old.left
+            → (self.new.inner ≡ self.old.inner) × (self.new.phase ≡ Phase.Between) }
         ensures decided { OnOk result (IsDecided self.new.phase self.new.left) }
         ensures lent { lent_of self.old.phase self.old.held (S.lent self.old.inner) ≢ []
             → (self.new ≡ self.old) × (result ≡ Ok tt) }
@@ -266,6 +283,11 @@ impl<S: Source> Source for RangeSource<S> {
         ensures lent { GivesLent
             (lent_of self.old.phase self.old.held (S.lent self.old.inner))
             (lent_of self.new.phase self.new.held (S.lent self.new.inner)) to.new result }
+        // Nothing is read behind the last piece of the range.
+        ensures held { HoldsNoMore self.old.phase self.old.held
+            → HoldsNoMore self.new.phase self.new.held }
+        ensures behind { IsAllGiven self.old.phase self.old.left
+            → self.new.inner ≡ self.old.inner }
         ensures count { CountsFailure (S.failure_count self.old.inner) result
             (S.failure_count self.new.inner) }
     {
@@ -311,7 +333,23 @@ impl<S: Source> Source for RangeSource<S> {
     /// # Errors
     ///
     /// `Failed` where the source inside fails.
-    fn read_on(&mut self) -> Result<(), Failed> {
+    fn read_on(&mut self) -> Result<(), Failed>
+        requires { CanFail (S.failure_count self.old.inner) }
+        ensures bytes { Keeps
+            (told_of self.old.phase self.old.ahead.to_pass self.old.left self.old.held
+            (S.remaining self.old.inner))
+            (told_of self.new.phase self.new.ahead.to_pass self.new.left self.new.held
+            (S.remaining self.new.inner)) }
+        ensures ready { lent_of self.old.phase self.old.held (S.lent self.old.inner) ≢ []
+            → (self.new ≡ self.old) × (result ≡ Ok tt) }
+        // Nothing is read behind the last piece of the range.
+        ensures held { HoldsNoMore self.old.phase self.old.held
+            → HoldsNoMore self.new.phase self.new.held }
+        ensures behind { IsAllGiven self.old.phase self.old.left
+            → self.new.inner ≡ self.old.inner }
+        ensures count { CountsFailure (S.failure_count self.old.inner) result
+            (S.failure_count self.new.inner) }
+    {
         let is_behind = match self.phase {
             Phase::Between | Phase::Giving(0) => self.left == Some(0),
             Phase::Passing | Phase::Giving(_) | Phase::Open => false,
@@ -325,7 +363,21 @@ impl<S: Source> Source for RangeSource<S> {
     /// Passes over bytes that are lent, in the source inside. Behind the last of a piece the next
     /// one is lent at once, where its size is known by what the source inside lends.
     #[inline(always)]
-    fn pass(&mut self, count: usize) -> bool {
+    fn pass(&mut self, count: usize) -> bool
+        requires some { 0 < count }
+        requires count { CanFail (S.failure_count self.old.inner) }
+        ensures whole { count ≤ length (lent_of self.old.phase self.old.held
+            (S.lent self.old.inner)) → result ≡ true }
+        ensures bytes { result ≡ true → PassesOver
+            (told_of self.old.phase self.old.ahead.to_pass self.old.left self.old.held
+            (S.remaining self.old.inner)) count
+            (told_of self.new.phase self.new.ahead.to_pass self.new.left self.new.held
+            (S.remaining self.new.inner)) }
+        ensures none { result ≡ false → self.new ≡ self.old }
+        ensures held { HoldsNoMore self.old.phase self.old.held
+            → HoldsNoMore self.new.phase self.new.held }
+        ensures count { S.failure_count self.new.inner ≡ S.failure_count self.old.inner }
+    {
         if !self.held.bytes().is_empty() {
             return false;
         }

@@ -7,7 +7,7 @@ use Rattle.sub_io.proofs.DeviceLemmas.{Consumes-more}
 use Rattle.ttx_pes.proofs.held_bytes.read_on.Goals as goal
 
 pub loop-at-preserved : goal.loop-at-preserved
-loop-at-preserved g c = grind (arith, nat_tests, Consumes-more)
+loop-at-preserved g c = grind (arith, nat_tests, take-put_mid_below, Consumes-more)
 
 pub returns-in-Err-clause-bytes : goal.returns-in-Err-clause-bytes
 returns-in-Err-clause-bytes g c = grind (arith, nat_tests, take-put_mid_below, Consumes-kept)

@@ -8,6 +8,9 @@ invariant-loop-at g l = record {
   from : l.held ≤ l.at;
   bound : l.at ≤ length l.room;
   size : length l.room ≡ length l.initial.room;
+  kept : take l.held l.room ≡ take l.held l.initial.room;
+  few : l.held ≤ l.least → l.at ≤ l.least;
+  none : l.least ≤ l.held → (l.at ≡ l.held) × (l.source ≡ l.initial.source);
   bytes : Consumes
       (prepend_known (take l.held l.initial.room) (g.S.Source.remaining l.initial.source))
       (g.S.Source.remaining l.source) (take l.at l.room);

@@ -1,7 +1,7 @@
--- What is given next: kept_lent, kept_piece, kept_open.
+-- What is given next: kept_lent, kept_piece, kept_open; and how much is held: holds_six.
 use Rattle.std.proofs.Common.{◌≡◌, ◌∙◌, None, Some, ap, arith, sym}
 use Rattle.ttx_pes.specs.PieceRange.{told_piece}
-use Rattle.ttx_pes.proofs.PieceRangeLemmas.{kept_lent, kept_open, kept_piece}
+use Rattle.ttx_pes.proofs.PieceRangeLemmas.{holds_six, kept_lent, kept_open, kept_piece}
 use Rattle.ttx_pes.proofs.range_source.RangeSource.decide.Goals as goal
 
 pub returns-in-Some-lent_piece-clause-kept : goal.returns-in-Some-lent_piece-clause-kept
@@ -27,3 +27,12 @@ returns-in-None-clause-kept g c =
     rw (c.requires.phase, c.in-Some.is)
     (kept_open _ _ _ held 0 0 c.in-Some.left (omega (arith, c.if-left-eq0.false))
     c.in_ok-read_up_to.ensures.bytes c.in_ok-read_up_to.ensures.end told)
+
+pub returns-in-Some-lent_piece-clause-held : goal.returns-in-Some-lent_piece-clause-held
+returns-in-Some-lent_piece-clause-held g c = λ _.
+    omega (arith, c.in-Some-lent_piece.ensures.none)
+
+pub returns-in_err-read_up_to-clause-held : goal.returns-in_err-read_up_to-clause-held
+returns-in_err-read_up_to-clause-held g c =
+    rw c.requires.phase (λ few. holds_six c.args.self.now.held c.read_up_to.new.self few
+    c.in_err-read_up_to.ensures.few c.in_err-read_up_to.ensures.none)

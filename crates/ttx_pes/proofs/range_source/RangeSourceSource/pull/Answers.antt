@@ -1,9 +1,12 @@
--- What is pulled is given: pulls_piece, pulls_none; and is the first that was lent: lent_gives.
-use Rattle.std.proofs.Common.{◌≡◌, ◌<◌, ◌++◌, arith, drop, length-append}
-use Rattle.std.proofs.Common.{Ok, Some, inl, inr, refl, subst}
+-- What is pulled is given: pulls_piece, pulls_none; and is the first that was lent: lent_gives. All
+-- bytes that are held are of the piece, and behind the range none is asked for.
+use Rattle.std.proofs.Common.{◌≡◌, ◌<◌, ◌≤◌, ◌∙◌, ◌++◌, ap, arith, drop, length, length-append}
+use Rattle.std.proofs.Common.{Ok, Some, inl, inr, refl, subst, sym}
 use Rattle.std.proofs.lemmas.List.{length-drop, length-take-le, take-append-le}
 use Rattle.sub_io.specs.declared.source.Failed.{Failed}
-use Rattle.ttx_pes.specs.PieceRange.{IsDecided}
+use Rattle.ttx_pes.specs.PieceRange.{HoldsNoMore, IsDecided}
+use Rattle.ttx_pes.specs.declared.range_source.Phase.{Phase}
+use Rattle.ttx_pes.specs.declared.range_source.Phase.TheVariants.{Between, Giving, Open}
 use Rattle.ttx_pes.proofs.PieceRangeLemmas.{lent_gives, pulls_after, pulls_none, pulls_piece}
 use Rattle.ttx_pes.proofs.range_source.RangeSourceSource.pull.Goals as goal
 
@@ -67,3 +70,37 @@ returns-in-Passing-clause-bytes g c =
           pulls_after {E = Failed} _ _ _ c.args.to.now (Ok 0) c.in_ok-settle.ensures.kept
           (rw between (pulls_none Failed _ _ c.args.to.now 0 _ none))
     ]
+
+pub returns-in_err-n-in-Giving-clause-held : goal.returns-in_err-n-in-Giving-clause-held
+returns-in_err-n-in-Giving-clause-held g c = λ few.
+    rw c.in_err-n-in-Giving.ensures.err (c.in_ok-settle.ensures.held few)
+
+pub returns-in_ok-n-in-Giving-clause-held : goal.returns-in_ok-n-in-Giving-clause-held
+returns-in_ok-n-in-Giving-clause-held g c = λ few.
+    let held = c.settle.new.self.held in
+    let within : length held ≤ c.in-Giving.size =
+    subst (λ p. HoldsNoMore p held) c.in-Giving.is (c.in_ok-settle.ensures.held few) in
+    omega (
+      arith,
+      within,
+      ap length c.in_ok-n-in-Giving.ensures.held,
+      length-drop c.in_ok-n-in-Giving.n held,
+    )
+
+pub returns-in_err-n-in-Giving-clause-behind : goal.returns-in_err-n-in-Giving-clause-behind
+returns-in_err-n-in-Giving-clause-behind g c = λ all.
+    let other : Between ≡ Giving c.in-Giving.size =
+    sym (c.in_ok-settle.ensures.behind all).1 ∙ c.in-Giving.is in
+    absurd cc
+
+pub returns-in_ok-n-in-Giving-clause-behind : goal.returns-in_ok-n-in-Giving-clause-behind
+returns-in_ok-n-in-Giving-clause-behind g c = λ all.
+    let other : Between ≡ Giving c.in-Giving.size =
+    sym (c.in_ok-settle.ensures.behind all).1 ∙ c.in-Giving.is in
+    absurd cc
+
+pub returns-in-Open-clause-behind : goal.returns-in-Open-clause-behind
+returns-in-Open-clause-behind g c = λ all.
+    let other : Between ≡ Open =
+    sym (c.in_ok-settle.ensures.behind all).1 ∙ c.in-Open.is in
+    absurd cc
