@@ -1,5 +1,5 @@
 -- Which files are asked for of those that a request names, in which order, and what is opened then.
-use Rattle.std.specs.Prelude.{◌≡◌, ℕ, Bool, true, false, List, [], ◌∷◌, Option, Some, None}
+use Rattle.std.specs.Prelude.{◌≡◌, ℕ, ◌*◌, Bool, true, false, List, [], ◌∷◌, Option, Some, None}
 use Rattle.std.specs.Prelude.{option_map}
 use Rattle.sub_request.specs.declared.files.FileNames.{FileNames}
 use Rattle.sub_request.specs.declared.files.FileNames.TheVariants as names
@@ -65,6 +65,17 @@ pub record OpensBy
   pub calls : List (FileCall I O)
   pub are_made : AreMade calls
   pub opens : Opens names calls result
+
+-- The bytes of a buffer: what a system call reads or writes at once.
+abbrev pub buffer_size : ℕ
+buffer_size = 0x1_0000
+
+-- The bytes of the buffers of these files, one for each.
+abbrev pub rooms_size : FileNames → ℕ
+rooms_size (names.ReadBoth stl pes) = 2 * buffer_size
+rooms_size (names.Write stl output) = 2 * buffer_size
+rooms_size (names.Extract recording output) = 2 * buffer_size
+rooms_size _ = buffer_size
 
 -- Why files are not opened: memory ran out, and nothing was asked for; or a call for one of those
 -- that are named opened nothing, or found it unfit to be written.

@@ -4,7 +4,7 @@
 //! device or the lines in it.
 ghost use Rattle.std.specs.Prelude.{◌≡◌, ◌≤◌, [], ◌∷◌, IfSome, vec_len};
 ghost use Rattle.sub_files.specs.FileCalls.{CallsInTurn, FileCall};
-ghost use Rattle.sub_files.specs.Opening.{AreUnused, OpensBy};
+ghost use Rattle.sub_files.specs.Opening.{AreUnused, OpensBy, rooms_size};
 
 use crate::apart::Found;
 use crate::file_system::FileSystem;
@@ -41,7 +41,8 @@ pub fn room(alloc: Global, size: usize) -> Option<Vec<u8>>
 
 /// The bytes of the buffers of these files.
 pub fn size_of_rooms(names: &FileNames<'_>) -> usize
-    ensures { 2 ≤ result }
+    ensures size { result ≡ rooms_size names.now }
+    ensures least { 2 ≤ result }
 {
     match names {
         FileNames::ReadBoth(..) | FileNames::Write(..) | FileNames::Extract(..) => 2 * BUFFER,
