@@ -1,5 +1,5 @@
 -- What is told of the whole file decides the answer of `check`: `answered`, `accepted_none`,
--- `refused_first`; and of `check_all`, `checked_first`, `tells_events`, `tells_what_may_stay`.
+-- `refused_first`; and of `check_all`, `checked_first`, `tells_events`.
 use Rattle.std.proofs.lemmas.Bool.Decides.{nat_tests}
 use Rattle.std.proofs.lemmas.Slice.Zip.{AllZip-long}
 use Rattle.std.proofs.Common.{◌≡◌, ◌≢◌, ◌↔◌, ℕ, ◌≤◌, List, [], Bool, All, Option, Some, None}

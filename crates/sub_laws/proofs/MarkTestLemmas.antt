@@ -1,6 +1,6 @@
--- For `law_of_all_trusted` and `law_of_nothing_told_of_pieces`.
+-- For `law_of_all_trusted` and `law_of_nothing_told`.
 -- A test of marks that none of these passes that come of pieces: `before_passes`. What is told with
--- such marks: `told_passes`, `announced_passes`.
+-- such marks: `told_fine`, `first_fine`.
 use Rattle.std.proofs.lemmas.Bool.Decides.{nat_tests}
 use Rattle.std.proofs.Common.{◌≡◌, ℕ, zero, suc, ◌+◌, ◌==◌, Bool, true, false, List, [], ◌∷◌, ◌++◌}
 use Rattle.std.proofs.Common.{length, map, Option, None, Some, refl, ◌∙◌, arith, if◌then◌else◌}

@@ -1,8 +1,8 @@
 -- For what is told and what may stay.
 -- What comes of pieces, followed mark after mark: with the frames that they send, each of which
 -- ends, and with those that are passed over. What is kept meanwhile is any value, X, and what it is
--- once what follows is told of another PES packet, `told_of`. Main lemmas: `each_piece`, and
--- `waits`, of the last frame.
+-- once what follows is told of another PES packet, `told_of`. Main lemmas: `each_piece`;
+-- `waits`. The last frame waits.
 use Rattle.std.proofs.Common.{◌≡◌, ℕ, suc, ◌-◌, ◌<◌, ◌⊎◌, inl, inr, Bool, true, false, ◌==◌}
 use Rattle.std.proofs.Common.{List, [], ◌∷◌, ◌++◌, length, map, Some, refl, sym, ap, ◌∙◌, subst}
 use Rattle.std.proofs.Common.{arith, append-nil, cond, length-append, if◌then◌else◌}

@@ -1,4 +1,4 @@
--- For `law_of_nothing_told_of_pieces`.
+-- For `law_of_nothing_told`.
 -- What is said by the marks of pieces: where each is sent it is what is told of the frames that
 -- they send. Main lemma: `pieces_said`.
 use Rattle.std.proofs.Common.{◌≡◌, ℕ, zero, suc, ◌+◌, ◌<◌, ◌≤◌, ◌==◌, Bool, true, false, List}

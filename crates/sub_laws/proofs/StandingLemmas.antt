@@ -1,7 +1,7 @@
 -- For what is told and what may stay.
 -- What stands broken at an end: its first wrong cell, `first_wrong`, `none_wrong`; whether the
 -- repeat bound has passed, `gap_decided`; whether the page is open, `incomplete_decided`; and
--- whether anything stands broken, `quiet_decided`.
+-- whether anything stands broken, `stands_broken`.
 use Rattle.std.proofs.Common.{◌≡◌, ◌↔◌, ℕ, zero, suc, ◌+◌, ◌-◌, ◌<◌, ◌≤◌, Bool, true, false, []}
 use Rattle.std.proofs.Common.{length, take, Option, Some, None, refl, sym, subst, arith, not, ◌||◌}
 use Rattle.std.proofs.Common.{◌&&◌, ◌==◌, ◌∙◌, ap, get_or, is_some, option_map}

@@ -1,4 +1,4 @@
--- For `law_of_all_trusted` and `law_of_nothing_told_of_pieces`.
+-- For `law_of_all_trusted` and `law_of_nothing_told`.
 -- Nothing is told of pieces exactly where each is sent and nothing is told of what they send,
 -- `pieces_untold`; and so it is of refusals, `pieces_unrefused`. Of marks: `first_none`,
 -- `each_sent`.

@@ -1,5 +1,5 @@
--- What `clap`'s contract says of the program's own words. Main lemmas: command_in-parsed,
--- refusals-parsed and IsFaultOf-refused for the parse, asked_for-met for its answer.
+-- What clap's contract says of the program's own words. Main lemmas: command_in-parsed,
+-- refusals-parsed and IsFaultOf-refused; asked_for-met. The last is of the answer.
 use Rattle.std.proofs.Common.{◌≡◌, ◌≢◌, ◌∙◌, true, false, List, [], Option, Some, None, Ok, Err}
 use Rattle.std.proofs.Common.{refl, ap, subst, sym, inl, inr, arith, drop, get_or, ◌+◌, ◌≤◌}
 use Rattle.std.specs.Borrow.{Bor}

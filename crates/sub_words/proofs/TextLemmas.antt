@@ -1,5 +1,5 @@
--- What the standard library reads of digits, for the parsers of numbers. Main lemmas: parse-digits
--- for decimal ones, read-hex_digits for hexadecimal ones.
+-- What the standard library reads of digits, for the parsers of numbers. Main lemmas: parse-digits,
+-- read-hex_digits.
 use Rattle.std.proofs.Common.{◌≡◌, ℕ, ◌^◌, ◌<◌, ◌≤◌, ◌∙◌, sym, ap, refl, List, [], ◌∷◌, ◌&&◌}
 use Rattle.std.proofs.Common.{length, Ok, true, false, arith, ◌==◌, lit<, subst}
 use Rattle.std.specs.Prelude.{Result}

@@ -1,4 +1,4 @@
--- A receiver that computes, for examples that are decided: of those of `Receiver` the one that
+-- A receiver that computes, for examples that are decided: of the model receivers the one that
 -- keeps the cells of even bytes. It is one of the relation: `heard_so`. And a test of near packets:
 -- `packets_tested`.
 use Rattle.std.proofs.Common.{◌≡◌, ℕ, ◌-◌, Bool, true, false, ◌&&◌, List, [], ◌∷◌, map, get_or}

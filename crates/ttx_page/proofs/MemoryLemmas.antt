@@ -1,4 +1,4 @@
--- A row as the receivers of this crate store it, column by column: `stored_more`.
+-- A row as the receivers of this crate store it, column by column.
 use Rattle.std.proofs.Common.{◌≡◌, ℕ, ◌+◌, ◌<◌, ◌≤◌, List, length, slice_index}
 use Rattle.ttx_page.specs.declared.memory.EvenByte.{EvenByte}
 use Rattle.ttx_page.specs.Page.{AreCodes}

@@ -31,7 +31,7 @@ size (Short n) = n >>= n
 abbrev pub unused : ℕ
 unused = 0
 """,
-    "crates/low/proofs/SizeLemmas.antt": """-- Lemmas.
+    "crates/low/proofs/SizeLemmas.antt": """-- Lemmas of `size`; main lemmas: size_is, renamed.
 use Rattle.low.specs.Words.{size}
 use Rattle.low.specs.Words.Word.{Short}
 
@@ -186,6 +186,17 @@ class GraphTest(unittest.TestCase):
         self.assertEqual(self.one("helper").lines, 5)
         self.assertEqual(self.one("declared").lines, 2)
         self.assertEqual(len([it for it in self.graph.functions if it.file.crate == "low"]), 3)
+
+    def test_heads(self) -> None:
+        for text, wanted in (
+            ("-- Of `size`: main lemmas: size_is, outer and deeper. Not dead.\n-- `gone-by`\nx",
+             {"size", "size_is", "outer", "deeper", "gone-by"}),
+            ("-- What `check --all` tells.\n\n-- `later`", set()),
+            ("use A\n-- `later`", set()),
+        ):
+            self.assertEqual(graph.named_at_head(text), wanted, text)
+        wrong = self.graph.wrong_heads()
+        self.assertEqual({name for names in wrong.values() for name in names}, {"renamed"})
 
     def test_crates_below(self) -> None:
         self.assertEqual(self.graph.below, {"low": [], "app": ["low"]})
