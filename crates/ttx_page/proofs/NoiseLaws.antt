@@ -22,7 +22,7 @@ use Rattle.ttx_page.specs.Receiver.{HearsBy, ReceiverClass, State}
 use Rattle.ttx_page.specs.Receiver.ReceiverClass.{Storing}
 use Rattle.ttx_page.specs.Span.{holds_header, is_unended, is_open_after, span}
 use Rattle.ttx_page.specs.Shown.{shown, IsHit}
-use Rattle.ttx_page.specs.Noise.{IsOddRow, IsSound, LawOfNoise, LawOfQuiet}
+use Rattle.ttx_page.specs.Noise.{HasSameCodes, IsSound, LawOfNoise, LawOfQuiet}
 use Rattle.ttx_page.specs.LostRows.{IsHitOrLost, LawOfLostRows, LawOfNothingLost, MayBeMarked}
 use Rattle.ttx_page.specs.LostRows.{arrivals_of}
 use Rattle.ttx_page.specs.Recovery.{LawOfRecovery}
@@ -33,18 +33,19 @@ use Rattle.ttx_page.proofs.NoiseSteps.{kind_of_item, row_from_test}
 use Rattle.ttx_page.proofs.RepeatLaws.{law_of_forgetting, law_of_repeats}
 use Rattle.ttx_page.proofs.TextSpan.{beginning-none_keeps, text_span-none_keeps}
 
--- Each packet of a row in the span has the code that is shown. Also for `LateStart`.
-pub shown_is : (w : PageIdValue) (sent : List (List ℕ)) (row column : ℕ) (packet : List ℕ)
-    → IsSound w sent
-    → Contains (span (kind w) sent) packet
+-- Of packets of which those of one row have the same codes, each has the code of the first of its
+-- row. For a checker's laws.
+pub first_code : (w : PageIdValue) (spanned : List (List ℕ)) (row column : ℕ) (packet : List ℕ)
+    → All (λ first. All (HasSameCodes w first) spanned) spanned
+    → Contains spanned packet
     → kind w packet ≡ Row row
     → column < 40
-    → code_of (text_byte packet column) ≡ shown w sent row column
-shown_is w sent row column packet sound within is below = go (find test spanned) refl
+    → code_of (text_byte packet column)
+    ≡ unwrap_or
+    (option_map (λ p. code_of (text_byte p column)) (find (λ p. is_row row (kind w p)) spanned))
+    space
+first_code w spanned row column packet same within is below = go (find test spanned) refl
   where
-    spanned : List (List ℕ)
-    spanned = span (kind w) sent
-
     test : List ℕ → Bool
     test p = is_row row (kind w p)
 
@@ -54,8 +55,18 @@ shown_is w sent row column packet sound within is below = go (find test spanned)
         ≡ unwrap_or (option_map (λ p. code_of (text_byte p column)) o) space
     go None e =
         let none = none_pass test spanned e in
-        grind (arith, nat_tests, none_pass, test, spanned, list_any_at)
-    go (Some first) e = search (rules, find_is, test, spanned, All-contains, row_from_test)
+        grind (arith, nat_tests, none_pass, test, list_any_at)
+    go (Some first) e = search (rules, find_is, test, All-contains, row_from_test)
+
+-- Each packet of a row in the span has the code that is shown. Also for `LateStart`.
+pub shown_is : (w : PageIdValue) (sent : List (List ℕ)) (row column : ℕ) (packet : List ℕ)
+    → IsSound w sent
+    → Contains (span (kind w) sent) packet
+    → kind w packet ≡ Row row
+    → column < 40
+    → code_of (text_byte packet column) ≡ shown w sent row column
+shown_is w sent row column packet sound within is below =
+    first_code w (span (kind w) sent) row column packet sound.same within is below
 
 -- ---- the laws
 
@@ -198,7 +209,7 @@ law_of_noise w sent got old new sound near unheard shut hears =
       ];
     }
 
--- ---- with no wrong bit
+-- ---- with no wrong bit: for `QuietLaws`
 
 -- A packet is near itself.
 AreNear-itself : (packet : List ℕ) → AreNear packet packet
@@ -209,32 +220,3 @@ AreNear-itself (b ∷ bs) = (inl refl, AreNear-itself bs)
 pub AreNear-themselves : (packets : List (List ℕ)) → AllZip AreNear packets packets
 AreNear-themselves [] = tt
 AreNear-themselves (p ∷ ps) = (AreNear-itself p, AreNear-themselves ps)
-
--- A packet beside itself.
-abbrev twice : List ℕ → List ℕ × List ℕ
-twice p = (p, p)
-
--- A list beside itself.
-zip-itself : (packets : List (List ℕ)) → zip packets packets ≡ map twice packets
-zip-itself [] = refl
-zip-itself (p ∷ ps) = ap (λ xs. (p, p) ∷ xs) (zip-itself ps)
-
--- Where nothing is wrong no cell is hit.
-no_hit : (w : PageIdValue) (packets : List (List ℕ)) (row column : ℕ)
-    → IsHit w packets packets row column
-    → ⊥
-no_hit w packets row column hit =
-    let K : List ℕ × List ℕ → PacketKind = λ pair. kind w pair.0 in
-    let same : span K (zip packets packets) ≡ map twice (span (kind w) packets) =
-    ap (span K) (zip-itself packets) ∙ span-map K twice packets in
-    let at = Any-map _ twice _ (rw same at hit) in grind arith
-
--- The law of quiet: that of noise, with what was sent got.
-pub law_of_quiet : LawOfQuiet
-law_of_quiet w sent old new sound unheard shut hears heard row column named =
-    let ends =
-    law_of_noise w sent sent old new sound (AreNear-themselves sent) unheard shut hears in
-    elim (ends.cells heard row column named) [
-      | inl same ↦ same
-      | inr hit ↦ absurd (no_hit w sent row column hit.1)
-    ]

@@ -20,7 +20,7 @@ use Rattle.ttx_packet.proofs.NearPackets.{address-near, header-near, near_at}
 use Rattle.ttx_page.specs.Page.{space, blank, blank_row, cell, IsCell}
 use Rattle.ttx_page.specs.declared.packet_kind.PacketKind.{PacketKind}
 use Rattle.ttx_page.specs.declared.packet_kind.PacketKind.TheVariants.{Row}
-use Rattle.ttx_page.specs.PacketKind.{begins, kind, is_this_page, ends_page, is_row}
+use Rattle.ttx_page.specs.PacketKind.{begins_text, kind, is_this_page, ends_page, is_row}
 use Rattle.ttx_page.specs.DroppedRows.{ExcusedBy}
 use Rattle.ttx_page.specs.Receiver.{ReceiverClass, State, is_dropped}
 use Rattle.ttx_page.specs.Receiver.ReceiverClass.{Dropping, Storing}
@@ -125,7 +125,7 @@ record AtItem
       ≡ (is_this_page (kind w sent) || (old.is_open && not (ends_page (kind w sent))))
   -- A header with which the text begins erases the page, and so does each header in a receiver that
   -- begins anew.
-  erased : (begins keeps (kind w sent) || (anew && is_this_page (kind w sent))) ≡ true
+  erased : (begins_text keeps (kind w sent) || (anew && is_this_page (kind w sent))) ≡ true
       → cell new.page row column ≡ space
   -- At another header the cell stays, or becomes a space.
   repeated : is_this_page (kind w sent) ≡ true
@@ -142,7 +142,7 @@ record AtItem
       → TakesCode class row column sent arrival old new
 
 -- Each cell of the blank page is a space.
-cell-blank : (row column : ℕ) → IsCell row column → cell blank row column ≡ space
+pub cell-blank : (row column : ℕ) → IsCell row column → cell blank row column ≡ space
 unfolding blank blank_row
 cell-blank row column named =
     grind (arith, nat_tests, get_or-replicate, get_or-replicate 40 column space 0 named.2)
@@ -209,10 +209,10 @@ at_got keeps anew Dropping w row column sent got old new named exact erases near
 -- ---- a run
 
 -- Of tests that pass together, each.
-both_left : (x y : Bool) → (x && y) ≡ true → x ≡ true
+pub both_left : (x y : Bool) → (x && y) ≡ true → x ≡ true
 both_left x y e = grind (arith, nat_tests)
 
-both_right : (x y : Bool) → (x && y) ≡ true → y ≡ true
+pub both_right : (x y : Bool) → (x && y) ≡ true → y ≡ true
 both_right x y e = grind (arith, nat_tests)
 
 -- One cell of the page, the code that it is to show, and what excuses a space in its place.
@@ -284,7 +284,7 @@ module _ (keeps anew : Bool) (class : ReceiverClass) (w : PageIdValue) (row colu
     old_text = text_span keeps K items
 
     -- The packets before it are targets where all are, but at a header with which the text begins.
-    targets_before : begins keeps (kind w sent) ≡ false
+    targets_before : begins_text keeps (kind w sent) ≡ false
         → AreTargets (items ++ item ∷ [])
         → AreTargets items
     targets_before no_begin targets x within =
@@ -315,7 +315,7 @@ module _ (keeps anew : Bool) (class : ReceiverClass) (w : PageIdValue) (row colu
         (rw (in_text, k, up) last_text, rw (in_span, k, up) last_span)
 
     -- It is fresh by the packets before it, where it is by all and the text does not begin here.
-    fresh_before : begins keeps (kind w sent) ≡ false
+    fresh_before : begins_text keeps (kind w sent) ≡ false
         → IsFreshCell start (items ++ item ∷ [])
         → IsFreshCell start items
     fresh_before no_begin fresh = let more = beginning-push K keeps items item in
@@ -327,10 +327,11 @@ module _ (keeps anew : Bool) (class : ReceiverClass) (w : PageIdValue) (row colu
         → AreTargets (items ++ item ∷ [])
         → (cell new.page row column ≡ code) ⊎ (cell new.page row column ≡ space)
     coarse_at_header header fresh targets =
-        elim (cases_Bool (begins keeps (kind w sent) || (anew && is_this_page (kind w sent)))) [
+        elim
+        (cases_Bool (begins_text keeps (kind w sent) || (anew && is_this_page (kind w sent)))) [
           | inl erased ↦ inr (at.erased erased)
           | inr keeping ↦
-              let no_begin : begins keeps (kind w sent) ≡ false = grind (arith, nat_tests) in
+              let no_begin : begins_text keeps (kind w sent) ≡ false = grind (arith, nat_tests) in
               let none : anew ≡ false = grind (arith, nat_tests) in
               let before = fresh_before no_begin fresh in
               let old_targets = targets_before no_begin targets in
@@ -354,7 +355,7 @@ module _ (keeps anew : Bool) (class : ReceiverClass) (w : PageIdValue) (row colu
         → (cell new.page row column ≡ code) ⊎ (cell new.page row column ≡ space)
     coarse_at_packet packet holds fresh targets =
         let header = begins_is_header keeps (kind w sent) in
-        let no_begin : begins keeps (kind w sent) ≡ false = grind (arith, nat_tests) in
+        let no_begin : begins_text keeps (kind w sent) ≡ false = grind (arith, nat_tests) in
         let coarse =
         was.code_or_space holds (fresh_before no_begin fresh) (targets_before no_begin targets) in
         let up = was.is_open in
@@ -397,7 +398,7 @@ module _ (keeps anew : Bool) (class : ReceiverClass) (w : PageIdValue) (row colu
         ⊎ (list_any (λ (x : Item). is_row row (kind w x.0)) (span K (items ++ item ∷ [])) ≡ false))
     fine_at_packet packet holds fresh targets gives =
         let header = begins_is_header keeps (kind w sent) in
-        let no_begin : begins keeps (kind w sent) ≡ false = grind (arith, nat_tests) in
+        let no_begin : begins_text keeps (kind w sent) ≡ false = grind (arith, nat_tests) in
         let up : old.is_open ≡ is_open_after K items = was.is_open (rw holds refl) in
         elim (cases_Bool (is_open_after K items && is_row row (kind w sent))) [
           | inl stored ↦

@@ -178,7 +178,8 @@ kept_shown w packets row column =
 -- ---- receivers that keep
 
 -- A step of one is a step of one that may forget.
-pub forgets : (class : ReceiverClass) (w : PageIdValue) (old : State) (packet : List ℕ) (new : State)
+pub forgets : (class : ReceiverClass) (w : PageIdValue) (old : State) (packet : List ℕ)
+    (new : State)
     → StepBy class w old packet new
     → StepForgetting class false w old packet new
 forgets Storing w old packet new step = grind (arith, nat_tests)

@@ -56,15 +56,6 @@ law_of_screen class w packets old new run holds shut =
 
 -- ---- for a checker's laws
 
--- What is held goes by the relation of the class.
-pub held_by :
-    (class : ReceiverClass) (w : PageIdValue) (packets : List (List ℕ)) (old new : Display)
-    → ShowsBy class w old packets new
-    → HearsBy class w old.held packets new.held
-held_by class w packets old new run =
-    RunsBy-as _ (StepBy class w) (λ (d : Display). d.held) packets old new
-    (λ before packet after step. step.0) run
-
 -- What is held goes by the relation of receivers that may forget.
 pub held_forgetting :
     (class : ReceiverClass) (anew : Bool) (w : PageIdValue) (packets : List (List ℕ))

@@ -9,19 +9,19 @@ use Rattle.std.proofs.lemmas.List.Folds.{list_any-append}
 use Rattle.ttx_page.proofs.SpanLists.{after-none, list_any-map, map-cond}
 use Rattle.ttx_page.proofs.SpanPush.{list_any-push}
 use Rattle.ttx_page.specs.declared.packet_kind.PacketKind.{PacketKind}
-use Rattle.ttx_page.specs.PacketKind.{begins, is_this_page, ends_page}
+use Rattle.ttx_page.specs.PacketKind.{begins_text, is_this_page, ends_page}
 use Rattle.ttx_page.specs.Span.{holds_header, after_last_header, before_end, is_open_after, span}
 use Rattle.ttx_page.specs.Span.{from_beginning, holds_beginning, is_unended, text_span, while_open}
 
 -- A header with which the text begins is a header of the page.
 pub begins_is_header : (keeps : Bool) (k : PacketKind)
-    → begins keeps k ≡ true
+    → begins_text keeps k ≡ true
     → is_this_page k ≡ true
 begins_is_header keeps k e = grind (arith, nat_tests)
 
 -- Where repeats may not keep, each header begins it.
-pub begins_where_none_keeps : (k : PacketKind) → begins false k ≡ is_this_page k
-begins_where_none_keeps k = grind (arith, nat_tests)
+pub begins_at_each : (k : PacketKind) → begins_text false k ≡ is_this_page k
+begins_at_each k = grind (arith, nat_tests)
 
 module _ {A : Type 0} (kind_of : A → PacketKind) where
   -- Whether the page is open after items, where it is open before them or is not.
@@ -57,7 +57,7 @@ module _ {A : Type 0} (kind_of : A → PacketKind) where
     -- Whether the text begins, one item on.
     pub beginning-push : (xs : List A) (x : A)
         → holds_beginning keeps kind_of (xs ++ x ∷ [])
-        ≡ (begins keeps (kind_of x) || holds_beginning keeps kind_of xs)
+        ≡ (begins_text keeps (kind_of x) || holds_beginning keeps kind_of xs)
     beginning-push xs x = grind (arith, nat_tests, list_any-push)
 
     -- Where the text begins there is a header of the page.
@@ -73,7 +73,7 @@ module _ {A : Type 0} (kind_of : A → PacketKind) where
     -- What stands from the last beginning on, one item on.
     from-push : (xs : List A) (x : A)
         → from_beginning keeps kind_of (xs ++ x ∷ [])
-        ≡ cond (begins keeps (kind_of x)) (x ∷ []) (from_beginning keeps kind_of xs ++ x ∷ [])
+        ≡ cond (begins_text keeps (kind_of x)) (x ∷ []) (from_beginning keeps kind_of xs ++ x ∷ [])
     from-push [] x = grind (arith, nat_tests)
     from-push (y ∷ ys) x = grind (arith, nat_tests, beginning-push, from-push ys x)
 
@@ -98,7 +98,7 @@ module _ {A : Type 0} (kind_of : A → PacketKind) where
     -- the page is open, and the item is no header of it and does not end it.
     pub text_span-push : (xs : List A) (x : A)
         → text_span keeps kind_of (xs ++ x ∷ [])
-        ≡ cond (begins keeps (kind_of x)) []
+        ≡ cond (begins_text keeps (kind_of x)) []
         (cond
         (is_open_after kind_of xs && not (is_this_page (kind_of x)) && not (ends_page (kind_of x)))
         (text_span keeps kind_of xs ++ x ∷ []) (text_span keeps kind_of xs))
@@ -116,7 +116,7 @@ module _ {A : Type 0} (kind_of : A → PacketKind) where
     abbrev pub EachBegins : List A → Type 0
     EachBegins xs =
         AllByRecursion
-        (λ x. is_this_page (kind_of x) ≡ true → begins keeps (kind_of x) ≡ true) xs
+        (λ x. is_this_page (kind_of x) ≡ true → begins_text keeps (kind_of x) ≡ true) xs
 
     -- Then one is held where the other is.
     pub beginning-same : (xs : List A)
@@ -156,7 +156,7 @@ module _ {A : Type 0} (kind_of : A → PacketKind) where
   each_begins : (xs : List A) → EachBegins false xs
   each_begins [] = tt
   each_begins (x ∷ xs) =
-      (λ this. begins_where_none_keeps (kind_of x) ∙ this, each_begins xs)
+      (λ this. begins_at_each (kind_of x) ∙ this, each_begins xs)
 
   -- So there the long span is the span, and the text begins with each header.
   pub text_span-none_keeps : (xs : List A) → text_span false kind_of xs ≡ span kind_of xs
@@ -219,7 +219,7 @@ module _ {A : Type 0} (kind_of : A → PacketKind) where
         let none = from-none ys in grind (arith, nat_tests)
     from-append (x ∷ xs) ys =
         let rest = from-append xs ys in
-        let both = list_any-append (λ y. begins keeps (kind_of y)) xs ys in
+        let both = list_any-append (λ y. begins_text keeps (kind_of y)) xs ys in
         grind (arith, nat_tests)
 
     -- The long span with items before it is more of it in front, and then all of it.

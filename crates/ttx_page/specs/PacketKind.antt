@@ -2,8 +2,8 @@
 --
 -- Everything that the definitions ask of a packet goes by its kind alone: what a receiver does, the
 -- span, what is shown, what was hit.
-use Rattle.std.specs.Prelude.{ℕ, ◌&&◌, ◌||◌, not, Bool, true, false, List, Option, Some, None, ◌==◌, nat_le}
-use Rattle.std.specs.Prelude.{if◌then◌else◌}
+use Rattle.std.specs.Prelude.{ℕ, ◌&&◌, ◌||◌, not, Bool, true, false, List, Option, Some, None}
+use Rattle.std.specs.Prelude.{◌==◌, nat_le, if◌then◌else◌}
 use Rattle.ttx_packet.specs.declared.header.Header.{Header}
 use Rattle.ttx_packet.specs.PacketAddress.{PacketAddress, address}
 use Rattle.ttx_packet.specs.PageHeader.{c4, c11, header}
@@ -43,9 +43,9 @@ is_this_page _ = false
 
 -- A header with which the text of the page begins: one that erases it, C4 set; where repeats may
 -- not keep what was sent before them, each header of it.
-abbrev pub begins : Bool → PacketKind → Bool
-begins keeps (ThisPage h) = c4 h || not keeps
-begins keeps _ = false
+abbrev pub begins_text : Bool → PacketKind → Bool
+begins_text keeps (ThisPage h) = c4 h || not keeps
+begins_text keeps _ = false
 
 -- A header that ends the page.
 abbrev pub ends_page : PacketKind → Bool

@@ -1,7 +1,7 @@
 -- Receivers of a page whose repeats may keep it: at a header with C4, erase page, clear, a receiver
 -- of the field may keep what it holds, or begin anew.
 use Rattle.std.specs.Prelude.{◌≡◌, ℕ, ◌<◌, ◌⊎◌, ◌||◌, Bool, true, false, not, List, All}
-use Rattle.std.specs.Prelude.{MatchBool, Some, IsTrue, IsFalse}
+use Rattle.std.specs.Prelude.{MatchBool, Some, find, IsTrue, IsFalse}
 use Rattle.std.specs.List.{AllZip, items_where_true, list_any}
 use Rattle.ttx_packet.specs.OneBit.{AreNear}
 use Rattle.ttx_packet.specs.PageHeader.{c4, HasExactWords}
@@ -15,7 +15,8 @@ use Rattle.ttx_page.specs.LostRows.{IsHitOrLost, MayBeMarked, arrivals_of}
 use Rattle.ttx_page.specs.Noise.{ErasesPage, IsOddRow}
 use Rattle.ttx_page.specs.Page.{IsCell, Rows, blank, cell, space}
 use Rattle.ttx_page.specs.PacketKind.{is_row, is_this_page, kind}
-use Rattle.ttx_page.specs.Receiver.{HearsBy, ReceiverClass, RunsBy, State, StepAt, drops}
+use Rattle.ttx_page.specs.Receiver.{Hears, HearsBy, ReceiverClass, RunsBy, State, StepAt, drops}
+use Rattle.ttx_page.specs.Shown.{kept}
 use Rattle.ttx_page.specs.Screen.{Display, ShowsAt}
 use Rattle.ttx_page.specs.Span.{holds_beginning, holds_header, is_open_after, span, text_span}
 
@@ -35,7 +36,7 @@ ForgetsAt (ThisPage h) packet old new =
     (new.heard ≡ true)
     × (new.is_open ≡ true)
     × MatchBool (c4 h) (new.page ≡ blank) (KeepsOrBlanks old.page new.page)
-ForgetsAt other packet old new = StepAt other packet old new
+ForgetsAt k packet old new = StepAt k packet old new
 
 -- Each cell of the page is a space.
 abbrev pub IsBlank : Rows → Type 0
@@ -107,6 +108,21 @@ pub record SendsText
   pub odd : All (IsOddRow w) (text_span keeps (kind w) sent)
   pub codes : All (HasCodes w text) (text_span keeps (kind w) sent)
 
+-- What is asked of a packet that is sent after others: a row that comes while the page is open is
+-- odd, and has the codes of the first packet of its row in the long span.
+pub record MayFollow
+    (keeps : Bool) (w : PageIdValue) (before : List (List ℕ)) (packet : List ℕ)
+    : Type 0 where
+  pub exact : HasExactWords packet
+  pub erases : IsFalse keeps → ErasesPage w packet
+  pub odd : IsTrue (is_open_after (kind w) before) → IsOddRow w packet
+  pub same : IsTrue (is_open_after (kind w) before)
+      → (row column : ℕ) (first : List ℕ)
+      → kind w packet ≡ Row row
+      → find (λ p. is_row row (kind w p)) (text_span keeps (kind w) before) ≡ Some first
+      → column < 40
+      → code_of (text_byte first column) ≡ code_of (text_byte packet column)
+
 -- What a receiver held before is forgotten by these packets: it begins anew at each header; or a
 -- header with which the text begins is one of them; or the page was not open, and blank.
 abbrev pub IsFresh : Bool → Bool → PageIdValue → List (List ℕ) → State → Type 0
@@ -155,3 +171,15 @@ LawOfRepeats =
     → HearsForgetting class anew w old got new
     → EndsForgetting keeps anew w sent text
     (ExcusedBy class (IsHitOrLost w sent (arrivals_of marks got))) old new
+
+-- With no wrong bit a receiver that keeps holds what is kept, where what it held before is
+-- forgotten.
+abbrev pub LawOfKept : Type 0
+LawOfKept =
+    (keeps : Bool) (w : PageIdValue) (sent : List (List ℕ)) (old new : State)
+    → SendsText keeps w sent (kept keeps w sent)
+    → Hears w old sent new
+    → IsFresh keeps false w sent old
+    → (row column : ℕ)
+    → IsCell row column
+    → cell new.page row column ≡ kept keeps w sent row column

@@ -5,10 +5,11 @@
 -- The items of a list are packets, or packets with something beside each; `kind_of` is the kind of
 -- an item's packet. So one span serves what was sent, what was got, and both side by side.
 use Rattle.std.specs.Prelude.{◌≡◌, ℕ, ◌-◌, ◌<◌, ◌≤◌, ◌⊎◌, Bool, ◌&&◌, not, List, [], ◌∷◌, length}
-use Rattle.std.specs.Prelude.{false, if◌then◌else◌, slice_range, true, All, HoldsAt, IsTrue, IsFalse}
+use Rattle.std.specs.Prelude.{true, false, if◌then◌else◌, slice_range, All, HoldsAt, IsTrue}
+use Rattle.std.specs.Prelude.{IsFalse}
 use Rattle.std.specs.List.{list_any, AllWithin}
 use Rattle.ttx_page.specs.declared.packet_kind.PacketKind.{PacketKind}
-use Rattle.ttx_page.specs.PacketKind.{begins, is_this_page, ends_page}
+use Rattle.ttx_page.specs.PacketKind.{begins_text, is_this_page, ends_page}
 
 -- Some item is a header of the page.
 abbrev pub holds_header : {A : Type 0} → (A → PacketKind) → List A → Bool
@@ -44,7 +45,7 @@ is_open_after kind_of items = holds_header kind_of items && is_unended kind_of i
 
 -- Some item is a header with which the text begins.
 abbrev pub holds_beginning : {A : Type 0} → Bool → (A → PacketKind) → List A → Bool
-holds_beginning keeps kind_of items = list_any (λ x. begins keeps (kind_of x)) items
+holds_beginning keeps kind_of items = list_any (λ x. begins_text keeps (kind_of x)) items
 
 -- What stands from the last header on with which the text begins; all where there is none.
 abbrev pub from_beginning : {A : Type 0} → Bool → (A → PacketKind) → List A → List A

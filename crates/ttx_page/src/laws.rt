@@ -6,7 +6,8 @@ ghost use Rattle.ttx_page.specs.DroppedRows.{LawOfDropping};
 ghost use Rattle.ttx_page.specs.LostRows.{LawOfLostRows, LawOfNothingLost};
 ghost use Rattle.ttx_page.specs.Noise.{LawOfNoise, LawOfQuiet};
 ghost use Rattle.ttx_page.specs.Recovery.{LawOfRecovery};
-ghost use Rattle.ttx_page.specs.Repeats.{LawOfForgetting, LawOfForgettingScreen, LawOfRepeats};
+ghost use Rattle.ttx_page.specs.Repeats.{LawOfForgetting, LawOfForgettingScreen, LawOfKept};
+ghost use Rattle.ttx_page.specs.Repeats.{LawOfRepeats};
 ghost use Rattle.ttx_page.specs.Screen.{LawOfScreen};
 ghost use Rattle.ttx_page.specs.Span.{LawOfSpan};
 
@@ -27,7 +28,7 @@ pub fn law_of_noise()
 {}
 
 /// With no wrong bit it holds what was sent, whatever it held before.
-#[tactic(auto, using(crate::proofs::NoiseLaws::law_of_quiet))]
+#[tactic(auto, using(crate::proofs::QuietLaws::law_of_quiet))]
 pub fn law_of_quiet()
     ensures { LawOfQuiet }
 {}
@@ -76,6 +77,12 @@ pub fn law_of_repeats()
 #[tactic(auto, using(crate::proofs::RepeatLaws::law_of_forgetting))]
 pub fn law_of_forgetting()
     ensures { LawOfForgetting }
+{}
+
+/// With no wrong bit such a receiver holds what is kept, where what it held before is forgotten.
+#[tactic(auto, using(crate::proofs::QuietLaws::law_of_kept))]
+pub fn law_of_kept()
+    ensures { LawOfKept }
 {}
 
 /// Whatever such a receiver held and showed before: where it has heard a header of its page, and

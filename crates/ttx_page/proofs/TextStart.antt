@@ -1,0 +1,271 @@
+-- Packets that may follow others, and who starts late among them: what is heard is sent as the text
+-- that is kept of all, `sends-joined`; where no repeat may keep, that is to be sound:
+-- `sends_of_sound`, `sound_of_sends`.
+use Rattle.std.proofs.Common.{◌≡◌, ℕ, suc, ◌<◌, inl, inr, Bool, true, false, not, ◌&&◌, cond, List}
+use Rattle.std.proofs.Common.{[], ◌∷◌, ◌++◌, length, take, slice_index_or, find, Option, Some, None}
+use Rattle.std.proofs.Common.{Contains, option_map, unwrap_or, All, IsTrue, IsFalse, refl, sym, ap}
+use Rattle.std.proofs.Common.{◌∙◌, subst, arith, append_assoc}
+use Rattle.std.specs.Option.{option_or}
+use Rattle.std.proofs.lemmas.Bool.{cases_Bool}
+use Rattle.std.proofs.lemmas.Bool.Decides.{nat_tests}
+use Rattle.std.proofs.lemmas.List.{append-nil, get_or_default}
+use Rattle.std.proofs.lemmas.List.Elements.{All-contains, All-nil, All-push, Contains-append_right}
+use Rattle.std.proofs.lemmas.List.Folds.{find-append, list_any_at}
+use Rattle.ttx_packet.specs.PageHeader.{HasExactWords}
+use Rattle.ttx_packet.specs.PageId.{PageIdValue}
+use Rattle.ttx_packet.specs.Parity.{code_of}
+use Rattle.ttx_packet.specs.RowPacket.{text_byte}
+use Rattle.ttx_page.specs.Noise.{ErasesPage, HasSameCodes, IsOddRow, IsSound}
+use Rattle.ttx_page.specs.Page.{space}
+use Rattle.ttx_page.specs.PacketKind.{begins_text, ends_page, is_row, is_this_page, kind}
+use Rattle.ttx_page.specs.Repeats.{HasCodes, MayFollow, SendsText}
+use Rattle.ttx_page.specs.Shown.{kept, shown}
+use Rattle.ttx_page.specs.Span.{holds_header, is_open_after, span, text_span}
+use Rattle.ttx_page.specs.declared.packet_kind.PacketKind.TheVariants.{Row}
+use Rattle.ttx_page.proofs.LateStart.{open-later, shown-later}
+use Rattle.ttx_page.proofs.NoiseLaws.{sends_shown}
+use Rattle.ttx_page.proofs.RepeatLaws.{kept_shown}
+use Rattle.ttx_page.proofs.SpanLists.{after-none, none_pass}
+use Rattle.ttx_page.proofs.TextSpan.{text_span-later, text_span-none_keeps, text_span-push}
+
+-- ---- one packet more
+
+-- The code of the first packet of a row, where one was found.
+abbrev code_in : ℕ → Option (List ℕ) → ℕ
+code_in column found = unwrap_or (option_map (λ p. code_of (text_byte p column)) found) space
+
+-- What is heard of packets, and one more that may follow all of them.
+module _ (keeps : Bool) (w : PageIdValue) (before heard : List (List ℕ)) (packet : List ℕ) where
+  -- All that was sent.
+  abbrev all : List (List ℕ)
+  all = before ++ heard
+
+  -- Its long span, and that of what is heard.
+  abbrev all_spanned : List (List ℕ)
+  all_spanned = text_span keeps (kind w) all
+
+  abbrev spanned : List (List ℕ)
+  spanned = text_span keeps (kind w) heard
+
+  -- A packet of the row.
+  abbrev test : ℕ → List ℕ → Bool
+  test row p = is_row row (kind w p)
+
+  -- A packet that is heard in it is in that of all.
+  within_all : (q : List ℕ) → Contains spanned q → Contains all_spanned q
+  within_all q within =
+      let later = text_span-later (kind w) keeps before heard in
+      subst (λ (ps : List (List ℕ)). Contains ps q) (sym later.1)
+      (Contains-append_right later.0 spanned q within)
+
+  -- Where a row has a packet in the long span, its first one stays the first.
+  first_stays : (row : ℕ) (q : List ℕ)
+      → begins_text keeps (kind w packet) ≡ false
+      → Contains all_spanned q
+      → kind w q ≡ Row row
+      → find (test row) (text_span keeps (kind w) (all ++ packet ∷ []))
+      ≡ find (test row) all_spanned
+  first_stays row q no_begin within is =
+      subst
+      (λ (ps : List (List ℕ)). find (test row) ps ≡ find (test row) all_spanned)
+      (sym (text_span-push (kind w) keeps all packet))
+      (go (begins_text keeps (kind w packet))
+      (is_open_after (kind w) all && not (is_this_page (kind w packet))
+      && not (ends_page (kind w packet))) no_begin)
+    where
+      found : (o : Option (List ℕ))
+          → find (test row) all_spanned ≡ o
+          → find (test row) (all_spanned ++ packet ∷ []) ≡ find (test row) all_spanned
+      found None e =
+          let none = none_pass (test row) all_spanned e in
+          grind (arith, nat_tests, list_any_at)
+      found (Some first) e =
+          find-append (test row) all_spanned (packet ∷ [])
+          ∙ ap (λ (o : Option (List ℕ)). option_or o (find (test row) (packet ∷ []))) e
+          ∙ sym e
+
+      go : (b c : Bool)
+          → b ≡ false
+          → find (test row) (cond b [] (cond c (all_spanned ++ packet ∷ []) all_spanned))
+          ≡ find (test row) all_spanned
+      go true c e = grind arith
+      go false true e = found (find (test row) all_spanned) refl
+      go false false e = refl
+
+  module _ (sends : SendsText keeps w heard (kept keeps w all))
+      (follows : MayFollow keeps w all packet) where
+    -- What becomes of the long span that is heard.
+    of_pushed : (P : List (List ℕ) → Type 0)
+        → P []
+        → (begins_text keeps (kind w packet) ≡ false → P spanned)
+        → (begins_text keeps (kind w packet) ≡ false
+        → is_open_after (kind w) heard ≡ true
+        → P (spanned ++ packet ∷ []))
+        → P (text_span keeps (kind w) (heard ++ packet ∷ []))
+    of_pushed P none was more =
+        subst P (sym (text_span-push (kind w) keeps heard packet))
+        (go (begins_text keeps (kind w packet)) (is_open_after (kind w) heard)
+        (is_this_page (kind w packet)) (ends_page (kind w packet)) refl refl)
+      where
+        go : (b o t e : Bool)
+            → begins_text keeps (kind w packet) ≡ b
+            → is_open_after (kind w) heard ≡ o
+            → P (cond b [] (cond (o && not t && not e) (spanned ++ packet ∷ []) spanned))
+        go true o t e p q = none
+        go false true false false p q = more p q
+        go false true false true p q = was p
+        go false true true e p q = was p
+        go false false t e p q = was p
+
+    -- The codes of packets that are heard stay those of the text.
+    codes_stay : begins_text keeps (kind w packet) ≡ false
+        → All (HasCodes w (kept keeps w (all ++ packet ∷ []))) spanned
+    codes_stay no_begin k d l row column is below =
+        let q : List ℕ = slice_index_or spanned k d in
+        let within = within_all q (k, l, get_or_default spanned k _ d l) in
+        sends.codes k d l row column is below
+        ∙ ap (code_in column) (sym (first_stays row q no_begin within is))
+
+    -- The packet has those of the text.
+    codes_here : is_open_after (kind w) heard ≡ true
+        → begins_text keeps (kind w packet) ≡ false
+        → HasCodes w (kept keeps w (all ++ packet ∷ [])) packet
+    codes_here up no_begin row column is below =
+        go (find (test row) all_spanned) refl
+      where
+        opened : is_open_after (kind w) all ≡ true
+        opened = (open-later w before heard up).0
+
+        spanned_more : text_span keeps (kind w) (all ++ packet ∷ []) ≡ all_spanned ++ packet ∷ []
+        spanned_more =
+            text_span-push (kind w) keeps all packet ∙ rw (is, opened) refl
+
+        passes : test row packet ≡ true
+        passes = grind (arith, nat_tests)
+
+        -- The first packet of the row, with this one.
+        first_is : (o : Option (List ℕ))
+            → find (test row) all_spanned ≡ o
+            → find (test row) (text_span keeps (kind w) (all ++ packet ∷ []))
+            ≡ option_or o (find (test row) (packet ∷ []))
+        first_is o e =
+            ap (find (test row)) spanned_more
+            ∙ find-append (test row) all_spanned (packet ∷ [])
+            ∙ ap (λ (x : Option (List ℕ)). option_or x (find (test row) (packet ∷ []))) e
+
+        found : find (test row) (packet ∷ []) ≡ Some packet
+        found = rw passes refl
+
+        go : (o : Option (List ℕ))
+            → find (test row) all_spanned ≡ o
+            → code_of (text_byte packet column) ≡ kept keeps w (all ++ packet ∷ []) row column
+        go None e =
+            let here : find (test row) (text_span keeps (kind w) (all ++ packet ∷ []))
+            ≡ Some packet =
+            first_is None e ∙ found in
+            let code : kept keeps w (all ++ packet ∷ []) row column
+            ≡ code_of (text_byte packet column) =
+            ap (code_in column) here in
+            sym code
+        go (Some first) e =
+            let here : find (test row) (text_span keeps (kind w) (all ++ packet ∷ []))
+            ≡ Some first =
+            first_is (Some first) e in
+            let code : kept keeps w (all ++ packet ∷ []) row column
+            ≡ code_of (text_byte first column) =
+            ap (code_in column) here in
+            sym (follows.same opened row column first is e below) ∙ sym code
+
+    -- What is heard is still sent as the text of all.
+    sends-push : SendsText keeps w (heard ++ packet ∷ []) (kept keeps w (all ++ packet ∷ []))
+    sends-push = record {
+      exact = All-push HasExactWords heard packet sends.exact follows.exact;
+      erases = λ none.
+          All-push (ErasesPage w) heard packet (sends.erases none) (follows.erases none);
+      odd =
+          of_pushed (All (IsOddRow w)) (All-nil _) (λ no_begin. sends.odd)
+          (λ no_begin up. All-push (IsOddRow w) spanned packet sends.odd
+          (follows.odd (open-later w before heard up).0));
+      codes =
+          of_pushed (All (HasCodes w (kept keeps w (all ++ packet ∷ [])))) (All-nil _) codes_stay
+          (λ no_begin up. All-push (HasCodes w (kept keeps w (all ++ packet ∷ []))) spanned packet
+          (codes_stay no_begin) (codes_here up no_begin));
+    }
+
+-- Packets that may each follow what was sent before are sent, with what is heard of it, as the text
+-- that is kept of all.
+pub sends-joined : (keeps : Bool) (w : PageIdValue) (before heard more : List (List ℕ))
+    → SendsText keeps w heard (kept keeps w (before ++ heard))
+    → ((k : ℕ)
+    → k < length more
+    → MayFollow keeps w ((before ++ heard) ++ take k more) (slice_index_or more k []))
+    → SendsText keeps w (heard ++ more) (kept keeps w ((before ++ heard) ++ more))
+sends-joined keeps w before heard [] sends each =
+    subst (λ (ps : List (List ℕ)). SendsText keeps w ps (kept keeps w ((before ++ heard) ++ [])))
+    (sym (append-nil heard))
+    (subst (λ (ps : List (List ℕ)). SendsText keeps w heard (kept keeps w ps))
+    (sym (append-nil (before ++ heard))) sends)
+sends-joined keeps w before heard (p ∷ more) sends each =
+    let first =
+    subst (λ (ps : List (List ℕ)). MayFollow keeps w ps p) (append-nil (before ++ heard))
+    (each 0 (omega arith)) in
+    let pushed =
+    subst (λ (ps : List (List ℕ)). SendsText keeps w (heard ++ p ∷ []) (kept keeps w ps))
+    (append_assoc before heard (p ∷ []))
+    (sends-push keeps w before heard p sends first) in
+    let rest =
+    sends-joined keeps w before (heard ++ p ∷ []) more pushed
+    (λ k l.
+    subst (λ (ps : List (List ℕ)). MayFollow keeps w ps (slice_index_or more k []))
+    (sym (append_assoc (before ++ heard) (p ∷ []) (take k more))
+    ∙ ap (λ (ps : List (List ℕ)). ps ++ take k more) (append_assoc before heard (p ∷ [])))
+    (each (suc k) (omega arith))) in
+    subst
+    (λ (ps : List (List ℕ)).
+    SendsText keeps w ps (kept keeps w ((before ++ heard) ++ p ∷ more)))
+    (append_assoc heard (p ∷ []) more)
+    (subst
+    (λ (ps : List (List ℕ)). SendsText keeps w ((heard ++ p ∷ []) ++ more) (kept keeps w ps))
+    (ap (λ (ps : List (List ℕ)). ps ++ more) (sym (append_assoc before heard (p ∷ [])))
+    ∙ append_assoc (before ++ heard) (p ∷ []) more)
+    rest)
+
+-- ---- where no repeat may keep
+
+-- What is sound is sent as the text that all shows.
+pub sends_of_sound : (w : PageIdValue) (before heard : List (List ℕ))
+    → IsSound w heard
+    → SendsText false w heard (kept false w (before ++ heard))
+sends_of_sound w before heard sound =
+    let sends = sends_shown w heard sound in
+    record {
+      exact = sends.exact;
+      erases = sends.erases;
+      odd = sends.odd;
+      codes = λ k d l row column is below.
+          elim (cases_Bool (holds_header (kind w) heard)) [
+            | inl holds ↦
+                sends.codes k d l row column is below
+                ∙ sym (shown-later w before heard holds row column)
+                ∙ sym (kept_shown w (before ++ heard) row column)
+            | inr none ↦
+                let no_span = text_span-none_keeps (kind w) heard in
+                let nothing = after-none (kind w) heard none in
+                grind (arith, nat_tests)
+          ];
+    }
+
+-- What is sent as a text is sound. For a checker's laws.
+pub sound_of_sends : (w : PageIdValue) (sent : List (List ℕ)) (text : ℕ → ℕ → ℕ)
+    → SendsText false w sent text
+    → IsSound w sent
+sound_of_sends w sent text sends =
+    let same = text_span-none_keeps (kind w) sent in
+    let codes = subst (All (HasCodes w text)) same sends.codes in
+    record {
+      exact = sends.exact;
+      erases = sends.erases refl;
+      odd = subst (All (IsOddRow w)) same sends.odd;
+      same = λ i d l j e m row column one two below.
+          codes i d l row column one below ∙ sym (codes j e m row column two below);
+    }
