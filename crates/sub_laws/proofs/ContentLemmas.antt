@@ -14,7 +14,8 @@ use Rattle.ttx_page.specs.PacketKind.{kind}
 use Rattle.ttx_page.specs.Receiver.{Hears, State}
 use Rattle.ttx_page.specs.Shown.{shown}
 use Rattle.ttx_page.specs.Span.{holds_header, span}
-use Rattle.ttx_page.proofs.NoiseLaws.{AreNear-themselves, law_of_noise, law_of_quiet}
+use Rattle.ttx_page.proofs.NoiseLaws.{AreNear-themselves, law_of_noise}
+use Rattle.ttx_page.proofs.QuietLaws.{law_of_quiet}
 use Rattle.stl_rows.specs.Programme.{ProgrammeValue}
 use Rattle.sub_plan.specs.Options.{OptionsValue}
 use Rattle.sub_rules.specs.Events.{broken_cell, is_late}

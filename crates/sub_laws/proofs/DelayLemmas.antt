@@ -1,72 +1,196 @@
 -- For the headline, what may be late, schedules and what may stay.
--- What may be trusted of a stretch of frames that may be late: `law_of_stretch_with_delay`; and
--- where the page that is due is shown it is what may be trusted of one that is not:
+-- What receivers that may forget make of a stretch of repeats: `law_of_repeated_stretch`; as its
+-- case what may be trusted of a stretch of frames that may be late: `law_of_stretch_with_delay`;
+-- and where the page that is due is shown it is what may be trusted of one that is not:
 -- `served_at_once`, `law_of_finished_stretch`, `law_of_trust_without_delay`.
 use Rattle.std.proofs.lemmas.Bool.Decides.{nat_tests}
 use Rattle.std.proofs.Common.{◌≡◌, ℕ, ◌≤◌, ◌&&◌, inl, inr, Bool, true, false, List}
-use Rattle.std.proofs.Common.{sym, ◌∙◌, subst, arith, le_refl, le_trans}
-use Rattle.ttx_page.specs.PacketKind.{kind}
+use Rattle.std.proofs.Common.{Option, option_map, unwrap_or, ap, sym, ◌∙◌, subst, arith, le_refl}
+use Rattle.std.proofs.Common.{le_trans}
+use Rattle.std.specs.List.{list_any}
+use Rattle.std.proofs.lemmas.Bool.{cases_Bool, cases_eq, true≢false}
+use Rattle.ttx_packet.specs.Parity.{code_of}
+use Rattle.ttx_packet.specs.RowPacket.{text_byte}
+use Rattle.ttx_page.specs.Page.{cell, space}
+use Rattle.ttx_page.specs.PacketKind.{is_row, kind}
 use Rattle.ttx_page.specs.Receiver.{ReceiverClass, State}
-use Rattle.ttx_page.specs.Span.{holds_header, is_unended}
+use Rattle.ttx_page.specs.Repeats.{IsFresh}
+use Rattle.ttx_page.specs.Shown.{kept, shown}
+use Rattle.ttx_page.specs.Span.{holds_header, is_unended, span}
+use Rattle.ttx_page.proofs.RepeatLaws.{kept_shown, law_of_forgetting}
 use Rattle.ttx_page.proofs.ScreenLaws as screens
+use Rattle.ttx_page.proofs.SpanLists.{find_none}
+use Rattle.ttx_page.proofs.TextSpan.{beginning-none_keeps}
 use Rattle.stl_rows.specs.Programme.{ProgrammeValue}
 use Rattle.sub_plan.specs.Options.{OptionsValue}
 use Rattle.sub_rules.specs.GoodWithin.{FinishesAgain, HasEndedPage, IsDueWithin, IsFinished}
 use Rattle.sub_rules.specs.GoodWithin.{ShowsDueCodes, ShowsDuePage}
-use Rattle.sub_rules.specs.Transmission.{Transmission, first_frame, on_air_until}
+use Rattle.sub_plan.specs.Schedule.{due_in}
+use Rattle.sub_rules.specs.Repeats.{IsRight, IsWholePage, KeepsDueCodes, LawOfRightCells}
+use Rattle.sub_rules.specs.Transmission.{Transmission, first_frame, on_air, on_air_until}
 use Rattle.sub_laws.specs.Delay.{IsServedWithDelay, RecoversWithDelay}
 use Rattle.sub_laws.specs.Delay.{ShownWithDelay}
 use Rattle.sub_laws.specs.DelayLaws.{LawOfFinishedStretch, LawOfStretchWithDelay}
 use Rattle.sub_laws.specs.DelayLaws.{LawOfTrustWithoutDelay}
 use Rattle.sub_laws.specs.OnScreen.{CompleteWithin, ShownWithin}
+use Rattle.sub_laws.specs.Repeats.{IsRepeatedStretch, LawOfRepeatedStretch, RecoversForgetting}
+use Rattle.sub_laws.specs.Repeats.{ShownForgetting}
 use Rattle.sub_laws.specs.Robust.{IsServed}
 use Rattle.sub_laws.specs.Sufficient.{IsSoundStretch}
-use Rattle.sub_laws.proofs.SoundStretchLemmas.{afresh, ended, got_as, heard_as, shown_so_far}
+use Rattle.sub_laws.proofs.SoundStretchLemmas.{ended, forgetting, got_as, repeated, span_so_far}
 use Rattle.sub_laws.proofs.SoundStretchLemmas.{window}
 
--- ---- a stretch in which codes are due
+-- ---- a cell that is right
+
+-- Where repeats may not keep, a cell is right exactly where it shows what is due.
+pub law_of_right_cells : LawOfRightCells
+law_of_right_cells page packets due row column = (
+  λ right. sym same ∙ right.kept_is,
+  λ shows. record {
+    kept_is = same ∙ shows;
+    again = λ other. elim (cases_Bool (list_any test (span (kind page) packets))) [
+      | inl some ↦ some
+      | inr none ↦
+          let gone = find_none test (span (kind page) packets) none in
+          absurd (other (sym shows ∙ ap
+          (λ (o : Option (List ℕ)).
+          unwrap_or (option_map (λ p. code_of (text_byte p column)) o) space) gone))
+    ];
+  },
+)
+  where
+    test : List ℕ → Bool
+    test packet = is_row row (kind page packet)
+
+    same : kept false page packets row column ≡ shown page packets row column
+    same = kept_shown page packets row column
+
+-- ---- a stretch in which codes are kept that are due
+
+module _ (keeps anew : Bool) (class : ReceiverClass) (programme : ProgrammeValue)
+    (transmission : Transmission) (options : OptionsValue) (a b : ℕ)
+    (stretch : IsRepeatedStretch keeps transmission options a b)
+    (codes : KeepsDueCodes keeps programme transmission options a b) where
+  -- Receivers that may forget recover in it.
+  pub recovers_forgetting :
+      RecoversForgetting keeps anew class programme transmission options a b
+  recovers_forgetting g j f marks got old new is hears =
+      let low = le_trans is.listening.from is.listening.in_order in
+      let ends =
+      forgetting keeps transmission options a b stretch g j f marks got is anew class old new hears
+      in
+      record {
+        in_time = window keeps transmission options a b stretch g j f is.listening;
+        heard = ends.heard;
+        is_open = ends.is_open;
+        codes = λ holds fresh row column named.
+            elim (ends.cells holds fresh row column named) [
+              | inl same ↦
+                  subst (IsDueWithin programme transmission options f row column) (sym same)
+                  (codes f row column low is.listening.to named)
+              | inr spaced ↦ inl spaced.0
+            ];
+        cells = λ holds fresh whole row column named.
+            elim (ends.cells holds fresh row column named) [
+              | inl same ↦ inl (same ∙ (whole row column named).kept_is)
+              | inr (spaced, inl excused) ↦ inr (spaced, excused)
+              | inr (spaced, inr none) ↦
+                  let all = span_so_far keeps transmission options a b stretch g j f is.listening
+                  holds in
+                  inl (spaced ∙ sym (due_space row column (whole row column named)
+                  (ap (list_any (λ packet. is_row row (kind options.page packet))) all ∙ none)))
+            ];
+      }
+    where
+      -- What is due is a space where the row was not sent again.
+      due_space :
+          (row column : ℕ)
+          → IsRight keeps options.page (on_air_until transmission f) (due_in programme f) row column
+          → list_any (λ packet. is_row row (kind options.page packet))
+          (span (kind options.page) (on_air_until transmission f))
+          ≡ false
+          → cell (due_in programme f) row column ≡ space
+      due_space row column right none =
+          elim (cases_eq (cell (due_in programme f) row column) space) [
+            | inl same ↦ same
+            | inr other ↦ absurd (true≢false (sym (right.again other) ∙ none))
+          ]
+
+  -- What is due is on their screens where each cell is right and the page has ended.
+  pub shown_forgetting : ShownForgetting keeps anew class programme transmission options a b
+  shown_forgetting g j f marks got old new is run holds fresh whole shut =
+      let held =
+      recovers_forgetting g j f marks got old.held new.held is
+      (screens.held_forgetting class anew options.page got old new run) in
+      let closed = ended keeps transmission options a b stretch g j f is.listening shut holds in
+      let open_is = held.is_open in
+      let shut_now : new.held.is_open ≡ false = grind (arith, nat_tests) in (
+        new.held.page,
+        screens.law_of_forgetting_screen class anew options.page got old new run
+            (got_as keeps transmission options a b stretch g j f marks got is ∙ holds) shut_now,
+        held.cells holds fresh whole,
+      )
+
+-- The law of a stretch of repeats.
+pub law_of_repeated_stretch : LawOfRepeatedStretch
+law_of_repeated_stretch keeps anew class programme transmission options a b stretch codes = (
+  recovers_forgetting keeps anew class programme transmission options a b stretch codes,
+  shown_forgetting keeps anew class programme transmission options a b stretch codes,
+)
+
+-- ---- a stretch in which codes are due, where no repeat may keep
 
 module _ (programme : ProgrammeValue) (transmission : Transmission) (options : OptionsValue)
     (a b : ℕ) (stretch : IsSoundStretch transmission options a b)
     (codes : ShowsDueCodes programme transmission options a b) (class : ReceiverClass) where
+  -- Codes are kept in it that are due.
+  kept_codes : KeepsDueCodes false programme transmission options a b
+  kept_codes f row column low high named =
+      subst (IsDueWithin programme transmission options f row column)
+      (sym (kept_shown options.page (on_air_until transmission f) row column))
+      (codes f row column low high named)
+
+  -- Each cell is right where what is due is shown.
+  whole_shown :
+      (f : ℕ)
+      → ShowsDuePage programme options.page transmission f
+      → IsWholePage false programme options.page transmission f
+  whole_shown f shows row column named =
+      (law_of_right_cells options.page (on_air_until transmission f) (due_in programme f) row
+      column).1
+      (shows row column named)
+
+  -- What a receiver held before is forgotten at each header.
+  fresh_at :
+      (sent : List (List ℕ)) (old : State)
+      → holds_header (kind options.page) sent ≡ true
+      → IsFresh false false options.page sent old
+  fresh_at sent old holds = inr (inl (beginning-none_keeps (kind options.page) sent ∙ holds))
+
   -- Receivers recover in it.
   pub recovers_with_delay : RecoversWithDelay class programme transmission options a b
   recovers_with_delay g j f marks got old new is hears =
-      let low = le_trans is.listening.from is.listening.in_order in
-      let ends = afresh transmission options a b stretch g j f marks got is class old new hears in
-      let so_far = shown_so_far transmission options a b stretch g j f is.listening in
+      let sent : List (List ℕ) = on_air transmission g j f in
+      let served =
+      recovers_forgetting false false class programme transmission options a b
+      (repeated transmission options a b stretch) kept_codes g j f marks got old new is
+      (law_of_forgetting class options.page got old new hears) in
+      let open_is = served.is_open in
       record {
-        in_time = window transmission options a b stretch g j f is.listening;
-        heard = heard_as transmission options a b stretch g j f marks got is class old new hears;
-        codes = λ holds row column named.
-            elim ((ends holds).cells row column named) [
-              | inl same ↦
-                  subst (IsDueWithin programme transmission options f row column)
-                  (sym (same ∙ so_far holds row column))
-                  (codes f row column low is.listening.to named)
-              | inr spaced ↦ inl spaced.0
-            ];
-        cells = λ holds shows row column named.
-            elim ((ends holds).cells row column named) [
-              | inl same ↦ inl (same ∙ so_far holds row column ∙ shows row column named)
-              | inr spaced ↦ inr spaced
-            ];
-        is_open = λ holds. (ends holds).is_open;
+        in_time = served.in_time;
+        heard = served.heard;
+        codes = λ holds. served.codes holds (fresh_at sent old holds);
+        cells = λ holds shows. served.cells holds (fresh_at sent old holds) (whole_shown f shows);
+        is_open = λ holds. grind (arith, nat_tests);
       }
 
   -- What is due is on their screens where it is shown and has ended.
   pub shown_with_delay : ShownWithDelay class programme transmission options a b
   shown_with_delay g j f marks got old new is run holds shows shut =
-      let held =
-      recovers_with_delay g j f marks got old.held new.held is
-      (screens.held_by class options.page got old new run) in (
-        new.held.page,
-        screens.law_of_screen class options.page got old new run
-            (got_as transmission options a b stretch g j f marks got is ∙ holds)
-            (held.is_open holds
-            ∙ ended transmission options a b stretch g j f is.listening shut holds),
-        held.cells holds shows,
-      )
+      shown_forgetting false false class programme transmission options a b
+      (repeated transmission options a b stretch) kept_codes g j f marks got old new is
+      (screens.shows_forgetting class options.page got old new run) holds
+      (fresh_at (on_air transmission g j f) old.held holds) (whole_shown f shows) shut
 
 -- A stretch that has what suffices where it may be late may be trusted so.
 pub law_of_stretch_with_delay : LawOfStretchWithDelay

@@ -4,7 +4,7 @@
 -- `law_of_no_delay`; within more it stays so, `law_of_longer_delay`; and a schedule is good within
 -- any number, `law_of_plan_within`.
 use Rattle.std.proofs.lemmas.Bool.Decides.{nat_tests}
-use Rattle.std.proofs.Common.{◌≡◌, ℕ, ◌+◌, ◌-◌, ◌<◌, ◌≤◌, inl, inr}
+use Rattle.std.proofs.Common.{◌≡◌, ℕ, ◌-◌, ◌<◌, ◌≤◌, inl, inr, Bool, true, false}
 use Rattle.std.proofs.Common.{length, get_or, option_map, IsTrue, ap, subst, arith}
 use Rattle.std.proofs.Common.{le_refl}
 use Rattle.std.proofs.lemmas.Bool.{cases_lt}
@@ -16,17 +16,21 @@ use Rattle.stl_file.specs.Subtitle.{SubtitleValue}
 use Rattle.stl_rows.specs.Programme.{IsProgramme, ProgrammeValue}
 use Rattle.sub_plan.specs.Options.{OptionsValue}
 use Rattle.sub_rules.specs.Good.{Good, KeepsRules}
-use Rattle.sub_rules.specs.GoodWithin.{GoodWithin, IsFinished, SomeFinished}
+use Rattle.sub_rules.specs.GoodWithin.{GoodWithin, IsFinished}
+use Rattle.sub_rules.specs.Repeats.{GoodBy}
 use Rattle.sub_rules.specs.Transmission.{IsRising, Transmission, first_frame, last_frame}
 use Rattle.sub_rules.specs.Transmission.{on_air_until}
 use Rattle.sub_laws.specs.DelayLaws.{LawOfGoodWithin, LawOfLongerDelay, LawOfNoDelay}
 use Rattle.sub_laws.specs.DelayLaws.{LawOfPlanWithin, LawOfSufficientPartsWithDelay}
 use Rattle.sub_laws.specs.OnScreen.{Complete}
+use Rattle.sub_laws.specs.Planned.{planned}
+use Rattle.sub_laws.specs.Repeats.{LawOfPlanRepeats}
 use Rattle.sub_laws.proofs.DelayLemmas.{ended_of_complete, finished_at_once}
 use Rattle.sub_laws.proofs.DelayLemmas.{law_of_stretch_with_delay}
 use Rattle.sub_laws.proofs.GoodLemmas.{rises_each}
 use Rattle.sub_laws.proofs.PlanLemmas.{law_of_complete_plan, law_of_plan}
 use Rattle.sub_laws.proofs.PrefixLemmas.{first-same, last-same, rises_to}
+use Rattle.sub_laws.proofs.RepeatLemmas.{law_of_longer_repeats, law_of_may_keep, law_of_no_repeats}
 use Rattle.sub_laws.proofs.RobustLemmas.{sound_stretch}
 use Rattle.sub_laws.proofs.SoundStretchLemmas.{last_of_two}
 use Rattle.sub_laws.proofs.StretchLemmas.{law_of_whole_stretch_with_delay}
@@ -191,59 +195,12 @@ law_of_no_delay programme transmission options is none = (
 
 -- ---- within more frames
 
-module _ (programme : ProgrammeValue) (transmission : Transmission) (options : OptionsValue)
-    (more : ℕ) (longer : options.within ≤ more) where
-  -- The same options, with more frames.
-  abbrev allowing : OptionsValue
-  allowing = record options { within = more }
-
-  -- What is finished stays so.
-  finished_longer :
-      (f : ℕ)
-      → IsFinished programme transmission options f
-      → IsFinished programme transmission allowing f
-  finished_longer f is = record { shows = is.shows; ended = is.ended }
-
-  some_longer :
-      (a b c : ℕ)
-      → b ≤ c
-      → SomeFinished programme transmission options a b
-      → SomeFinished programme transmission allowing a c
-  some_longer a b c order (f, from, to, is) = (f, from, omega arith, finished_longer f is)
-
-  good_longer :
-      GoodWithin programme transmission options → GoodWithin programme transmission allowing
-  good_longer good = record {
-    rules = record {
-      not_empty = good.rules.not_empty;
-      rising = good.rules.rising;
-      whole = good.rules.whole;
-      starts = good.rules.starts;
-      lasts = good.rules.lasts;
-      exact = good.rules.exact;
-      serial = good.rules.serial;
-      control = good.rules.control;
-      spans = good.rules.spans;
-      opens = good.rules.opens;
-      repeats = good.rules.repeats;
-    };
-    shows = record {
-      codes = λ f row column low high named.
-          elim (good.shows.codes f row column low high named) [
-            | inl spaced ↦ inl spaced
-            | inr (e, first, before, near, due) ↦ inr (e, first, before, omega arith, due)
-          ];
-      again = λ start low high.
-          some_longer start (start + options.within) (start + more) (omega arith)
-          (good.shows.again start low (omega arith));
-      subtitles = λ k d within.
-          some_longer _ _ _ (le_refl _) (good.shows.subtitles k d within);
-      ends = finished_longer (last_frame transmission) good.shows.ends;
-    };
-  }
-
+-- It stays good, as it does where repeats may keep.
 pub law_of_longer_delay : LawOfLongerDelay
-law_of_longer_delay = good_longer
+law_of_longer_delay programme transmission options more longer good =
+    (law_of_no_repeats programme transmission (record options { within = more })).0
+    (law_of_longer_repeats false programme transmission options more longer
+    ((law_of_no_repeats programme transmission options).1 good))
 
 -- ---- schedules
 
@@ -251,3 +208,16 @@ pub law_of_plan_within : LawOfPlanWithin
 law_of_plan_within programme options serial is some ok =
     good_within programme _ options is (law_of_plan programme options serial is some ok)
     (λ asks. law_of_complete_plan programme options serial is some ok)
+
+-- Where repeats may keep too.
+pub law_of_plan_repeats : LawOfPlanRepeats
+law_of_plan_repeats keeps programme options serial is some ok = go keeps
+  where
+    good : GoodBy false programme (planned programme options serial) options
+    good =
+        (law_of_no_repeats programme (planned programme options serial) options).1
+        (law_of_plan_within programme options serial is some ok)
+
+    go : (b : Bool) → GoodBy b programme (planned programme options serial) options
+    go false = good
+    go true = law_of_may_keep programme (planned programme options serial) options good

@@ -9,6 +9,7 @@ pub mod EventLemmas
 pub mod FinishedLemmas
 pub mod FirstContentLemmas
 pub mod FirstFoundLemmas
+pub mod FollowedStretchLemmas
 pub mod FrameByFrame
 pub mod GoodLemmas
 pub mod GoodWithinLemmas
@@ -22,6 +23,7 @@ pub mod PlaceLemmas
 pub mod PlanLemmas
 pub mod PrefixLemmas
 pub mod ReadFileLemmas
+pub mod RepeatLemmas
 pub mod RisingEndLemmas
 pub mod RobustLemmas
 pub mod SaidLemmas

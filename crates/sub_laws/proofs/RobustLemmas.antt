@@ -1,7 +1,7 @@
 -- For the headline and what may be late.
 -- A good transmission is sound, `sound_stretch`, and has what suffices, `suffices`, and so all that
 -- is promised of it: the laws of the headline.
-use Rattle.std.proofs.Common.{arith, ℕ, ◌+◌, List, length, subst, le_refl}
+use Rattle.std.proofs.Common.{arith, ℕ, ◌+◌, false, List, length, subst, le_refl}
 use Rattle.std.proofs.lemmas.Bool.Decides.{nat_tests}
 use Rattle.std.proofs.lemmas.List.{take_all}
 use Rattle.ttx_packet.specs.PageHeader.{HasExactWords}
@@ -15,7 +15,7 @@ use Rattle.sub_rules.specs.Transmission.{Transmission, first_frame, last_frame, 
 use Rattle.sub_rules.specs.Good.{IsCleanSpan, KeepsRules}
 use Rattle.sub_laws.specs.Laws.{LawOfGood, LawOfWindow}
 use Rattle.sub_laws.specs.Sufficient.{IsSoundStretch, LawOfSufficientParts}
-use Rattle.sub_laws.proofs.SoundStretchLemmas.{window}
+use Rattle.sub_laws.proofs.SoundStretchLemmas.{repeated, window}
 use Rattle.sub_laws.proofs.StretchLemmas.{law_of_stretch, law_of_whole_stretch}
 use Rattle.sub_laws.proofs.TransmissionLemmas.{packets_between-each}
 
@@ -63,5 +63,6 @@ law_of_good programme transmission options good =
 -- The law of the window.
 pub law_of_window : LawOfWindow
 law_of_window programme transmission options g j f good listening =
-    window transmission options _ _ (sound_stretch programme transmission options good.rules) g j f
-    listening
+    window false transmission options _ _
+    (repeated transmission options _ _ (sound_stretch programme transmission options good.rules)) g
+    j f listening

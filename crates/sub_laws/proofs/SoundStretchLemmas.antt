@@ -1,9 +1,10 @@
 -- For the headline, what may be late, what is told and what may stay.
--- What receivers make of a sound stretch of frames, whatever is shown in it: `window`, `sound`,
--- `shown_so_far`, `ended`; and what one has come to, wherever it starts and stops there: `heard_as`
--- and `afresh`.
+-- What receivers make of a stretch of repeats, whatever is kept in it: `window`, `heard_text`,
+-- `span_so_far`, `ended`; and what one has come to, wherever it starts and stops there:
+-- `forgetting`. A sound stretch is one where no repeat may keep: `repeated`.
 use Rattle.std.proofs.lemmas.Bool.Decides.{nat_tests}
-use Rattle.std.proofs.Common.{◌≡◌, ℕ, ◌+◌, ◌≤◌, ◌||◌, ◌&&◌, Bool, true, false, List, [], ◌∷◌, ◌++◌}
+use Rattle.std.proofs.Common.{◌≡◌, ℕ, ◌+◌, ◌≤◌, ◌&&◌, Bool, true, false, List, [], ◌∷◌}
+use Rattle.std.proofs.Common.{◌++◌}
 use Rattle.std.proofs.Common.{drop, take, refl, sym, ap, ◌∙◌, subst, arith, append_assoc, le_trans}
 use Rattle.std.proofs.Common.{take-append-drop}
 use Rattle.std.specs.List.{AllByRecursion, AllZip, items_where_true}
@@ -15,21 +16,22 @@ use Rattle.ttx_packet.specs.PageId.{PageIdValue}
 use Rattle.ttx_page.specs.declared.packet_kind.PacketKind.{PacketKind}
 use Rattle.ttx_page.specs.DroppedRows.{ExcusedBy}
 use Rattle.ttx_page.specs.LostRows.{IsHitOrLost, MayBeMarked, arrivals_of}
-use Rattle.ttx_page.specs.Noise.{IsSound}
 use Rattle.ttx_page.specs.PacketKind.{kind}
-use Rattle.ttx_page.specs.Receiver.{HearsBy, ReceiverClass, State}
-use Rattle.ttx_page.specs.Recovery.{EndsAfresh}
-use Rattle.ttx_page.specs.Shown.{shown}
-use Rattle.ttx_page.specs.Span.{holds_header, is_open_after, is_unended}
-use Rattle.ttx_page.proofs.LateStart.{shown-later, sound-later, unended-later}
-use Rattle.ttx_page.proofs.NoiseLaws as noise
+use Rattle.ttx_page.specs.Receiver.{ReceiverClass, State}
+use Rattle.ttx_page.specs.Repeats.{EndsForgetting, HearsForgetting, SendsText}
+use Rattle.ttx_page.specs.Shown.{kept}
+use Rattle.ttx_page.specs.Span.{holds_header, is_open_after, is_unended, span}
+use Rattle.ttx_page.proofs.LateStart.{sends-later, span-later, unended-later}
+use Rattle.ttx_page.proofs.RepeatLaws.{law_of_repeats}
 use Rattle.ttx_page.proofs.NoiseSteps.{kind-near, lost_is_no_header}
 use Rattle.ttx_page.proofs.SpanLists.{holds-append_left, holds-append_right}
+use Rattle.ttx_page.proofs.TextStart.{sends_of_sound, sound_of_sends}
 use Rattle.sub_plan.specs.Options.{OptionsValue}
 use Rattle.sub_rules.specs.GoodWithin.{HasEndedPage}
 use Rattle.sub_rules.specs.Transmission.{Transmission, first_frame, packets_between}
 use Rattle.sub_rules.specs.Transmission.{on_air, on_air_until, packets_of}
 use Rattle.sub_laws.specs.LostRows.{IsGot}
+use Rattle.sub_laws.specs.Repeats.{IsRepeatedStretch}
 use Rattle.sub_laws.specs.Robust.{IsListening}
 use Rattle.sub_laws.specs.Sufficient.{IsSoundStretch}
 use Rattle.sub_laws.proofs.TransmissionLemmas.{packets_between-split}
@@ -38,9 +40,57 @@ use Rattle.sub_laws.proofs.TransmissionLemmas.{packets_between-split}
 pub last_of_two : (x y : Bool) → (x && y) ≡ false → x ≡ true → y ≡ false
 last_of_two x y h1 h2 = grind (arith, nat_tests)
 
--- A start at packet j of frame g, and a stop at the end of frame f, in a sound stretch.
+-- ---- where repeats may not keep
+
 module _ (transmission : Transmission) (options : OptionsValue) (a b : ℕ)
-    (stretch : IsSoundStretch transmission options a b)
+    (stretch : IsSoundStretch transmission options a b) where
+  -- What is on air from frame a on to the end of frame f.
+  abbrev from_a : ℕ → List (List ℕ)
+  from_a f = on_air transmission a 0 f
+
+  -- It is sent as the text that all shows.
+  sends_from :
+      (f : ℕ)
+      → a ≤ f
+      → f ≤ b
+      → SendsText false options.page (from_a f)
+      (kept false options.page (on_air_until transmission f))
+  sends_from f low high =
+      subst
+      (λ (ps : List (List ℕ)). SendsText false options.page (from_a f) (kept false options.page ps))
+      (sym
+      (packets_between-split transmission (first_frame transmission) a (f + 1) stretch.rising
+      stretch.first (omega arith)))
+      (sends_of_sound options.page (packets_between transmission (first_frame transmission) a)
+      (from_a f) (stretch.sound f low high))
+
+  -- So a sound stretch is one of repeats of which none may keep.
+  pub repeated : IsRepeatedStretch false transmission options a b
+  repeated = record {
+    first = stretch.first;
+    rising = stretch.rising;
+    sends = sends_from;
+    repeats = stretch.repeats;
+  }
+
+-- And one of repeats of which none may keep is sound.
+pub sound_of_repeated :
+    (transmission : Transmission) (options : OptionsValue) (a b : ℕ)
+    → IsRepeatedStretch false transmission options a b
+    → IsSoundStretch transmission options a b
+sound_of_repeated transmission options a b stretch = record {
+  first = stretch.first;
+  rising = stretch.rising;
+  sound = λ f low high.
+      sound_of_sends options.page (on_air transmission a 0 f) _ (stretch.sends f low high);
+  repeats = stretch.repeats;
+}
+
+-- ---- where one listens
+
+-- A start at packet j of frame g, and a stop at the end of frame f, in a stretch of repeats.
+module _ (keeps : Bool) (transmission : Transmission) (options : OptionsValue) (a b : ℕ)
+    (stretch : IsRepeatedStretch keeps transmission options a b)
     (g j f : ℕ) (listening : IsListening transmission a b g j f) where
   -- What a packet is to a receiver of the page.
   abbrev K : List ℕ → PacketKind
@@ -99,22 +149,23 @@ module _ (transmission : Transmission) (options : OptionsValue) (a b : ℕ)
   abbrev so_far : on_air_until transmission f ≡ before (first_frame transmission) ++ sent
   so_far = on_air-split (first_frame transmission) (le_trans stretch.first listening.from)
 
-  -- What is heard is as the laws of noise want it.
-  pub sound : IsSound options.page sent
-  sound =
-      sound-later options.page (before a) sent
-      (subst (IsSound options.page) (on_air-split a listening.from)
-      (stretch.sound f (le_trans listening.from listening.in_order) listening.to))
+  -- What is heard is sent as the text that is kept of all.
+  pub heard_text :
+      SendsText keeps options.page sent (kept keeps options.page (on_air_until transmission f))
+  heard_text =
+      sends-later options.page (before a) sent keeps _
+      (subst
+      (λ (ps : List (List ℕ)).
+      SendsText keeps options.page ps (kept keeps options.page (on_air_until transmission f)))
+      (on_air-split a listening.from)
+      (stretch.sends f (le_trans listening.from listening.in_order) listening.to))
 
-  -- It shows what all shows, where it holds a header of the page.
-  pub shown_so_far :
+  -- Its span is that of all, where it holds a header of the page.
+  pub span_so_far :
       holds_header K sent ≡ true
-      → (row column : ℕ)
-      → shown options.page sent row column
-      ≡ shown options.page (on_air_until transmission f) row column
-  shown_so_far holds row column =
-      sym (shown-later options.page (before (first_frame transmission)) sent holds row column)
-      ∙ ap (λ ps. shown options.page ps row column) (sym so_far)
+      → span K (on_air_until transmission f) ≡ span K sent
+  span_so_far holds =
+      ap (span K) so_far ∙ span-later options.page (before (first_frame transmission)) sent holds
 
   -- And it is ended where all is.
   pub ended :
@@ -127,15 +178,6 @@ module _ (transmission : Transmission) (options : OptionsValue) (a b : ℕ)
       (holds-append_right K (before (first_frame transmission)) sent holds)
 
 -- ---- what a receiver has heard
-
--- It has heard its page exactly where it had before, or got a header of it.
-heard_after :
-    (class : ReceiverClass) (w : PageIdValue) (packets : List (List ℕ)) (old new : State)
-    → HearsBy class w old packets new
-    → new.heard ≡ (old.heard || holds_header (kind w) packets)
-heard_after class w [] old new run = grind (arith, nat_tests)
-heard_after class w (p ∷ ps) old new run =
-    let rest = heard_after class w ps run.0 new run.2 in grind (arith, nat_tests)
 
 -- It got one exactly where one was sent.
 holds-got :
@@ -151,8 +193,8 @@ holds-got w (p ∷ ps) marks got exact may near =
     grind (arith, nat_tests, lost_is_no_header, kind-near, holds-got w ps)
 
 -- What is got there of what is sent.
-module _ (transmission : Transmission) (options : OptionsValue) (a b : ℕ)
-    (stretch : IsSoundStretch transmission options a b)
+module _ (keeps : Bool) (transmission : Transmission) (options : OptionsValue) (a b : ℕ)
+    (stretch : IsRepeatedStretch keeps transmission options a b)
     (g j f : ℕ) (marks : List Bool) (got : List (List ℕ))
     (is : IsGot transmission a b g j f marks got) where
   -- It holds a header of the page where one was sent.
@@ -162,26 +204,18 @@ module _ (transmission : Transmission) (options : OptionsValue) (a b : ℕ)
   got_as =
       holds-got options.page (on_air transmission g j f) marks got
       (recursion_from_All HasExactWords (on_air transmission g j f)
-      (sound transmission options a b stretch g j f is.listening).exact)
+      (heard_text keeps transmission options a b stretch g j f is.listening).exact)
       is.marked is.near
 
-  -- So a receiver has heard its page exactly where it had before, or one was sent.
-  pub heard_as :
-      (class : ReceiverClass) (old new : State)
-      → HearsBy class options.page old got new
-      → new.heard ≡ (old.heard || holds_header (kind options.page) (on_air transmission g j f))
-  heard_as class old new hears =
-      heard_after class options.page got old new hears ∙ ap (λ h. old.heard || h) got_as
-
-  -- By the law of recovery.
-  pub afresh :
-      (class : ReceiverClass) (old new : State)
-      → HearsBy class options.page old got new
-      → holds_header (kind options.page) (on_air transmission g j f) ≡ true
-      → EndsAfresh options.page (on_air transmission g j f)
+  -- By the law of repeats.
+  pub forgetting :
+      (anew : Bool) (class : ReceiverClass) (old new : State)
+      → HearsForgetting class anew options.page old got new
+      → EndsForgetting keeps anew options.page (on_air transmission g j f)
+      (kept keeps options.page (on_air_until transmission f))
       (ExcusedBy class
       (IsHitOrLost options.page (on_air transmission g j f) (arrivals_of marks got)))
-      new
-  afresh class old new hears holds =
-      noise.law_of_recovery class options.page (on_air transmission g j f) marks got old new
-      (sound transmission options a b stretch g j f is.listening) is.marked is.near holds hears
+      old new
+  forgetting anew class old new hears =
+      law_of_repeats keeps anew class options.page (on_air transmission g j f) marks got _ old new
+      (heard_text keeps transmission options a b stretch g j f is.listening) is.marked is.near hears

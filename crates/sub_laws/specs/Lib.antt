@@ -8,6 +8,7 @@ pub mod LostRows
 pub mod OnScreen
 pub mod Planned
 pub mod Recovery
+pub mod Repeats
 pub mod Robust
 pub mod Stretch
 pub mod Sufficient

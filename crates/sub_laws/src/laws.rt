@@ -14,6 +14,11 @@ ghost use Rattle.sub_laws.specs.OnScreen.{LawOfCompletePlan};
 ghost use Rattle.sub_rules.specs.PesReading.{LawOfExactFrames};
 ghost use Rattle.sub_rules.specs.PieceEvents.{LawOfFirstTold};
 ghost use Rattle.sub_laws.specs.Planned.{LawOfPlan, LawOfPlanRead};
+ghost use Rattle.sub_laws.specs.Repeats.{LawOfFollowedStretch, LawOfGoodRepeats, LawOfKeptOnAir};
+ghost use Rattle.sub_laws.specs.Repeats.{LawOfLongerRepeats};
+ghost use Rattle.sub_laws.specs.Repeats.{LawOfPlanRepeats, LawOfRepeatedStretch};
+ghost use Rattle.sub_rules.specs.Repeats.{LawOfMayKeep, LawOfNoRepeats, LawOfNoneKeeps};
+ghost use Rattle.sub_rules.specs.Repeats.{LawOfRightCells};
 ghost use Rattle.sub_laws.specs.Stretch.{LawOfWholeRecovery, LawOfWholeStretch};
 ghost use Rattle.sub_laws.specs.Sufficient.{LawOfStretch, LawOfSufficientParts};
 
@@ -181,4 +186,59 @@ pub fn law_of_nothing_told()
 #[tactic(auto, using(crate::proofs::NothingToldLemmas::law_of_nothing_told_within))]
 pub fn law_of_nothing_told_within()
     ensures { LawOfNothingToldWithin }
+{}
+
+/// Where repeats may keep the page, whatever receivers do at a header that does not erase it: in a
+/// stretch whose repeats send what was sent before, those recover that begin anew at each header,
+/// those whose page was blank when they were tuned in, and every other one from the next header on
+/// that erases the page; and what is due is on their screens.
+pub fn law_of_repeated_stretch()
+    ensures { LawOfRepeatedStretch }
+{}
+
+/// A good transmission whose repeats may keep the page is one in all its frames.
+pub fn law_of_good_repeats()
+    ensures { LawOfGoodRepeats }
+{}
+
+/// Where repeats may not keep the page, a cell is right exactly where it shows what is due.
+pub fn law_of_right_cells()
+    ensures { LawOfRightCells }
+{}
+
+/// And there what is good is what is good within the frames that the options allow.
+pub fn law_of_no_repeats()
+    ensures { LawOfNoRepeats }
+{}
+
+/// What is good where repeats may not keep the page is good where they may.
+pub fn law_of_may_keep()
+    ensures { LawOfMayKeep }
+{}
+
+/// What is good where they may, and has no header that keeps, is good where they may not: so what
+/// is promised of a good transmission is promised of it whole.
+pub fn law_of_none_keeps()
+    ensures { LawOfNoneKeeps }
+{}
+
+/// What is good within some frames is good within more, where repeats may keep the page too.
+pub fn law_of_longer_repeats()
+    ensures { LawOfLongerRepeats }
+{}
+
+/// And so is the schedule of a programme that has a subtitle.
+pub fn law_of_plan_repeats()
+    ensures { LawOfPlanRepeats }
+{}
+
+/// A stretch of which each packet may follow those that were sent before it, whatever these are, has
+/// what recovery needs of it, where repeats may keep the page too.
+pub fn law_of_followed_stretch()
+    ensures { LawOfFollowedStretch }
+{}
+
+/// With no wrong bit a receiver that keeps its page holds what is kept, at the end of each frame.
+pub fn law_of_kept_on_air()
+    ensures { LawOfKeptOnAir }
 {}

@@ -9,6 +9,7 @@ pub mod PesFrames
 pub mod PesReading
 pub mod PieceEvents
 pub mod Pieces
+pub mod Repeats
 pub mod Sendings
 pub mod Transmission
 pub mod Trusted

@@ -1,0 +1,120 @@
+-- For what is told and what may stay.
+-- A stretch of which each packet may follow those before it has what recovery needs:
+-- `law_of_followed_stretch`. Each of its frames has an end, `end_of`.
+use Rattle.std.proofs.lemmas.Bool.Decides.{nat_tests}
+use Rattle.std.proofs.Common.{◌≡◌, ℕ, ◌+◌, ◌-◌, ◌<◌, ◌≤◌, inl, inr, Bool, List, [], ◌++◌, length}
+use Rattle.std.proofs.Common.{take, slice_index_or, sym, ◌∙◌, subst, arith}
+use Rattle.std.proofs.lemmas.Bool.{cases_lt}
+use Rattle.std.proofs.lemmas.List.{append-nil, get_or-append-add, length-append, length-take}
+use Rattle.std.proofs.lemmas.List.Elements.{All-nil}
+use Rattle.std.proofs.Math.Seq.{take-append-add}
+use Rattle.ttx_packet.specs.PageId.{PageIdValue}
+use Rattle.ttx_page.specs.Repeats.{MayFollow, SendsText}
+use Rattle.ttx_page.specs.Shown.{kept}
+use Rattle.ttx_page.proofs.TextStart.{sends-joined}
+use Rattle.sub_rules.specs.FrameRules.{frame_at, packets_before, packets_of_frame}
+use Rattle.sub_rules.specs.Transmission.{IsRising, Transmission, first_frame, on_air_until}
+use Rattle.sub_rules.specs.Transmission.{packets_between}
+use Rattle.sub_laws.specs.CleanStretch.{IsEnd, IsStretch}
+use Rattle.sub_laws.specs.Repeats.{LawOfFollowedStretch}
+use Rattle.sub_rules.proofs.FrameLists.{joined_more}
+use Rattle.sub_laws.proofs.GoodLemmas.{rises_each}
+use Rattle.sub_laws.proofs.PrefixLemmas.{EachAfter, RiseTo, before, each_after, end_at, first-same}
+use Rattle.sub_laws.proofs.PrefixLemmas.{last-same, on_air_at, packet_at, rises_to}
+use Rattle.sub_laws.proofs.TransmissionLemmas.{packets_between-split}
+
+-- No packets are sent as any text.
+sends_nil : (keeps : Bool) (page : PageIdValue) (text : ℕ → ℕ → ℕ) → SendsText keeps page [] text
+sends_nil keeps page text = record {
+  exact = All-nil _;
+  erases = λ none. All-nil _;
+  odd = All-nil _;
+  codes = All-nil _;
+}
+
+module _ (transmission : Transmission) (a b : ℕ) (stretch : IsStretch transmission a b)
+    (rises : IsRising transmission) where
+  -- Each frame of the list is after the one before.
+  pub rising : RiseTo transmission (length transmission)
+  rising = rises_each transmission rises
+
+  -- Each frame of the stretch has an end, at which what is on air up to it counts.
+  pub end_of : (f : ℕ) → a ≤ f → f ≤ b
+      → (n : ℕ)
+      × IsEnd transmission n f
+      × (on_air_until transmission f ≡ packets_before transmission n)
+      × (frame_at transmission (n - 1) ≤ f)
+  end_of f low high = grind (arith, nat_tests, first-same, last-same, end_at, rising)
+
+  -- What is on air before the stretch.
+  abbrev earlier : List (List ℕ)
+  earlier = packets_between transmission (first_frame transmission) a
+
+  -- A packet that comes after that is sent in the stretch or later.
+  not_earlier :
+      (i k : ℕ)
+      → i < length transmission
+      → k < length (packets_of_frame transmission i)
+      → length earlier ≤ length (before transmission i k)
+      → a ≤ frame_at transmission i
+  not_earlier i k l m far = elim (cases_lt (frame_at transmission i) a) [
+    | inr from ↦ from
+    | inl early ↦
+        let first = first-same transmission in
+        let low = rises_to transmission (length transmission) rising 0 i (omega arith) l in
+        let split =
+        packets_between-split transmission (first_frame transmission)
+        (frame_at transmission i + 1) a rises (omega arith) (omega arith) in
+        let here = on_air_at transmission rising i l ∙ joined_more transmission i l in
+        grind (arith, nat_tests, length-append, length-take)
+  ]
+
+  -- What is on air from its first frame on is sent as the text that is kept of all.
+  sends_at : (keeps : Bool) (page : PageIdValue)
+      → ((i k : ℕ)
+      → i < length transmission
+      → k < length (packets_of_frame transmission i)
+      → a ≤ frame_at transmission i
+      → frame_at transmission i ≤ b
+      → MayFollow keeps page (before transmission i k) (packet_at transmission i k))
+      → (f : ℕ)
+      → a ≤ f
+      → f ≤ b
+      → SendsText keeps page (packets_between transmission a (f + 1))
+      (kept keeps page (on_air_until transmission f))
+  sends_at keeps page fit f low high =
+      let (n, end, on, last) = end_of f low high in
+      let more : List (List ℕ) = packets_between transmission a (f + 1) in
+      let split : on_air_until transmission f ≡ earlier ++ more =
+      packets_between-split transmission (first_frame transmission) a (f + 1) rises stretch.from
+      (omega arith) in
+      let Fits : List (List ℕ) → List ℕ → Type 0 =
+      λ heard p. length earlier ≤ length heard → MayFollow keeps page heard p in
+      let each : EachAfter Fits (earlier ++ more) =
+      subst (EachAfter Fits) (sym on ∙ split)
+      (each_after Fits transmission n end.1 (λ i k l m far.
+      let there : i < length transmission = omega (arith, end.1) in
+      let up = rises_to transmission (length transmission) rising i (n - 1) (omega arith)
+      (omega (arith, end.0, end.1)) in
+      fit i k there m (not_earlier i k there m far) (omega arith))) in
+      let sends : SendsText keeps page more (kept keeps page ((earlier ++ []) ++ more)) =
+      sends-joined keeps page earlier [] more (sends_nil keeps page _)
+      (λ k l.
+      let at : MayFollow keeps page (earlier ++ take k more) (slice_index_or more k []) =
+      rw (← (take-append-add earlier more k), ← (get_or-append-add earlier more k []))
+      (grind (arith, nat_tests, length-append, length-take)) in
+      rw append-nil at) in
+      subst (λ (ps : List (List ℕ)). SendsText keeps page more (kept keeps page ps)) (sym split)
+      (subst (λ (ps : List (List ℕ)). SendsText keeps page more (kept keeps page (ps ++ more)))
+      (append-nil earlier) sends)
+
+-- It has what recovery needs.
+pub law_of_followed_stretch : LawOfFollowedStretch
+law_of_followed_stretch keeps transmission options a b followed = record {
+  first = followed.stretch.from;
+  rising = followed.rising;
+  sends =
+      sends_at transmission a b followed.stretch followed.rising keeps options.page
+      followed.packets;
+  repeats = followed.repeats;
+}

@@ -1,0 +1,380 @@
+-- For transmissions whose repeats may keep the page.
+-- A good one has what suffices, `law_of_good_repeats`. Where each header erases the page it is good
+-- whether repeats may keep or not, `law_of_may_keep` and `law_of_none_keeps`; and where they may
+-- not it is what is good within the frames that the options allow, `law_of_no_repeats`. Within more
+-- frames it stays good: `law_of_longer_repeats`.
+use Rattle.std.proofs.lemmas.Bool.Decides.{nat_tests}
+use Rattle.std.proofs.Common.{◌≡◌, ℕ, zero, suc, ◌+◌, ◌≤◌, inl, inr, Bool, true, false}
+use Rattle.std.proofs.Common.{List, [], ◌∷◌, length, take, find, option_map, unwrap_or, All}
+use Rattle.std.proofs.Common.{refl, sym, ap, ◌∙◌, subst, arith, le_refl}
+use Rattle.std.specs.List.{AllByRecursion}
+use Rattle.std.proofs.lemmas.List.{get_or_default, take_all}
+use Rattle.std.proofs.lemmas.List.Elements.{recursion_from_All}
+use Rattle.ttx_packet.specs.PageHeader.{HasExactWords}
+use Rattle.ttx_packet.specs.PageId.{PageIdValue}
+use Rattle.ttx_packet.specs.Parity.{code_of}
+use Rattle.ttx_packet.specs.RowPacket.{text_byte}
+use Rattle.ttx_page.specs.Noise.{ErasesPage}
+use Rattle.ttx_page.specs.Page.{space}
+use Rattle.ttx_page.specs.PacketKind.{begins_text, is_row, is_this_page, kind}
+use Rattle.ttx_page.specs.Shown.{kept}
+use Rattle.ttx_page.specs.Span.{text_span}
+use Rattle.ttx_page.proofs.LateStart.{codes_of_same}
+use Rattle.ttx_page.proofs.NoiseLaws.{first_code}
+use Rattle.ttx_page.proofs.QuietLaws.{law_of_kept}
+use Rattle.ttx_page.proofs.RepeatLaws.{kept_shown}
+use Rattle.ttx_page.proofs.TextSpan.{EachBegins, text_span-none_keeps, text_span-same}
+use Rattle.stl_rows.specs.Programme.{ProgrammeValue}
+use Rattle.sub_plan.specs.Options.{OptionsValue}
+use Rattle.sub_plan.specs.Schedule.{due_in}
+use Rattle.sub_rules.specs.Good.{IsCleanSpan, KeepsRules}
+use Rattle.sub_rules.specs.GoodWithin.{IsDueWithin, IsFinished}
+use Rattle.sub_rules.specs.Repeats.{GoodBy, IsFinishedBy, KeepsRulesBy, LawOfMayKeep}
+use Rattle.sub_rules.specs.Repeats.{LawOfNoRepeats, LawOfNoneKeeps, SomeFinishedBy}
+use Rattle.sub_rules.specs.Transmission.{EachPacket, Transmission, first_frame, last_frame}
+use Rattle.sub_rules.specs.Transmission.{on_air_until}
+use Rattle.sub_laws.specs.Repeats.{IsRepeatedStretch, LawOfGoodRepeats, LawOfKeptOnAir}
+use Rattle.sub_laws.specs.Repeats.{LawOfLongerRepeats}
+use Rattle.sub_laws.proofs.DelayLemmas.{law_of_repeated_stretch, law_of_right_cells}
+use Rattle.sub_laws.proofs.TransmissionLemmas.{packets_between-each}
+
+-- ---- what suffices
+
+-- A transmission that keeps rules 1 to 6 is a stretch of repeats in all its frames.
+repeated_stretch :
+    (keeps : Bool) (programme : ProgrammeValue) (transmission : Transmission)
+    (options : OptionsValue)
+    → KeepsRulesBy keeps programme transmission options
+    → IsRepeatedStretch keeps transmission options (first_frame transmission)
+    (last_frame transmission)
+repeated_stretch keeps programme transmission options rules = record {
+  first = le_refl (first_frame transmission);
+  rising = rules.rising;
+  sends = λ f low high.
+      let whole : List (List ℕ) = on_air_until transmission f in
+      let spanned : List (List ℕ) = text_span keeps (kind options.page) whole in
+      let clean =
+      subst
+      (λ (ps : List (List ℕ)). IsCleanSpan options.page (text_span keeps (kind options.page) ps))
+      (take_all (length whole) whole (le_refl (length whole)))
+      (rules.spans f (length whole) high) in
+      record {
+        exact =
+            packets_between-each HasExactWords transmission (first_frame transmission) (f + 1)
+            rules.exact;
+        erases = λ none.
+            packets_between-each (ErasesPage options.page) transmission (first_frame transmission)
+            (f + 1) (rules.erases none);
+        odd = clean.odd;
+        codes = λ k d l row column is below.
+            first_code options.page spanned row column _
+            (codes_of_same options.page spanned clean.same)
+            (k, l, get_or_default spanned k _ d l) is below;
+      };
+  repeats = rules.repeats;
+}
+
+-- What is promised of a good one.
+pub law_of_good_repeats : LawOfGoodRepeats
+law_of_good_repeats keeps anew class programme transmission options good =
+    law_of_repeated_stretch keeps anew class programme transmission options _ _
+    (repeated_stretch keeps programme transmission options good.rules) good.codes
+
+-- What a receiver that keeps holds, with no wrong bit.
+pub law_of_kept_on_air : LawOfKeptOnAir
+law_of_kept_on_air keeps programme transmission options f old new rules low high hears fresh row
+    column named =
+    law_of_kept keeps options.page (on_air_until transmission f) old new
+    ((repeated_stretch keeps programme transmission options rules).sends f low high) hears fresh row
+    column named
+
+-- ---- where each header erases the page
+
+-- A header that erases the page begins the text.
+begins_of_erases : (keeps : Bool) (w : PageIdValue) (packet : List ℕ)
+    → ErasesPage w packet
+    → is_this_page (kind w packet) ≡ true
+    → begins_text keeps (kind w packet) ≡ true
+begins_of_erases keeps w packet erases this = grind (arith, nat_tests)
+
+-- So each header of the first n packets does.
+each_begins_of : (keeps : Bool) (w : PageIdValue) (packets : List (List ℕ)) (n : ℕ)
+    → AllByRecursion (ErasesPage w) packets
+    → EachBegins (kind w) keeps (take n packets)
+each_begins_of keeps w packets zero each = tt
+each_begins_of keeps w [] (suc n) each = tt
+each_begins_of keeps w (p ∷ ps) (suc n) each =
+    (begins_of_erases keeps w p each.0, each_begins_of keeps w ps n each.1)
+
+module _ (one other : Bool) (w : PageIdValue) (packets : List (List ℕ))
+    (erases : All (ErasesPage w) packets) where
+  -- Their long span is the same, whether repeats may keep or not.
+  text_span-of_erasing : (n : ℕ)
+      → text_span one (kind w) (take n packets) ≡ text_span other (kind w) (take n packets)
+  text_span-of_erasing n =
+      let each = recursion_from_All (ErasesPage w) packets erases in
+      text_span-same (kind w) one (take n packets) (each_begins_of one w packets n each)
+      ∙ sym (text_span-same (kind w) other (take n packets) (each_begins_of other w packets n each))
+
+  -- And so is what is kept.
+  kept-of_erasing : (row column : ℕ)
+      → kept one w packets row column ≡ kept other w packets row column
+  kept-of_erasing row column =
+      ap (λ (ps : List (List ℕ)).
+      unwrap_or
+      (option_map (λ p. code_of (text_byte p column)) (find (λ p. is_row row (kind w p)) ps)) space)
+      (subst
+      (λ (ps : List (List ℕ)). text_span one (kind w) ps ≡ text_span other (kind w) ps)
+      (take_all (length packets) packets (le_refl (length packets)))
+      (text_span-of_erasing (length packets)))
+
+module _ (one other : Bool) (programme : ProgrammeValue) (transmission : Transmission)
+    (options : OptionsValue) (each : EachPacket (ErasesPage options.page) transmission) where
+  -- What is on air so far erases the page at each header.
+  erasing : (f : ℕ) → All (ErasesPage options.page) (on_air_until transmission f)
+  erasing f =
+      packets_between-each (ErasesPage options.page) transmission (first_frame transmission)
+      (f + 1) each
+
+  finished_same : (f : ℕ)
+      → IsFinishedBy one programme transmission options f
+      → IsFinishedBy other programme transmission options f
+  finished_same f finished = record {
+    whole = λ row column named.
+        let right = finished.whole row column named in
+        record {
+          kept_is =
+              sym (kept-of_erasing one other options.page (on_air_until transmission f) (erasing f)
+              row column)
+              ∙ right.kept_is;
+          again = right.again;
+        };
+    ended = finished.ended;
+  }
+
+  some_same : (a b : ℕ)
+      → SomeFinishedBy one programme transmission options a b
+      → SomeFinishedBy other programme transmission options a b
+  some_same a b some = (some.0, some.1, some.2, finished_same some.0 some.3)
+
+  -- So is what is good.
+  good_same :
+      GoodBy one programme transmission options → GoodBy other programme transmission options
+  good_same good = record {
+    rules = record {
+      not_empty = good.rules.not_empty;
+      rising = good.rules.rising;
+      whole = good.rules.whole;
+      starts = good.rules.starts;
+      lasts = good.rules.lasts;
+      exact = good.rules.exact;
+      serial = good.rules.serial;
+      control = good.rules.control;
+      erases = λ none. each;
+      keeping = good.rules.keeping;
+      spans = λ f n high.
+          subst (IsCleanSpan options.page)
+          (text_span-of_erasing one other options.page (on_air_until transmission f) (erasing f) n)
+          (good.rules.spans f n high);
+      opens = good.rules.opens;
+      repeats = good.rules.repeats;
+    };
+    codes = λ f row column low high named.
+        subst (IsDueWithin programme transmission options f row column)
+        (kept-of_erasing one other options.page (on_air_until transmission f) (erasing f) row
+        column)
+        (good.codes f row column low high named);
+    again = λ start low high. some_same _ _ (good.again start low high);
+    subtitles = λ k d l. some_same _ _ (good.subtitles k d l);
+    ends = finished_same _ good.ends;
+  }
+
+-- What is good where repeats may not keep is good where they may.
+pub law_of_may_keep : LawOfMayKeep
+law_of_may_keep programme transmission options good =
+    good_same false true programme transmission options (good.rules.erases refl) good
+
+-- And the other way round, where no header keeps.
+pub law_of_none_keeps : LawOfNoneKeeps
+law_of_none_keeps programme transmission options each good =
+    good_same true false programme transmission options each good
+
+-- ---- where repeats may not keep
+
+module _ (programme : ProgrammeValue) (transmission : Transmission) (options : OptionsValue) where
+  -- A finished end is one.
+  finished_of : (f : ℕ)
+      → IsFinishedBy false programme transmission options f
+      → IsFinished programme transmission options f
+  finished_of f finished = record {
+    shows = λ row column named.
+        (law_of_right_cells options.page (on_air_until transmission f) (due_in programme f) row
+        column).0
+        (finished.whole row column named);
+    ended = finished.ended;
+  }
+
+  finished_by : (f : ℕ)
+      → IsFinished programme transmission options f
+      → IsFinishedBy false programme transmission options f
+  finished_by f finished = record {
+    whole = λ row column named.
+        (law_of_right_cells options.page (on_air_until transmission f) (due_in programme f) row
+        column).1
+        (finished.shows row column named);
+    ended = finished.ended;
+  }
+
+  -- The rules are those of `Good`.
+  rules_of :
+      KeepsRulesBy false programme transmission options
+      → KeepsRules programme transmission options
+  rules_of rules = record {
+    not_empty = rules.not_empty;
+    rising = rules.rising;
+    whole = rules.whole;
+    starts = rules.starts;
+    lasts = rules.lasts;
+    exact = rules.exact;
+    serial = rules.serial;
+    control = λ k d l m e n h is.
+        let bits = rules.control k d l m e n h is in
+        record {
+          erases = rules.erases refl k d l m e n h is;
+          no_newsflash = bits.no_newsflash;
+          subtitle = bits.subtitle;
+          suppressed = bits.suppressed;
+          displayed = bits.displayed;
+          option = bits.option;
+        };
+    spans = λ f n high.
+        subst (IsCleanSpan options.page)
+        (text_span-none_keeps (kind options.page) (take n (on_air_until transmission f)))
+        (rules.spans f n high);
+    opens = rules.opens;
+    repeats = rules.repeats;
+  }
+
+  rules_by :
+      KeepsRules programme transmission options
+      → KeepsRulesBy false programme transmission options
+  rules_by rules = record {
+    not_empty = rules.not_empty;
+    rising = rules.rising;
+    whole = rules.whole;
+    starts = rules.starts;
+    lasts = rules.lasts;
+    exact = rules.exact;
+    serial = rules.serial;
+    control = λ k d l m e n h is.
+        let bits = rules.control k d l m e n h is in
+        record {
+          no_newsflash = bits.no_newsflash;
+          subtitle = bits.subtitle;
+          suppressed = bits.suppressed;
+          displayed = bits.displayed;
+          option = bits.option;
+        };
+    erases = λ none k d l m e n h is. (rules.control k d l m e n h is).erases;
+    keeping = λ f n high below h is.
+        inl (packets_between-each (ErasesPage options.page) transmission (first_frame transmission)
+        (f + 1) (λ k d l m e o head of. (rules.control k d l m e o head of).erases) n [] below h
+        is);
+    spans = λ f n high.
+        subst (IsCleanSpan options.page)
+        (sym (text_span-none_keeps (kind options.page) (take n (on_air_until transmission f))))
+        (rules.spans f n high);
+    opens = rules.opens;
+    repeats = rules.repeats;
+  }
+
+-- Where repeats may not keep, it is what is good within these frames.
+pub law_of_no_repeats : LawOfNoRepeats
+law_of_no_repeats programme transmission options = (
+  λ good. record {
+    rules = rules_of programme transmission options good.rules;
+    shows = record {
+      codes = λ f row column low high named.
+          subst (IsDueWithin programme transmission options f row column)
+          (kept_shown options.page (on_air_until transmission f) row column)
+          (good.codes f row column low high named);
+      again = λ start low high.
+          let some = good.again start low high in
+          (some.0, some.1, some.2, finished_of programme transmission options some.0 some.3);
+      subtitles = λ k d l.
+          let some = good.subtitles k d l in
+          (some.0, some.1, some.2, finished_of programme transmission options some.0 some.3);
+      ends = finished_of programme transmission options _ good.ends;
+    };
+  },
+  λ good. record {
+    rules = rules_by programme transmission options good.rules;
+    codes = λ f row column low high named.
+        subst (IsDueWithin programme transmission options f row column)
+        (sym (kept_shown options.page (on_air_until transmission f) row column))
+        (good.shows.codes f row column low high named);
+    again = λ start low high.
+        let some = good.shows.again start low high in
+        (some.0, some.1, some.2, finished_by programme transmission options some.0 some.3);
+    subtitles = λ k d l.
+        let some = good.shows.subtitles k d l in
+        (some.0, some.1, some.2, finished_by programme transmission options some.0 some.3);
+    ends = finished_by programme transmission options _ good.shows.ends;
+  },
+)
+
+-- ---- within more frames
+
+module _ (keeps : Bool) (programme : ProgrammeValue) (transmission : Transmission)
+    (options : OptionsValue) (more : ℕ) (longer : options.within ≤ more) where
+  -- The same options, with more frames.
+  abbrev allowing : OptionsValue
+  allowing = record options { within = more }
+
+  -- What is finished stays so.
+  finished_longer :
+      (f : ℕ)
+      → IsFinishedBy keeps programme transmission options f
+      → IsFinishedBy keeps programme transmission allowing f
+  finished_longer f is = record { whole = is.whole; ended = is.ended }
+
+  some_longer :
+      (a b c : ℕ)
+      → b ≤ c
+      → SomeFinishedBy keeps programme transmission options a b
+      → SomeFinishedBy keeps programme transmission allowing a c
+  some_longer a b c order (f, from, to, is) = (f, from, omega arith, finished_longer f is)
+
+  good_longer :
+      GoodBy keeps programme transmission options → GoodBy keeps programme transmission allowing
+  good_longer good = record {
+    rules = record {
+      not_empty = good.rules.not_empty;
+      rising = good.rules.rising;
+      whole = good.rules.whole;
+      starts = good.rules.starts;
+      lasts = good.rules.lasts;
+      exact = good.rules.exact;
+      serial = good.rules.serial;
+      control = good.rules.control;
+      erases = good.rules.erases;
+      keeping = good.rules.keeping;
+      spans = good.rules.spans;
+      opens = good.rules.opens;
+      repeats = good.rules.repeats;
+    };
+    codes = λ f row column low high named.
+        elim (good.codes f row column low high named) [
+          | inl spaced ↦ inl spaced
+          | inr (e, first, before, near, due) ↦ inr (e, first, before, omega arith, due)
+        ];
+    again = λ start low high.
+        some_longer start (start + options.within) (start + more) (omega arith)
+        (good.again start low (omega arith));
+    subtitles = λ k d within. some_longer _ _ _ (le_refl _) (good.subtitles k d within);
+    ends = finished_longer (last_frame transmission) good.ends;
+  }
+
+-- What is good within some frames is good within more.
+pub law_of_longer_repeats : LawOfLongerRepeats
+law_of_longer_repeats = good_longer
