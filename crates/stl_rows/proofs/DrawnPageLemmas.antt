@@ -14,8 +14,8 @@ use Rattle.std.specs.Prelude.{IsOk, MatchOption, slice_set}
 use Rattle.ttx_page.specs.Page.{Rows, blank, blank_row}
 use Rattle.stl_file.specs.Subtitle.{SubtitleValue}
 use Rattle.stl_rows.specs.declared.national.National.{National}
-use Rattle.stl_rows.specs.DrawnPage.{drawn, line_faults, line_on, lines, page_of_lines}
-use Rattle.stl_rows.specs.DrawnPage.{subtitle_faults}
+use Rattle.stl_rows.specs.PlainPage.{line_faults, line_on, lines, page_of_lines, plainly_drawn}
+use Rattle.stl_rows.specs.PlainPage.{subtitle_faults}
 use Rattle.stl_rows.specs.Line.{code_in_column, prepared, row_of, start_column}
 use Rattle.stl_rows.specs.LineByLine.{FitsRow, put_line}
 use Rattle.stl_rows.specs.TextCode.{first_of, refused_codes, text_codes}
@@ -135,25 +135,33 @@ is_drawn-end h = rw (h.all_are, append-nil) (sym h.shown)
 -- ---- faults
 
 -- A subtitle that draws a page has no fault.
-no_faults : (n : National) (t : SubtitleValue) → IsOk (drawn n t) → subtitle_faults n t ≡ []
-unfolding drawn
+no_faults : (n : National) (t : SubtitleValue) → IsOk (plainly_drawn n t) → subtitle_faults n t ≡ []
+unfolding plainly_drawn
 no_faults n t ok = grind (arith, nat_tests)
 
 -- The lines of a subtitle that draws a page have no fault. For `drawn_page`.
 pub no_line_faults : (n : National) (t : SubtitleValue)
-    → IsOk (drawn n t)
+    → IsOk (plainly_drawn n t)
     → line_faults 0 t.vp false (lines n t) ≡ []
 no_line_faults n t ok = (empty_parts (refused_codes (text_codes n 0 t.text)) _ (no_faults n t ok)).1
 
 -- It draws the page of its lines. For `drawn_page`.
 pub drawn-page : (n : National) (t : SubtitleValue)
-    → IsOk (drawn n t)
-    → drawn n t ≡ Ok (page_of_lines t.jc t.vp (lines n t))
-unfolding drawn
+    → IsOk (plainly_drawn n t)
+    → plainly_drawn n t ≡ Ok (page_of_lines t.jc t.vp (lines n t))
+unfolding plainly_drawn
 drawn-page n t ok = rw (no_faults n t ok) refl
+
+-- What is drawn is the page of lines without a fault.
+pub drawn-lines : (n : National) (t : SubtitleValue) (page : Rows)
+    → plainly_drawn n t ≡ Ok page
+    → (line_faults 0 t.vp false (lines n t) ≡ [])
+    × (page ≡ page_of_lines t.jc t.vp (lines n t))
+drawn-lines n t page e = grind (arith, nat_tests, no_line_faults, drawn-page)
 
 -- The first of all faults is told. For `first_fault`.
 pub drawn-first : (n : National) (t : SubtitleValue)
-    → MatchOption (first_of (subtitle_faults n t)) (IsOk (drawn n t)) (λ f. drawn n t ≡ Err f)
-unfolding drawn
+    → MatchOption (first_of (subtitle_faults n t)) (IsOk (plainly_drawn n t))
+    (λ f. plainly_drawn n t ≡ Err f)
+unfolding plainly_drawn
 drawn-first n t = grind (arith, nat_tests)

@@ -2,6 +2,7 @@
 -- none_is_blank and next_edge-tci.
 use Rattle.std.proofs.Common.{rules, ◌≡◌, ◌≢◌, ℕ, zero, suc, ◌+◌, ◌-◌, ◌<◌, ◌≤◌, Bool, true, false}
 use Rattle.std.proofs.Common.{List, [], ◌∷◌, Option, Some, None, MatchOption, option_map, length}
+use Rattle.std.proofs.Common.{Result, Ok, Err}
 use Rattle.std.proofs.Common.{get_or, refl, sym, ap, ◌∙◌, arith, ◌⊎◌, inl, inr}
 use Rattle.std.proofs.lemmas.Bool.{cases_lt}
 use Rattle.std.proofs.lemmas.Bool.Decides.{nat_tests}
@@ -11,10 +12,12 @@ use Rattle.std.proofs.lemmas.List.Recursion.{found_at, found_nowhere}
 use Rattle.std.specs.List.{find}
 use Rattle.std.specs.List.Sorted.{IsNonDecreasingBy}
 use Rattle.std.specs.Prelude.{Contains}
+use Rattle.std.specs.Result.{result_unwrap_or}
 use Rattle.ttx_page.specs.Page.{Rows, blank}
 use Rattle.stl_file.specs.Subtitle.{SubtitleValue, IsSubtitle, empty_subtitle}
-use Rattle.stl_rows.specs.declared.national.National.{National}
-use Rattle.stl_rows.specs.DrawnPage.{drawn, subtitle_faults, lines, page_of_lines}
+use Rattle.stl_rows.specs.declared.fault.RowFault.{RowFault}
+use Rattle.stl_rows.specs.declared.layout.Drawing.{Drawing}
+use Rattle.stl_rows.specs.DrawnPage.{drawn}
 use Rattle.stl_rows.specs.DuePage.{IsEdge, IsLastEdge, IsNextEdge, LawOfBlankPages}
 use Rattle.stl_rows.specs.DuePage.{LawOfDueSubtitles, LawOfEdges, TellsLastEdge, drawn_or_blank}
 use Rattle.stl_rows.specs.DuePage.{due, ends_at, is_due, tci_of_ending}
@@ -77,14 +80,23 @@ pub edges_alone : LawOfEdges
 unfolding due
 edges_alone n ts f first none = search (rules, find_same, get_or_default)
 
--- What holds of the blank page, and of that of each subtitle without a fault, holds of each due
--- page.
-pub due_has : (P : Rows → Type 0) (n : National) (ts : List SubtitleValue) (f : ℕ)
+-- What holds of the blank page, and of each that a subtitle draws, holds of each due page.
+pub due_has : (P : Rows → Type 0) (n : Drawing) (ts : List SubtitleValue) (f : ℕ)
     → P blank
-    → ((t : SubtitleValue) → subtitle_faults n t ≡ [] → P (page_of_lines t.jc t.vp (lines n t)))
+    → ((t : SubtitleValue) (page : Rows) → drawn n t ≡ Ok page → P page)
     → P (due n ts f)
-unfolding due drawn
-due_has P n ts f none some = grind (arith, nat_tests)
+unfolding due
+due_has P n ts f none some = of_found (find (is_due f) ts)
+  where
+    of_result : (t : SubtitleValue) (r : Result Rows RowFault)
+        → drawn n t ≡ r
+        → P (result_unwrap_or r blank)
+    of_result t (Ok page) is = some t page is
+    of_result t (Err fault) is = none
+
+    of_found : (found : Option SubtitleValue) → P (drawn_or_blank n found)
+    of_found None = none
+    of_found (Some t) = of_result t (drawn n t) refl
 
 -- ---- the first subtitle after a frame
 
@@ -92,7 +104,7 @@ pub record IsFirstAfter (ts : List SubtitleValue) (f at : ℕ) : Type 0 where
   pub before : (k : ℕ) (d : SubtitleValue) → k < at → (get_or ts k d).tco ≤ f
   pub after : (k : ℕ) (d : SubtitleValue) → at ≤ k → k < length ts → f < (get_or ts k d).tco
 
-module _ (n : National) (ts : List SubtitleValue) (f at : ℕ) (t : SubtitleValue)
+module _ (n : Drawing) (ts : List SubtitleValue) (f at : ℕ) (t : SubtitleValue)
     (ok : IsProgramme n ts) (first : IsFirstAfter ts f at) (inside : at < length ts)
     (is : t ≡ get_or ts at t) where
   -- Each subtitle has ended by the frame, is this one, or starts where this one ends, or after.
@@ -164,7 +176,7 @@ module _ (n : National) (ts : List SubtitleValue) (f at : ℕ) (t : SubtitleValu
 
 -- ---- the edges up to a frame
 
-module _ (n : National) (ts : List SubtitleValue) (f at : ℕ) (ok : IsProgramme n ts) where
+module _ (n : Drawing) (ts : List SubtitleValue) (f at : ℕ) (ok : IsProgramme n ts) where
   -- An edge is the TCI or the TCO of a subtitle of the list, whose TCI is before its TCO.
   times_of_edge : (x : ℕ) (edge : IsEdge ts x)
       → (edge.1.tci < edge.1.tco) × ((x ≡ edge.1.tci) ⊎ (x ≡ edge.1.tco))
@@ -242,7 +254,7 @@ module _ (n : National) (ts : List SubtitleValue) (f at : ℕ) (ok : IsProgramme
           grind (arith, nat_tests, cases_lt)
 
 -- Where no edge lies between, the same page is due: for a checker that goes back from a frame.
-pub due_back : (n : National) (ts : List SubtitleValue) (f j : ℕ)
+pub due_back : (n : Drawing) (ts : List SubtitleValue) (f j : ℕ)
     → j ≤ f
     → ((e : ℕ) → IsEdge ts e → f < e + j → e ≤ f → ⊥)
     → due n ts (f - j) ≡ due n ts f
@@ -257,7 +269,7 @@ due_back n ts f (suc j) within none =
     rw same (sym here ∙ before)
 
 -- The TCOs of a programme rise, so that a binary search finds one: for `first_after`.
-pub tco_rises : (n : National) (ts : List SubtitleValue)
+pub tco_rises : (n : Drawing) (ts : List SubtitleValue)
     → IsProgramme n ts
     → IsNonDecreasingBy (λ (t : SubtitleValue). t.tco) ts
 tco_rises n ts ok i j d le inside = grind (arith, nat_tests, cases_lt)

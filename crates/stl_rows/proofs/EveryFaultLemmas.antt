@@ -9,7 +9,7 @@ use Rattle.sub_io.proofs.TellingLemmas.{first_is}
 use Rattle.stl_file.specs.declared.fault.StlFault.TheVariants.{Ended, Unfinished}
 use Rattle.stl_rows.specs.declared.fault.LoadFault.{LoadFault}
 use Rattle.stl_rows.specs.declared.fault.LoadFaultKind.{LoadFaultKind}
-use Rattle.stl_rows.specs.declared.national.National.{National}
+use Rattle.stl_rows.specs.declared.layout.Drawing.{Drawing}
 use Rattle.stl_rows.specs.declared.fault.LoadFaultKind.TheVariants.{File}
 use Rattle.stl_rows.specs.EveryFault.{FailsTelling, TellsFaults, TellsOfFile, faults, is_of_file}
 use Rattle.stl_rows.specs.EveryFault.{is_told_before, load_fault}
@@ -24,10 +24,10 @@ first_told : (fs : List LoadFault) (p : ProgrammeValue) (fault : LoadFault)
 first_told [] p fault = ((λ e. absurd cc), (λ e. absurd cc))
 first_told (f ∷ fs) p fault = ((λ e. cc), (λ e. cc))
 
-first_fault : (national : National) (file : List ℕ) (fault : LoadFault)
-    → (loaded national file ≡ Err fault) ↔ (first_of (faults national file) ≡ Some fault)
+first_fault : (drawing : Drawing) (file : List ℕ) (fault : LoadFault)
+    → (loaded drawing file ≡ Err fault) ↔ (first_of (faults drawing file) ≡ Some fault)
 unfolding loaded
-first_fault national file fault = first_told (faults national file) _ fault
+first_fault drawing file fault = first_told (faults drawing file) _ fault
 
 -- ---- `load`, which is told the first
 
@@ -39,11 +39,11 @@ first_taken : (n : ℕ) (all : List LoadFault) (fault : LoadFault)
 first_taken n all fault some h = grind (arith, nat_tests)
 
 -- A fault of the file is told as `load` tells it.
-tells-kind : (national : National) (file : List ℕ) (block : ℕ) (kind : LoadFaultKind)
+tells-kind : (drawing : Drawing) (file : List ℕ) (block : ℕ) (kind : LoadFaultKind)
     → is_of_file kind ≡ true
-    → loaded national file ≡ Err (load_fault block kind)
-    → TellsFault national file block kind
-tells-kind national file block kind of_file h = grind (arith, nat_tests)
+    → loaded drawing file ≡ Err (load_fault block kind)
+    → TellsFault drawing file block kind
+tells-kind drawing file block kind of_file h = grind (arith, nat_tests)
 
 -- What was told of the file by the first is one of its faults.
 pub first-of_file : (first : Option LoadFault)
@@ -67,18 +67,18 @@ first-not_read new first fault is_new is_first of_file =
     grind (arith, nat_tests, first-of_file first (rw is_new at of_file), not_read fault.kind)
 
 -- The one fault that was told is the one of the file.
-pub tells-first : (national : National) (file : List ℕ) (fault : LoadFault) (stopped : Bool)
-    → TellsFaults KeepsFirst None (Some fault) stopped (faults national file)
+pub tells-first : (drawing : Drawing) (file : List ℕ) (fault : LoadFault) (stopped : Bool)
+    → TellsFaults KeepsFirst None (Some fault) stopped (faults drawing file)
     → TellsOfFile KeepsFirst None (Some fault)
-    → TellsFault national file fault.block fault.kind
-tells-first national file fault stopped told of_file =
+    → TellsFault drawing file fault.block fault.kind
+tells-first drawing file fault stopped told of_file =
     let p = told.prefix in
-    let taken = first_is (Some fault) (take p.0 (faults national file)) p.3 in
-    let first = first_taken p.0 (faults national file) fault p.1 taken in
+    let taken = first_is (Some fault) (take p.0 (faults drawing file)) p.3 in
+    let first = first_taken p.0 (faults drawing file) fault p.1 taken in
     let own = first-of_file (Some fault) of_file in
     let kind : is_of_file fault.kind ≡ true = let same = own.1 in let is = own.2 in cc in
-    tells-kind national file fault.block fault.kind kind
-    ((first_fault national file fault).1 first)
+    tells-kind drawing file fault.block fault.kind kind
+    ((first_fault drawing file fault).1 first)
 
 -- The first of all does not come before this block, where none does.
 not_before : (block : ℕ) (all : List LoadFault) (fault : LoadFault)
@@ -94,19 +94,19 @@ is_late : (block at : ℕ) (kind : LoadFaultKind)
 is_late block at kind h = grind (arith, nat_tests)
 
 -- Where the source failed and nothing was told, no fault comes before.
-pub none-told : (national : National) (old new : Option (List ℕ)) (block : ℕ)
+pub none-told : (drawing : Drawing) (old new : Option (List ℕ)) (block : ℕ)
     (told : Option LoadFault)
     → (is_some told ≡ true → ⊥)
-    → FailsTelling national old new KeepsFirst None told block
-    → FailsLoading national old new block
-none-told national old new block (Some fault) none failed = absurd (none refl)
-none-told national old new block None none failed = record {
+    → FailsTelling drawing old new KeepsFirst None told block
+    → FailsLoading drawing old new block
+none-told drawing old new block (Some fault) none failed = absurd (none refl)
+none-told drawing old new block None none failed = record {
   bytes = failed.bytes;
   consumed = failed.consumed;
   block_is = failed.block_is;
   none = λ all is fault e.
       is_late block fault.block fault.kind
-      (not_before block (faults national all) fault
-      ((first_fault national all fault).0 e)
+      (not_before block (faults drawing all) fault
+      ((first_fault drawing all fault).0 e)
       (sym (first_is None _ (failed.told all is))));
 }

@@ -15,7 +15,7 @@ use Rattle.stl_file.specs.Subtitle.{SubtitleValue}
 use Rattle.stl_file.specs.Reading.{Begun, findings_from}
 use Rattle.stl_file.specs.Reader.{FailsReading, FindsFrom, block_of_byte}
 use Rattle.stl_file.specs.Resuming.{LeadsOn, ResumingValue}
-use Rattle.stl_rows.specs.declared.national.National.{National}
+use Rattle.stl_rows.specs.declared.layout.Drawing.{Drawing}
 use Rattle.stl_rows.specs.declared.fault.LoadFault.{LoadFault}
 use Rattle.stl_rows.specs.declared.times.Times.{Times}
 use Rattle.stl_rows.specs.EveryFault.{FailsTelling, faults, is_told_before}
@@ -58,7 +58,7 @@ none_before-0 [] = refl
 none_before-0 (f ∷ fs) = grind (arith, nat_tests, none_before-0 fs)
 
 -- While a subtitle is read.
-pub fails-next : {national : National} {start old new : Option (List ℕ)} {before : Option Times}
+pub fails-next : {drawing : Drawing} {start old new : Option (List ℕ)} {before : Option Times}
     {kept : Option (List SubtitleValue)} {early : List LoadFault} {D : Type 0}
     {IsTold : D → LoadFault → D → Type 0} {told_old told_new : D} {scope : Scope}
     (reader : ResumingValue) {block : ℕ}
@@ -66,9 +66,9 @@ pub fails-next : {national : National} {start old new : Option (List ℕ)} {befo
     → All (IsToldBy reader.block) early
     → Tells IsTold told_old told_new early
     → ((all : List ℕ) → start ≡ Some all → (rest : List ℕ) × (old ≡ Some rest)
-    × GoesOn national all (findings_from scope reader.block reader.refused rest) before kept early)
+    × GoesOn drawing all (findings_from scope reader.block reader.refused rest) before kept early)
     → FailsReading scope reader.block block reader.refused old new
-    → FailsTelling national start new IsTold told_old told_new block
+    → FailsTelling drawing start new IsTold told_old told_new block
 fails-next {start = start} {old} {new} {scope = scope} reader {block} taken early_told told goes failed =
     record {
       bytes = taken.bytes ++ failed.bytes;
@@ -85,7 +85,7 @@ fails-next {start = start} {old} {new} {scope = scope} reader {block} taken earl
     }
 
 -- While the GSI block is read: nothing was told.
-pub reads-nothing : (national : National) (file : List ℕ)
+pub reads-nothing : (drawing : Drawing) (file : List ℕ)
     {D : Type 0} {IsTold : D → LoadFault → D → Type 0} (told : D)
-    → Tells IsTold told told (filter (is_told_before 0) (faults national file))
-reads-nothing national file told = grind (arith, nat_tests, none_before-0, Tells-none)
+    → Tells IsTold told told (filter (is_told_before 0) (faults drawing file))
+reads-nothing drawing file told = grind (arith, nat_tests, none_before-0, Tells-none)

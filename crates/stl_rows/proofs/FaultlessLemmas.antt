@@ -4,7 +4,7 @@ use Rattle.std.proofs.Common.{◌≡◌, ℕ, zero, suc, ◌+◌, ◌<◌, ◌�
 use Rattle.std.proofs.Common.{map, get_or, refl, arith}
 use Rattle.std.proofs.lemmas.Bool.Decides.{nat_tests}
 use Rattle.std.specs.List.{onto_first}
-use Rattle.stl_rows.specs.DrawnPage.{last_row, line_fault_kinds, line_faults}
+use Rattle.stl_rows.specs.PlainPage.{last_row, line_fault_kinds, line_faults}
 use Rattle.stl_rows.specs.Line.{is_double, prepared}
 use Rattle.stl_rows.specs.LineByLine.{onto}
 use Rattle.stl_rows.proofs.LineByLineLemmas.{prepared_longer}

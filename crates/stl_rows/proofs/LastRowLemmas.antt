@@ -1,18 +1,18 @@
 -- Row 24 of each due page is blank: `last_row_blank`.
-use Rattle.std.proofs.Common.{◌≡◌, ℕ, ◌-◌, false, nat_lt, List, [], get_or, refl, sym, ap, ◌∙◌}
+use Rattle.std.proofs.Common.{◌≡◌, ℕ, ◌-◌, false, nat_lt, List, [], get_or, refl, sym, ap, ◌∙◌, Ok}
 use Rattle.std.proofs.Common.{arith}
 use Rattle.std.proofs.lemmas.Bool.{cond_both, ltb-false}
 use Rattle.std.proofs.lemmas.List.{nil_from_length}
-use Rattle.ttx_page.specs.Page.{blank, blank_row, row_at}
+use Rattle.ttx_page.specs.Page.{Rows, blank, blank_row, row_at}
 use Rattle.stl_file.specs.Subtitle.{SubtitleValue}
-use Rattle.stl_rows.specs.declared.national.National.{National}
-use Rattle.stl_rows.specs.DrawnPage.{line_faults, line_on, lines, page_of_lines}
+use Rattle.stl_rows.specs.declared.layout.Drawing.{Drawing}
+use Rattle.stl_rows.specs.DrawnPage.{drawn}
+use Rattle.stl_rows.specs.PlainPage.{line_faults, line_on, lines, page_of_lines}
 use Rattle.stl_rows.specs.DuePage.{due}
 use Rattle.stl_rows.specs.Line.{row_of}
-use Rattle.stl_rows.specs.TextCode.{refused_codes, text_codes}
-use Rattle.stl_rows.proofs.DrawnPageLemmas.{row_of-none}
+use Rattle.stl_rows.proofs.DrawnPageLemmas.{drawn-lines, row_of-none}
 use Rattle.stl_rows.proofs.DuePageLemmas.{due_has}
-use Rattle.stl_rows.proofs.FaultlessLemmas.{empty_parts, on_page}
+use Rattle.stl_rows.proofs.FaultlessLemmas.{on_page}
 
 -- No line of a subtitle without a fault goes to row 24.
 line_free : (vp : ℕ) (ls : List (List ℕ))
@@ -37,10 +37,18 @@ blank_free : row_at blank 24 ≡ blank_row
 unfolding blank
 blank_free = refl
 
+-- Row 24 of each drawn page is blank.
+drawn_free : (drawing : Drawing) (t : SubtitleValue) (page : Rows)
+    → drawn drawing t ≡ Ok page
+    → row_at page 24 ≡ blank_row
+unfolding drawn
+drawn_free drawing t page e =
+    let is = drawn-lines drawing.national t page e in
+    ap (λ p. row_at p 24) is.1 ∙ row_free t.jc t.vp (lines drawing.national t) is.0
+
 -- Row 24 of each due page is blank.
-pub last_row_blank : (national : National) (records : List SubtitleValue) (frame : ℕ)
-    → row_at (due national records frame) 24 ≡ blank_row
-last_row_blank national records frame =
-    due_has (λ page. row_at page 24 ≡ blank_row) national records frame blank_free
-    (λ t none. row_free t.jc t.vp (lines national t)
-    (empty_parts (refused_codes (text_codes national 0 t.text)) _ none).1)
+pub last_row_blank : (drawing : Drawing) (records : List SubtitleValue) (frame : ℕ)
+    → row_at (due drawing records frame) 24 ≡ blank_row
+last_row_blank drawing records frame =
+    due_has (λ page. row_at page 24 ≡ blank_row) drawing records frame blank_free
+    (drawn_free drawing)

@@ -21,7 +21,7 @@ use Rattle.stl_file.proofs.RestLemmas.{cons_ok}
 use Rattle.stl_file.proofs.SubtitleBlocksLemmas.{blocks_subtitle}
 use Rattle.stl_rows.specs.declared.fault.LoadFault.{LoadFault}
 use Rattle.stl_rows.specs.declared.fault.RowFault.{RowFault}
-use Rattle.stl_rows.specs.declared.national.National.{National}
+use Rattle.stl_rows.specs.declared.layout.Drawing.{Drawing}
 use Rattle.stl_rows.specs.DrawnPage.{drawn}
 use Rattle.stl_rows.specs.EveryFault.{faults, faults_behind, load_fault}
 use Rattle.stl_rows.specs.Loading.{LawOfLoading, loaded, records_of, unless_told}
@@ -34,14 +34,14 @@ use Rattle.stl_rows.proofs.ProgrammeLemmas.{IsProgramme-none, IsProgramme-push, 
 
 -- The subtitles of a file with which nothing is wrong: they are all that it gives, and with those
 -- before they are a programme.
-record IsFaultless (n : National) (records : List SubtitleValue) (left : Findings) : Type 0 where
+record IsFaultless (n : Drawing) (records : List SubtitleValue) (left : Findings) : Type 0 where
   all : subtitles_of (stopped left) ≡ Ok (records_of left)
   programme : IsProgramme n records
       → All IsSubtitle (records_of left)
       → IsProgramme n (records ++ records_of left)
 
 -- Each may follow those before it.
-faultless : (n : National) (records : List SubtitleValue) (left : Findings)
+faultless : (n : Drawing) (records : List SubtitleValue) (left : Findings)
     → faults_behind n (times_before records) left ≡ []
     → IsFaultless n records left
 unfolding faults_behind
@@ -75,7 +75,7 @@ no_order_fault : (before t : SubtitleValue) → before.tci < before.tco → befo
 no_order_fault before t times order = grind (arith, nat_tests)
 
 -- A subtitle of a programme has no fault of its times against the one before it.
-times_follow : (n : National) (records ts : List SubtitleValue) (t : SubtitleValue)
+times_follow : (n : Drawing) (records ts : List SubtitleValue) (t : SubtitleValue)
     → IsProgramme n (records ++ t ∷ ts)
     → order_faults (times_before records) (times_of t) ≡ []
 times_follow n [] ts t ok = refl
@@ -88,7 +88,7 @@ times_follow n (r ∷ rs) ts t ok =
     grind (arith, nat_tests, slice_get-get_or, no_order_fault)
 
 -- It has none at all.
-none_follow : (n : National) (records ts : List SubtitleValue) (t : SubtitleValue)
+none_follow : (n : Drawing) (records ts : List SubtitleValue) (t : SubtitleValue)
     → IsProgramme n (records ++ t ∷ ts)
     → follow_faults n (times_before records) t ≡ []
 none_follow n records ts t ok =
@@ -98,7 +98,7 @@ none_follow n records ts t ok =
     rw (times_follow n records ts t ok, no_row_fault (drawn n t) drawable) refl
 
 -- Nothing is wrong with subtitles that are a programme.
-given_faultless : (n : National) (records : List SubtitleValue) (left : Findings)
+given_faultless : (n : Drawing) (records : List SubtitleValue) (left : Findings)
     (ts : List SubtitleValue)
     → subtitles_of (stopped left) ≡ Ok ts
     → IsProgramme n (records ++ ts)
@@ -134,11 +134,11 @@ none_told : (fs : List LoadFault) (p q : ProgrammeValue)
 none_told fs p q h = grind (arith, nat_tests)
 
 -- A file that is loaded has no fault. Also for `sub_answer`.
-pub none_of_loaded : (national : National) (file : List ℕ) (programme : ProgrammeValue)
-    → loaded national file ≡ Ok programme
-    → faults national file ≡ []
+pub none_of_loaded : (drawing : Drawing) (file : List ℕ) (programme : ProgrammeValue)
+    → loaded drawing file ≡ Ok programme
+    → faults drawing file ≡ []
 unfolding loaded
-none_of_loaded national file programme h = (none_told (faults national file) _ programme h).0
+none_of_loaded drawing file programme h = (none_told (faults drawing file) _ programme h).0
 
 -- The law, from what a file is: for `law_of_loading`.
 pub loading_is : ((s g : List ℕ) (ts : List SubtitleValue)
@@ -148,8 +148,8 @@ unfolding loaded faults
 loading_is file n s ts = (there, back)
   where
     there : unless_told (faults_behind n None (findings_of s))
-        (record { national = n; records = records_of (findings_of s) })
-        ≡ Ok (record { national = n; records = ts })
+        (record { drawing = n; records = records_of (findings_of s) })
+        ≡ Ok (record { drawing = n; records = ts })
         → (g : List ℕ) × IsFile s g ts × AreInOrder ts × All (λ t. IsOk (drawn n t)) ts
     there h =
         let own = none_told (faults_behind n None (findings_of s)) _ _ h in
@@ -163,8 +163,8 @@ loading_is file n s ts = (there, back)
 
     back : (g : List ℕ) × IsFile s g ts × AreInOrder ts × All (λ t. IsOk (drawn n t)) ts
         → unless_told (faults_behind n None (findings_of s))
-        (record { national = n; records = records_of (findings_of s) })
-        ≡ Ok (record { national = n; records = ts })
+        (record { drawing = n; records = records_of (findings_of s) })
+        ≡ Ok (record { drawing = n; records = ts })
     back h =
         let all = given_faultless n [] (findings_of s) ts ((file s h.0 ts).0 h.1).1 (record {
           each = all_subtitles ts _ h.1.rest.are_of;

@@ -23,7 +23,7 @@ use Rattle.stl_file.specs.Fault.{is_of_first, is_read}
 use Rattle.stl_file.specs.Reading.{Findings, breaks, finds, no_more, refuses}
 use Rattle.stl_file.specs.Subtitle.{IsSubtitle, SubtitleValue}
 use Rattle.stl_file.specs.Reader.{FindsFrom, findings_of}
-use Rattle.stl_rows.specs.declared.national.National.{National}
+use Rattle.stl_rows.specs.declared.layout.Drawing.{Drawing}
 use Rattle.stl_rows.specs.declared.fault.LoadFault.{LoadFault}
 use Rattle.stl_rows.specs.declared.fault.LoadFaultKind.{LoadFaultKind}
 use Rattle.stl_rows.specs.declared.fault.LoadFaultKind.TheVariants.{File, OutOfOrder, Overlap, Row}
@@ -53,21 +53,21 @@ abbrev pub IsToldBy : ℕ → LoadFault → Type 0
 IsToldBy block fault = (is_of_subtitle fault.kind ≡ true) × (fault.block ≤ block)
 
 -- Those of a subtitle are told at its block.
-at_block : (national : National) (before : Option Times) (t : SubtitleValue) (block : ℕ)
-    → All (IsToldBy block) (map (load_fault block) (follow_faults national before t))
-at_block national before t block = grind (arith, nat_tests)
+at_block : (drawing : Drawing) (before : Option Times) (t : SubtitleValue) (block : ℕ)
+    → All (IsToldBy block) (map (load_fault block) (follow_faults drawing before t))
+at_block drawing before t block = grind (arith, nat_tests)
 
 -- What was told of the subtitles so far, and of one more.
-pub told-next : (national : National) (before : Option Times) (t : SubtitleValue) (from to : ℕ)
+pub told-next : (drawing : Drawing) (before : Option Times) (t : SubtitleValue) (from to : ℕ)
     (early : List LoadFault)
     → from ≤ to
     → All (IsToldBy from) early
-    → All (IsToldBy to) (early ++ map (load_fault to) (follow_faults national before t))
-told-next national before t from to early le h =
-    All-append (IsToldBy to) early (map (load_fault to) (follow_faults national before t))
+    → All (IsToldBy to) (early ++ map (load_fault to) (follow_faults drawing before t))
+told-next drawing before t from to early le h =
+    All-append (IsToldBy to) early (map (load_fault to) (follow_faults drawing before t))
     (All-weaker (IsToldBy from) (IsToldBy to) (λ f told. (told.0, omega (arith, le, told.1))) early
     h)
-    (at_block national before t to)
+    (at_block drawing before t to)
 
 -- What was told of the subtitles so far, and what one is refused for.
 pub told-refused : (fault : StlFault) (from to : ℕ) (early : List LoadFault)
@@ -109,39 +109,39 @@ stops-whole : {D : Type 0} {IsTold : D → LoadFault → D → Type 0} {old new 
     → StopsWithin IsTold old new items
 stops-whole {items = items} some told = search (rules, take-length)
 
-pub stops-last : (national : National) (before : Option Times) (t : SubtitleValue) (block : ℕ)
+pub stops-last : (drawing : Drawing) (before : Option Times) (t : SubtitleValue) (block : ℕ)
     {D : Type 0} {IsTold : D → LoadFault → D → Type 0} (old mid new : D)
     (order row : Option LoadFaultKind)
     → order ≡ first_of (order_faults before (times_of t))
-    → first_alone row ≡ row_faults (drawn national t)
+    → first_alone row ≡ row_faults (drawn drawing t)
     → is_none row ≡ false
     → Tells IsTold old mid (map (load_fault block) (first_alone order))
     → Tells IsTold mid new (map (load_fault block) (first_alone row))
-    → StopsWithin IsTold old new (map (load_fault block) (follow_faults national before t))
-stops-last national before t block old mid new order row is_order is_row some p q =
+    → StopsWithin IsTold old new (map (load_fault block) (follow_faults drawing before t))
+stops-last drawing before t block old mid new order row is_order is_row some p q =
     grind (arith, nat_tests, order_alone, map-append, stops-whole, length-append, Tells-trans)
 
 -- ---- what is left
 
 -- What was told of the subtitles so far, and what is wrong with the rest, is all that is wrong with
 -- the file. While all of them are kept, they and the rest are all that the file gives.
-pub record GoesOn (national : National) (file : List ℕ) (left : Findings) (before : Option Times)
+pub record GoesOn (drawing : Drawing) (file : List ℕ) (left : Findings) (before : Option Times)
     (kept : Option (List SubtitleValue)) (early : List LoadFault) : Type 0 where
-  pub same : faults national file ≡ early ++ faults_behind national before left
+  pub same : faults drawing file ≡ early ++ faults_behind drawing before left
   pub loads : (records : List SubtitleValue)
       → kept ≡ Some records
       → records_of (findings_of file) ≡ records ++ records_of left
   pub ends_record : (records : List SubtitleValue) (at : ℕ)
       → kept ≡ Some records
-      → EndsBehind national before at left
-      → EndsRecord national file at
+      → EndsBehind drawing before at left
+      → EndsRecord drawing file at
 
 -- All subtitles so far are kept: they are a programme, and nothing was told of any.
-pub record AreKept (national : National) (before : Option Times) (early : List LoadFault)
+pub record AreKept (drawing : Drawing) (before : Option Times) (early : List LoadFault)
     (records : List SubtitleValue) : Type 0 where
   pub before_is : before ≡ times_before records
   pub none : early ≡ []
-  pub programme : IsProgramme national records
+  pub programme : IsProgramme drawing records
 
 -- No faults are the first where there is none.
 none-first : {A : Type 0} (xs : List A) → is_none (first_of xs) ≡ true → xs ≡ []
@@ -174,20 +174,20 @@ some_more kinds kept early t block clean is_clean some h =
     grind (arith, nat_tests, length-append, append-nil)
 
 -- One subtitle more.
-module _ {national : National} {before : Option Times} {kept : Option (List SubtitleValue)}
+module _ {drawing : Drawing} {before : Option Times} {kept : Option (List SubtitleValue)}
     {early : List LoadFault} (t : SubtitleValue) (block : ℕ) {clean : Bool}
-    (is_clean : clean ≡ is_none (first_of (follow_faults national before t)))
+    (is_clean : clean ≡ is_none (first_of (follow_faults drawing before t)))
     (are_kept : (records : List SubtitleValue) → kept ≡ Some records
-    → AreKept national before early records) where
+    → AreKept drawing before early records) where
   -- All that was told of the subtitles then.
   abbrev told_then : List LoadFault
-  told_then = early ++ map (load_fault block) (follow_faults national before t)
+  told_then = early ++ map (load_fault block) (follow_faults drawing before t)
 
   -- Where something is kept nothing is wrong with it.
   was_kept : (records : List SubtitleValue)
       → kept_after clean t kept ≡ Some records
       → (ts : List SubtitleValue) × (kept ≡ Some ts) × (records ≡ ts ++ t ∷ [])
-      × (follow_faults national before t ≡ [])
+      × (follow_faults drawing before t ≡ [])
   was_kept records h = grind (arith, nat_tests, kept_before, none-first)
 
   -- Nothing was told while something is kept.
@@ -200,8 +200,8 @@ module _ {national : National} {before : Option Times} {kept : Option (List Subt
 
   -- What is left goes on.
   pub goes_on-next : {file : List ℕ} {rest : Findings}
-      → GoesOn national file (finds t block rest) before kept early
-      → GoesOn national file rest (Some (times_of t)) (kept_after clean t kept) told_then
+      → GoesOn drawing file (finds t block rest) before kept early
+      → GoesOn drawing file rest (Some (times_of t)) (kept_after clean t kept) told_then
   unfolding faults_behind
   goes_on-next on = grind (arith, nat_tests, append_assoc, was_kept)
 
@@ -209,11 +209,11 @@ module _ {national : National} {before : Option Times} {kept : Option (List Subt
   pub are_kept-next : IsSubtitle t
       → (records : List SubtitleValue)
       → kept_after clean t kept ≡ Some records
-      → AreKept national (Some (times_of t)) told_then records
+      → AreKept drawing (Some (times_of t)) told_then records
   are_kept-next subtitle records h =
       let was = was_kept records h in
       let ok = are_kept was.0 was.1 in
-      let none : follow_faults national (times_before was.0) t ≡ [] = rw ok.before_is at was.3 in
+      let none : follow_faults drawing (times_before was.0) t ≡ [] = rw ok.before_is at was.3 in
       grind (arith, nat_tests, last_of-push, none_told, IsProgramme-push)
 
   -- Where nothing is, faults were told.
@@ -226,8 +226,8 @@ module _ {national : National} {before : Option Times} {kept : Option (List Subt
   pub ends-here : {file : List ℕ} {rest : Findings}
       → clean ≡ true
       → is_none kept ≡ false
-      → GoesOn national file (finds t block rest) before kept early
-      → EndsRecord national file block
+      → GoesOn drawing file (finds t block rest) before kept early
+      → EndsRecord drawing file block
   ends-here is_true some on =
       let kept_then = still_kept clean t kept is_true some in
       let was = was_kept kept_then.0 kept_then.1 in
@@ -238,11 +238,11 @@ module _ {national : National} {before : Option Times} {kept : Option (List Subt
   told-none is_true some = grind (arith, nat_tests, still_kept, none_told)
 
 -- A subtitle that is refused more: nothing is kept.
-pub goes_on-refused : {national : National} {file : List ℕ} {rest : Findings}
+pub goes_on-refused : {drawing : Drawing} {file : List ℕ} {rest : Findings}
     {before : Option Times} {kept : Option (List SubtitleValue)} {early : List LoadFault}
     (fault : StlFault) (block : ℕ)
-    → GoesOn national file (refuses fault block rest) before kept early
-    → GoesOn national file rest before None (early ++ load_fault block (File fault) ∷ [])
+    → GoesOn drawing file (refuses fault block rest) before kept early
+    → GoesOn drawing file rest before None (early ++ load_fault block (File fault) ∷ [])
 unfolding faults_behind
 goes_on-refused {early = early} fault block on = record {
   same = on.same ∙ sym (append_assoc early (load_fault block (File fault) ∷ []) _);
@@ -321,36 +321,36 @@ module _ {D : Type 0} {IsTold : D → LoadFault → D → Type 0} {old mid new :
 -- ---- each way out
 
 -- Nothing was read yet.
-pub goes_on-start : (national : National) (file : List ℕ)
-    → GoesOn national file (findings_of file) None (Some []) []
+pub goes_on-start : (drawing : Drawing) (file : List ℕ)
+    → GoesOn drawing file (findings_of file) None (Some []) []
 unfolding faults
-goes_on-start national file = grind (arith, nat_tests)
+goes_on-start drawing file = grind (arith, nat_tests)
 
 -- None was told, and nothing is wrong with the rest: what was kept is the programme.
-pub loads-all : {national : National} {file : List ℕ} {left : Findings} {before : Option Times}
+pub loads-all : {drawing : Drawing} {file : List ℕ} {left : Findings} {before : Option Times}
     {kept : Option (List SubtitleValue)} {early : List LoadFault}
-    → GoesOn national file left before kept early
+    → GoesOn drawing file left before kept early
     → left ≡ no_more
     → (records : List SubtitleValue)
     → kept ≡ Some records
     → early ≡ []
-    → loaded national file ≡ Ok (record { national = national; records = records })
+    → loaded drawing file ≡ Ok (record { drawing = drawing; records = records })
 unfolding loaded faults_behind
-loads-all {national} {file} on is records h none =
-    let same : faults national file ≡ [] = rw (is, none) at on.same in
+loads-all {drawing} {file} on is records h none =
+    let same : faults drawing file ≡ [] = rw (is, none) at on.same in
     let all : records_of (findings_of file) ≡ records =
     rw is at (on.loads records h) ∙ append-nil records in
     rw (same, all) refl
 
-module _ {D : Type 0} {IsTold : D → LoadFault → D → Type 0} {old mid : D} {national : National}
+module _ {D : Type 0} {IsTold : D → LoadFault → D → Type 0} {old mid : D} {drawing : Drawing}
     {file : List ℕ} {left : Findings} {before : Option Times} {kept : Option (List SubtitleValue)}
-    {early : List LoadFault} (on : GoesOn national file left before kept early)
+    {early : List LoadFault} (on : GoesOn drawing file left before kept early)
     (told : Tells IsTold old mid early) where
   -- Faults were told, and nothing is wrong with the rest of the file.
   pub tells-none : {stopped : Bool}
       → left ≡ no_more
       → 0 < length early
-      → TellsFaults IsTold old mid stopped (faults national file)
+      → TellsFaults IsTold old mid stopped (faults drawing file)
   unfolding faults_behind
   tells-none is some = tells-all (rw is at on.same ∙ append-nil early) some told
 
@@ -358,7 +358,7 @@ module _ {D : Type 0} {IsTold : D → LoadFault → D → Type 0} {old mid : D} 
   pub tells-end : {new : D} {stopped : Bool} {fault : StlFault} {block : ℕ}
       → left ≡ breaks fault block
       → Tells IsTold mid new (load_fault block (File fault) ∷ [])
-      → TellsFaults IsTold old new stopped (faults national file)
+      → TellsFaults IsTold old new stopped (faults drawing file)
   unfolding faults_behind
   tells-end {new} {stopped} {fault} {block} is q =
       let last : List LoadFault = load_fault block (File fault) ∷ [] in
@@ -367,10 +367,10 @@ module _ {D : Type 0} {IsTold : D → LoadFault → D → Type 0} {old mid : D} 
 
   -- The device said stop at one of these.
   tells-some : {new : D} (items rest : List LoadFault) (has_stopped : Bool)
-      → faults_behind national before left ≡ items ++ rest
+      → faults_behind drawing before left ≡ items ++ rest
       → has_stopped ≡ true
       → StopsWithin IsTold mid new items
-      → TellsFaults IsTold old new has_stopped (faults national file)
+      → TellsFaults IsTold old new has_stopped (faults drawing file)
   tells-some items rest has_stopped is is_stopped q =
       let s = stops-more early items rest told q in
       grind (arith, nat_tests, on.same, is)
@@ -380,12 +380,12 @@ module _ {D : Type 0} {IsTold : D → LoadFault → D → Type 0} {old mid : D} 
       (has_stopped : Bool)
       → left ≡ finds t block rest
       → has_stopped ≡ true
-      → StopsWithin IsTold mid new (map (load_fault block) (follow_faults national before t))
-      → TellsFaults IsTold old new has_stopped (faults national file)
+      → StopsWithin IsTold mid new (map (load_fault block) (follow_faults drawing before t))
+      → TellsFaults IsTold old new has_stopped (faults drawing file)
   unfolding faults_behind
   tells-stop {rest = rest} {t} {block} has_stopped is =
-      tells-some (map (load_fault block) (follow_faults national before t))
-      (faults_behind national (Some (times_of t)) rest) has_stopped (rw is refl)
+      tells-some (map (load_fault block) (follow_faults drawing before t))
+      (faults_behind drawing (Some (times_of t)) rest) has_stopped (rw is refl)
 
   -- At the fault for which one is refused.
   pub tells-refused : {new : D} {rest : Findings} {fault : StlFault} {block : ℕ}
@@ -393,10 +393,10 @@ module _ {D : Type 0} {IsTold : D → LoadFault → D → Type 0} {old mid : D} 
       → left ≡ refuses fault block rest
       → has_stopped ≡ true
       → Tells IsTold mid new (load_fault block (File fault) ∷ [])
-      → TellsFaults IsTold old new has_stopped (faults national file)
+      → TellsFaults IsTold old new has_stopped (faults drawing file)
   unfolding faults_behind
   tells-refused {rest = rest} {fault} {block} has_stopped is is_stopped q =
-      tells-some (load_fault block (File fault) ∷ []) (faults_behind national before rest)
+      tells-some (load_fault block (File fault) ∷ []) (faults_behind drawing before rest)
       has_stopped (rw is refl) is_stopped (stops-whole (omega arith) q)
 
 -- What is kept, where something is.
@@ -439,39 +439,39 @@ late_fault : (block at : ℕ) (f : StlFault)
     → is_told_before block (load_fault at (File f)) ≡ false
 late_fault block at f names = grind (arith, nat_tests)
 
-late : (national : National) (before : Option Times) (block : ℕ) (left : Findings)
+late : (drawing : Drawing) (before : Option Times) (block : ℕ) (left : Findings)
     → FindsFrom block left
-    → filter (is_told_before block) (faults_behind national before left) ≡ []
+    → filter (is_told_before block) (faults_behind drawing before left) ≡ []
 unfolding faults_behind
-late national before block no_more names = refl
-late national before block (breaks f at) names = rw (late_fault block at f names) refl
-late national before block (refuses f at left) names =
+late drawing before block no_more names = refl
+late drawing before block (breaks f at) names = rw (late_fault block at f names) refl
+late drawing before block (refuses f at left) names =
     filter-append (is_told_before block) (load_fault at (File f) ∷ [])
-    (faults_behind national before left)
+    (faults_behind drawing before left)
     ∙ rw (late_kinds block at (File f ∷ []) names.0)
-    (rw (late national before block left names.1) refl)
-late national before block (finds t at left) names =
-    filter-append (is_told_before block) (map (load_fault at) (follow_faults national before t))
-    (faults_behind national (Some (times_of t)) left)
-    ∙ rw (late_kinds block at (follow_faults national before t) names.0)
-    (rw (late national (Some (times_of t)) block left names.1) refl)
+    (rw (late drawing before block left names.1) refl)
+late drawing before block (finds t at left) names =
+    filter-append (is_told_before block) (map (load_fault at) (follow_faults drawing before t))
+    (faults_behind drawing (Some (times_of t)) left)
+    ∙ rw (late_kinds block at (follow_faults drawing before t) names.0)
+    (rw (late drawing (Some (times_of t)) block left names.1) refl)
 
 -- The faults before the block at which the source failed were told.
 pub tells-unread : {D : Type 0} {IsTold : D → LoadFault → D → Type 0} {old new : D}
-    {national : National} {file : List ℕ} {left : Findings} {before : Option Times}
+    {drawing : Drawing} {file : List ℕ} {left : Findings} {before : Option Times}
     {kept : Option (List SubtitleValue)} {early : List LoadFault} (from block : ℕ)
     → from < block
     → All (IsToldBy from) early
     → FindsFrom block left
-    → GoesOn national file left before kept early
+    → GoesOn drawing file left before kept early
     → Tells IsTold old new early
-    → Tells IsTold old new (filter (is_told_before block) (faults national file))
-tells-unread {national = national} {left = left} {before} {early = early} from block lt early_told
+    → Tells IsTold old new (filter (is_told_before block) (faults drawing file))
+tells-unread {drawing = drawing} {left = left} {before} {early = early} from block lt early_told
     names on told =
     rw (
       on.same,
-      filter-append (is_told_before block) early (faults_behind national before left),
+      filter-append (is_told_before block) early (faults_behind drawing before left),
       filter-early from block early lt early_told,
-      late national before block left names,
+      late drawing before block left names,
       append-nil,
     ) told

@@ -1,20 +1,23 @@
 -- Each due page is a page, 24 rows of 40 codes below 128: due_is_page.
 use Rattle.std.proofs.Common.{ℕ, zero, suc, ◌+◌, ◌<◌, List, [], ◌∷◌, ◌++◌, map, get_or, refl}
-use Rattle.std.proofs.Common.{arith, lit<}
+use Rattle.std.proofs.Common.{◌≡◌, Ok, arith, lit<}
 use Rattle.std.specs.List.{range_with_len, AllByRecursion}
 use Rattle.std.proofs.lemmas.Bool.{cond_both}
 use Rattle.std.proofs.lemmas.Bool.Decides.{nat_tests}
 use Rattle.std.proofs.lemmas.List.FromFn.{get_or-map-range_with_len, length-map-range_with_len}
-use Rattle.ttx_page.specs.Page.{IsPage}
+use Rattle.ttx_page.specs.Page.{IsPage, Rows}
 use Rattle.ttx_page.proofs.PageLemmas.{is_page_blank}
 use Rattle.stl_file.specs.Subtitle.{SubtitleValue}
 use Rattle.stl_rows.specs.declared.text_code.TextCode.{TextCode}
-use Rattle.stl_rows.specs.DrawnPage.{line_on, lines, page_of_lines}
+use Rattle.stl_rows.specs.PlainPage.{line_on, lines, page_of_lines}
 use Rattle.stl_rows.specs.DuePage.{due}
 use Rattle.stl_rows.specs.Line.{prepared, row_of}
 use Rattle.stl_rows.specs.TextCode.{HasSevenBits, code_before, codes_after, lines_of_codes}
 use Rattle.stl_rows.specs.TextCode.{text_codes, with_code}
+use Rattle.stl_rows.specs.declared.layout.Drawing.{Drawing}
 use Rattle.stl_rows.specs.declared.national.National.{National}
+use Rattle.stl_rows.specs.DrawnPage.{drawn}
+use Rattle.stl_rows.proofs.DrawnPageLemmas.{drawn-lines}
 use Rattle.stl_rows.proofs.DuePageLemmas.{due_has}
 use Rattle.stl_rows.proofs.TextCodeLemmas.{code_before-small}
 use Rattle.stl_rows.proofs.LineLemmas.{Small, holds_at, holds_map, row_length, row_small}
@@ -79,11 +82,18 @@ page_is jc vp ls h = record {
     line_small : (row : ℕ) → Small (line_on vp ls row)
     line_small row = grind (arith, nat_tests, cond_both, holds_at)
 
+-- Each drawn page is a page.
+drawn_is_page : (drawing : Drawing) (t : SubtitleValue) (page : Rows)
+    → drawn drawing t ≡ Ok page
+    → IsPage page
+unfolding drawn
+drawn_is_page drawing t page e =
+    let n = drawing.national in
+    rw ((drawn-lines n t page e).1)
+    (page_is t.jc t.vp (lines n t)
+    (all_prepared (lines_of_codes (text_codes n 0 t.text)) (cells_small n 0 0 t.text)))
+
 -- Each due page is a page: for `law_of_due_pages`.
-pub due_is_page : (national : National) (ts : List SubtitleValue) (f : ℕ)
-    → IsPage (due national ts f)
-due_is_page national ts f =
-    due_has IsPage national ts f is_page_blank
-    (λ t none. page_is t.jc t.vp (lines national t)
-    (all_prepared (lines_of_codes (text_codes national 0 t.text))
-    (cells_small national 0 0 t.text)))
+pub due_is_page : (drawing : Drawing) (ts : List SubtitleValue) (f : ℕ)
+    → IsPage (due drawing ts f)
+due_is_page drawing ts f = due_has IsPage drawing ts f is_page_blank (drawn_is_page drawing)

@@ -10,7 +10,7 @@ use Rattle.std.specs.Prelude.{All, IsOk}
 use Rattle.ttx_page.specs.Page.{Rows}
 use Rattle.stl_file.specs.Subtitle.{SubtitleValue, IsSubtitle}
 use Rattle.stl_rows.specs.declared.fault.RowFault.{RowFault}
-use Rattle.stl_rows.specs.declared.national.National.{National}
+use Rattle.stl_rows.specs.declared.layout.Drawing.{Drawing}
 use Rattle.stl_rows.specs.DrawnPage.{drawn}
 use Rattle.stl_rows.specs.Programme.{AreInOrder, IsProgramme, follow_faults, last_of, order_faults}
 use Rattle.stl_rows.specs.Programme.{row_faults, times_before, times_of}
@@ -48,7 +48,7 @@ in_order-push ts t each ordered h i j d below inside =
     grind (arith, nat_tests, length-append, get_or_append_left, cases_lt, get_or_push, last_before)
 
 -- A programme stays one with a subtitle that has no fault: for `put`.
-pub IsProgramme-push : (n : National) (ts : List SubtitleValue) (t : SubtitleValue)
+pub IsProgramme-push : (n : Drawing) (ts : List SubtitleValue) (t : SubtitleValue)
     → IsProgramme n ts
     → IsSubtitle t
     → follow_faults n (times_before ts) t ≡ []
@@ -71,5 +71,5 @@ last_of-push xs x =
     ∙ ap Some (get_or_push xs x x at (omega (arith, size)))
 
 -- No subtitles are a programme: for `load_in`.
-pub IsProgramme-none : (n : National) → IsProgramme n []
+pub IsProgramme-none : (n : Drawing) → IsProgramme n []
 IsProgramme-none n = grind (arith, nat_tests, All-nil)

@@ -13,7 +13,7 @@ use Rattle.stl_rows.specs.declared.national.National.{National}
 use Rattle.stl_rows.specs.declared.text_code.TextCode.{TextCode}
 use Rattle.stl_rows.specs.declared.text_code.TextCode.TheVariants.{Cell, NoCell, NewLine, Refused}
 use Rattle.stl_rows.specs.declared.text_faults.OpenLine.{OpenLine}
-use Rattle.stl_rows.specs.DrawnPage.{line_fault_kinds, line_faults, subtitle_faults}
+use Rattle.stl_rows.specs.PlainPage.{line_fault_kinds, line_faults, subtitle_faults}
 use Rattle.stl_rows.specs.Line.{has_cells, is_boxed, is_double, prepared}
 use Rattle.stl_rows.specs.LineByLine.{empty_line, line_under, prepared_lines}
 use Rattle.stl_rows.specs.LineByLine.{shape_fault_kinds, told, told_first, with_cell}

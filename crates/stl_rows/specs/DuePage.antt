@@ -5,7 +5,7 @@ use Rattle.std.specs.List.{find}
 use Rattle.std.specs.Result.{result_unwrap_or}
 use Rattle.ttx_page.specs.Page.{Rows, blank, blank_row, row_at, IsPage}
 use Rattle.stl_file.specs.Subtitle.{SubtitleValue}
-use Rattle.stl_rows.specs.declared.national.National.{National}
+use Rattle.stl_rows.specs.declared.layout.Drawing.{Drawing}
 use Rattle.stl_rows.specs.DrawnPage.{drawn}
 use Rattle.stl_rows.specs.Programme.{AreInOrder}
 
@@ -14,14 +14,14 @@ abbrev pub is_due : ℕ → SubtitleValue → Bool
 is_due frame t = nat_le t.tci frame && nat_lt frame t.tco
 
 -- The drawn page of a subtitle; blank for none, or for one that draws none.
-abbrev pub drawn_or_blank : National → Option SubtitleValue → Rows
-drawn_or_blank national None = blank
-drawn_or_blank national (Some t) = result_unwrap_or (drawn national t) blank
+abbrev pub drawn_or_blank : Drawing → Option SubtitleValue → Rows
+drawn_or_blank drawing None = blank
+drawn_or_blank drawing (Some t) = result_unwrap_or (drawn drawing t) blank
 
 -- The page that is due at a frame: the drawn page of the subtitle that is due, blank where none is.
 -- Of subtitles in order no two are due at one frame.
-unfoldable pub due : National → List SubtitleValue → ℕ → Rows
-due national records frame = drawn_or_blank national (find (is_due frame) records)
+unfoldable pub due : Drawing → List SubtitleValue → ℕ → Rows
+due drawing records frame = drawn_or_blank drawing (find (is_due frame) records)
 
 -- The subtitle ends at a frame: the frame is its TCO.
 abbrev pub ends_at : ℕ → SubtitleValue → Bool
@@ -62,38 +62,38 @@ TellsLastEdge records frame (Some edge) = IsLastEdge records frame edge
 -- order they are tried.
 abbrev pub LawOfDueSubtitles : Type 0
 LawOfDueSubtitles =
-    (national : National) (records : List SubtitleValue) (frame : ℕ) (t : SubtitleValue)
+    (drawing : Drawing) (records : List SubtitleValue) (frame : ℕ) (t : SubtitleValue)
     → AreInOrder records
     → Contains records t
     → t.tci ≤ frame
     → frame < t.tco
-    → due national records frame ≡ drawn_or_blank national (Some t)
+    → due drawing records frame ≡ drawn_or_blank drawing (Some t)
 
 -- Where each subtitle starts later or has ended, the due page is blank.
 abbrev pub LawOfBlankPages : Type 0
 LawOfBlankPages =
-    (national : National) (records : List SubtitleValue) (frame : ℕ)
+    (drawing : Drawing) (records : List SubtitleValue) (frame : ℕ)
     → All (λ t. (frame < t.tci) ⊎ (t.tco ≤ frame)) records
-    → due national records frame ≡ blank
+    → due drawing records frame ≡ blank
 
 -- The due page changes only at a TCI or a TCO. So a checker that draws it at edges alone misses no
 -- change.
 abbrev pub LawOfEdges : Type 0
 LawOfEdges =
-    (national : National) (records : List SubtitleValue) (frame : ℕ)
+    (drawing : Drawing) (records : List SubtitleValue) (frame : ℕ)
     → 1 ≤ frame
     → (IsEdge records frame → ⊥)
-    → due national records frame ≡ due national records (frame - 1)
+    → due drawing records frame ≡ due drawing records (frame - 1)
 
 -- Row 24 of each due page is blank: no subtitle may use it (own).
 -- So a sending of a due page has a row fewer than a page has.
 abbrev pub LawOfLastRow : Type 0
 LawOfLastRow =
-    (national : National) (records : List SubtitleValue) (frame : ℕ)
-    → row_at (due national records frame) 24 ≡ blank_row
+    (drawing : Drawing) (records : List SubtitleValue) (frame : ℕ)
+    → row_at (due drawing records frame) 24 ≡ blank_row
 
 -- Each due page is a page: 24 rows of 40 codes below 128. So it can be sent with odd parity.
 abbrev pub LawOfDuePages : Type 0
 LawOfDuePages =
-    (national : National) (records : List SubtitleValue) (frame : ℕ)
-    → IsPage (due national records frame)
+    (drawing : Drawing) (records : List SubtitleValue) (frame : ℕ)
+    → IsPage (due drawing records frame)

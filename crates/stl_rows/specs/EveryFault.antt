@@ -12,7 +12,7 @@ use Rattle.stl_file.specs.Subtitle.{SubtitleValue}
 use Rattle.stl_rows.specs.declared.fault.LoadFault.{LoadFault}
 use Rattle.stl_rows.specs.declared.fault.LoadFaultKind.{LoadFaultKind}
 use Rattle.stl_rows.specs.declared.fault.LoadFaultKind.TheVariants.{File, Memory}
-use Rattle.stl_rows.specs.declared.national.National.{National}
+use Rattle.stl_rows.specs.declared.layout.Drawing.{Drawing}
 use Rattle.stl_rows.specs.declared.times.Times.{Times}
 use Rattle.stl_rows.specs.Programme.{follow_faults, times_of}
 
@@ -25,18 +25,18 @@ load_fault block kind = record { block = block; kind = kind }
 -- were not there. At the last block of any other: its times against those of the one before it,
 -- whatever is wrong with that one, and the first fault of its rows. Last, the fault that ends
 -- reading, at its block.
-unfoldable pub faults_behind : National → Option Times → Findings → List LoadFault
-faults_behind national before no_more = []
-faults_behind national before (breaks fault block) = load_fault block (File fault) ∷ []
-faults_behind national before (refuses fault block more) =
-    load_fault block (File fault) ∷ faults_behind national before more
-faults_behind national before (finds t block more) =
-    map (load_fault block) (follow_faults national before t)
-    ++ faults_behind national (Some (times_of t)) more
+unfoldable pub faults_behind : Drawing → Option Times → Findings → List LoadFault
+faults_behind drawing before no_more = []
+faults_behind drawing before (breaks fault block) = load_fault block (File fault) ∷ []
+faults_behind drawing before (refuses fault block more) =
+    load_fault block (File fault) ∷ faults_behind drawing before more
+faults_behind drawing before (finds t block more) =
+    map (load_fault block) (follow_faults drawing before t)
+    ++ faults_behind drawing (Some (times_of t)) more
 
 -- All that is wrong with a file, in the order of its blocks.
-unfoldable pub faults : National → List ℕ → List LoadFault
-faults national file = faults_behind national None (findings_of file)
+unfoldable pub faults : Drawing → List ℕ → List LoadFault
+faults drawing file = faults_behind drawing None (findings_of file)
 
 -- The bytes of the file are at fault, and neither the source nor the memory.
 abbrev pub is_of_file : LoadFaultKind → Bool
@@ -86,7 +86,7 @@ is_told_before block fault = nat_lt fault.block block && not (ends_in_subtitle f
 -- The source failed: the block is that of the byte that was asked for, the first one after those
 -- that were taken. The device was told the faults that are found before it, and no others.
 pub record FailsTelling
-    {D : Type 0} (national : National) (old new : Option (List ℕ))
+    {D : Type 0} (drawing : Drawing) (old new : Option (List ℕ))
     (IsTold : D → LoadFault → D → Type 0) (told_old told_new : D) (block : ℕ)
     : Type 0 where
   pub bytes : List ℕ
@@ -95,4 +95,4 @@ pub record FailsTelling
   pub told :
       IfTold old
       (λ all. Tells IsTold told_old told_new
-      (filter (is_told_before block) (faults national all)))
+      (filter (is_told_before block) (faults drawing all)))

@@ -1,8 +1,9 @@
 pub mod SubSets
 pub mod TextCode
 pub mod Line
-pub mod DrawnPage
+pub mod PlainPage
 pub mod LineByLine
+pub mod DrawnPage
 pub mod Programme
 pub mod DuePage
 pub mod Loading

@@ -16,7 +16,7 @@ use Rattle.stl_rows.specs.declared.text_faults.OpenLine.{OpenLine}
 use Rattle.stl_rows.specs.TextCode.{fault_of, first_of, lines_of_codes}
 use Rattle.stl_rows.specs.Line.{columns, double_height, prepared, row_of}
 use Rattle.stl_rows.specs.Line.{start_box}
-use Rattle.stl_rows.specs.DrawnPage.{last_row, when}
+use Rattle.stl_rows.specs.PlainPage.{last_row, when}
 
 -- ---- lines
 

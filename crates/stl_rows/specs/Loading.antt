@@ -8,7 +8,7 @@ use Rattle.stl_file.specs.File.{IsFile}
 use Rattle.stl_file.specs.Reader.{block_of_byte, findings_of}
 use Rattle.stl_file.specs.Subtitle.{SubtitleValue}
 use Rattle.stl_file.specs.Reading.{Findings, breaks, finds, no_more, refuses}
-use Rattle.stl_rows.specs.declared.national.National.{National}
+use Rattle.stl_rows.specs.declared.layout.Drawing.{Drawing}
 use Rattle.stl_rows.specs.declared.fault.LoadFault.{LoadFault}
 use Rattle.stl_rows.specs.declared.fault.LoadFaultKind.{LoadFaultKind}
 use Rattle.stl_rows.specs.declared.fault.LoadFaultKind.TheVariants.{File, Memory}
@@ -30,55 +30,55 @@ unless_told [] programme = Ok programme
 unless_told (fault ∷ more) programme = Err fault
 
 -- What loading a file gives: the programme of its subtitles, or the first of its faults.
-unfoldable pub loaded : National → List ℕ → Result ProgrammeValue LoadFault
-loaded national file =
-    unless_told (faults national file)
-    (record { national = national; records = records_of (findings_of file) })
+unfoldable pub loaded : Drawing → List ℕ → Result ProgrammeValue LoadFault
+loaded drawing file =
+    unless_told (faults drawing file)
+    (record { drawing = drawing; records = records_of (findings_of file) })
 
 -- A subtitle that follows one of these times ends at this block, and up to it nothing is wrong.
-abbrev pub EndsBehind : National → Option Times → ℕ → Findings → Type 0
-EndsBehind national before at no_more = ⊥
-EndsBehind national before at (breaks fault block) = ⊥
-EndsBehind national before at (refuses fault block more) = ⊥
-EndsBehind national before at (finds t block more) =
-    (follow_faults national before t ≡ [])
-    × ((at ≡ block) ⊎ EndsBehind national (Some (times_of t)) at more)
+abbrev pub EndsBehind : Drawing → Option Times → ℕ → Findings → Type 0
+EndsBehind drawing before at no_more = ⊥
+EndsBehind drawing before at (breaks fault block) = ⊥
+EndsBehind drawing before at (refuses fault block more) = ⊥
+EndsBehind drawing before at (finds t block more) =
+    (follow_faults drawing before t ≡ [])
+    × ((at ≡ block) ⊎ EndsBehind drawing (Some (times_of t)) at more)
 
 -- A subtitle of the file ends at this block, and up to it nothing is wrong.
-abbrev pub EndsRecord : National → List ℕ → ℕ → Type 0
-EndsRecord national file at = EndsBehind national None at (findings_of file)
+abbrev pub EndsRecord : Drawing → List ℕ → ℕ → Type 0
+EndsRecord drawing file at = EndsBehind drawing None at (findings_of file)
 
 -- A fault of loading. Want of memory is told at the last block of a subtitle alone, where no fault
 -- comes before. That the source failed says nothing of the file.
-abbrev pub TellsFault : National → List ℕ → ℕ → LoadFaultKind → Type 0
-TellsFault national file block (File Read) = ⊤
-TellsFault national file block Memory = EndsRecord national file block
-TellsFault national file block kind = loaded national file ≡ Err (load_fault block kind)
+abbrev pub TellsFault : Drawing → List ℕ → ℕ → LoadFaultKind → Type 0
+TellsFault drawing file block (File Read) = ⊤
+TellsFault drawing file block Memory = EndsRecord drawing file block
+TellsFault drawing file block kind = loaded drawing file ≡ Err (load_fault block kind)
 
 -- No fault comes before this block; but the end of the file inside a subtitle, which names the last
 -- whole block, is found only where the block after it is asked for.
-abbrev pub NoneBefore : National → List ℕ → ℕ → Type 0
-NoneBefore national file block =
+abbrev pub NoneBefore : Drawing → List ℕ → ℕ → Type 0
+NoneBefore drawing file block =
     (fault : LoadFault)
-    → loaded national file ≡ Err fault
+    → loaded drawing file ≡ Err fault
     → (fault.kind ≡ File Unfinished) ⊎ (block ≤ fault.block)
 
 -- The source failed: the block is that of the byte that was asked for, the first one after those
 -- that were taken. A fault that these hold would have been told instead.
-pub record FailsLoading (national : National) (old new : Option (List ℕ)) (block : ℕ) : Type 0 where
+pub record FailsLoading (drawing : Drawing) (old new : Option (List ℕ)) (block : ℕ) : Type 0 where
   pub bytes : List ℕ
   pub consumed : Consumes old new bytes
   pub block_is : block ≡ block_of_byte (length bytes)
-  pub none : IfTold old (λ all. NoneBefore national all block)
+  pub none : IfTold old (λ all. NoneBefore drawing all block)
 
 -- Bytes are loaded as a programme exactly where they are a subtitle file whose subtitles are in
 -- order, disjoint and drawable; the programme holds these. So `load` refuses no such file but for
 -- want of memory or a source that failed.
 abbrev pub LawOfLoading : Type 0
 LawOfLoading =
-    (national : National) (s : List ℕ) (ts : List SubtitleValue)
-    → (loaded national s ≡ Ok (record { national = national; records = ts }))
+    (drawing : Drawing) (s : List ℕ) (ts : List SubtitleValue)
+    → (loaded drawing s ≡ Ok (record { drawing = drawing; records = ts }))
     ↔ ((g : List ℕ)
     × IsFile s g ts
     × AreInOrder ts
-    × All (λ t. IsOk (drawn national t)) ts)
+    × All (λ t. IsOk (drawn drawing t)) ts)

@@ -7,14 +7,14 @@ use Rattle.stl_file.specs.Subtitle.{SubtitleValue, IsSubtitle}
 use Rattle.stl_rows.specs.declared.fault.RowFault.{RowFault}
 use Rattle.stl_rows.specs.declared.fault.LoadFaultKind.{LoadFaultKind}
 use Rattle.stl_rows.specs.declared.fault.LoadFaultKind.TheVariants.{OutOfOrder, Overlap, Row}
-use Rattle.stl_rows.specs.declared.national.National.{National}
+use Rattle.stl_rows.specs.declared.layout.Drawing.{Drawing}
 use Rattle.stl_rows.specs.declared.times.Times.{Times}
 use Rattle.stl_rows.specs.DrawnPage.{drawn}
 
--- What a programme is to its callers: the national option that it is drawn with, and the records of
+-- What a programme is to its callers: how its texts are drawn, and the records of
 -- its subtitles.
 pub record ProgrammeValue : Type 0 where
-  pub national : National
+  pub drawing : Drawing
   pub records : List SubtitleValue
 
 -- In order and disjoint: each TCI is at or after each TCO before it.
@@ -26,10 +26,10 @@ AreInOrder records =
     → (slice_index_or records i d).tco ≤ (slice_index_or records j d).tci
 
 -- Subtitles in order, each of which draws a page.
-pub record IsProgramme (national : National) (records : List SubtitleValue) : Type 0 where
+pub record IsProgramme (drawing : Drawing) (records : List SubtitleValue) : Type 0 where
   pub each : All IsSubtitle records
   pub in_order : AreInOrder records
-  pub drawable : All (λ t. IsOk (drawn national t)) records
+  pub drawable : All (λ t. IsOk (drawn drawing t)) records
 
 -- The first TCI.
 abbrev pub first_in : List SubtitleValue → Option ℕ
@@ -66,6 +66,6 @@ row_faults (Err fault) = Row fault ∷ []
 
 -- All that is wrong with a subtitle that follows one of these times, in the order in which it is
 -- told.
-abbrev pub follow_faults : National → Option Times → SubtitleValue → List LoadFaultKind
-follow_faults national before t =
-    order_faults before (times_of t) ++ row_faults (drawn national t)
+abbrev pub follow_faults : Drawing → Option Times → SubtitleValue → List LoadFaultKind
+follow_faults drawing before t =
+    order_faults before (times_of t) ++ row_faults (drawn drawing t)

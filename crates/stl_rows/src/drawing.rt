@@ -2,11 +2,13 @@
 
 ghost use Rattle.std.specs.Prelude.{◌≡◌, ◌<◌, ◌≤◌, ◌++◌, [], ◌∷◌, false, Ok, IsOk, length};
 ghost use Rattle.ttx_page.specs.Page.{AreCodes};
-ghost use Rattle.stl_rows.specs.DrawnPage.{drawn, line_faults, page_of_lines};
+ghost use Rattle.stl_rows.specs.DrawnPage.{drawn, drawing_by};
+ghost use Rattle.stl_rows.specs.PlainPage.{line_faults, page_of_lines};
 ghost use Rattle.stl_rows.specs.LineByLine.{FitsRow, put_line, prepared_lines};
 ghost use Rattle.stl_rows.specs.TextCode.{text_codes};
 
 use crate::fault::RowFault;
+use crate::layout::{Drawing, Layout};
 use crate::line::{prepare, row_codes};
 use crate::national::National;
 use crate::text_code::{TextCode, text_code_at};
@@ -69,15 +71,20 @@ fn page_of_text(national: National, jc: u8, vp: u8, text: &[u8]) -> Page
 }
 
 /// The page that a subtitle draws which has no fault.
-pub(crate) fn drawn_page(subtitle: &Subtitle, national: National) -> Page
-    requires { IsOk (drawn national subtitle.now) }
-    ensures { drawn national subtitle.now ≡ Ok result }
+pub(crate) fn drawn_page(subtitle: &Subtitle, drawing: &Drawing) -> Page
+    requires { IsOk (drawn drawing.now subtitle.now) }
+    ensures { drawn drawing.now subtitle.now ≡ Ok result }
 {
-    page_of_text(national, subtitle.jc(), subtitle.vp(), subtitle.text())
+    page_of_text(
+        drawing.national,
+        subtitle.jc(),
+        subtitle.vp(),
+        subtitle.text(),
+    )
 }
 
-/// Draws a subtitle's text on a page by the table of a national option (EBU Tech 3264, TTI block,
-/// fields TF, VP and JC; EN 300 706, packets X/1 to X/24).
+/// Draws a subtitle's text on a page by the table of a national option, as a layout says (EBU Tech
+/// 3264, TTI block, fields TF, VP and JC; EN 300 706, packets X/1 to X/24).
 ///
 /// Each line that 8A ends goes to a row of its own, the first to row VP, placed by JC. A line that
 /// isn't empty and has no start box is put in a box. All other cells of rows 1 to 24 are spaces.
@@ -86,11 +93,12 @@ pub(crate) fn drawn_page(subtitle: &Subtitle, national: National) -> Page
 ///
 /// The first fault: `Character` and `Control` by byte over the whole text, then line by line
 /// `RowTooLong`, `PastBottom`, `DoubleRow`, `Hidden`.
-pub fn draw(subtitle: &Subtitle, national: National) -> Result<Page, RowFault>
-    ensures { result ≡ drawn national subtitle.now }
+pub fn draw(subtitle: &Subtitle, national: National, layout: Layout) -> Result<Page, RowFault>
+    ensures { result ≡ drawn (drawing_by national layout) subtitle.now }
 {
-    match first_fault(subtitle, national) {
+    let drawing = Drawing { national, layout };
+    match first_fault(subtitle, &drawing) {
         Some(fault) => Err(fault),
-        None => Ok(drawn_page(subtitle, national)),
+        None => Ok(drawn_page(subtitle, &drawing)),
     }
 }

@@ -14,11 +14,12 @@ ghost use Rattle.stl_rows.specs.EveryFault.{faults, kept_after, load_fault};
 ghost use Rattle.stl_rows.specs.Fault.{is_read};
 ghost use Rattle.stl_rows.specs.Loading.{EndsRecord, loaded};
 ghost use Rattle.stl_rows.specs.Programme.{IsProgramme, follow_faults, row_faults};
-ghost use Rattle.stl_rows.specs.DrawnPage.{drawn};
+ghost use Rattle.stl_rows.specs.DrawnPage.{drawing_by, drawn};
 ghost use Rattle.stl_rows.specs.TextCode.{first_of};
 ghost use Rattle.stl_rows.specs.declared.fault.LoadFaultKind.TheVariants.{File, Memory};
 
 use crate::fault::{LoadFault, LoadFaultKind};
+use crate::layout::{Drawing, Layout};
 use crate::national::National;
 use crate::programme::Programme;
 use crate::text_faults::first_fault;
@@ -45,23 +46,24 @@ pub fn load_all<S: Source, D: Audience<LoadFault>>(
     alloc: Global,
     source: &mut S,
     national: National,
+    layout: Layout,
     audience: &mut D,
 ) -> Result<Option<Programme>, LoadFault>
     requires count { CanFail (S.failure_count source.old) }
     requires listens { D.has_stopped audience.old ≡ false }
     // Where the source tells its bytes, they decide the programme and what was told.
     ensures exact { IfTold (S.remaining source.old) (λ bytes. IfOk result (λ found.
-        IfSome found (λ programme. loaded national bytes ≡ Ok programme))) }
+        IfSome found (λ programme. loaded (drawing_by national layout) bytes ≡ Ok programme))) }
     ensures told { IfTold (S.remaining source.old) (λ bytes. result ≡ Ok None →
         TellsFaults D.is_told audience.old audience.new (D.has_stopped audience.new)
-        (faults national bytes)) }
+        (faults (drawing_by national layout) bytes)) }
     ensures memory { IfTold (S.remaining source.old) (λ bytes. IfErr result (λ f.
-        f.kind ≡ Memory → EndsRecord national bytes f.block)) }
+        f.kind ≡ Memory → EndsRecord (drawing_by national layout) bytes f.block)) }
 
     ensures programme { IfOk result (λ found. IfSome found (λ programme.
-        IsProgramme programme.national programme.records)) }
-    ensures national { IfOk result (λ found.
-        IfSome found (λ programme. programme.national ≡ national)) }
+        IsProgramme programme.drawing programme.records)) }
+    ensures drawing { IfOk result (λ found.
+        IfSome found (λ programme. programme.drawing ≡ drawing_by national layout)) }
     // `None` comes where faults were told, and a programme and `Memory` where none was.
     ensures some { result ≡ Ok None →
         TellsOfFile D.is_told audience.old audience.new }
@@ -73,14 +75,15 @@ pub fn load_all<S: Source, D: Audience<LoadFault>>(
     // Whatever the source tells, the device was told some faults where it failed.
     ensures some_before { IfErr result (λ _. TellsSome D.is_told audience.old audience.new) }
     // A failed read names the block of the byte that was asked for.
-    ensures read { IfErr result (λ f. is_read f ≡ true → FailsTelling national
+    ensures read { IfErr result (λ f. is_read f ≡ true → FailsTelling (drawing_by national layout)
         (S.remaining source.old) (S.remaining source.new)
         D.is_told audience.old audience.new f.block) }
     ensures kinds { IfErr result (λ f. (f.kind ≡ Memory) ⊎ (f.kind ≡ File Read)) }
     ensures count { CountsIf S.failure_count source.old (failed is_read result) source.new }
 {
-    match load_all_in(alloc, source, national, audience) {
-        Ok(Some(subtitles)) => Ok(Some(Programme::of(national, subtitles))),
+    let drawing = Drawing { national, layout };
+    match load_all_in(alloc, source, drawing, audience) {
+        Ok(Some(subtitles)) => Ok(Some(Programme::of(drawing, subtitles))),
         Ok(None) => Ok(None),
         Err(fault) => Err(fault),
     }
@@ -95,20 +98,20 @@ pub fn load_all<S: Source, D: Audience<LoadFault>>(
 pub fn load_all_in<A: Allocator + Drop, S: Source, D: Audience<LoadFault>>(
     alloc: A,
     source: &mut S,
-    national: National,
+    drawing: Drawing,
     audience: &mut D,
 ) -> Result<Option<Vec<Subtitle, A>>, LoadFault>
     requires count { CanFail (S.failure_count source.old) }
     requires listens { D.has_stopped audience.old ≡ false }
     ensures exact { IfTold (S.remaining source.old) (λ bytes. IfOk result (λ found.
         IfSome found (λ v.
-        loaded national bytes ≡ Ok (record { national = national; records = v.items })))) }
+        loaded drawing bytes ≡ Ok (record { drawing = drawing; records = v.items })))) }
     ensures told { IfTold (S.remaining source.old) (λ bytes. result ≡ Ok None →
         TellsFaults D.is_told audience.old audience.new (D.has_stopped audience.new)
-        (faults national bytes)) }
+        (faults drawing bytes)) }
     ensures memory { IfTold (S.remaining source.old) (λ bytes. IfErr result (λ f.
-        f.kind ≡ Memory → EndsRecord national bytes f.block)) }
-    ensures programme { IfOk result (λ found. IfSome found (λ v. IsProgramme national v.items)) }
+        f.kind ≡ Memory → EndsRecord drawing bytes f.block)) }
+    ensures programme { IfOk result (λ found. IfSome found (λ v. IsProgramme drawing v.items)) }
     ensures some { result ≡ Ok None →
         TellsOfFile D.is_told audience.old audience.new }
     ensures none { IfOk result (λ found. IfSome found (λ _.
@@ -117,7 +120,7 @@ pub fn load_all_in<A: Allocator + Drop, S: Source, D: Audience<LoadFault>>(
         Tells D.is_told audience.old audience.new []) }
     ensures stopped { D.has_stopped audience.new ≡ true → result ≡ Ok None }
     ensures some_before { IfErr result (λ _. TellsSome D.is_told audience.old audience.new) }
-    ensures read { IfErr result (λ f. is_read f ≡ true → FailsTelling national
+    ensures read { IfErr result (λ f. is_read f ≡ true → FailsTelling drawing
         (S.remaining source.old) (S.remaining source.new)
         D.is_told audience.old audience.new f.block) }
     ensures kinds { IfErr result (λ f. (f.kind ≡ Memory) ⊎ (f.kind ≡ File Read)) }
@@ -149,7 +152,7 @@ pub fn load_all_in<A: Allocator + Drop, S: Source, D: Audience<LoadFault>>(
             }
             Ok(Found::Subtitle) => {
                 let block = reader.block();
-                let Ok(clean) = tell_faults(national, before, &subtitle, block, audience) else {
+                let Ok(clean) = tell_faults(&drawing, before, &subtitle, block, audience) else {
                     return Ok(None);
                 };
                 before = Some(Times::of(&subtitle));
@@ -213,7 +216,7 @@ fn tell_end<D: Audience<LoadFault>>(
 // Tells what is wrong with a subtitle that follows one of these times and ends at this block;
 // answers whether nothing is.
 fn tell_faults<D: Audience<LoadFault>>(
-    national: National,
+    drawing: &Drawing,
     before: Option<Times>,
     subtitle: &Subtitle,
     block: u32,
@@ -221,17 +224,17 @@ fn tell_faults<D: Audience<LoadFault>>(
 ) -> Result<bool, Stopped>
     requires { D.has_stopped audience.old ≡ false }
     ensures told { OnOk result (Tells D.is_told audience.old audience.new
-        (map (load_fault block) (follow_faults national before subtitle.now))) }
+        (map (load_fault block) (follow_faults drawing.now before subtitle.now))) }
     ensures stops { OnErr result (StopsWithin D.is_told audience.old audience.new
-        (map (load_fault block) (follow_faults national before subtitle.now))) }
+        (map (load_fault block) (follow_faults drawing.now before subtitle.now))) }
     ensures clean { IfOk result (λ clean.
-        clean ≡ is_none (first_of (follow_faults national before subtitle.now))) }
+        clean ≡ is_none (first_of (follow_faults drawing.now before subtitle.now))) }
     ensures stopped { D.has_stopped audience.new ≡ is_err result }
     ensures subtitle { IsSubtitle subtitle.now }
 {
     let times = Times::of(subtitle);
     let in_order = tell_fault(times.fault_after(before), block, audience)?;
-    let Ok(drawn) = tell_fault(row_fault(subtitle, national), block, audience) else {
+    let Ok(drawn) = tell_fault(row_fault(subtitle, drawing), block, audience) else {
         return Err(Stopped);
     };
     Ok(in_order && drawn)
@@ -260,10 +263,10 @@ fn tell_fault<D: Audience<LoadFault>>(
 }
 
 // The first fault of a subtitle's rows.
-fn row_fault(subtitle: &Subtitle, national: National) -> Option<LoadFaultKind>
-    ensures { first_alone result ≡ row_faults (drawn national subtitle.now) }
+fn row_fault(subtitle: &Subtitle, drawing: &Drawing) -> Option<LoadFaultKind>
+    ensures { first_alone result ≡ row_faults (drawn drawing.now subtitle.now) }
 {
-    match first_fault(subtitle, national) {
+    match first_fault(subtitle, drawing) {
         None => None,
         Some(fault) => Some(LoadFaultKind::Row(fault)),
     }

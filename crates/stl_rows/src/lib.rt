@@ -4,7 +4,7 @@
 //! frame of the day and where the next change can come:
 //!
 //! ```text
-//! let programme = load(alloc, &mut source, National::English)?;
+//! let programme = load(alloc, &mut source, National::English, Layout::default())?;
 //! let page = programme.due_page(900_000);
 //! let edge = programme.next_edge(900_000);
 //! ```
@@ -16,6 +16,7 @@
 mod drawing;
 mod every_fault;
 mod fault;
+mod layout;
 mod line;
 mod loading;
 mod national;
@@ -28,6 +29,7 @@ mod times;
 pub use drawing::draw;
 pub use every_fault::{load_all, load_all_in};
 pub use fault::{LoadFault, LoadFaultKind, RowFault, RowFaultKind};
+pub use layout::{Drawing, Layout};
 pub use loading::{law_of_loading, load, load_in};
 pub use national::{National, NationalBits};
 pub use programme::{

@@ -5,19 +5,21 @@ ghost use Rattle.sub_io.specs.Device.{CanFail, CountsIf, failed};
 ghost use Rattle.sub_io.specs.Reading.{IfTold};
 ghost use Rattle.stl_file.specs.declared.fault.StlFault.TheVariants.{Ended};
 ghost use Rattle.stl_rows.specs.Fault.{is_read};
+ghost use Rattle.stl_rows.specs.DrawnPage.{drawing_by};
 ghost use Rattle.stl_rows.specs.declared.fault.LoadFaultKind.TheVariants.{File};
 ghost use Rattle.stl_rows.specs.Loading.{FailsLoading, LawOfLoading, TellsFault, loaded};
 ghost use Rattle.stl_rows.specs.Programme.{IsProgramme};
 
 use crate::every_fault::load_all_in;
 use crate::fault::LoadFault;
+use crate::layout::{Drawing, Layout};
 use crate::national::National;
 use crate::programme::Programme;
 use std::alloc::{Allocator, Global};
 use stl_file::{Subtitle, law_of_files};
 use sub_io::{FirstTold, Source};
 
-/// Loads the subtitles of an STL file, to be drawn by the table of a national option.
+/// Loads the subtitles of an STL file, to be drawn by the table of a national option as a layout says.
 ///
 /// It takes about a kilobyte of memory a subtitle, and reads to the end of the source.
 ///
@@ -32,25 +34,28 @@ pub fn load<S: Source>(
     alloc: Global,
     source: &mut S,
     national: National,
+    layout: Layout,
 ) -> Result<Programme, LoadFault>
     requires { CanFail (S.failure_count source.old) }
     // Where the source tells its bytes, they decide the programme and the fault.
     ensures exact { IfTold (S.remaining source.old) (λ bytes.
-        IfOk result (λ programme. loaded national bytes ≡ Ok programme)) }
+        IfOk result (λ programme. loaded (drawing_by national layout) bytes ≡ Ok programme)) }
     ensures fault { IfTold (S.remaining source.old) (λ bytes.
-        IfErr result (λ f. TellsFault national bytes f.block f.kind)) }
+        IfErr result (λ f. TellsFault (drawing_by national layout) bytes f.block f.kind)) }
     ensures never { IfErr result (λ f. f.kind ≢ File Ended) }
 
     ensures programme { IfOk result (λ programme.
-        IsProgramme programme.national programme.records) }
-    ensures national { IfOk result (λ programme. programme.national ≡ national) }
+        IsProgramme programme.drawing programme.records) }
+    ensures drawing { IfOk result (λ programme.
+        programme.drawing ≡ drawing_by national layout) }
     // A failed read names the block of the byte that was asked for, and no fault comes before it.
-    ensures read { IfErr result (λ f. is_read f ≡ true → FailsLoading national
+    ensures read { IfErr result (λ f. is_read f ≡ true → FailsLoading (drawing_by national layout)
         (S.remaining source.old) (S.remaining source.new) f.block) }
     ensures count { CountsIf S.failure_count source.old (failed is_read result) source.new }
 {
-    match load_in(alloc, source, national) {
-        Ok(subtitles) => Ok(Programme::of(national, subtitles)),
+    let drawing = Drawing { national, layout };
+    match load_in(alloc, source, drawing) {
+        Ok(subtitles) => Ok(Programme::of(drawing, subtitles)),
         Err(fault) => Err(fault),
     }
 }
@@ -63,21 +68,21 @@ pub fn load<S: Source>(
 pub fn load_in<A: Allocator + Drop, S: Source>(
     alloc: A,
     source: &mut S,
-    national: National,
+    drawing: Drawing,
 ) -> Result<Vec<Subtitle, A>, LoadFault>
     requires { CanFail (S.failure_count source.old) }
     ensures exact { IfTold (S.remaining source.old) (λ bytes. IfOk result (λ v.
-        loaded national bytes ≡ Ok (record { national = national; records = v.items }))) }
+        loaded drawing bytes ≡ Ok (record { drawing = drawing; records = v.items }))) }
     ensures fault { IfTold (S.remaining source.old) (λ bytes. IfErr result (λ f.
-        TellsFault national bytes f.block f.kind)) }
+        TellsFault drawing bytes f.block f.kind)) }
     ensures never { IfErr result (λ f. f.kind ≢ File Ended) }
-    ensures programme { IfOk result (λ v. IsProgramme national v.items) }
-    ensures read { IfErr result (λ f. is_read f ≡ true → FailsLoading national
+    ensures programme { IfOk result (λ v. IsProgramme drawing v.items) }
+    ensures read { IfErr result (λ f. is_read f ≡ true → FailsLoading drawing
         (S.remaining source.old) (S.remaining source.new) f.block) }
     ensures count { CountsIf S.failure_count source.old (failed is_read result) source.new }
 {
     let mut first = FirstTold::new();
-    match load_all_in(alloc, source, national, &mut first) {
+    match load_all_in(alloc, source, drawing, &mut first) {
         Ok(Some(subtitles)) => Ok(subtitles),
         Ok(None) => match first.into_first() {
             Some(fault) => Err(fault),

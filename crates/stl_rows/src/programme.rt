@@ -9,6 +9,7 @@ ghost use Rattle.stl_rows.specs.DuePage.{LawOfEdges, TellsLastEdge, TellsNextEdg
 ghost use Rattle.stl_rows.specs.Programme.{IsProgramme, first_in, last_out};
 
 use crate::drawing::drawn_page;
+use crate::layout::{Drawing, Layout};
 use crate::national::National;
 use std::marker::Model;
 use stl_file::Subtitle;
@@ -16,10 +17,10 @@ use ttx_page::Page;
 
 /// Subtitles in order and disjoint, each of which draws a page.
 ///
-/// It is made by `load`. Contracts see its national option and the list of its records.
+/// It is made by `load`. Contracts see how it is drawn and the list of its records.
 #[derive(Drop)]
 pub struct Programme {
-    national: National,
+    drawing: Drawing,
     subtitles: Vec<Subtitle>,
 }
 
@@ -28,14 +29,14 @@ impl Model for Programme {
 
     ghost Value = { ProgrammeValue };
 
-    ghost view = { λ p. record { national = p.national; records = p.subtitles.items } };
+    ghost view = { λ p. record { drawing = p.drawing; records = p.subtitles.items } };
 
-    ghost invariant = { λ p. IsProgramme p.national p.subtitles.items };
+    ghost invariant = { λ p. IsProgramme p.drawing p.subtitles.items };
 }
 
 // The first subtitle whose TCO is after a frame: a binary search.
-fn first_after(national: National, subtitles: &[Subtitle], frame: u32) -> usize
-    requires { IsProgramme national subtitles.now }
+fn first_after(drawing: &Drawing, subtitles: &[Subtitle], frame: u32) -> usize
+    requires { IsProgramme drawing.now subtitles.now }
     ensures bound { result ≤ length subtitles.now }
     ensures before { (k : ℕ) (d : SubtitleValue)
         → k < result → (slice_index_or subtitles.now k d).tco ≤ frame }
@@ -46,11 +47,11 @@ fn first_after(national: National, subtitles: &[Subtitle], frame: u32) -> usize
 }
 
 // The page that is due at a frame.
-fn page_at(national: National, subtitles: &[Subtitle], frame: u32) -> Page
-    requires { IsProgramme national subtitles.now }
-    ensures { result ≡ due national subtitles.now frame }
+fn page_at(drawing: &Drawing, subtitles: &[Subtitle], frame: u32) -> Page
+    requires { IsProgramme drawing.now subtitles.now }
+    ensures { result ≡ due drawing.now subtitles.now frame }
 {
-    let at = first_after(national, subtitles, frame);
+    let at = first_after(drawing, subtitles, frame);
     if at == subtitles.len() {
         return Page::blank();
     }
@@ -59,15 +60,15 @@ fn page_at(national: National, subtitles: &[Subtitle], frame: u32) -> Page
     if frame < tci {
         return Page::blank();
     }
-    drawn_page(subtitle, national)
+    drawn_page(subtitle, drawing)
 }
 
 // The least edge after a frame.
-fn edge_after(national: National, subtitles: &[Subtitle], frame: u32) -> Option<u32>
-    requires { IsProgramme national subtitles.now }
+fn edge_after(drawing: &Drawing, subtitles: &[Subtitle], frame: u32) -> Option<u32>
+    requires { IsProgramme drawing.now subtitles.now }
     ensures { TellsNextEdge subtitles.now frame result }
 {
-    let at = first_after(national, subtitles, frame);
+    let at = first_after(drawing, subtitles, frame);
     if at == subtitles.len() {
         return None;
     }
@@ -95,11 +96,11 @@ fn tco_before(subtitles: &[Subtitle], at: usize) -> Option<u32>
 }
 
 // The greatest edge up to a frame.
-fn edge_until(national: National, subtitles: &[Subtitle], frame: u32) -> Option<u32>
-    requires { IsProgramme national subtitles.now }
+fn edge_until(drawing: &Drawing, subtitles: &[Subtitle], frame: u32) -> Option<u32>
+    requires { IsProgramme drawing.now subtitles.now }
     ensures { TellsLastEdge subtitles.now frame result }
 {
-    let at = first_after(national, subtitles, frame);
+    let at = first_after(drawing, subtitles, frame);
     if at == subtitles.len() {
         return tco_before(subtitles, at);
     }
@@ -112,14 +113,14 @@ fn edge_until(national: National, subtitles: &[Subtitle], frame: u32) -> Option<
 }
 
 // The TCI of the subtitle that ends at a frame.
-fn tci_ending_at(national: National, subtitles: &[Subtitle], frame: u32) -> Option<u32>
-    requires { IsProgramme national subtitles.now }
+fn tci_ending_at(drawing: &Drawing, subtitles: &[Subtitle], frame: u32) -> Option<u32>
+    requires { IsProgramme drawing.now subtitles.now }
     ensures { result ≡ tci_of_ending subtitles.now frame }
 {
     if frame == 0 {
         return None;
     }
-    let at = first_after(national, subtitles, frame - 1);
+    let at = first_after(drawing, subtitles, frame - 1);
     if at == subtitles.len() {
         return None;
     }
@@ -133,20 +134,17 @@ fn tci_ending_at(national: National, subtitles: &[Subtitle], frame: u32) -> Opti
 
 impl Programme {
     // The programme of these subtitles.
-    pub(crate) fn of(national: National, subtitles: Vec<Subtitle>) -> Programme
-        requires { IsProgramme national subtitles.items }
-        ensures { result ≡ record { national = national; records = subtitles.items } }
+    pub(crate) fn of(drawing: Drawing, subtitles: Vec<Subtitle>) -> Programme
+        requires { IsProgramme drawing subtitles.items }
+        ensures { result ≡ record { drawing = drawing; records = subtitles.items } }
     {
-        Programme {
-            national,
-            subtitles,
-        }
+        Programme { drawing, subtitles }
     }
 
     /// How many subtitles there are.
     pub fn len(&self) -> usize
         ensures value { result ≡ length self.now.records }
-        ensures programme { IsProgramme self.now.national self.now.records }
+        ensures programme { IsProgramme self.now.drawing self.now.records }
     {
         self.subtitles.len()
     }
@@ -169,7 +167,7 @@ impl Programme {
     /// The first TCI, as a frame of the day. `None` where there is no subtitle.
     pub fn first_in(&self) -> Option<u32>
         ensures value { result ≡ first_in self.now.records }
-        ensures programme { IsProgramme self.now.national self.now.records }
+        ensures programme { IsProgramme self.now.drawing self.now.records }
     {
         Some(self.subtitles.first()?.tci().frame())
     }
@@ -177,17 +175,25 @@ impl Programme {
     /// The last TCO, as a frame of the day. `None` where there is no subtitle.
     pub fn last_out(&self) -> Option<u32>
         ensures value { result ≡ last_out self.now.records }
-        ensures programme { IsProgramme self.now.national self.now.records }
+        ensures programme { IsProgramme self.now.drawing self.now.records }
     {
         Some(self.subtitles.last()?.tco().frame())
     }
 
     /// The national option that it was loaded with.
     pub fn national(&self) -> National
-        ensures value { result ≡ self.now.national }
-        ensures programme { IsProgramme self.now.national self.now.records }
+        ensures value { result ≡ self.now.drawing.national }
+        ensures programme { IsProgramme self.now.drawing self.now.records }
     {
-        self.national
+        self.drawing.national
+    }
+
+    /// The layout that it was loaded with.
+    pub fn layout(&self) -> Layout
+        ensures value { result ≡ self.now.drawing.layout }
+        ensures programme { IsProgramme self.now.drawing self.now.records }
+    {
+        self.drawing.layout
     }
 
     /// Draws the page that is due at a frame: that of the subtitle whose TCI is at or before the
@@ -196,10 +202,10 @@ impl Programme {
     /// The subtitle is found by binary search. The page is drawn at each call, so call it at edges
     /// (`next_edge`) and keep the page between them.
     pub fn due_page(&self, frame: u32) -> Page
-        ensures value { result ≡ due self.now.national self.now.records frame }
-        ensures programme { IsProgramme self.now.national self.now.records }
+        ensures value { result ≡ due self.now.drawing self.now.records frame }
+        ensures programme { IsProgramme self.now.drawing self.now.records }
     {
-        page_at(self.national, self.subtitles.as_slice(), frame)
+        page_at(&self.drawing, self.subtitles.as_slice(), frame)
     }
 
     /// Finds the least TCI or TCO that is after a frame, by binary search.
@@ -207,9 +213,9 @@ impl Programme {
     /// `None` where there is none.
     pub fn next_edge(&self, frame: u32) -> Option<u32>
         ensures value { TellsNextEdge self.now.records frame result }
-        ensures programme { IsProgramme self.now.national self.now.records }
+        ensures programme { IsProgramme self.now.drawing self.now.records }
     {
-        edge_after(self.national, self.subtitles.as_slice(), frame)
+        edge_after(&self.drawing, self.subtitles.as_slice(), frame)
     }
 
     /// Finds the greatest TCI or TCO that is at or before a frame, by binary search.
@@ -217,9 +223,9 @@ impl Programme {
     /// `None` where there is none. From it to the frame the same page is due.
     pub fn last_edge(&self, frame: u32) -> Option<u32>
         ensures value { TellsLastEdge self.now.records frame result }
-        ensures programme { IsProgramme self.now.national self.now.records }
+        ensures programme { IsProgramme self.now.drawing self.now.records }
     {
-        edge_until(self.national, self.subtitles.as_slice(), frame)
+        edge_until(&self.drawing, self.subtitles.as_slice(), frame)
     }
 
     /// Finds the subtitle whose TCO is a frame, by binary search, and gives its TCI.
@@ -227,9 +233,9 @@ impl Programme {
     /// `None` where no subtitle ends there. No two do.
     pub fn tci_of_ending(&self, frame: u32) -> Option<u32>
         ensures value { result ≡ tci_of_ending self.now.records frame }
-        ensures programme { IsProgramme self.now.national self.now.records }
+        ensures programme { IsProgramme self.now.drawing self.now.records }
     {
-        tci_ending_at(self.national, self.subtitles.as_slice(), frame)
+        tci_ending_at(&self.drawing, self.subtitles.as_slice(), frame)
     }
 }
 

@@ -7,6 +7,7 @@ ghost use Rattle.stl_rows.specs.LineByLine.{told_first, with_cell};
 ghost use Rattle.stl_rows.specs.TextCode.{first_of, text_codes};
 
 use crate::fault::{RowFault, RowFaultKind};
+use crate::layout::Drawing;
 use crate::national::National;
 use crate::text_code::{TextCode, text_code_at};
 use stl_file::Subtitle;
@@ -138,9 +139,9 @@ fn fault_of_text(national: National, vp: u8, text: &[u8]) -> Option<RowFault>
 /// What keeps a subtitle from being drawn. `None` where it draws a page.
 ///
 /// The text is read once and no cell is kept.
-pub(crate) fn first_fault(subtitle: &Subtitle, national: National) -> Option<RowFault>
-    ensures { MatchOption result (IsOk (drawn national subtitle.now))
-        (λ fault. drawn national subtitle.now ≡ Err fault) }
+pub(crate) fn first_fault(subtitle: &Subtitle, drawing: &Drawing) -> Option<RowFault>
+    ensures { MatchOption result (IsOk (drawn drawing.now subtitle.now))
+        (λ fault. drawn drawing.now subtitle.now ≡ Err fault) }
 {
-    fault_of_text(national, subtitle.vp(), subtitle.text())
+    fault_of_text(drawing.national, subtitle.vp(), subtitle.text())
 }

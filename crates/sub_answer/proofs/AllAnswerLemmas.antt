@@ -15,7 +15,7 @@ use Rattle.stl_rows.specs.Loading.{loaded}
 use Rattle.stl_rows.specs.Programme.{ProgrammeValue}
 use Rattle.stl_rows.proofs.LoadingLaw.{none_of_loaded}
 use Rattle.stl_rows.specs.declared.fault.LoadFaultKind.TheVariants as load
-use Rattle.stl_rows.specs.declared.national.National.{National}
+use Rattle.stl_rows.specs.declared.layout.Drawing.{Drawing}
 use Rattle.sub_plan.specs.Options.{OptionsValue}
 use Rattle.sub_check.specs.CheckedFiles.{answer_by, first_answer}
 use Rattle.sub_rules.specs.Events.{first_told}
@@ -131,36 +131,36 @@ memory-alone old new first events answer block ended memory text =
 
 -- Where nothing failed, the last line says that the files are accepted exactly where they are.
 done-exactly :
-    (national : National) (options : OptionsValue) (file bytes : List ℕ) (pes : Option (List ℕ))
+    (drawing : Drawing) (options : OptionsValue) (file bytes : List ℕ) (pes : Option (List ℕ))
     (first : ℕ) (events : List Event) (answer : Result (Option Accepted) CheckFault)
     (Means : Type 0)
     → pes ≡ Some bytes
     → (all_listing first events answer).status ≢ Fault
     → IfErr answer (CanEnd events)
-    → AreListed national options file pes events answer
+    → AreListed drawing options file pes events answer
     → ((a : Accepted) → answer ≡ Ok (Some a)
-    → Exactly national file (first_answer events a) Means)
-    → (Means → (programme : ProgrammeValue) × (loaded national file ≡ Ok programme))
+    → Exactly drawing file (first_answer events a) Means)
+    → (Means → (programme : ProgrammeValue) × (loaded drawing file ≡ Ok programme))
     → ((all_listing first events answer).status ≡ Done) ↔ Means
-done-exactly national options file bytes pes first events (Err f) Means known runs ended are exact
+done-exactly drawing options file bytes pes first events (Err f) Means known runs ended are exact
     loads =
     absurd (runs (ap (λ b. status_of (kind_by b)) ended.fails))
-done-exactly national options file bytes pes first events (Ok None) Means known runs ended are exact
+done-exactly drawing options file bytes pes first events (Ok None) Means known runs ended are exact
     loads = (
       λ done. cc,
       λ is.
           let given = loads is in
           let none : events ≡ [] =
-          are.0 ∙ ap subtitle_events (none_of_loaded national file given.0 given.1) in
+          are.0 ∙ ap subtitle_events (none_of_loaded drawing file given.0 given.1) in
           let some : 0 < 0 = rw none at are.1 in
           absurd (omega (arith, some)),
     )
-done-exactly national options file bytes pes first events (Ok (Some a)) Means known runs ended are
+done-exactly drawing options file bytes pes first events (Ok (Some a)) Means known runs ended are
     exact loads =
     rw (read-status first events a) (go (first_told events) refl (exact a refl))
   where
     go : (o : Option CheckFault) → first_told events ≡ o
-        → Exactly national file (answer_by o a) Means
+        → Exactly drawing file (answer_by o a) Means
         → (by_first o ≡ Done) ↔ Means
     go None is exactly = (
       λ done. (exactly.exactly are.programme are.loads refl refl).0 refl,
@@ -181,13 +181,13 @@ done-exactly national options file bytes pes first events (Ok (Some a)) Means kn
 
 -- The sink failed while events were told. For `print_every_fault`.
 pub answers_cut :
-    (national : National) (options : OptionsValue) (stl pes : SourceCall) (first : Option ℕ)
+    (drawing : Drawing) (options : OptionsValue) (stl pes : SourceCall) (first : Option ℕ)
     (Untouched : Type 0) (old new : PrinterValue) (given : Result (Option Accepted) CheckFault)
-    → TellsBoth national options stl pes first Untouched old new given
+    → TellsBoth drawing options stl pes first Untouched old new given
     → new.failed ≡ true
-    → AnswersAll national options stl pes first Untouched
+    → AnswersAll drawing options stl pes first Untouched
     (sink old.contents old.count new.contents new.count) Fault
-answers_cut national options stl pes first Untouched old new given t failing = record {
+answers_cut drawing options stl pes first Untouched old new given t failing = record {
   events = t.events;
   answer = t.answer;
   number = t.number;
@@ -209,19 +209,19 @@ answers_cut national options stl pes first Untouched old new given t failing = r
 
 -- All events were told, and the last line was printed or cut. For `print_every_fault`.
 pub answers_end :
-    (national : National) (options : OptionsValue) (stl pes : SourceCall) (first : Option ℕ)
+    (drawing : Drawing) (options : OptionsValue) (stl pes : SourceCall) (first : Option ℕ)
     (Untouched : Type 0) (old new : PrinterValue) (given : Result (Option Accepted) CheckFault)
     (end : Option (List ℕ)) (end_count : ℕ) (status : Status)
-    → TellsBoth national options stl pes first Untouched old new given
+    → TellsBoth drawing options stl pes first Untouched old new given
     → new.failed ≡ false
     → old.refused ≡ 0
     → PrintsOrFails (sink new.contents new.count end end_count)
     (last_listing new.first new.refused given) status
-    → AnswersAll national options stl pes first Untouched
+    → AnswersAll drawing options stl pes first Untouched
     (sink old.contents old.count end end_count) status
 unfolding counted
 answers_end
-    national options stl pes first Untouched old new given end end_count status t holds none last =
+    drawing options stl pes first Untouched old new given end end_count status t holds none last =
     let refused : new.refused ≡ min (refusals t.events) most_counted =
     t.prints.put_refused holds ∙ ap (λ n. min (n + refusals t.events) most_counted) none
     ∙ (let none_before : 0 + refusals t.events ≡ refusals t.events = omega arith in
@@ -244,22 +244,22 @@ answers_end
       sources = t.sources;
       listed = t.listed;
       checked = λ other. t.checked holds;
-      ends = status-told national options stl pes (sink old.contents old.count end end_count)
+      ends = status-told drawing options stl pes (sink old.contents old.count end end_count)
           (all_listing t.number t.events t.answer) status t.answer printed t.sources
           (λ none runs file heard bytes known.
-          done-exactly national options file bytes pes.told t.number t.events t.answer _ known runs
+          done-exactly drawing options file bytes pes.told t.number t.events t.answer _ known runs
           t.ended
           (t.listed file heard)
           (λ a is.
-          exactly-accepted national options file bytes (first_answer t.events a)
+          exactly-accepted drawing options file bytes (first_answer t.events a)
           (λ p loads. ((rw is at (t.checked holds file heard bytes known)) p loads).1 none))
           (λ is. (is.programme, is.loads)))
           (λ runs file heard bytes known.
-          done-exactly national options file bytes pes.told t.number t.events t.answer _ known runs
+          done-exactly drawing options file bytes pes.told t.number t.events t.answer _ known runs
           t.ended
           (t.listed file heard)
           (λ a is.
-          exactly-accepted_within national options file bytes (first_answer t.events a)
+          exactly-accepted_within drawing options file bytes (first_answer t.events a)
           (λ p loads. ((rw is at (t.checked holds file heard bytes known)) p loads).0))
           (λ is. (is.programme, is.loads)))
           (answer-fails t.number t.events t.answer t.ended)
@@ -267,7 +267,7 @@ answers_end
             block,
             memory-alone old.contents end t.number t.events t.answer block t.ended memory text,
             λ file heard.
-                (subst (AreListed national options file pes.told t.events) memory
+                (subst (AreListed drawing options file pes.told t.events) memory
                 (t.listed file heard)).1,
           ));
     }
@@ -275,13 +275,13 @@ answers_end
 -- What is answered of a sink is answered of one with the same contents and count. For
 -- `print_every_fault`.
 pub answers_at :
-    (national : National) (options : OptionsValue) (stl pes : SourceCall) (first : Option ℕ)
+    (drawing : Drawing) (options : OptionsValue) (stl pes : SourceCall) (first : Option ℕ)
     (Untouched : Type 0) (old mid new : Option (List ℕ)) (m n p : ℕ) (status : Status)
-    → AnswersAll national options stl pes first Untouched (sink old m mid n) status
+    → AnswersAll drawing options stl pes first Untouched (sink old m mid n) status
     → new ≡ mid
     → p ≡ n
-    → AnswersAll national options stl pes first Untouched (sink old m new p) status
-answers_at national options stl pes first Untouched old mid new m n p status answers same counted =
+    → AnswersAll drawing options stl pes first Untouched (sink old m new p) status
+answers_at drawing options stl pes first Untouched old mid new m n p status answers same counted =
     rw (same, counted) answers
 
 -- ---- counts
@@ -304,11 +304,11 @@ fault-status is_one fails first events (Ok a) is = absurd (true≢false (sym is)
 fault-status is_one fails first events (Err f) is = ap (λ b. status_of (kind_by b)) (fails f is)
 
 -- The source of either file fails once at most, and not where the status is another than `Fault`.
-pub counts : (national : National) (options : OptionsValue) (stl pes : SourceCall)
+pub counts : (drawing : Drawing) (options : OptionsValue) (stl pes : SourceCall)
     (first : Option ℕ) (Untouched : Type 0) (out : SinkCall) (status : Status)
-    → AnswersAll national options stl pes first Untouched out status
+    → AnswersAll drawing options stl pes first Untouched out status
     → Counts stl.old_count status stl.new_count × Counts pes.old_count status pes.new_count
-counts national options stl pes first Untouched out status a =
+counts drawing options stl pes first Untouched out status a =
     let own = printed-status out (all_listing a.number a.events a.answer) status a.printed in (
       counted_by (failed is_stl_read a.answer) _ _ status a.sources.stl_count
           (λ is other.

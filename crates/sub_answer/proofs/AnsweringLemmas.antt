@@ -11,7 +11,7 @@ use Rattle.stl_file.specs.declared.fault.StlFault.TheVariants as stl
 use Rattle.stl_rows.specs.declared.fault.LoadFault.{LoadFault}
 use Rattle.stl_rows.specs.declared.fault.LoadFaultKind.{LoadFaultKind}
 use Rattle.stl_rows.specs.declared.fault.LoadFaultKind.TheVariants as load
-use Rattle.stl_rows.specs.declared.national.National.{National}
+use Rattle.stl_rows.specs.declared.layout.Drawing.{Drawing}
 use Rattle.stl_rows.specs.Loading.{FailsLoading, TellsFault, loaded}
 use Rattle.stl_rows.specs.Programme.{ProgrammeValue}
 use Rattle.sub_plan.specs.Options.{OptionsValue}
@@ -41,17 +41,17 @@ use Rattle.sub_answer.proofs.BothFilesLemmas.{told-fails, told-not_done, told-ru
 
 -- A file whose PES file was looked at gives a programme. For `done-exactly`.
 has_programme :
-    (national : National) (file : List ℕ) (answer : Result Accepted CheckFault)
-    → (((programme : ProgrammeValue) → loaded national file ≢ Ok programme)
+    (drawing : Drawing) (file : List ℕ) (answer : Result Accepted CheckFault)
+    → (((programme : ProgrammeValue) → loaded drawing file ≢ Ok programme)
     → failed is_subtitle_fault answer ≡ true)
     → failed is_subtitle_fault answer ≡ false
-    → (programme : ProgrammeValue) × (loaded national file ≡ Ok programme)
-has_programme national file answer refused looked = go (loaded national file) refl
+    → (programme : ProgrammeValue) × (loaded drawing file ≡ Ok programme)
+has_programme drawing file answer refused looked = go (loaded drawing file) refl
   where
     go :
         (r : Result ProgrammeValue LoadFault)
-        → loaded national file ≡ r
-        → (programme : ProgrammeValue) × (loaded national file ≡ Ok programme)
+        → loaded drawing file ≡ r
+        → (programme : ProgrammeValue) × (loaded drawing file ≡ Ok programme)
     go (Ok programme) is = (programme, is)
     go (Err f) is =
         let is_refused = refused (λ programme same. cc) in cc
@@ -59,45 +59,45 @@ has_programme national file answer refused looked = go (loaded national file) re
 -- A file that gives a programme is refused for want of memory or a failing source alone. For
 -- `looked-at`.
 failure-of_programme :
-    (national : National) (file : List ℕ) (programme : ProgrammeValue) (block : ℕ)
+    (drawing : Drawing) (file : List ℕ) (programme : ProgrammeValue) (block : ℕ)
     (kind : LoadFaultKind)
-    → loaded national file ≡ Ok programme
-    → TellsFault national file block kind
+    → loaded drawing file ≡ Ok programme
+    → TellsFault drawing file block kind
     → is_failure_kind kind ≡ true
-failure-of_programme national file programme block (load.File stl.Read) is told = refl
-failure-of_programme national file programme block load.Memory is told = refl
-failure-of_programme national file programme block kind is told = cc
+failure-of_programme drawing file programme block (load.File stl.Read) is told = refl
+failure-of_programme drawing file programme block load.Memory is told = refl
+failure-of_programme drawing file programme block kind is told = cc
 
 -- The subtitle file gives a programme, so a fault that is no failure is none of it. For
 -- `done-exactly`.
 looked-at :
-    (national : National) (file : List ℕ) (programme : ProgrammeValue) (f : CheckFault)
-    → loaded national file ≡ Ok programme
-    → TellsSubtitles national file (Err f)
+    (drawing : Drawing) (file : List ℕ) (programme : ProgrammeValue) (f : CheckFault)
+    → loaded drawing file ≡ Ok programme
+    → TellsSubtitles drawing file (Err f)
     → is_failure f ≡ false
     → (is_subtitle_fault f ≡ false) × (is_pes_read f ≡ false)
-looked-at national file programme (fault.Subtitles f) is told runs =
-    let fails = failure-of_programme national file programme f.block f.kind is told in
+looked-at drawing file programme (fault.Subtitles f) is told runs =
+    let fails = failure-of_programme drawing file programme f.block f.kind is told in
     absurd (true≢false (sym fails ∙ runs))
-looked-at national file programme f is told runs = (refl, runs)
+looked-at drawing file programme f is told runs = (refl, runs)
 
 -- The status is that of what is done exactly where the files are accepted.
 done-exactly :
-    (national : National) (options : OptionsValue) (file bytes : List ℕ)
+    (drawing : Drawing) (options : OptionsValue) (file bytes : List ℕ)
     (first : ℕ) (answer : Result Accepted CheckFault) (Means : Type 0)
-    → AreChecked national options file (Some bytes) answer
-    → Exactly national file answer Means
+    → AreChecked drawing options file (Some bytes) answer
+    → Exactly drawing file answer Means
     → (verdict first answer).status ≢ Fault
     → ((verdict first answer).status ≡ Done) ↔ Means
-done-exactly national options file bytes first (Ok a) Means are exact other =
-    let given = has_programme national file (Ok a) are.refused refl in
+done-exactly drawing options file bytes first (Ok a) Means are exact other =
+    let given = has_programme drawing file (Ok a) are.refused refl in
     (λ done. (exact.exactly given.0 given.1 refl refl).0 refl, λ is. refl)
-done-exactly national options file bytes first (Err f) Means are exact other = (
+done-exactly drawing options file bytes first (Err f) Means are exact other = (
   λ done. absurd (told-not_done (is_failure f) done),
   λ is.
       let given = exact.loads is in
       let looked =
-      looked-at national file given.0 f given.1 are.subtitles (told-runs (is_failure f) other) in
+      looked-at drawing file given.0 f given.1 are.subtitles (told-runs (is_failure f) other) in
       let ok = (exact.exactly given.0 given.1 looked.0 looked.1).1 is in
       cc,
 )
@@ -111,18 +111,18 @@ answer-fails first (Err f) is = told-fails (is_failure f) is
 
 -- What `check_files` tells of both files, and the line that is printed. For `print_verdict`.
 pub as_answered :
-    (national : National) (options : OptionsValue) (stl pes : SourceCall) (first : Option ℕ)
+    (drawing : Drawing) (options : OptionsValue) (stl pes : SourceCall) (first : Option ℕ)
     (Untouched : Type 0) (out : SinkCall) (status : Status) (number : ℕ)
     (answer : Result Accepted CheckFault)
     → PrintsOrFails out (verdict number answer) status
     → (failed is_subtitle_fault answer ≡ false → StartsAt first pes number)
-    → TellsSources (FailsLoading national stl.told stl.left)
+    → TellsSources (FailsLoading drawing stl.told stl.left)
     (λ index. FailsAtPacket index pes.told pes.left)
     Untouched (failed is_subtitle_fault answer) stl pes answer
-    → IfTold stl.told (λ file. AreChecked national options file pes.told answer)
-    → AnswersCheck national options stl pes first Untouched out status
+    → IfTold stl.told (λ file. AreChecked drawing options file pes.told answer)
+    → AnswersCheck drawing options stl pes first Untouched out status
 as_answered
-    national options stl pes first Untouched out status number answer printed starts sources
+    drawing options stl pes first Untouched out status number answer printed starts sources
     checked = record {
       answer = answer;
       number = number;
@@ -130,17 +130,17 @@ as_answered
       printed = printed;
       sources = sources;
       checked = checked;
-      ends = status-told national options stl pes out (verdict number answer) status answer printed
+      ends = status-told drawing options stl pes out (verdict number answer) status answer printed
           sources
           (λ none other file told bytes heard.
           let are = rw heard at (checked file told) in
-          done-exactly national options file bytes number answer _ are
-          (exactly-accepted national options file bytes answer
+          done-exactly drawing options file bytes number answer _ are
+          (exactly-accepted drawing options file bytes answer
           (λ p loads. are.checked p loads none bytes refl)) other)
           (λ other file told bytes heard.
           let are = rw heard at (checked file told) in
-          done-exactly national options file bytes number answer _ are
-          (exactly-accepted_within national options file bytes answer
+          done-exactly drawing options file bytes number answer _ are
+          (exactly-accepted_within drawing options file bytes answer
           (λ p loads. are.within p loads bytes refl)) other)
           (answer-fails number answer)
           (λ block memory line. (
@@ -148,7 +148,7 @@ as_answered
             subst (λ (r : Result Accepted CheckFault). Appends out.old out.new
                 (verdict number r).text) memory line,
             λ file told.
-                subst (TellsSubtitles national file) memory (checked file told).subtitles,
+                subst (TellsSubtitles drawing file) memory (checked file told).subtitles,
           ));
     }
 

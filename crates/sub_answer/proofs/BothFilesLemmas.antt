@@ -16,7 +16,7 @@ use Rattle.stl_rows.specs.Loading.{loaded}
 use Rattle.stl_rows.specs.Programme.{ProgrammeValue}
 use Rattle.stl_rows.specs.declared.fault.LoadFaultKind.{LoadFaultKind}
 use Rattle.stl_rows.specs.declared.fault.LoadFaultKind.TheVariants as load
-use Rattle.stl_rows.specs.declared.national.National.{National}
+use Rattle.stl_rows.specs.declared.layout.Drawing.{Drawing}
 use Rattle.sub_plan.specs.Options.{OptionsValue}
 use Rattle.sub_rules.specs.Fault.{is_failure, is_failure_kind, is_pes_read, is_stl_read}
 use Rattle.sub_rules.specs.Fault.{is_subtitle_fault}
@@ -82,15 +82,15 @@ memory-fault (Err f) fails read fine = cc
 
 -- ---- what is accepted
 
-module _ (national : National) (options : OptionsValue) (file bytes : List ℕ)
+module _ (drawing : Drawing) (options : OptionsValue) (file bytes : List ℕ)
     (programme : ProgrammeValue) (answer : Result Accepted CheckFault)
-    (loads : loaded national file ≡ Ok programme) where
+    (loads : loaded drawing file ≡ Ok programme) where
   -- A programme with a good transmission is accepted.
   pub good-accepted : IsChecked programme options bytes answer
       → failed is_subtitle_fault answer ≡ false
       → failed is_pes_read answer ≡ false
       → IsOk answer
-      → IsAccepted national options file bytes
+      → IsAccepted drawing options file bytes
   good-accepted checked looked fine ok =
       let good = (checked.accepted looked fine).0 ok in
       record {
@@ -107,7 +107,7 @@ module _ (national : National) (options : OptionsValue) (file bytes : List ℕ)
       → failed is_subtitle_fault answer ≡ false
       → failed is_pes_read answer ≡ false
       → IsOk answer
-      → IsAcceptedWithin national options file bytes
+      → IsAcceptedWithin drawing options file bytes
   good-accepted_within checked looked fine ok =
       let good = (checked.accepted looked fine).0 ok in
       record {
@@ -122,7 +122,7 @@ module _ (national : National) (options : OptionsValue) (file bytes : List ℕ)
   pub accepted-ok : IsChecked programme options bytes answer
       → failed is_subtitle_fault answer ≡ false
       → failed is_pes_read answer ≡ false
-      → IsAccepted national options file bytes
+      → IsAccepted drawing options file bytes
       → IsOk answer
   accepted-ok checked looked fine is =
       let one : programme ≡ is.programme = let both = sym loads ∙ is.loads in cc in
@@ -132,7 +132,7 @@ module _ (national : National) (options : OptionsValue) (file bytes : List ℕ)
   pub accepted-ok_within : IsCheckedWithin programme options bytes answer
       → failed is_subtitle_fault answer ≡ false
       → failed is_pes_read answer ≡ false
-      → IsAcceptedWithin national options file bytes
+      → IsAcceptedWithin drawing options file bytes
       → IsOk answer
   accepted-ok_within checked looked fine is =
       let one : programme ≡ is.programme = let both = sym loads ∙ is.loads in cc in
@@ -142,42 +142,42 @@ module _ (national : National) (options : OptionsValue) (file bytes : List ℕ)
 -- Where the subtitle file gives a programme, an answer that failed at no device is accepted exactly
 -- where the files are: in these words.
 pub record Exactly
-    (national : National) (file : List ℕ) (answer : Result Accepted CheckFault) (Means : Type 0)
+    (drawing : Drawing) (file : List ℕ) (answer : Result Accepted CheckFault) (Means : Type 0)
     : Type 0 where
   pub exactly :
       (programme : ProgrammeValue)
-      → loaded national file ≡ Ok programme
+      → loaded drawing file ≡ Ok programme
       → failed is_subtitle_fault answer ≡ false
       → failed is_pes_read answer ≡ false
       → IsOk answer ↔ Means
-  pub loads : Means → (programme : ProgrammeValue) × (loaded national file ≡ Ok programme)
+  pub loads : Means → (programme : ProgrammeValue) × (loaded drawing file ≡ Ok programme)
 
 pub exactly-accepted :
-    (national : National) (options : OptionsValue) (file bytes : List ℕ)
+    (drawing : Drawing) (options : OptionsValue) (file bytes : List ℕ)
     (answer : Result Accepted CheckFault)
     → ((programme : ProgrammeValue)
-    → loaded national file ≡ Ok programme
+    → loaded drawing file ≡ Ok programme
     → IsChecked programme options bytes answer)
-    → Exactly national file answer (IsAccepted national options file bytes)
-exactly-accepted national options file bytes answer checked = record {
+    → Exactly drawing file answer (IsAccepted drawing options file bytes)
+exactly-accepted drawing options file bytes answer checked = record {
   exactly = λ p loads looked fine. (
-    good-accepted national options file bytes p answer loads (checked p loads) looked fine,
-    accepted-ok national options file bytes p answer loads (checked p loads) looked fine,
+    good-accepted drawing options file bytes p answer loads (checked p loads) looked fine,
+    accepted-ok drawing options file bytes p answer loads (checked p loads) looked fine,
   );
   loads = λ is. (is.programme, is.loads);
 }
 
 pub exactly-accepted_within :
-    (national : National) (options : OptionsValue) (file bytes : List ℕ)
+    (drawing : Drawing) (options : OptionsValue) (file bytes : List ℕ)
     (answer : Result Accepted CheckFault)
     → ((programme : ProgrammeValue)
-    → loaded national file ≡ Ok programme
+    → loaded drawing file ≡ Ok programme
     → IsCheckedWithin programme options bytes answer)
-    → Exactly national file answer (IsAcceptedWithin national options file bytes)
-exactly-accepted_within national options file bytes answer checked = record {
+    → Exactly drawing file answer (IsAcceptedWithin drawing options file bytes)
+exactly-accepted_within drawing options file bytes answer checked = record {
   exactly = λ p loads looked fine. (
-    good-accepted_within national options file bytes p answer loads (checked p loads) looked fine,
-    accepted-ok_within national options file bytes p answer loads (checked p loads) looked fine,
+    good-accepted_within drawing options file bytes p answer loads (checked p loads) looked fine,
+    accepted-ok_within drawing options file bytes p answer loads (checked p loads) looked fine,
   );
   loads = λ is. (is.programme, is.loads);
 }
@@ -185,7 +185,7 @@ exactly-accepted_within national options file bytes answer checked = record {
 -- The status that was printed with a listing, by what that tells of the files.
 pub status-told :
     {Counts : Type 0} {AtBlock AtPes : ℕ → Type 0} {Untouched : Type 0} {is_of_subtitles : Bool}
-    (national : National) (options : OptionsValue) (stl pes : SourceCall) (out : SinkCall)
+    (drawing : Drawing) (options : OptionsValue) (stl pes : SourceCall) (out : SinkCall)
     (listing : Listing) (status : Status) (answer : Result Counts CheckFault)
     → PrintsOrFails out listing status
     → TellsSources AtBlock AtPes Untouched is_of_subtitles stl pes answer
@@ -193,18 +193,18 @@ pub status-told :
     → listing.status ≢ Fault
     → IfTold stl.told (λ file.
     IfTold pes.told (λ bytes.
-    (listing.status ≡ Done) ↔ IsAccepted national options file bytes)))
+    (listing.status ≡ Done) ↔ IsAccepted drawing options file bytes)))
     → (listing.status ≢ Fault
     → IfTold stl.told (λ file.
     IfTold pes.told (λ bytes.
-    (listing.status ≡ Done) ↔ IsAcceptedWithin national options file bytes)))
+    (listing.status ≡ Done) ↔ IsAcceptedWithin drawing options file bytes)))
     → (listing.status ≡ Fault → failed is_failure answer ≡ true)
     → ((block : ℕ)
     → answer ≡ Err (fault.Subtitles (load_fault block load.Memory))
     → Appends out.old out.new listing.text
-    → PrintsMemory national stl.told out.old out.new)
-    → TellsStatus national options stl pes out status
-status-told national options stl pes out listing status answer printed sources done done_within
+    → PrintsMemory drawing stl.told out.old out.new)
+    → TellsStatus drawing options stl pes out status
+status-told drawing options stl pes out listing status answer printed sources done done_within
     fails memory =
     record {
       done = λ none file told bytes heard other.

@@ -20,9 +20,11 @@ touched (ask.Packet bytes) first second Untouched file out status is = is
 touched (ask.Packets pes) first second Untouched file out status is = is
 touched (ask.Show stl) first second Untouched file out status is = is
 touched (ask.Normal input output) first second Untouched file out status is = is
-touched (ask.Schedule stl pes options serial national) first second Untouched file out status is =
+touched
+    (ask.Schedule stl pes options serial national layout) first second Untouched file out status is =
     is
-touched (ask.Check stl pes options national true) first second Untouched file out status is =
+touched
+    (ask.Check stl pes options national layout true) first second Untouched file out status is =
     record {
       events = is.events;
       answer = is.answer;
@@ -34,7 +36,8 @@ touched (ask.Check stl pes options national true) first second Untouched file ou
       checked = is.checked;
       ends = is.ends;
     }
-touched (ask.Check stl pes options national false) first second Untouched file out status is =
+touched
+    (ask.Check stl pes options national layout false) first second Untouched file out status is =
     record {
       answer = is.answer;
       number = is.number;

@@ -21,7 +21,7 @@ use Rattle.stl_rows.specs.Programme.{ProgrammeValue}
 use Rattle.stl_rows.specs.declared.fault.LoadFault.{LoadFault}
 use Rattle.stl_rows.specs.declared.fault.LoadFaultKind.{LoadFaultKind}
 use Rattle.stl_rows.specs.declared.fault.LoadFaultKind.TheVariants as load
-use Rattle.stl_rows.specs.declared.national.National.{National}
+use Rattle.stl_rows.specs.declared.layout.Drawing.{Drawing}
 use Rattle.sub_plan.specs.FrameTime.{clock_of}
 use Rattle.sub_plan.specs.Options.{OptionsValue}
 use Rattle.sub_check.specs.CheckedFiles.{IsChecked, IsCheckedWithin, TellsEvents, all_events_of}
@@ -71,7 +71,7 @@ named f g is = cc
 module _ {D : Type 0} (IsTold : D → LoadFault → D → Type 0) (value : D → PrinterValue)
     (one : (s t : D) (x : LoadFault) → IsTold s x t
     → PrintsEvent (value s) (subtitle_event x) (value t))
-    (national : National) (options : OptionsValue) (stl pes : SourceCall) (first : Option ℕ)
+    (drawing : Drawing) (options : OptionsValue) (stl pes : SourceCall) (first : Option ℕ)
     (Untouched : Type 0) (old new : D)
     (goes : (value old).failed ≡ false) (few : (value old).refused ≤ most_counted)
     (untouched : Untouched) (pes_count : RisesIf pes.old_count false pes.new_count) where
@@ -87,8 +87,8 @@ module _ {D : Type 0} (IsTold : D → LoadFault → D → Type 0) (value : D →
       → (is_read_kind kind ≡ true → FailsAtBlock stl.told stl.left block)
       → CanEnd (subtitle_events items) (fault.Subtitles (load_fault block kind))
       → IfTold stl.told (λ file.
-      AreListedBefore national file (subtitle_events items) block kind)
-      → TellsBoth national options stl pes first Untouched (value old) (value new)
+      AreListedBefore drawing file (subtitle_events items) block kind)
+      → TellsBoth drawing options stl pes first Untouched (value old) (value new)
       (Err (fault.Subtitles (load_fault block kind)))
   ended_at block kind items quiet told count fails ended are = record {
     events = subtitle_events items;
@@ -117,8 +117,8 @@ module _ {D : Type 0} (IsTold : D → LoadFault → D → Type 0) (value : D →
       → (value new).failed ≡ false
       → Tells IsTold old new []
       → RisesIf stl.old_count (is_read (load_fault block load.Memory)) stl.new_count
-      → IfTold stl.told (λ file. EndsRecord national file block)
-      → TellsBoth national options stl pes first Untouched (value old) (value new)
+      → IfTold stl.told (λ file. EndsRecord drawing file block)
+      → TellsBoth drawing options stl pes first Untouched (value old) (value new)
       (Err (fault.Subtitles (load_fault block load.Memory)))
   at_memory block quiet told count memory =
       ended_at block load.Memory [] quiet told count
@@ -131,13 +131,13 @@ module _ {D : Type 0} (IsTold : D → LoadFault → D → Type 0) (value : D →
       → (value new).failed ≡ false
       → TellsSome IsTold old new
       → RisesIf stl.old_count (is_read (load_fault block (load.File stl_fault.Read))) stl.new_count
-      → FailsTelling national stl.told stl.left IsTold old new block
-      → TellsBoth national options stl pes first Untouched (value old) (value new)
+      → FailsTelling drawing stl.told stl.left IsTold old new block
+      → TellsBoth drawing options stl pes first Untouched (value old) (value new)
       (Err (fault.Subtitles (load_fault block (load.File stl_fault.Read))))
   at_read block quiet some count f =
       let items =
       decided (Tells IsTold old new) stl.told
-      (λ file. filter (is_told_before block) (faults national file)) some.items some.told f.told in
+      (λ file. filter (is_told_before block) (faults drawing file)) some.items some.told f.told in
       ended_at block (load.File stl_fault.Read) items.0 quiet items.1 count
       (λ is. record { bytes = f.bytes; consumed = f.consumed; block_is = f.block_is })
       (record { fails = refl; alone = λ other fine. cc })
@@ -150,14 +150,14 @@ module _ {D : Type 0} (IsTold : D → LoadFault → D → Type 0) (value : D →
       → TellsSome IsTold old new
       → (kind ≡ load.Memory → Tells IsTold old new [])
       → RisesIf stl.old_count (is_read (load_fault block kind)) stl.new_count
-      → IfTold stl.told (λ file. kind ≡ load.Memory → EndsRecord national file block)
+      → IfTold stl.told (λ file. kind ≡ load.Memory → EndsRecord drawing file block)
       → (is_read (load_fault block kind) ≡ true
-      → FailsTelling national stl.told stl.left IsTold old new block)
-      → TellsBoth national options stl pes first Untouched (value old) (value new)
+      → FailsTelling drawing stl.told stl.left IsTold old new block)
+      → TellsBoth drawing options stl pes first Untouched (value old) (value new)
       (Err (fault.Subtitles (load_fault block kind)))
   after_error block kind quiet kinds some none count memory read =
       let Answers : LoadFaultKind → Type 0 =
-      λ k. TellsBoth national options stl pes first Untouched (value old) (value new)
+      λ k. TellsBoth drawing options stl pes first Untouched (value old) (value new)
       (Err (fault.Subtitles (load_fault block k))) in
       let Counts : LoadFaultKind → Type 0 =
       λ k. RisesIf stl.old_count (is_read (load_fault block k)) stl.new_count in
@@ -197,15 +197,15 @@ module _ {D : Type 0} (IsTold : D → LoadFault → D → Type 0) (value : D →
   pub after_faults : (stopped : Bool)
       → ((value new).failed ≡ false → (value new).count ≡ (value old).count → stopped ≡ false)
       → TellsOfFile IsTold old new
-      → IfTold stl.told (λ file. TellsFaults IsTold old new stopped (faults national file))
+      → IfTold stl.told (λ file. TellsFaults IsTold old new stopped (faults drawing file))
       → RisesIf stl.old_count false stl.new_count
-      → TellsBoth national options stl pes first Untouched (value old) (value new) (Ok None)
+      → TellsBoth drawing options stl pes first Untouched (value old) (value new) (Ok None)
   after_faults stopped quiet some told count =
       let here = printed some.faults some.told in
       let items =
       decided (λ (fs : List LoadFault). PrintsEvents (value old) (subtitle_events fs) (value new)
-      × (0 < length fs)) stl.told (faults national) some.faults (here, some.some)
-      (λ file heard. prints-faults (faults national file) stopped (value new).failed refl
+      × (0 < length fs)) stl.told (faults drawing) some.faults (here, some.some)
+      (λ file heard. prints-faults (faults drawing file) stopped (value new).failed refl
       (λ holds. quiet holds (here.put_count holds)) (told file heard)) in
       record {
         events = subtitle_events items.0;
@@ -291,11 +291,11 @@ both_answers programme options pes (Err f) within at_once bytes heard = tt
 
 module _ {D : Type 0} (IsTold : D → Event → D → Type 0) (value : D → PrinterValue)
     (one : (s t : D) (x : Event) → IsTold s x t → PrintsEvent (value s) x (value t))
-    (national : National) (options : OptionsValue) (stl pes : SourceCall) (first : Option ℕ)
+    (drawing : Drawing) (options : OptionsValue) (stl pes : SourceCall) (first : Option ℕ)
     (Untouched : Type 0) (programme : ProgrammeValue) (old new : D)
     (goes : (value old).failed ≡ false) (few : (value old).refused ≤ most_counted)
     (starts : StartsAt first pes (value old).first)
-    (loads : IfTold stl.told (λ file. loaded national file ≡ Ok programme))
+    (loads : IfTold stl.told (λ file. loaded drawing file ≡ Ok programme))
     (stl_count : RisesIf stl.old_count false stl.new_count) where
   put : (items : List Event) → Tells IsTold old new items
       → PrintsEvents (value old) items (value new)
@@ -314,11 +314,11 @@ module _ {D : Type 0} (IsTold : D → Event → D → Type 0) (value : D → Pri
       → (let r : Result (Option Accepted) CheckFault = Err f in r)
       ≡ Err (fault.Pes index pes_fault.Read)
       → FailsAtPiece index pes.told pes.left)
-      → TellsBoth national options stl pes first Untouched (value old) (value new) (Err f)
+      → TellsBoth drawing options stl pes first Untouched (value old) (value new) (Err f)
   after_pes_error f is quiet some told count fails = go (read_at f is).0 (read_at f is).1
     where
       go : (n : ℕ) → f ≡ fault.Pes n pes_fault.Read
-          → TellsBoth national options stl pes first Untouched (value old) (value new) (Err f)
+          → TellsBoth drawing options stl pes first Untouched (value old) (value new) (Err f)
       go n same =
           let events =
           decided (λ (es : List Event). Tells IsTold old new es) pes.told
@@ -367,7 +367,7 @@ module _ {D : Type 0} (IsTold : D → Event → D → Type 0) (value : D → Pri
       × CountsRead options.page (frames_read options bytes) a)
       → ((value new).failed ≡ false
       → IfTold pes.told (λ bytes. IsAnswer programme options bytes (first_answer items a)))
-      → TellsBoth national options stl pes first Untouched (value old) (value new) given
+      → TellsBoth drawing options stl pes first Untouched (value old) (value new) given
   read_pes items a given prints same count are verdict = record {
     events = items;
     answer = Ok (Some a);
@@ -400,7 +400,7 @@ module _ {D : Type 0} (IsTold : D → Event → D → Type 0) (value : D → Pri
       → IfTold pes.told (λ bytes. IsAnswer programme options bytes
       (first_answer (all_events_of programme options bytes) given))
       → RisesIf pes.old_count false pes.new_count
-      → TellsBoth national options stl pes first Untouched (value old) (value new) (Ok (Some given))
+      → TellsBoth drawing options stl pes first Untouched (value old) (value new) (Ok (Some given))
   after_all given some told first count =
       let events =
       decided (λ (es : List Event). Tells IsTold old new es) pes.told
@@ -415,7 +415,7 @@ module _ {D : Type 0} (IsTold : D → Event → D → Type 0) (value : D → Pri
       → TellsSome IsTold old new
       → IfTold pes.told (λ bytes. TellsEvents programme options bytes IsTold old new (Ok None))
       → RisesIf pes.old_count false pes.new_count
-      → TellsBoth national options stl pes first Untouched (value old) (value new) (Ok None)
+      → TellsBoth drawing options stl pes first Untouched (value old) (value new) (Ok None)
   after_stop failing some told count =
       let counts = λ (bytes : List ℕ).
       some_counts options.page (frames_read options bytes) (length (frames_read options bytes)) refl
@@ -452,7 +452,7 @@ module _ {D : Type 0} (IsTold : D → Event → D → Type 0) (value : D → Pri
       → ((index : ℕ)
       → r ≡ Err (fault.Pes index pes_fault.Read)
       → FailsAtPiece index pes.told pes.left)
-      → TellsBoth national options stl pes first Untouched (value old) (value new) r
+      → TellsBoth drawing options stl pes first Untouched (value old) (value new) r
   after_pes (Ok (Some a)) stopped stops quiet some told first is goes_on only count fails =
       after_all a some told first count
   after_pes (Ok None) stopped stops quiet some told first is goes_on only count fails =
@@ -470,12 +470,12 @@ module _ {D : Type 0} (IsTold : D → Event → D → Type 0) (value : D → Pri
       calm false e = e
 
 -- What is told with another first number before is told. For `tell_every_fault`.
-pub with_first : (national : National) (options : OptionsValue) (stl pes : SourceCall)
+pub with_first : (drawing : Drawing) (options : OptionsValue) (stl pes : SourceCall)
     (first : Option ℕ) (Untouched : Type 0) (old new : PrinterValue) (number : ℕ)
     (given : Result (Option Accepted) CheckFault)
-    → TellsBoth national options stl pes first Untouched (record old { first = number }) new given
-    → TellsBoth national options stl pes first Untouched old new given
-with_first national options stl pes first Untouched old new number given t = record {
+    → TellsBoth drawing options stl pes first Untouched (record old { first = number }) new given
+    → TellsBoth drawing options stl pes first Untouched old new given
+with_first drawing options stl pes first Untouched old new number given t = record {
   events = t.events;
   answer = t.answer;
   same = t.same;

@@ -9,7 +9,7 @@ use Rattle.sub_io.specs.Device.{RisesIf, failed}
 use Rattle.sub_io.specs.Telling.{Tells}
 use Rattle.ttx_pes.specs.declared.fault.PesFault.TheVariants as pes_fault
 use Rattle.stl_rows.specs.Programme.{ProgrammeValue}
-use Rattle.stl_rows.specs.declared.national.National.{National}
+use Rattle.stl_rows.specs.declared.layout.Drawing.{Drawing}
 use Rattle.sub_plan.specs.Options.{OptionsValue}
 use Rattle.sub_check.specs.CheckedFiles.{TellsEvents}
 use Rattle.sub_check.specs.CheckedFiles.{events_of_first_pieces}
@@ -62,10 +62,10 @@ ok_keeps (Ok a) old new ok same risen = omega (arith, same, risen)
 ok_keeps (Err f) old new ok same risen = absurd (true≢false (sym ok))
 
 -- Then the printer has not failed.
-pub cut_reads : {national : National} {options : OptionsValue} {stl pes : SourceCall}
+pub cut_reads : {drawing : Drawing} {options : OptionsValue} {stl pes : SourceCall}
     {first : Option ℕ} {Untouched : Type 0} {old new : PrinterValue}
     {given : Result (Option Accepted) CheckFault}
-    → TellsBoth national options stl pes first Untouched old new given
+    → TellsBoth drawing options stl pes first Untouched old new given
     → new.failed ≡ true
     → pes.old_count < pes.new_count
     → ⊥

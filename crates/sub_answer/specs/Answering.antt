@@ -5,7 +5,8 @@ use Rattle.sub_io.specs.Device.{failed}
 use Rattle.sub_io.specs.Reading.{IfTold}
 use Rattle.ttx_pes.specs.Reader.{FailsAtPacket}
 use Rattle.stl_rows.specs.Loading.{FailsLoading}
-use Rattle.stl_rows.specs.declared.national.National.{National}
+use Rattle.stl_rows.specs.declared.layout.Drawing.{Drawing}
+use Rattle.stl_rows.specs.DrawnPage.{drawing_by}
 use Rattle.sub_plan.specs.FrameTime.{clock_of}
 use Rattle.sub_plan.specs.Options.{OptionsValue}
 use Rattle.sub_check.specs.CheckedFiles.{AreChecked}
@@ -40,8 +41,8 @@ use Rattle.sub_listing.specs.declared.status.Status.{Status}
 -- Whether the answer takes memory: a programme, or a whole file, is kept in it.
 abbrev pub takes_memory : Request → Bool
 takes_memory (ask.Normal input output) = true
-takes_memory (ask.Schedule stl pes options serial national) = true
-takes_memory (ask.Check stl pes options national all) = true
+takes_memory (ask.Schedule stl pes options serial national layout) = true
+takes_memory (ask.Check stl pes options national layout all) = true
 takes_memory _ = false
 
 -- ---- what each command answers
@@ -56,7 +57,7 @@ verdict first (Err f) = told_listing (told_from first (check_told f))
 -- number that the first PES packet has in its file, where that is told; `Untouched` says that no
 -- byte of the PES file was read.
 pub record AnswersCheck
-    (national : National) (options : OptionsValue) (stl pes : SourceCall) (first : Option ℕ)
+    (drawing : Drawing) (options : OptionsValue) (stl pes : SourceCall) (first : Option ℕ)
     (Untouched : Type 0) (out : SinkCall) (status : Status)
     : Type 0 where
   pub answer : Result Accepted CheckFault
@@ -68,7 +69,7 @@ pub record AnswersCheck
   -- That a source failed is told at the block of the byte that was asked for, and no fault comes
   -- before it, or at the PES packet within which it failed.
   pub sources :
-      TellsSources (FailsLoading national stl.told stl.left)
+      TellsSources (FailsLoading drawing stl.told stl.left)
       (λ index. FailsAtPacket index pes.told pes.left)
       Untouched (failed is_subtitle_fault answer) stl pes answer
   -- Where the files tell their bytes, these decide it. What is accepted is robust, with lost rows
@@ -77,8 +78,8 @@ pub record AnswersCheck
   -- for, it is on their screens. Where frames are allowed within which the page has to be whole,
   -- each due page is shown so at the end of one of them. A subtitle file that gives no programme is
   -- refused.
-  pub checked : IfTold stl.told (λ file. AreChecked national options file pes.told answer)
-  pub ends : TellsStatus national options stl pes out status
+  pub checked : IfTold stl.told (λ file. AreChecked drawing options file pes.told answer)
+  pub ends : TellsStatus drawing options stl pes out status
 
 -- It is printed what a receiver shows that heard the frames of the PES file, and leaves this code
 -- in a cell whose byte has even parity; or the refusal. The first PES packet has the number `first`
@@ -140,13 +141,16 @@ Answers (ask.Show stl) first second Untouched file out status =
     PrintsListing ListsSubtitles first.call out status
 Answers (ask.Normal input output) first second Untouched file out status =
     EndsWork first.call file out status (codes " subtitles\n") Normalizes
-Answers (ask.Schedule stl pes options serial national) first second Untouched file out status =
+Answers
+    (ask.Schedule stl pes options serial national layout) first second Untouched file out status =
     EndsWork first.call file out status (codes " transmissions\n")
-    (Schedules national options serial)
-Answers (ask.Check stl pes options national true) first second Untouched file out status =
-    AnswersAll national options first.call second.call second.number Untouched out status
-Answers (ask.Check stl pes options national false) first second Untouched file out status =
-    AnswersCheck national options first.call second.call second.number Untouched out status
+    (Schedules (drawing_by national layout) options serial)
+Answers (ask.Check stl pes options national layout true) first second Untouched file out status =
+    AnswersAll (drawing_by national layout) options first.call second.call second.number Untouched
+    out status
+Answers (ask.Check stl pes options national layout false) first second Untouched file out status =
+    AnswersCheck (drawing_by national layout) options first.call second.call second.number Untouched
+    out status
 Answers (ask.Listen pes listening) first second Untouched file out status =
     AnswersListen (left_by listening.receiver) listening first.call first.number out status
 Answers (ask.Extract recording pes stream) first second Untouched file out status =
@@ -156,7 +160,7 @@ Answers (ask.Extract recording pes stream) first second Untouched file out statu
 -- this is so. It is the first source of `packets`, and the second of `check --all`.
 abbrev pub HandsOnBefore : Request → Type 0 → Type 0 → Type 0 → Type 0
 HandsOnBefore (ask.Packets pes) FirstFails SecondFails IsAlone = FirstFails → IsAlone
-HandsOnBefore (ask.Check stl pes options national true) FirstFails SecondFails IsAlone =
+HandsOnBefore (ask.Check stl pes options national layout true) FirstFails SecondFails IsAlone =
     SecondFails → IsAlone
 HandsOnBefore _ FirstFails SecondFails IsAlone = ⊤
 

@@ -7,7 +7,7 @@ use Rattle.stl_rows.specs.Fault.{is_read}
 use Rattle.stl_rows.specs.Loading.{loaded}
 use Rattle.stl_rows.specs.Programme.{ProgrammeValue}
 use Rattle.stl_rows.specs.declared.fault.LoadFault.{LoadFault}
-use Rattle.stl_rows.specs.declared.national.National.{National}
+use Rattle.stl_rows.specs.declared.layout.Drawing.{Drawing}
 use Rattle.sub_plan.specs.FrameTime.{clock_of}
 use Rattle.sub_plan.specs.Options.{OptionsValue}
 use Rattle.sub_rules.specs.Fault.{is_pes_read, is_stl_read}
@@ -27,10 +27,10 @@ use Rattle.sub_listing.specs.declared.status.Status.TheVariants.{Done, Fault}
 -- file gives a programme, and the PES file carries a transmission that is good for it, of complete
 -- pages where these are asked for.
 pub record IsAccepted
-    (national : National) (options : OptionsValue) (file bytes : List ℕ) : Type 0 where
+    (drawing : Drawing) (options : OptionsValue) (file bytes : List ℕ) : Type 0 where
   pub programme : ProgrammeValue
   pub frames : Transmission
-  pub loads : loaded national file ≡ Ok programme
+  pub loads : loaded drawing file ≡ Ok programme
   pub carries : Carries options.origin bytes frames
   pub good : Good programme frames options
   pub complete : IsTrue options.asks_complete → Complete frames options
@@ -38,10 +38,10 @@ pub record IsAccepted
 -- They are accepted within as many frames as the options give: the transmission is good within
 -- these.
 pub record IsAcceptedWithin
-    (national : National) (options : OptionsValue) (file bytes : List ℕ) : Type 0 where
+    (drawing : Drawing) (options : OptionsValue) (file bytes : List ℕ) : Type 0 where
   pub programme : ProgrammeValue
   pub frames : Transmission
-  pub loads : loaded national file ≡ Ok programme
+  pub loads : loaded drawing file ≡ Ok programme
   pub carries : CarriesBy (clock_of options) options.within bytes frames
   pub good : GoodWithin programme frames options
 
@@ -63,7 +63,7 @@ pub record TellsSources
 
 -- What the status tells of both files.
 pub record TellsStatus
-    (national : National) (options : OptionsValue) (stl pes : SourceCall) (out : SinkCall)
+    (drawing : Drawing) (options : OptionsValue) (stl pes : SourceCall) (out : SinkCall)
     (status : Status)
     : Type 0 where
   -- Failing devices and want of memory aside, it is `Done` exactly where the files are accepted.
@@ -72,16 +72,16 @@ pub record TellsStatus
       → IfTold stl.told (λ file.
       IfTold pes.told (λ bytes.
       status ≢ Fault
-      → (status ≡ Done) ↔ IsAccepted national options file bytes))
+      → (status ≡ Done) ↔ IsAccepted drawing options file bytes))
   pub done_within :
       IfTold stl.told (λ file.
       IfTold pes.told (λ bytes.
       status ≢ Fault
-      → (status ≡ Done) ↔ IsAcceptedWithin national options file bytes))
+      → (status ≡ Done) ↔ IsAcceptedWithin drawing options file bytes))
   -- It is `Fault` only where a device failed, or want of memory is printed.
   pub fault :
       status ≡ Fault
       → stl.new_count ≡ stl.old_count
       → pes.new_count ≡ pes.old_count
       → out.new_count ≡ out.old_count
-      → PrintsMemory national stl.told out.old out.new
+      → PrintsMemory drawing stl.told out.old out.new

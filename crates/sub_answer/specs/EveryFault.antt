@@ -11,7 +11,7 @@ use Rattle.stl_rows.specs.Loading.{EndsRecord, loaded}
 use Rattle.stl_rows.specs.Programme.{ProgrammeValue}
 use Rattle.stl_rows.specs.declared.fault.LoadFaultKind.{LoadFaultKind}
 use Rattle.stl_rows.specs.declared.fault.LoadFaultKind.TheVariants.{File, Memory}
-use Rattle.stl_rows.specs.declared.national.National.{National}
+use Rattle.stl_rows.specs.declared.layout.Drawing.{Drawing}
 use Rattle.stl_file.specs.declared.fault.StlFault.TheVariants as stl_fault
 use Rattle.sub_plan.specs.FrameTime.{clock_of}
 use Rattle.sub_plan.specs.Options.{OptionsValue}
@@ -43,12 +43,12 @@ is_of_subtitles (Err f) = is_subtitle_fault f
 -- What is told where the subtitle file can't be read on, at this block: where its source failed,
 -- the faults that are found before it; where memory was refused nothing, since it is wanted only
 -- for a subtitle before which there is no fault.
-abbrev pub AreListedBefore : National → List ℕ → List Event → ℕ → LoadFaultKind → Type 0
-AreListedBefore national file events block (File stl_fault.Read) =
-    events ≡ subtitle_events (filter (is_told_before block) (faults national file))
-AreListedBefore national file events block Memory =
-    (events ≡ []) × EndsRecord national file block
-AreListedBefore national file events block kind = ⊥
+abbrev pub AreListedBefore : Drawing → List ℕ → List Event → ℕ → LoadFaultKind → Type 0
+AreListedBefore drawing file events block (File stl_fault.Read) =
+    events ≡ subtitle_events (filter (is_told_before block) (faults drawing file))
+AreListedBefore drawing file events block Memory =
+    (events ≡ []) × EndsRecord drawing file block
+AreListedBefore drawing file events block kind = ⊥
 
 -- What is told of the PES file, by how many pieces of it were read: of all of them, and the frames
 -- that they send are counted; or where its source failed, of those before that.
@@ -63,26 +63,26 @@ AreListedOfPes programme options bytes events (Err n) =
 
 -- What is listed of both files, where the subtitle file gives a programme.
 pub record IsListedOf
-    (national : National) (options : OptionsValue) (file : List ℕ) (pes : Option (List ℕ))
+    (drawing : Drawing) (options : OptionsValue) (file : List ℕ) (pes : Option (List ℕ))
     (events : List Event) (answer : Result Accepted ℕ) : Type 0 where
   pub programme : ProgrammeValue
-  pub loads : loaded national file ≡ Ok programme
+  pub loads : loaded drawing file ≡ Ok programme
   pub listed : IfTold pes (λ bytes. AreListedOfPes programme options bytes events answer)
 
 -- These are the events of a subtitle file and of a PES file: all faults of the one, where it has
 -- any; else all events of the other.
 abbrev pub AreListed :
-    National → OptionsValue → List ℕ → Option (List ℕ) → List Event
+    Drawing → OptionsValue → List ℕ → Option (List ℕ) → List Event
     → Result (Option Accepted) CheckFault → Type 0
-AreListed national options file pes events (Ok None) =
-    (events ≡ subtitle_events (faults national file)) × (0 < refusals events)
-AreListed national options file pes events (Ok (Some a)) =
-    IsListedOf national options file pes events (Ok a)
-AreListed national options file pes events (Err (Subtitles f)) =
-    AreListedBefore national file events f.block f.kind
-AreListed national options file pes events (Err (Pes n Read)) =
-    IsListedOf national options file pes events (Err n)
-AreListed national options file pes events (Err f) = ⊥
+AreListed drawing options file pes events (Ok None) =
+    (events ≡ subtitle_events (faults drawing file)) × (0 < refusals events)
+AreListed drawing options file pes events (Ok (Some a)) =
+    IsListedOf drawing options file pes events (Ok a)
+AreListed drawing options file pes events (Err (Subtitles f)) =
+    AreListedBefore drawing file events f.block f.kind
+AreListed drawing options file pes events (Err (Pes n Read)) =
+    IsListedOf drawing options file pes events (Err n)
+AreListed drawing options file pes events (Err f) = ⊥
 
 -- The source of a subtitle file failed at the block of the byte that was asked for: the first one
 -- after those that were taken.
@@ -102,13 +102,13 @@ IsAnswer programme options bytes answer =
 -- Where both files were read, the answer of `check`, which the first event decides, is one of the
 -- bytes: what is accepted is good and robust.
 abbrev pub IsVerdict :
-    National → OptionsValue → List ℕ → List ℕ → List Event → Result (Option Accepted) CheckFault
+    Drawing → OptionsValue → List ℕ → List ℕ → List Event → Result (Option Accepted) CheckFault
     → Type 0
-IsVerdict national options file bytes events (Ok (Some a)) =
+IsVerdict drawing options file bytes events (Ok (Some a)) =
     (programme : ProgrammeValue)
-    → loaded national file ≡ Ok programme
+    → loaded drawing file ≡ Ok programme
     → IsAnswer programme options bytes (first_answer events a)
-IsVerdict national options file bytes events answer = ⊤
+IsVerdict drawing options file bytes events answer = ⊤
 
 -- What can end the listing before its end: that a source failed; or want of memory, before any
 -- event.
@@ -128,7 +128,7 @@ TellsBothSources stl pes Untouched answer =
 -- What a printer was told of the events of both files, and the answer, which is the one that was
 -- given where its sink has not failed.
 pub record TellsBoth
-    (national : National) (options : OptionsValue) (stl pes : SourceCall) (first : Option ℕ)
+    (drawing : Drawing) (options : OptionsValue) (stl pes : SourceCall) (first : Option ℕ)
     (Untouched : Type 0) (old new : PrinterValue) (given : Result (Option Accepted) CheckFault)
     : Type 0 where
   pub events : List Event
@@ -143,15 +143,15 @@ pub record TellsBoth
   pub checked :
       new.failed ≡ false
       → IfTold stl.told (λ file.
-      IfTold pes.told (λ bytes. IsVerdict national options file bytes events answer))
+      IfTold pes.told (λ bytes. IsVerdict drawing options file bytes events answer))
   pub listed :
-      IfTold stl.told (λ file. AreListed national options file pes.told events answer)
+      IfTold stl.told (λ file. AreListed drawing options file pes.told events answer)
 
 -- `check --all` tells events, and has one answer; the bytes of both files decide them. `first` is
 -- the number that the first PES packet has in its file, where that is told; `Untouched` says that
 -- no byte of the PES file was read.
 pub record AnswersAll
-    (national : National) (options : OptionsValue) (stl pes : SourceCall) (first : Option ℕ)
+    (drawing : Drawing) (options : OptionsValue) (stl pes : SourceCall) (first : Option ℕ)
     (Untouched : Type 0) (out : SinkCall) (status : Status)
     : Type 0 where
   pub events : List Event
@@ -164,11 +164,11 @@ pub record AnswersAll
   pub sources : TellsBothSources stl pes Untouched answer
   -- Where the files tell their bytes, these decide the events.
   pub listed :
-      IfTold stl.told (λ file. AreListed national options file pes.told events answer)
+      IfTold stl.told (λ file. AreListed drawing options file pes.told events answer)
   -- Failing devices and want of memory aside, the answer of `check` that goes with the events is
   -- one of the bytes of both files.
   pub checked :
       status ≢ Fault
       → IfTold stl.told (λ file.
-      IfTold pes.told (λ bytes. IsVerdict national options file bytes events answer))
-  pub ends : TellsStatus national options stl pes out status
+      IfTold pes.told (λ bytes. IsVerdict drawing options file bytes events answer))
+  pub ends : TellsStatus drawing options stl pes out status

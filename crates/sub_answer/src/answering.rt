@@ -20,6 +20,7 @@ use check::print_verdict;
 use check_all::print_every_fault;
 use listen::print_listening;
 use std::alloc::Global;
+use stl_rows::Drawing;
 use sub_io::{Flush, Sink, Source};
 use sub_listing::{
     FirstPacket, Status, extract_packets, list_packets, list_subtitles, print_told, show_packet,
@@ -102,19 +103,27 @@ pub fn answer<N: FirstPacket<S>, M: FirstPacket<T>, S: Source, T: Source, F: Flu
             options,
             serial,
             national,
+            layout,
             ..
-        } => write_schedule(alloc, *national, options, *serial, first, file, out),
+        } => {
+            write_schedule(
+                alloc, *national, *layout, options, *serial, first, file, out,
+            )
+        }
         Request::Normal { .. } => write_normal(alloc, first, file, out),
         Request::Check {
             options,
             national,
+            layout,
             all,
             ..
         } => {
+            let (national, layout) = (*national, *layout);
             if *all {
-                print_every_fault::<M, S, T, K>(alloc, first, second, *national, options, out)
+                let drawing = Drawing { national, layout };
+                print_every_fault::<M, S, T, K>(alloc, first, second, drawing, options, out)
             } else {
-                print_verdict::<M, S, T, K>(alloc, first, second, *national, options, out)
+                print_verdict::<M, S, T, K>(alloc, first, second, national, layout, options, out)
             }
         }
         Request::Listen { listening, .. } => match listening.receiver {

@@ -15,11 +15,11 @@ none_failed (Err f) ok = cc
 
 pub law_of_accepted_within_more : LawOfAcceptedWithinMore
 law_of_accepted_within_more
-    national options more stl pes answer later low longer is is_later fine ok =
+    drawing options more stl pes answer later low longer is is_later fine ok =
     let means = (is.accepted (none_failed answer ok)).0 ok in
     let mean = means.2 in
     let both =
-    law_of_longer_delay_of_files (record { national = national; records = means.0 }) options more
+    law_of_longer_delay_of_files (record { drawing = drawing; records = means.0 }) options more
     pes means.1 low longer mean.carries means.3 in
     (is_later.accepted fine).1 (
       means.0,

@@ -8,7 +8,7 @@ use Rattle.stl_rows.specs.Loading.{LawOfLoading, TellsFault, loaded}
 use Rattle.stl_rows.specs.Programme.{ProgrammeValue}
 use Rattle.stl_rows.specs.declared.fault.LoadFault.{LoadFault}
 use Rattle.stl_rows.specs.declared.fault.LoadFaultKind.{LoadFaultKind}
-use Rattle.stl_rows.specs.declared.national.National.{National}
+use Rattle.stl_rows.specs.declared.layout.Drawing.{Drawing}
 use Rattle.sub_plan.specs.Options.{OptionsValue}
 use Rattle.sub_rules.specs.Fault.{is_failure, is_failure_kind, is_pes_read, is_subtitle_fault}
 use Rattle.sub_rules.specs.Good.{Good}
@@ -35,42 +35,42 @@ looked_at :
     → failed is_pes_read answer ≡ false
 looked_at answer looked fine = grind (arith, nat_tests)
 
-module _ (national : National) (options : OptionsValue) (stl pes : List ℕ)
+module _ (drawing : Drawing) (options : OptionsValue) (stl pes : List ℕ)
     (loading : LawOfLoading) where
   -- The programme of a subtitle file whose subtitles are in order and have pages.
   loads : (subtitles : List SubtitleValue) (transmission : Transmission)
-      → Mean national options.origin stl pes subtitles transmission
-      → loaded national stl ≡ Ok (record { national = national; records = subtitles })
+      → Mean drawing options.origin stl pes subtitles transmission
+      → loaded drawing stl ≡ Ok (record { drawing = drawing; records = subtitles })
   loads subtitles transmission mean =
-      (loading national stl subtitles).1
+      (loading drawing stl subtitles).1
       (mean.gsi, mean.subtitle_file, mean.in_order, mean.drawable)
 
   loads_within : (subtitles : List SubtitleValue) (transmission : Transmission)
-      → MeanWithin national options stl pes subtitles transmission
-      → loaded national stl ≡ Ok (record { national = national; records = subtitles })
+      → MeanWithin drawing options stl pes subtitles transmission
+      → loaded drawing stl ≡ Ok (record { drawing = drawing; records = subtitles })
   loads_within subtitles transmission mean =
-      (loading national stl subtitles).1
+      (loading drawing stl subtitles).1
       (mean.gsi, mean.subtitle_file, mean.in_order, mean.drawable)
 
-  module _ (programme : ProgrammeValue) (given : loaded national stl ≡ Ok programme)
-      (own : programme.national ≡ national) (answer : Result Accepted CheckFault)
+  module _ (programme : ProgrammeValue) (given : loaded drawing stl ≡ Ok programme)
+      (own : programme.drawing ≡ drawing) (answer : Result Accepted CheckFault)
       (looked : failed is_subtitle_fault answer ≡ false) where
     -- What was loaded is the programme of any subtitles of the file.
     programme_is : (subtitles : List SubtitleValue)
-        → loaded national stl ≡ Ok (record { national = national; records = subtitles })
-        → programme ≡ record { national = national; records = subtitles }
-    programme_is subtitles read = same_programme programme _ (loaded national stl) given read
+        → loaded drawing stl ≡ Ok (record { drawing = drawing; records = subtitles })
+        → programme ≡ record { drawing = drawing; records = subtitles }
+    programme_is subtitles read = same_programme programme _ (loaded drawing stl) given read
 
-    of : programme ≡ record { national = national; records = programme.records }
+    of : programme ≡ record { drawing = drawing; records = programme.records }
     of =
-        ap (λ n. let p : ProgrammeValue = record { national = n; records = programme.records } in p)
+        ap (λ n. let p : ProgrammeValue = record { drawing = n; records = programme.records } in p)
         own
 
     -- Both files, where the page has to be whole at the end of each frame. For `check_files`.
     pub files_accepted : IsChecked programme options pes answer
-        → AreAccepted national options stl pes answer
+        → AreAccepted drawing options stl pes answer
     files_accepted checked =
-        let file = (loading national stl programme.records).0 (given ∙ ap (λ p. Ok p) of) in
+        let file = (loading drawing stl programme.records).0 (given ∙ ap (λ p. Ok p) of) in
         record {
           accepted = λ fine.
               let exactly = checked.accepted looked (looked_at answer looked fine) in (
@@ -107,9 +107,9 @@ module _ (national : National) (options : OptionsValue) (stl pes : List ℕ)
 
     -- Both files, within frames. For `check_files`.
     pub files_accepted_within : IsCheckedWithin programme options pes answer
-        → AreAcceptedWithin national options stl pes answer
+        → AreAcceptedWithin drawing options stl pes answer
     files_accepted_within checked =
-        let file = (loading national stl programme.records).0 (given ∙ ap (λ p. Ok p) of) in
+        let file = (loading drawing stl programme.records).0 (given ∙ ap (λ p. Ok p) of) in
         record {
           accepted = λ fine.
               let exactly = checked.accepted looked (looked_at answer looked fine) in (
@@ -142,35 +142,35 @@ module _ (national : National) (options : OptionsValue) (stl pes : List ℕ)
 
 -- A fault of loading that is no failure is the file's own.
 own_fault :
-    (national : National) (stl : List ℕ) (programme : ProgrammeValue) (block : ℕ)
+    (drawing : Drawing) (stl : List ℕ) (programme : ProgrammeValue) (block : ℕ)
     (kind : LoadFaultKind)
-    → TellsFault national stl block kind
+    → TellsFault drawing stl block kind
     → is_failure_kind kind ≡ false
-    → loaded national stl ≡ Ok programme
+    → loaded drawing stl ≡ Ok programme
     → ⊥
-own_fault national stl programme block kind told fine is = grind (arith, nat_tests)
+own_fault drawing stl programme block kind told fine is = grind (arith, nat_tests)
 
 -- Both files, where the subtitle file was refused. For `check_files`.
-module _ (national : National) (options : OptionsValue) (stl pes : List ℕ) (f : LoadFault)
-    (loading : LawOfLoading) (told : TellsFault national stl f.block f.kind) where
-  pub files_refused : AreAccepted national options stl pes (Err (fault.Subtitles f))
+module _ (drawing : Drawing) (options : OptionsValue) (stl pes : List ℕ) (f : LoadFault)
+    (loading : LawOfLoading) (told : TellsFault drawing stl f.block f.kind) where
+  pub files_refused : AreAccepted drawing options stl pes (Err (fault.Subtitles f))
   files_refused = record {
     accepted = λ fine. (
       λ ok. cc,
       λ g.
-          absurd (own_fault national stl _ f.block f.kind told fine
-          (loads national options stl pes loading g.0 g.1 g.2)),
+          absurd (own_fault drawing stl _ f.block f.kind told fine
+          (loads drawing options stl pes loading g.0 g.1 g.2)),
     );
     serves = λ subtitles transmission mean ok. cc;
   }
 
-  pub files_refused_within : AreAcceptedWithin national options stl pes (Err (fault.Subtitles f))
+  pub files_refused_within : AreAcceptedWithin drawing options stl pes (Err (fault.Subtitles f))
   files_refused_within = record {
     accepted = λ fine. (
       λ ok. cc,
       λ g.
-          absurd (own_fault national stl _ f.block f.kind told fine
-          (loads_within national options stl pes loading g.0 g.1 g.2)),
+          absurd (own_fault drawing stl _ f.block f.kind told fine
+          (loads_within drawing options stl pes loading g.0 g.1 g.2)),
     );
     serves = λ subtitles transmission mean ok. cc;
   }

@@ -64,7 +64,7 @@ module _ (programme : ProgrammeValue) (options : OptionsValue) (bytes : List ℕ
             (λ g h. front_of_rule programme options bytes n g h) first.in_turn,
       )
 
-  module _ (fine : IsOptions options) (p : IsProgramme programme.national programme.records) where
+  module _ (fine : IsOptions options) (p : IsProgramme programme.drawing programme.records) where
     -- It kept nothing, and all was told. For `check`.
     pub nothing_kept : (empty kept : Option CheckFault) (a : Accepted)
         → empty ≡ None

@@ -80,7 +80,7 @@ ReadsSoFar programme options bytes result =
     × (first_told (events_of_first_pieces programme options bytes pes) ≡ None)
 
 module _ (programme : ProgrammeValue) (options : OptionsValue) (is : IsOptions options)
-    (p : IsProgramme programme.national programme.records) (bytes : List ℕ) where
+    (p : IsProgramme programme.drawing programme.records) (bytes : List ℕ) where
   -- The file, and the frames that are sent by its pieces.
   abbrev file : PieceFileValue
   file = piece_file_of (clock_of options) bytes
@@ -327,7 +327,7 @@ pub record IsAnswered
 -- ---- what is told first is the answer
 
 module _ (programme : ProgrammeValue) (options : OptionsValue) (fine : IsOptions options)
-    (p : IsProgramme programme.national programme.records) (bytes : List ℕ) where
+    (p : IsProgramme programme.drawing programme.records) (bytes : List ℕ) where
   pub answered :
       (result : Result Accepted CheckFault)
       → (failed is_pes_read result ≡ false → Decides programme options bytes result)
@@ -377,7 +377,7 @@ pub checked_first :
     {D : Type 0} (IsTold : D → Event → D → Type 0) (old new : D)
     (r : Result (Option Accepted) CheckFault)
     → IsOptions options
-    → IsProgramme programme.national programme.records
+    → IsProgramme programme.drawing programme.records
     → ((pieces : List Piece) (unread : Option Unread)
     → ReadsPieces (clock_of options) 0 bytes pieces unread
     → TellsPieces (task_of programme options unread) (clock_of options) bytes pieces IsTold old new

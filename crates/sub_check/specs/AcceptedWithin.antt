@@ -1,7 +1,7 @@
 -- What is accepted within some frames is accepted within more.
 use Rattle.std.specs.Prelude.{◌≡◌, ℕ, ◌^◌, ◌<◌, ◌≤◌, List, false, IsOk, Result}
 use Rattle.sub_io.specs.Device.{failed}
-use Rattle.stl_rows.specs.declared.national.National.{National}
+use Rattle.stl_rows.specs.declared.layout.Drawing.{Drawing}
 use Rattle.sub_plan.specs.Options.{OptionsValue}
 use Rattle.sub_rules.specs.Fault.{is_failure}
 use Rattle.sub_rules.specs.declared.fault.CheckFault.{CheckFault}
@@ -14,12 +14,12 @@ use Rattle.sub_check.specs.CheckedFiles.{AreAcceptedWithin}
 -- memory that was refused.
 abbrev pub LawOfAcceptedWithinMore : Type 0
 LawOfAcceptedWithinMore =
-    (national : National) (options : OptionsValue) (more : ℕ) (stl pes : List ℕ)
+    (drawing : Drawing) (options : OptionsValue) (more : ℕ) (stl pes : List ℕ)
     (answer later : Result Accepted CheckFault)
     → options.origin < 2 ^ 33
     → options.within ≤ more
-    → AreAcceptedWithin national options stl pes answer
-    → AreAcceptedWithin national (within_frames more options) stl pes later
+    → AreAcceptedWithin drawing options stl pes answer
+    → AreAcceptedWithin drawing (within_frames more options) stl pes later
     → failed is_failure later ≡ false
     → IsOk answer
     → IsOk later

@@ -10,7 +10,7 @@ use Rattle.stl_file.specs.Subtitle.{SubtitleValue}
 use Rattle.stl_rows.specs.DrawnPage.{drawn}
 use Rattle.stl_rows.specs.Loading.{loaded, TellsFault}
 use Rattle.stl_rows.specs.Programme.{AreInOrder, ProgrammeValue}
-use Rattle.stl_rows.specs.declared.national.National.{National}
+use Rattle.stl_rows.specs.declared.layout.Drawing.{Drawing}
 use Rattle.sub_plan.specs.FrameTime.{clock_of}
 use Rattle.sub_plan.specs.Options.{OptionsValue}
 use Rattle.sub_plan.specs.Schedule.{plan}
@@ -44,9 +44,9 @@ use Rattle.sub_rules.specs.declared.fault.CheckFault.TheVariants as fault
 -- ---- what an answer tells, and counts
 
 -- What is told of the subtitle file by an answer that refuses it.
-abbrev pub TellsSubtitles : National → List ℕ → Result Accepted CheckFault → Type 0
-TellsSubtitles national file (Err (fault.Subtitles f)) = TellsFault national file f.block f.kind
-TellsSubtitles national file _ = ⊤
+abbrev pub TellsSubtitles : Drawing → List ℕ → Result Accepted CheckFault → Type 0
+TellsSubtitles drawing file (Err (fault.Subtitles f)) = TellsFault drawing file f.block f.kind
+TellsSubtitles drawing file _ = ⊤
 
 -- What is told of an accepted transmission: the frames of the day from the first to the last, and
 -- the headers of the page.
@@ -59,7 +59,7 @@ pub record HasCounts (page : PageIdValue) (frames : Transmission) (a : Accepted)
 
 -- The bytes of a subtitle file and of a PES file mean these subtitles and this transmission.
 pub record Mean
-    (national : National) (origin : ℕ) (stl pes : List ℕ)
+    (drawing : Drawing) (origin : ℕ) (stl pes : List ℕ)
     (subtitles : List SubtitleValue) (transmission : Transmission)
     : Type 0 where
   -- The one is a GSI block and the TTI blocks of these subtitles (EBU Tech 3264).
@@ -67,7 +67,7 @@ pub record Mean
   pub subtitle_file : IsFile stl gsi subtitles
   -- They are in order and disjoint, and each has a page.
   pub in_order : AreInOrder subtitles
-  pub drawable : All (λ t. IsOk (drawn national t)) subtitles
+  pub drawable : All (λ t. IsOk (drawn drawing t)) subtitles
   -- The other is PES packets, joined (EN 300 472), one for each frame of the transmission, with the
   -- PTS and the Teletext packets of that frame.
   pub carries : Carries origin pes transmission
@@ -75,7 +75,7 @@ pub record Mean
 -- What acceptance means for the bytes of both files, where the page has to be whole at the end of
 -- each frame.
 pub record AreAccepted
-    (national : National) (options : OptionsValue) (stl pes : List ℕ)
+    (drawing : Drawing) (options : OptionsValue) (stl pes : List ℕ)
     (answer : Result Accepted CheckFault)
     : Type 0 where
   -- They are accepted exactly where they mean some subtitles and a good transmission of these, of
@@ -86,15 +86,15 @@ pub record AreAccepted
       → IsOk answer
       ↔ ((subtitles : List SubtitleValue)
       × (transmission : Transmission)
-      × Mean national options.origin stl pes subtitles transmission
-      × Good (record { national = national; records = subtitles }) transmission options
+      × Mean drawing options.origin stl pes subtitles transmission
+      × Good (record { drawing = drawing; records = subtitles }) transmission options
       × (IsTrue options.asks_complete → Complete transmission options))
   -- What is accepted keeps all promises; and its pages are complete where the options ask for it.
   pub serves :
       (subtitles : List SubtitleValue) (transmission : Transmission)
-      → Mean national options.origin stl pes subtitles transmission
+      → Mean drawing options.origin stl pes subtitles transmission
       → IsOk answer
-      → HasPromises (record { national = national; records = subtitles }) transmission options
+      → HasPromises (record { drawing = drawing; records = subtitles }) transmission options
       × (IsTrue options.asks_complete → Complete transmission options)
 
 -- ---- both files, within frames
@@ -103,18 +103,18 @@ pub record AreAccepted
 -- clock of the options: as in `Mean`, but that a PTS may be a little early or late, and PES packets
 -- of one frame are sent as one.
 pub record MeanWithin
-    (national : National) (options : OptionsValue) (stl pes : List ℕ)
+    (drawing : Drawing) (options : OptionsValue) (stl pes : List ℕ)
     (subtitles : List SubtitleValue) (transmission : Transmission)
     : Type 0 where
   pub gsi : List ℕ
   pub subtitle_file : IsFile stl gsi subtitles
   pub in_order : AreInOrder subtitles
-  pub drawable : All (λ t. IsOk (drawn national t)) subtitles
+  pub drawable : All (λ t. IsOk (drawn drawing t)) subtitles
   pub carries : CarriesBy (clock_of options) options.within pes transmission
 
 -- What acceptance means for the bytes of both files, within as many frames as the options give.
 pub record AreAcceptedWithin
-    (national : National) (options : OptionsValue) (stl pes : List ℕ)
+    (drawing : Drawing) (options : OptionsValue) (stl pes : List ℕ)
     (answer : Result Accepted CheckFault)
     : Type 0 where
   -- They are accepted exactly where they mean some subtitles and a transmission of these that is
@@ -124,14 +124,14 @@ pub record AreAcceptedWithin
       → IsOk answer
       ↔ ((subtitles : List SubtitleValue)
       × (transmission : Transmission)
-      × MeanWithin national options stl pes subtitles transmission
-      × GoodWithin (record { national = national; records = subtitles }) transmission options)
+      × MeanWithin drawing options stl pes subtitles transmission
+      × GoodWithin (record { drawing = drawing; records = subtitles }) transmission options)
   -- What is accepted keeps all promises of a transmission that may be late.
   pub serves :
       (subtitles : List SubtitleValue) (transmission : Transmission)
-      → MeanWithin national options stl pes subtitles transmission
+      → MeanWithin drawing options stl pes subtitles transmission
       → IsOk answer
-      → HasPromisesWithDelay (record { national = national; records = subtitles }) transmission
+      → HasPromisesWithDelay (record { drawing = drawing; records = subtitles }) transmission
       options
 
 -- ---- a PES file, against a programme
@@ -246,25 +246,25 @@ pub record IsChecked
 -- What is told of the bytes of a subtitle file, and of those of a PES file where its source tells
 -- them.
 pub record AreChecked
-    (national : National) (options : OptionsValue) (file : List ℕ) (pes : Option (List ℕ))
+    (drawing : Drawing) (options : OptionsValue) (file : List ℕ) (pes : Option (List ℕ))
     (answer : Result Accepted CheckFault)
     : Type 0 where
   -- A refusal of the subtitle file is its first fault, or else that its source failed or memory
   -- was refused.
-  pub subtitles : TellsSubtitles national file answer
+  pub subtitles : TellsSubtitles drawing file answer
   -- A subtitle file that gives no programme is refused.
   pub refused :
-      ((programme : ProgrammeValue) → loaded national file ≢ Ok programme)
+      ((programme : ProgrammeValue) → loaded drawing file ≢ Ok programme)
       → failed is_subtitle_fault answer ≡ true
   -- The PES file is checked against the programme that the subtitle file gives.
   pub checked :
       (programme : ProgrammeValue)
-      → loaded national file ≡ Ok programme
+      → loaded drawing file ≡ Ok programme
       → options.within ≡ 0
       → IfTold pes (λ bytes. IsChecked programme options bytes answer)
   pub within :
       (programme : ProgrammeValue)
-      → loaded national file ≡ Ok programme
+      → loaded drawing file ≡ Ok programme
       → IfTold pes (λ bytes. IsCheckedWithin programme options bytes answer)
 
 -- The answer of `check` by what is told first: these counts where it is nothing.

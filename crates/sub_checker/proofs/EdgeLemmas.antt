@@ -4,7 +4,7 @@ use Rattle.std.proofs.Common.{Option, Some, None, ◌≡◌, ℕ, zero, suc, ◌
 use Rattle.std.proofs.Common.{refl, ap, ◌∙◌, arith}
 use Rattle.stl_file.specs.Subtitle.{SubtitleValue}
 use Rattle.stl_file.specs.TimeCode.{day}
-use Rattle.stl_rows.specs.declared.national.National.{National}
+use Rattle.stl_rows.specs.declared.layout.Drawing.{Drawing}
 use Rattle.stl_rows.specs.DuePage.{due, TellsNextEdge}
 use Rattle.stl_rows.specs.Programme.{ProgrammeValue}
 use Rattle.stl_rows.proofs.DuePageLemmas.{edges_alone}
@@ -14,22 +14,22 @@ use Rattle.sub_packets.specs.declared.listener.Listener.{Listener}
 
 -- Up to the next edge the due page stays.
 due_until :
-    (national : National) (records : List SubtitleValue) (frame : ℕ) (edge : Option ℕ) (k : ℕ)
+    (drawing : Drawing) (records : List SubtitleValue) (frame : ℕ) (edge : Option ℕ) (k : ℕ)
     → TellsNextEdge records frame edge
     → is_before (frame + k) edge ≡ true
-    → due national records (frame + k) ≡ due national records frame
-due_until national records frame edge zero tells before = ap (due national records) (omega arith)
-due_until national records frame None (suc k) tells before =
-    edges_alone national records (frame + suc k) (omega arith)
+    → due drawing records (frame + k) ≡ due drawing records frame
+due_until drawing records frame edge zero tells before = ap (due drawing records) (omega arith)
+due_until drawing records frame None (suc k) tells before =
+    edges_alone drawing records (frame + suc k) (omega arith)
     (λ is. let l = tells (frame + suc k) is in omega arith)
-    ∙ ap (due national records) (omega arith)
-    ∙ due_until national records frame None k tells refl
-due_until national records frame (Some e) (suc k) tells before =
+    ∙ ap (due drawing records) (omega arith)
+    ∙ due_until drawing records frame None k tells refl
+due_until drawing records frame (Some e) (suc k) tells before =
     let l : frame + suc k < e = grind (arith, nat_tests) in
-    edges_alone national records (frame + suc k) (omega arith)
+    edges_alone drawing records (frame + suc k) (omega arith)
     (λ is. let m = tells.least (frame + suc k) is (omega arith) in omega (arith, l))
-    ∙ ap (due national records) (omega arith)
-    ∙ due_until national records frame (Some e) k tells (grind (arith, nat_tests))
+    ∙ ap (due drawing records) (omega arith)
+    ∙ due_until drawing records frame (Some e) k tells (grind (arith, nat_tests))
 
 -- And it is the next edge still.
 same_edge :

@@ -79,7 +79,7 @@ impl<'a> Checker<'a> {
         ensures keeps { (last : List (List ℕ)) (unread : Option Unread)
             → Keeps (task_of programme.now options.now unread) [] last result }
         ensures options { IsOptions options.now }
-        ensures programme { IsProgramme programme.now.national programme.now.records }
+        ensures programme { IsProgramme programme.now.drawing programme.now.records }
     {
         let watched = Watched {
             page: options.page(),

@@ -63,7 +63,7 @@ pub fn tell_pieces<S: Source, A: LiveAudience<Event>>(
         → FailsAtPacket pes (S.remaining source.old) (S.remaining source.new)) }
     ensures only { IfErr result (λ f. is_pes_read f ≡ true) }
     ensures options { IsOptions options.now }
-    ensures programme { IsProgramme programme.now.national programme.now.records }
+    ensures programme { IsProgramme programme.now.drawing programme.now.records }
     // Where the source failed, as each of its calls may, nothing that was told is held back.
     ensures asked { A.held audience.old ≡ 0 → IfErr result (λ _. A.held audience.new ≡ 0) }
     ensures count { CountsIf S.failure_count source.old (failed is_pes_read result) source.new }

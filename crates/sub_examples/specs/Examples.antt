@@ -8,6 +8,7 @@ use Rattle.ttx_page.specs.Page.{cell, space}
 use Rattle.ttx_page.specs.Receiver.{Hears, State}
 use Rattle.ttx_page.specs.Receiver.ReceiverClass.{Storing}
 use Rattle.stl_rows.specs.declared.national.National.TheVariants.{English}
+use Rattle.stl_rows.specs.DrawnPage.{default_layout, drawing_by}
 use Rattle.stl_rows.specs.Programme.{ProgrammeValue}
 use Rattle.sub_plan.specs.Examples.{page_888}
 use Rattle.sub_plan.specs.Options.{OptionsValue}
@@ -89,13 +90,13 @@ one_header sent = one_frame (sent ∷ closing ∷ [])
 
 -- A programme without a subtitle: every due page is blank.
 abbrev pub no_subtitles : ProgrammeValue
-no_subtitles = record { national = English; records = [] }
+no_subtitles = record { drawing = drawing_by English default_layout; records = [] }
 
 -- A programme of one subtitle at frame 900000 alone: on row 22, centred, with this text.
 abbrev pub one_subtitle : List ℕ → ProgrammeValue
 one_subtitle text =
     record {
-      national = English;
+      drawing = drawing_by English default_layout;
       records =
           record {
             sgn = 0;
@@ -186,7 +187,7 @@ pub record ExamplesOfNeededParts : Type 0 where
 -- `Hi` from frame 900001 to 900002.
 abbrev pub later_subtitle : ProgrammeValue
 later_subtitle = record {
-  national = English;
+  drawing = drawing_by English default_layout;
   records =
       record {
         sgn = 0;

@@ -17,7 +17,7 @@ use Rattle.ttx_page.proofs.SpanLists.{find_is}
 use Rattle.stl_file.specs.Subtitle.{IsSubtitle, SubtitleValue}
 use Rattle.stl_rows.specs.DuePage.{ends_at, tci_of_ending}
 use Rattle.stl_rows.specs.Programme.{IsProgramme}
-use Rattle.stl_rows.specs.declared.national.National.{National}
+use Rattle.stl_rows.specs.declared.layout.Drawing.{Drawing}
 use Rattle.sub_rules.specs.Events.{undue_after, was_due}
 use Rattle.sub_laws.proofs.StandingLemmas.{cell_found, cell_none, no_cell}
 
@@ -134,7 +134,7 @@ module _ (page : PageIdValue) (packets : List (List ℕ)) (due : ℕ → Rows) (
 
 -- ---- the subtitle that ends at a frame
 
-module _ (national : National) (records : List SubtitleValue) (is : IsProgramme national records)
+module _ (drawing : Drawing) (records : List SubtitleValue) (is : IsProgramme drawing records)
   where
     other_end : (f : ℕ) (t : SubtitleValue) → t.tco ≢ f → ends_at f t ≡ false
     other_end f t h = grind (arith, nat_tests)

@@ -38,7 +38,7 @@ use Rattle.sub_laws.proofs.StretchLemmas.{law_of_whole_stretch_with_delay}
 -- ---- the frames of subtitles
 
 module _ (programme : ProgrammeValue) (transmission : Transmission) (options : OptionsValue)
-    (is : IsProgramme programme.national programme.records)
+    (is : IsProgramme programme.drawing programme.records)
     (keeps : KeepsRules programme transmission options) (k : ℕ) (d : SubtitleValue)
     (within : k < length programme.records) where
   -- A subtitle of the programme.
@@ -121,7 +121,7 @@ law_of_good_within programme transmission options is good =
 -- ---- within no frame
 
 module _ (programme : ProgrammeValue) (transmission : Transmission) (options : OptionsValue) where
-  module _ (is : IsProgramme programme.national programme.records)
+  module _ (is : IsProgramme programme.drawing programme.records)
       (good : Good programme transmission options)
       (complete : IsTrue options.asks_complete → Complete transmission options) where
     -- Each frame of a good transmission is finished, with complete pages where they are asked for.

@@ -230,7 +230,7 @@ module _ (programme : ProgrammeValue) (options : OptionsValue) (unread : Option 
         (λ i k l m. (clean_at i k l m rule.Address, clean_at i k l m rule.HeaderCode));
     serial = λ i d l k e m i' d' l' k' e' m' a b is too.
         grind (arith, nat_tests, agreed, same_Some);
-    control = each_from (IsControlled programme.national options.page) t
+    control = each_from (IsControlled programme.drawing.national options.page) t
         (λ i k l m. clean_at i k l m rule.Control);
     spans = spans_of;
     opens = opens;
@@ -317,7 +317,7 @@ module _ (programme : ProgrammeValue) (options : OptionsValue) (t : Transmission
   free_at i k l m rule.HeaderCode = (each_at HasExactWords t i k rules.exact l m).1
   free_at i k l m rule.Mode = mode_at i k l m
   free_at i k l m rule.Control =
-      each_at (IsControlled programme.national options.page) t i k rules.control l m
+      each_at (IsControlled programme.drawing.national options.page) t i k rules.control l m
   free_at i k l m rule.Parity = λ opened row e.
       (may_follow i k l m (ap is_this_page e) (ap ends_page e) opened).odd row e
   free_at i k l m rule.RowChanged =

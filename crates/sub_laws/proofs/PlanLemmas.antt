@@ -144,7 +144,7 @@ module _
 
   -- A frame with its sending.
   abbrev mk : ℕ → SentFrame
-  mk = planned_at due o programme.national serial
+  mk = planned_at due o programme.drawing.national serial
 
   -- It has its number.
   abbrev num : (f : ℕ) → (mk f).frame ≡ f
@@ -156,7 +156,7 @@ module _
 
   -- Each due page is a page.
   shape : (f : ℕ) → IsPage (due f)
-  shape f = due_is_page programme.national programme.records f
+  shape f = due_is_page programme.drawing programme.records f
 
   -- The frames with a sending, each with its packets.
   plan_is : T ≡ map mk (filter p (range_with_len first (last + 1 - first)))
@@ -194,11 +194,11 @@ module _
 
   -- What is so of each packet of a sending.
   each_sent : (Q : List ℕ → Type 0)
-      → ((packet : List ℕ) → IsSentPacket w programme.national serial packet → Q packet)
+      → ((packet : List ℕ) → IsSentPacket w programme.drawing.national serial packet → Q packet)
       → EachPacket Q T
   each_sent Q h =
-      each Q (λ f. All-weaker (IsSentPacket w programme.national serial) Q h (mk f).packets
-      (all_sent w programme.national serial (due f) ok.page (shape f)))
+      each Q (λ f. All-weaker (IsSentPacket w programme.drawing.national serial) Q h (mk f).packets
+      (all_sent w programme.drawing.national serial (due f) ok.page (shape f)))
 
   -- What is sent in a frame with a sending.
   sent_in_is : (g : ℕ) → p g ≡ true → first ≤ g → g ≤ last → packets_of T g ≡ (mk g).packets
@@ -216,7 +216,7 @@ module _
   -- So far: something, and then the sending of the page that is due.
   so_far : (f : ℕ) → first_frame T ≤ f → f ≤ last_frame T → (before : List (List ℕ))
       × (page : Rows) × (page ≡ due f) × IsPage page
-      × (on_air_until T f ≡ before ++ sending w programme.national serial page)
+      × (on_air_until T f ≡ before ++ sending w programme.drawing.national serial page)
   so_far f from to =
       let low : first ≤ f = omega (arith, first_is, from) in
       let high : f ≤ last = omega (arith, last_is, to) in
@@ -257,7 +257,7 @@ module _
       until f ∙ ap (λ frames. packets_between frames first (f + 1)) plan_is ∙ some_of.1 in
       subst (λ ps. IsCleanSpan w (span (kind w) (take n ps))) (sym is)
       (clean_rows w ok.page _
-      (law_of_cut_sendings w programme.national serial due some_of.0 n ok.page shape))
+      (law_of_cut_sendings w programme.drawing.national serial due some_of.0 n ok.page shape))
 
   -- C11 by the mode.
   abbrev IsSerially : List ℕ → Type 0
@@ -277,10 +277,10 @@ module _
           exact = each_sent HasExactWords (λ packet is. is.exact);
           serial = λ k d l i e b k' d' l' i' e' b' h h' is is'. serially k d l i e b h is
               ∙ sym (serially k' d' l' i' e' b' h' is');
-          control = each_sent (IsControlled programme.national w)
+          control = each_sent (IsControlled programme.drawing.national w)
               (λ packet is h e.
-              subst (IsSubtitleHeader programme.national) (sym (is.page_header h e))
-              (subtitle_header w programme.national serial));
+              subst (IsSubtitleHeader programme.drawing.national) (sym (is.page_header h e))
+              (subtitle_header w programme.drawing.national serial));
           spans = λ f n l. spans f n;
           opens = subst (λ g. IsTrue (holds_header (kind w) (packets_of T g))) (sym first_is)
               (holds_at first first_sends (omega arith) order);
@@ -302,20 +302,20 @@ module _
   complete f low high holds =
       let (before, page, same, shaped, is) = so_far f low high in
       ap (is_unended (kind w)) is
-      ∙ ended_after w programme.national serial page ok.page shaped before
+      ∙ ended_after w programme.drawing.national serial page ok.page shaped before
 
 -- By cases of the first TCI and the last TCO: with a subtitle there are both.
 plan_between : (programme : ProgrammeValue) (o : OptionsValue) (serial : Bool) (a b : Option ℕ)
     → a ≡ first_in programme.records
     → b ≡ last_out programme.records
-    → IsProgramme programme.national programme.records
+    → IsProgramme programme.drawing programme.records
     → (programme.records ≡ [] → ⊥)
     → IsOptions o
     → Good programme (planned programme o serial) o × Complete (planned programme o serial) o
 plan_between programme o serial None b h k is some ok = absurd (some (none_in programme.records h))
 plan_between programme o serial (Some a) None h k is some ok = grind (arith, nat_tests, some_out)
 plan_between programme o serial (Some a) (Some b) h k is some ok =
-    let s = span-rises programme.national programme.records a b is h k in
+    let s = span-rises programme.drawing programme.records a b is h k in
     let order : a ≤ b = omega (arith, s.rises) in
     (good programme o serial a b h k ok order, complete programme o serial a b h k ok order)
 
@@ -382,7 +382,7 @@ few_between :
     (programme : ProgrammeValue) (every : ℕ) (a b : Option ℕ)
     → a ≡ first_in programme.records
     → b ≡ last_out programme.records
-    → IsProgramme programme.national programme.records
+    → IsProgramme programme.drawing programme.records
     → length (sendings_between (due_in programme) every a b) ≤ most_packets
 unfolding sendings_from
 few_between programme every None b h k is = omega arith
@@ -391,7 +391,7 @@ few_between programme every (Some a) (Some b) h k is =
     grind (
       arith,
       nat_tests,
-      span-rises programme.national programme.records a b is h k,
+      span-rises programme.drawing programme.records a b is h k,
       short_filter (is_sending (due_in programme) every a b) (range_with_len a (b + 1 - a)),
       length-range_with_len a (b + 1 - a),
     )
@@ -399,8 +399,8 @@ few_between programme every (Some a) (Some b) h k is =
 -- The bytes of a schedule are read as its transmission.
 pub law_of_plan_read : LawOfPlanRead
 law_of_plan_read programme options serial is ok =
-    sendings_read options ok programme.national serial (due_in programme)
-    (λ f. due_is_page programme.national programme.records f) 0
+    sendings_read options ok programme.drawing.national serial (due_in programme)
+    (λ f. due_is_page programme.drawing programme.records f) 0
     (plan_frames programme options.every)
     (omega (
       arith,

@@ -183,7 +183,7 @@ module _ (programme : ProgrammeValue) (options : OptionsValue) (unread : Option 
             (undue_none options.page (packets_before t n) task.due start f options.within none row
             column named))
 
-    module _ (is : IsProgramme programme.national programme.records) where
+    module _ (is : IsProgramme programme.drawing programme.records) where
       -- The TCO of a subtitle of the programme, and its TCI.
       ends_at : (k : ℕ) (d : SubtitleValue) → k < length programme.records
           → (s : SubtitleValue)
@@ -197,7 +197,7 @@ module _ (programme : ProgrammeValue) (options : OptionsValue) (unread : Option 
           let next : s.tco ≡ s.tco - 1 + 1 = omega arith in (
             times,
             ap task.ending (sym next)
-                ∙ ending_is programme.national programme.records is s member,
+                ∙ ending_is programme.drawing programme.records is s member,
           )
 
       pub subtitle : (k : ℕ) (d : SubtitleValue) → k < length programme.records
@@ -264,7 +264,7 @@ module _ (programme : ProgrammeValue) (options : OptionsValue) (unread : Option 
     }
 
     -- It has what suffices.
-    pub enough_with_delay : IsProgramme programme.national programme.records
+    pub enough_with_delay : IsProgramme programme.drawing programme.records
         → IsSufficientWithDelay programme t options a b
     enough_with_delay is = record {
       stretch = sound_untold programme t options unread a b untold;

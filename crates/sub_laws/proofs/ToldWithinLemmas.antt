@@ -39,7 +39,7 @@ use Rattle.sub_rules.proofs.FrameEvents.{events}
 
 module _ (programme : ProgrammeValue) (options : OptionsValue) (unread : Option Unread)
     (t : Transmission) (every : 0 < options.every)
-    (is : IsProgramme programme.national programme.records)
+    (is : IsProgramme programme.drawing programme.records)
     (h : AllOk (task_of programme options unread) t) where
   abbrev task : Task
   task = task_of programme options unread
@@ -120,7 +120,7 @@ module _ (programme : ProgrammeValue) (options : OptionsValue) (unread : Option 
 -- ---- the law, the other way
 
 module _ (programme : ProgrammeValue) (options : OptionsValue) (t : Transmission)
-    (is : IsProgramme programme.national programme.records)
+    (is : IsProgramme programme.drawing programme.records)
     (good : GoodWithin programme t options) where
   abbrev asked : Task
   asked = task_of programme options None
@@ -180,7 +180,7 @@ module _ (programme : ProgrammeValue) (options : OptionsValue) (t : Transmission
       go None found = refl
       go (Some tci) found =
           let (s, member, out, at) =
-          ending_at programme.national programme.records is (f + 1) tci found in
+          ending_at programme.drawing programme.records is (f + 1) tci found in
           let same : get_or programme.records member.0 s ≡ s = member.2 in
           let (e, low, high, finished) =
           rw same at (good.shows.subtitles member.0 s member.1) in
@@ -283,7 +283,7 @@ module _ (programme : ProgrammeValue) (options : OptionsValue) (t : Transmission
 -- Nothing is told of frames exactly where they are good within some.
 pub none_told_within : (programme : ProgrammeValue) (options : OptionsValue)
     (unread : Option Unread) (frames : Transmission)
-    → IsProgramme programme.national programme.records
+    → IsProgramme programme.drawing programme.records
     → 0 < options.every
     → EachPacket IsPacket frames
     → (events (task_of programme options unread) frames ≡ [])

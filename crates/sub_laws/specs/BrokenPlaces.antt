@@ -107,7 +107,7 @@ abbrev pub LawOfNothingToldWithin : Type 0
 LawOfNothingToldWithin =
     (programme : ProgrammeValue) (options : OptionsValue) (unread : Option Unread)
     (pieces : List Piece)
-    → IsProgramme programme.national programme.records
+    → IsProgramme programme.drawing programme.records
     → 0 < options.every
     → EachPacket IsPacket (joined options.within (frames_of pieces))
     → (all_of_pieces (task_of programme options unread) pieces ≡ [])

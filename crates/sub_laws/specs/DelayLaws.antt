@@ -39,7 +39,7 @@ LawOfStretchWithDelay =
 abbrev pub LawOfSufficientPartsWithDelay : Type 0
 LawOfSufficientPartsWithDelay =
     (programme : ProgrammeValue) (transmission : Transmission) (options : OptionsValue)
-    → IsProgramme programme.national programme.records
+    → IsProgramme programme.drawing programme.records
     → GoodWithin programme transmission options
     → IsSufficientWithDelay programme transmission options (first_frame transmission)
     (last_frame transmission)
@@ -51,7 +51,7 @@ LawOfSufficientPartsWithDelay =
 abbrev pub LawOfGoodWithin : Type 0
 LawOfGoodWithin =
     (programme : ProgrammeValue) (transmission : Transmission) (options : OptionsValue)
-    → IsProgramme programme.national programme.records
+    → IsProgramme programme.drawing programme.records
     → GoodWithin programme transmission options
     → HasPromisesWithDelay programme transmission options
 
@@ -70,7 +70,7 @@ LawOfWholeStretchWithDelay =
 abbrev pub LawOfNoDelay : Type 0
 LawOfNoDelay =
     (programme : ProgrammeValue) (transmission : Transmission) (options : OptionsValue)
-    → IsProgramme programme.national programme.records
+    → IsProgramme programme.drawing programme.records
     → options.within ≡ 0
     → GoodWithin programme transmission options
     ↔ (Good programme transmission options
@@ -110,7 +110,7 @@ LawOfLongerDelay =
 abbrev pub LawOfPlanWithin : Type 0
 LawOfPlanWithin =
     (programme : ProgrammeValue) (options : OptionsValue) (serial : Bool)
-    → IsProgramme programme.national programme.records
+    → IsProgramme programme.drawing programme.records
     → (programme.records ≡ [] → ⊥)
     → IsOptions options
     → GoodWithin programme (planned programme options serial) options

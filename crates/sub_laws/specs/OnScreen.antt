@@ -53,7 +53,7 @@ ShownWithin class programme transmission options a b =
 abbrev pub LawOfCompletePlan : Type 0
 LawOfCompletePlan =
     (programme : ProgrammeValue) (options : OptionsValue) (serial : Bool)
-    → IsProgramme programme.national programme.records
+    → IsProgramme programme.drawing programme.records
     → (programme.records ≡ [] → ⊥)
     → IsOptions options
     → Complete (planned programme options serial) options

@@ -19,14 +19,14 @@ planned_at due o national serial f =
 -- The schedule of a programme as a transmission.
 abbrev pub planned : ProgrammeValue → OptionsValue → Bool → Transmission
 planned programme o serial =
-    map (planned_at (due_in programme) o programme.national serial) (plan_frames programme o.every)
+    map (planned_at (due_in programme) o programme.drawing.national serial) (plan_frames programme o.every)
 
 -- The schedule of a programme that has a subtitle is a good transmission of it, in both modes.
 -- So a checker with the same options accepts it, and every receiver shows what is due.
 abbrev pub LawOfPlan : Type 0
 LawOfPlan =
     (programme : ProgrammeValue) (options : OptionsValue) (serial : Bool)
-    → IsProgramme programme.national programme.records
+    → IsProgramme programme.drawing programme.records
     → (programme.records ≡ [] → ⊥)
     → IsOptions options
     → Good programme (planned programme options serial) options
@@ -35,7 +35,7 @@ LawOfPlan =
 abbrev pub LawOfPlanRead : Type 0
 LawOfPlanRead =
     (programme : ProgrammeValue) (options : OptionsValue) (serial : Bool)
-    → IsProgramme programme.national programme.records
+    → IsProgramme programme.drawing programme.records
     → IsOptions options
     → pes_file_of (clock_of options) (plan programme options serial)
     ≡ record { frames = planned programme options serial; unread = None }

@@ -11,7 +11,7 @@ use Rattle.stl_rows.specs.Fault as load_fault
 use Rattle.stl_rows.specs.Loading.{EndsRecord, FailsLoading, TellsFault, loaded}
 use Rattle.stl_rows.specs.Programme.{ProgrammeValue}
 use Rattle.stl_rows.specs.declared.fault.LoadFaultKind.TheVariants.{Memory}
-use Rattle.stl_rows.specs.declared.national.National.{National}
+use Rattle.stl_rows.specs.declared.layout.Drawing.{Drawing}
 use Rattle.sub_plan.specs.Fault.{is_plan_write}
 use Rattle.sub_plan.specs.Options.{OptionsValue}
 use Rattle.sub_plan.specs.Schedule.{plan, plan_frames}
@@ -88,25 +88,25 @@ WritesSchedule programme o serial old new (Err NoSubtitles) =
 
 -- The schedule of the programme that the input gives; or nothing, where it gives none: then it is
 -- told why, and at which block where the source failed.
-abbrev pub Schedules : National → OptionsValue → Bool → Work
-Schedules national o serial told left old new (Ok count) =
-    IfTold told (λ bytes. IsOkAnd (loaded national bytes) (λ programme.
+abbrev pub Schedules : Drawing → OptionsValue → Bool → Work
+Schedules drawing o serial told left old new (Ok count) =
+    IfTold told (λ bytes. IsOkAnd (loaded drawing bytes) (λ programme.
     WritesSchedule programme o serial old new (Ok count)))
-Schedules national o serial told left old new (Err (write.Plan f)) =
-    IfTold told (λ bytes. IsOkAnd (loaded national bytes) (λ programme.
+Schedules drawing o serial told left old new (Err (write.Plan f)) =
+    IfTold told (λ bytes. IsOkAnd (loaded drawing bytes) (λ programme.
     WritesSchedule programme o serial old new (Err f)))
-Schedules national o serial told left old new (Err (write.Load f)) =
-    IfTold told (λ bytes. TellsFault national bytes f.block f.kind)
-    × (load_fault.is_read f ≡ true → FailsLoading national told left f.block)
+Schedules drawing o serial told left old new (Err (write.Load f)) =
+    IfTold told (λ bytes. TellsFault drawing bytes f.block f.kind)
+    × (load_fault.is_read f ≡ true → FailsLoading drawing told left f.block)
     × Keeps old new
-Schedules national o serial told left old new answer = ⊥
+Schedules drawing o serial told left old new answer = ⊥
 
 -- Want of memory is printed, with the last block of a subtitle that the file gives.
 abbrev pub PrintsMemory :
-    National → Option (List ℕ) → Option (List ℕ) → Option (List ℕ) → Type 0
-PrintsMemory national told old new =
+    Drawing → Option (List ℕ) → Option (List ℕ) → Option (List ℕ) → Type 0
+PrintsMemory drawing told old new =
     (block : ℕ) × Appends old new (line_of (load_told Memory block))
-    × IfTold told (λ bytes. EndsRecord national bytes block)
+    × IfTold told (λ bytes. EndsRecord drawing bytes block)
 
 -- ---- `normal`
 

@@ -1,6 +1,7 @@
 //! `schedule STL PES`: writes the schedule of a subtitle file.
 ghost use Rattle.std.specs.Prelude.{◌≡◌, OnOk, codes};
 ghost use Rattle.sub_io.specs.Device.{CanFail, CountsIf, failed};
+ghost use Rattle.stl_rows.specs.DrawnPage.{drawing_by};
 ghost use Rattle.sub_plan.specs.Fault.{is_plan_write};
 ghost use Rattle.sub_listing.specs.DeviceCall.{CountsFault, sink_call, source_call};
 ghost use Rattle.sub_listing.specs.Writing.{EndsWork, Schedules, WritesSchedule};
@@ -8,7 +9,7 @@ ghost use Rattle.sub_listing.specs.Writing.{EndsWork, Schedules, WritesSchedule}
 use crate::status::Status;
 use crate::writing::{Work, WriteFault, write};
 use std::alloc::Global;
-use stl_rows::{National, Programme, load};
+use stl_rows::{Layout, National, Programme, load};
 use sub_io::{Flush, Sink, Source};
 use sub_plan::{Options, PlanFault, schedule};
 
@@ -20,6 +21,7 @@ use sub_plan::{Options, PlanFault, schedule};
 pub fn write_schedule<S: Source, F: Flush, K: Sink>(
     alloc: Global,
     national: National,
+    layout: Layout,
     options: &Options,
     serial: bool,
     input: &mut S,
@@ -33,7 +35,7 @@ pub fn write_schedule<S: Source, F: Flush, K: Sink>(
         (source_call S.remaining S.failure_count input.old input.new)
         (sink_call F.contents F.failure_count file.old file.new)
         (sink_call K.contents K.failure_count out.old out.new) result
-        (codes " transmissions\n") (Schedules national options.now serial) }
+        (codes " transmissions\n") (Schedules (drawing_by national layout) options.now serial) }
     ensures input_count { CountsFault S.failure_count input.old result input.new }
     ensures file_count { CountsFault F.failure_count file.old result file.new }
     ensures out_count { CountsFault K.failure_count out.old result out.new }
@@ -43,6 +45,7 @@ pub fn write_schedule<S: Source, F: Flush, K: Sink>(
         options,
         serial,
         national,
+        layout,
     };
     write(alloc, &work, b" transmissions\n", input, file, out)
 }
@@ -56,10 +59,12 @@ pub struct ScheduleWork<'a> {
     pub serial: bool,
     /// The national option by which the text is read.
     pub national: National,
+    /// How the text is drawn.
+    pub layout: Layout,
 }
 
 impl<'a> Work for ScheduleWork<'a> {
-    ghost works = { λ w. Schedules w.national w.options.now w.serial };
+    ghost works = { λ w. Schedules (drawing_by w.national w.layout) w.options.now w.serial };
 
     fn work<S: Source, F: Flush>(
         &self,
@@ -67,7 +72,7 @@ impl<'a> Work for ScheduleWork<'a> {
         input: &mut S,
         file: &mut F,
     ) -> Result<u32, WriteFault> {
-        match load(alloc, input, self.national) {
+        match load(alloc, input, self.national, self.layout) {
             Ok(programme) => put_schedule(&programme, self.options, self.serial, file).map_err(
                 WriteFault::Plan,
             ),

@@ -30,7 +30,7 @@ pub due_same : (programme : ProgrammeValue) (f at : ℕ)
 due_same programme f at until none =
     let back : at - (at - f) ≡ f = omega arith in
     subst (λ g. due_in programme g ≡ due_in programme at) back
-    (due_back programme.national programme.records at (at - f) (omega arith)
+    (due_back programme.drawing programme.records at (at - f) (omega arith)
     (λ e edge after low. none e edge (omega arith) low))
 
 -- ---- what was due

@@ -7,7 +7,7 @@ use Rattle.std.proofs.lemmas.Option.{slice_get-get_or, same_Some}
 use Rattle.std.specs.List.{range_with_len}
 use Rattle.ttx_page.specs.Page.{Rows}
 use Rattle.stl_file.specs.Subtitle.{SubtitleValue}
-use Rattle.stl_rows.specs.declared.national.National.{National}
+use Rattle.stl_rows.specs.declared.layout.Drawing.{Drawing}
 use Rattle.stl_rows.specs.Programme.{first_in, last_out, IsProgramme, ProgrammeValue}
 use Rattle.stl_file.specs.TimeCode.{day}
 use Rattle.sub_plan.specs.Schedule.{due_in, is_sending, plan_frames, sendings, sendings_between}
@@ -37,10 +37,10 @@ pub record IsSpan (a b : ℕ) : Type 0 where
   pub in_day : b < day
 
 -- The first TCI of a programme is before its last TCO, which is a frame of the day.
-pub span-rises : (national : National) (ts : List SubtitleValue) (a b : ℕ) → IsProgramme national ts
+pub span-rises : (drawing : Drawing) (ts : List SubtitleValue) (a b : ℕ) → IsProgramme drawing ts
     → Some a ≡ first_in ts → Some b ≡ last_out ts → IsSpan a b
-span-rises national [] a b ok h k = cc
-span-rises national (t ∷ ts) a b ok h k =
+span-rises drawing [] a b ok h k = cc
+span-rises drawing (t ∷ ts) a b ok h k =
     let n : ℕ = length (t ∷ ts) - 1 in
     let last : SubtitleValue = get_or (t ∷ ts) n t in
     let f : b ≡ last.tco = same_Some b last.tco (k ∙ last_is t ts) in
@@ -75,12 +75,12 @@ within due every first last order =
 -- The law, by cases of the first TCI and the last TCO.
 day_between : (programme : ProgrammeValue) (every : ℕ) (a b : Option ℕ)
     → a ≡ first_in programme.records → b ≡ last_out programme.records
-    → IsProgramme programme.national programme.records
+    → IsProgramme programme.drawing programme.records
     → All (λ frame. frame < day) (sendings_between (due_in programme) every a b)
 day_between programme every None b h k ok = All-nil (λ frame. frame < day)
 day_between programme every (Some a) None h k ok = All-nil (λ frame. frame < day)
 day_between programme every (Some a) (Some b) h k ok =
-    let s = span-rises programme.national programme.records a b ok h k in
+    let s = span-rises programme.drawing programme.records a b ok h k in
     grind (arith, nat_tests, All-weaker, within)
 
 -- Each frame of the schedule is a frame of the day.

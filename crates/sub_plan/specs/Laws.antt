@@ -59,7 +59,7 @@ LawOfSentPackets =
 abbrev pub LawOfDueSize : Type 0
 LawOfDueSize =
     (w : PageIdValue) (serial : Bool) (programme : ProgrammeValue) (frame : ℕ)
-    → length (sending w programme.national serial (due_in programme frame)) ≤ 25
+    → length (sending w programme.drawing.national serial (due_in programme frame)) ≤ 25
 
 -- A sending has at most 26 packets. So its packets have lines in one PES packet.
 abbrev pub LawOfSize : Type 0
@@ -169,7 +169,7 @@ LawOfPesValues =
 abbrev pub LawOfDay : Type 0
 LawOfDay =
     (programme : ProgrammeValue) (every : ℕ)
-    → IsProgramme programme.national programme.records
+    → IsProgramme programme.drawing programme.records
     → All (λ frame. frame < day) (plan_frames programme every)
 
 -- ---- the frame of a PTS

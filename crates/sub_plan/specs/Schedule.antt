@@ -63,7 +63,7 @@ sendings_at due o national serial frames = flat_map (sending_at due o national s
 
 -- The page of a programme that is due at a frame.
 abbrev pub due_in : ProgrammeValue → ℕ → Rows
-due_in programme = due programme.national programme.records
+due_in programme = due programme.drawing programme.records
 
 -- The frames with a sending from the first TCI to the last TCO; none where there is no subtitle.
 abbrev pub sendings_between : (ℕ → Rows) → ℕ → Option ℕ → Option ℕ → List ℕ
@@ -81,4 +81,4 @@ plan_frames programme every =
 -- The schedule of a programme in bytes: a PES packet for each of these frames.
 abbrev pub plan : ProgrammeValue → OptionsValue → Bool → List ℕ
 plan programme o serial =
-    sendings_at (due_in programme) o programme.national serial (plan_frames programme o.every)
+    sendings_at (due_in programme) o programme.drawing.national serial (plan_frames programme o.every)

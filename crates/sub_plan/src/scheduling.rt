@@ -137,7 +137,7 @@ fn send_all<K: Sink>(
     ensures number { IfOk result
         (λ n. n ≡ length (sendings (due_in programme.now) options.now.every first last)) }
     ensures bytes { Writes (K.contents sink.old) (K.contents sink.new)
-        (sendings_at (due_in programme.now) options.now programme.now.national serial
+        (sendings_at (due_in programme.now) options.now programme.now.drawing.national serial
         (sendings (due_in programme.now) options.now.every first last))
         result }
     ensures count { CountsFailure (K.failure_count sink.old) result (K.failure_count sink.new) }

@@ -3,7 +3,7 @@ ghost use Rattle.std.specs.Prelude.{◌≡◌};
 
 use crate::listening::Listening;
 use crate::pes_packets::{PesPackets, TransportStream};
-use stl_rows::National;
+use stl_rows::{Layout, National};
 use sub_io::FaultCode;
 use sub_plan::Options;
 use thiserror::Error;
@@ -136,6 +136,8 @@ pub enum Request<'a> {
         serial: bool,
         /// The national option by which the text is read.
         national: National,
+        /// How the text is drawn.
+        layout: Layout,
     },
     /// `check STL PES`: checks that a file of PES packets shows a subtitle file.
     Check {
@@ -148,6 +150,8 @@ pub enum Request<'a> {
         options: Options,
         /// The national option by which the text is read.
         national: National,
+        /// How the text is drawn.
+        layout: Layout,
         /// Whether every broken place is told, and not the first alone.
         all: bool,
     },

@@ -40,7 +40,7 @@ pub record Task : Type 0 where
 abbrev pub watched_of : ProgrammeValue → OptionsValue → Watched
 watched_of programme options = record {
   page = options.page;
-  national = programme.national;
+  national = programme.drawing.national;
   complete = options.asks_complete;
 }
 

@@ -103,7 +103,7 @@ pub record KeepsRules
   -- 3. All page headers, of any page, agree on C11.
   pub serial : EachPacket (λ one. EachPacket (IsInOneMode one) transmission) transmission
   -- 4. Each header of the page is a subtitle's, of the programme's national option.
-  pub control : EachPacket (IsControlled programme.national options.page) transmission
+  pub control : EachPacket (IsControlled programme.drawing.national options.page) transmission
   -- 5. While the page is open each row has odd parity and stays as it is, and no packet X/25 to
   -- X/28 of its magazine comes.
   pub spans : HasCleanSpans options.page transmission

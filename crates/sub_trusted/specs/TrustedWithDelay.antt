@@ -33,7 +33,7 @@ abbrev pub LawOfTrustedWithDelay : Type 0
 LawOfTrustedWithDelay =
     (programme : ProgrammeValue) (options : OptionsValue) (unread : Option Unread)
     → (pieces : List Piece) (from to : ℕ)
-    → IsProgramme programme.national programme.records
+    → IsProgramme programme.drawing programme.records
     → 0 < options.within
     → Contains (all_of_pieces (task_of programme options unread) pieces) (Trusted from to)
     → StaysAsRead (task_of programme options unread) pieces from to

@@ -7,7 +7,9 @@ use Rattle.std.specs.Str.{bytes_eq}
 use Rattle.clap.specs.Words.{Text, Row}
 use Rattle.hex.specs.Hex.{decode_sized}
 use Rattle.sub_io.specs.Reading.{◌>>=◌}
+use Rattle.stl_rows.specs.declared.layout.Layout.{Layout}
 use Rattle.stl_rows.specs.declared.national.National.{National}
+use Rattle.stl_rows.specs.DrawnPage.{default_layout}
 use Rattle.sub_plan.specs.Options.{OptionsValue}
 use Rattle.sub_words.specs.Arguments.{PesAsked, allowing_of, argument, is_given, listed_of}
 use Rattle.sub_words.specs.Arguments.{national_of, options_of, packet_size_of, pes_packets_of}
@@ -30,8 +32,8 @@ pub data Asked : Type 0 where
   Packets : (pes : PesAsked) → Asked
   Show : (stl : Text) → Asked
   Normal : (input output : Text) → Asked
-  Schedule : (stl pes : Text) → OptionsValue → (serial : Bool) → National → Asked
-  Check : (stl : Text) → (pes : PesAsked) → OptionsValue → National → (all : Bool) → Asked
+  Schedule : (stl pes : Text) → OptionsValue → (serial : Bool) → National → Layout → Asked
+  Check : (stl : Text) → (pes : PesAsked) → OptionsValue → National → Layout → (all : Bool) → Asked
   Listen : (pes : PesAsked) → OptionsValue → (at skip : ℕ) → List Flip → (lost : List ℕ)
       → ReceiverKind → Asked
   Extract : (recording pes : Text) → TransportStream → Asked
@@ -46,10 +48,10 @@ asked_by (ask.Packet bytes) = Packet bytes
 asked_by (ask.Packets pes) = Packets (pes_asked pes)
 asked_by (ask.Show stl) = Show stl.now
 asked_by (ask.Normal input output) = Normal input.now output.now
-asked_by (ask.Schedule stl pes options serial national) =
-    Schedule stl.now pes.now options serial national
-asked_by (ask.Check stl pes options national all) =
-    Check stl.now (pes_asked pes) options national all
+asked_by (ask.Schedule stl pes options serial national layout) =
+    Schedule stl.now pes.now options serial national layout
+asked_by (ask.Check stl pes options national layout all) =
+    Check stl.now (pes_asked pes) options national layout all
 asked_by (ask.Listen pes l) =
     Listen (pes_asked pes) l.options l.at l.skip l.flips.items l.lost.items l.receiver
 asked_by (ask.Extract recording pes stream) = Extract recording.now pes.now stream
@@ -84,7 +86,8 @@ schedule_asked rows = do
   names ← unlike (argument (codes "stl") rows) (argument (codes "pes") rows)
   options ← options_of (number_of_text (argument (codes "every") rows)) rows
   national ← national_of rows
-  Ok (Schedule names.0 names.1 options (is_given (codes "serial") rows) national)
+  Ok (Schedule names.0 names.1 options (is_given (codes "serial") rows) national
+      default_layout)
 
 -- `check STL PES [--page P] [--every N] [--origin T] [--option O] [--within N] [--pid P]
 -- [--packet-size S] [--pes I-J] [--complete] [--all]`
@@ -95,7 +98,7 @@ check_asked rows = do
   options ← allowing_of plain rows
   pes ← pes_packets_of rows
   let all = is_given (codes "all") rows in
-      Ok (Check (argument (codes "stl") rows) pes options national all)
+      Ok (Check (argument (codes "stl") rows) pes options national default_layout all)
 
 -- `listen PES [--page P] [--origin T] [--within N] [--complete] [--pid P] [--packet-size S]
 -- [--pes I-J] --at TIME [--skip N] [--flip F] [--lose L] [--receiver R]`: the repeat bound of the

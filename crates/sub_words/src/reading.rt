@@ -11,7 +11,7 @@ use crate::numbers::parse_number;
 use crate::times::{parse_receiver, parse_time};
 use clap::ArgMatches;
 use std::alloc::Global;
-use stl_rows::National;
+use stl_rows::{Layout, National};
 use sub_request::{Listening, Request, TransportStream, UsageFault};
 
 /// Reads the arguments of a command by its name.
@@ -94,6 +94,7 @@ fn read_schedule<'a>(matches: &ArgMatches<'a>) -> Result<Request<'a>, UsageFault
         options,
         serial: flag_at(matches, "serial"),
         national,
+        layout: Layout::default(),
     })
 }
 
@@ -116,6 +117,7 @@ fn read_check<'a>(matches: &ArgMatches<'a>) -> Result<Request<'a>, UsageFault>
         pes,
         options,
         national,
+        layout: Layout::default(),
         all: flag_at(matches, "all"),
     })
 }

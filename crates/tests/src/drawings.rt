@@ -3,7 +3,7 @@
 use crate::asserting::assert_same;
 use std::process::Abort;
 use stl_file::{Subtitle, TimeCode};
-use stl_rows::{National, RowFault, RowFaultKind, draw};
+use stl_rows::{Layout, National, RowFault, RowFaultKind, draw};
 
 // "Gruesse" with a diaeresis and a sharp s.
 const GERMAN: [u8; 6] = [0x47, 0x72, 0xC8, 0x75, 0xFB, 0x65];
@@ -16,7 +16,7 @@ fn subtitle(rt: &impl Abort, text: &[u8]) -> Subtitle {
 
 // Asserts that a text draws these cells of row 22, from a column on, and nothing else.
 fn assert_draws(rt: &impl Abort, national: National, text: &[u8], column: usize, cells: &[u8]) {
-    match draw(&subtitle(rt, text), national) {
+    match draw(&subtitle(rt, text), national, Layout::default()) {
         Ok(page) => {
             assert_same(rt, &(page.cells_not_blank() as usize), &cells.len());
             assert!(rt; column <= 40);
@@ -33,6 +33,6 @@ fn draws_texts_by_the_national_option(rt: HostRuntime) {
     assert_draws(&rt, National::English, &[0x0D, 0x48, 0x69], 16, &boxed);
     assert_draws(&rt, National::German, &GERMAN, 15,
         &[0x0B, 0x0B, 0x47, 0x72, 0x7D, 0x7E, 0x65, 0x0A, 0x0A]);
-    let refused = draw(&subtitle(&rt, &GERMAN), National::English).err();
+    let refused = draw(&subtitle(&rt, &GERMAN), National::English, Layout::default()).err();
     assert_same(&rt, &refused, &Some(RowFault { kind: RowFaultKind::Character, at: 2 }));
 }

@@ -6,7 +6,7 @@ use std::alloc::Global;
 use std::process::Abort;
 use std::test::Fail;
 use stl_file::{Subtitle, TimeCode};
-use stl_rows::{National, RowFault, RowFaultKind, draw, load};
+use stl_rows::{Layout, National, RowFault, RowFaultKind, draw, load};
 use sub_io::MemSource;
 
 // The subtitle of a text, from a row on.
@@ -29,7 +29,7 @@ fn boxed(rt: &impl Abort, column: usize, cells: &[u8]) -> [u8; 40] {
 // Asserts what row 5 shows of texts that begin there: after each text stand its cells.
 fn assert_draws(rt: &impl Abort, national: National, texts: &[[&[u8]; 2]]) {
     for text in texts {
-        match draw(&subtitle(rt, 5, 0, text[0]), national) {
+        match draw(&subtitle(rt, 5, 0, text[0]), national, Layout::default()) {
             Ok(page) => assert_same_in(rt, page.row(5), &boxed(rt, 0, text[1]), &text[0]),
             Err(_) => panic!(rt; "{national:?} refuses a text"),
         }
@@ -45,7 +45,7 @@ fn assert_refuses(rt: &impl Abort, national: National, at: u16, texts: &[&[u8]])
     for text in texts {
         assert_same_in(
             rt,
-            &draw(&subtitle(rt, 5, 0, *text), national).err(),
+            &draw(&subtitle(rt, 5, 0, *text), national, Layout::default()).err(),
             &refused,
             text,
         );
@@ -126,7 +126,7 @@ const ETE: [u8; 5] = [0xC2, 0x65, 0x74, 0xC2, 0x65];
 
 // Asserts the cell of é in the middle of row 22.
 fn assert_draws_ete(rt: &impl Abort, national: National, cell: u8) {
-    match draw(&subtitle(rt, 22, 2, &ETE), national) {
+    match draw(&subtitle(rt, 22, 2, &ETE), national, Layout::default()) {
         Ok(page) => assert_same(rt, page.row(22), &boxed(rt, 16, &[cell, 0x74, cell])),
         Err(_) => panic!(rt; "{national:?} refuses it"),
     }
@@ -182,7 +182,12 @@ fn refuses_letters_that_an_option_lacks(rt: HostRuntime) {
     assert_refuses(&rt, National::Spanish, 0, &NOT_SPANISH);
     assert_refuses(&rt, National::Czech, 0, &NOT_CZECH);
     // A control code before a mark that has no letter.
-    let control = draw(&subtitle(&rt, 5, 0, &[0x0E, 0xC2]), National::French).err();
+    let control = draw(
+        &subtitle(&rt, 5, 0, &[0x0E, 0xC2]),
+        National::French,
+        Layout::default(),
+    )
+    .err();
     assert_same(
         &rt,
         &control,
@@ -210,7 +215,12 @@ fn fields(vp: u8, ebn: u8, cf: u8) -> [u8; 16] {
 // Asserts that a row of the page of a file shows é in French.
 fn assert_shows_e(rt: &(impl Abort + Alloc<A = Global>), file: &[u8], row: u8) -> Result<(), Fail> {
     assert!(rt; row >= 1 && row <= 24);
-    let programme = load(rt.alloc(), &mut MemSource::new(file), National::French)?;
+    let programme = load(
+        rt.alloc(),
+        &mut MemSource::new(file),
+        National::French,
+        Layout::default(),
+    )?;
     assert_same(rt, programme.due_page(TEN).row(row), &boxed(rt, 0, &[0x23]));
     Ok(())
 }
@@ -243,7 +253,7 @@ fn refuses_the_mark_of_such_a_pair(rt: HostRuntime) {
     for national in [National::English, National::German] {
         assert_same(
             &rt,
-            &draw(&subtitle(&rt, 1, 0, &text), national).err(),
+            &draw(&subtitle(&rt, 1, 0, &text), national, Layout::default()).err(),
             &refused,
         );
     }

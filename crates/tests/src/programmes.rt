@@ -6,7 +6,7 @@ use linked_list_allocator::LocalHeap;
 use std::alloc::Global;
 use std::process::Abort;
 use std::test::Fail;
-use stl_rows::{LoadFaultKind, National, Programme, load, load_in};
+use stl_rows::{Drawing, Layout, LoadFaultKind, National, Programme, load, load_in};
 use sub_io::MemSource;
 use ttx_page::Page;
 
@@ -58,7 +58,12 @@ fn assert_both_end(rt: &impl Abort, programme: &Programme) {
 fn loads_subtitles_in_order(rt: HostRuntime) -> Result<(), Fail> {
     let second = block(&head(TEN + 50, TEN + 100, 22), &[0x41]);
     let file = file_of_two(&block(&HEAD, &HI), &second);
-    let programme = load(rt.alloc(), &mut MemSource::new(&file), National::German)?;
+    let programme = load(
+        rt.alloc(),
+        &mut MemSource::new(&file),
+        National::German,
+        Layout::default(),
+    )?;
     assert_holds(&rt, &programme);
     assert!(rt; programme.len() == 2);
     assert_same(&rt, &programme.subtitle(1).text(), &&b"A"[..]);
@@ -82,7 +87,11 @@ fn file_of_nine() -> [u8; 2176] {
 // none where none was.
 fn refused_block(rt: &(impl Abort + Alloc<A = Global>), file: &[u8], size: usize) -> Option<u32> {
     let heap = LocalHeap::new(rt.alloc(), size).expect(rt, "memory for the heap");
-    match load_in(&heap, &mut MemSource::new(file), National::English) {
+    let drawing = Drawing {
+        national: National::English,
+        layout: Layout::default(),
+    };
+    match load_in(&heap, &mut MemSource::new(file), drawing) {
         Ok(subtitles) => {
             assert_same(rt, &subtitles.len(), &9);
             None

@@ -5,7 +5,7 @@ use fixtures::{every, file_of_hi, schedule_of_hi};
 use std::alloc::Global;
 use std::process::Abort;
 use std::test::Fail;
-use stl_rows::{National, load};
+use stl_rows::{Layout, National, load};
 use sub_io::{MemSink, MemSource};
 use sub_plan::schedule;
 
@@ -18,7 +18,12 @@ fn assert_writes(
     header: u8,
     closing: u8,
 ) -> Result<(), Fail> {
-    let programme = load(rt.alloc(), &mut MemSource::new(&file_of_hi()), national)?;
+    let programme = load(
+        rt.alloc(),
+        &mut MemSource::new(&file_of_hi()),
+        national,
+        Layout::default(),
+    )?;
     let mut room = [0; 368];
     let result = schedule(
         &programme,

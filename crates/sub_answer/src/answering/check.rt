@@ -3,6 +3,7 @@ ghost use Rattle.std.specs.Prelude.{◌≡◌, ◌+◌, ℕ, Err, false, true};
 ghost use Rattle.sub_io.specs.Device.{CountsIf, failed};
 ghost use Rattle.sub_io.specs.Reading.{IfTold};
 ghost use Rattle.ttx_pes.specs.Reader.{FailsAtPacket};
+ghost use Rattle.stl_rows.specs.DrawnPage.{drawing_by};
 ghost use Rattle.stl_rows.specs.Fault.{is_read};
 ghost use Rattle.stl_rows.specs.Loading.{FailsLoading};
 ghost use Rattle.stl_rows.specs.declared.fault.LoadFault.{LoadFault};
@@ -15,7 +16,7 @@ ghost use Rattle.sub_listing.specs.FirstPacket.{StartsAt};
 ghost use Rattle.sub_listing.specs.Listing.{PrintsOrFails, done};
 
 use std::alloc::Global;
-use stl_rows::{National, Programme, load};
+use stl_rows::{Layout, National, Programme, load};
 use sub_check::{Accepted, CheckFault, check};
 use sub_io::{Sink, Source};
 use sub_listing::{
@@ -35,13 +36,14 @@ pub fn print_verdict<N: FirstPacket<T>, S: Source, T: Source, K: Sink>(
     stl: &mut S,
     pes: &mut T,
     national: National,
+    layout: Layout,
     options: &Options,
     out: &mut K,
 ) -> Status
     requires stl { CanFail (S.failure_count stl.old) }
     requires pes { CanFail (T.failure_count pes.old) }
     requires out { CanFail (K.failure_count out.old) }
-    ensures check { AnswersCheck national options.now
+    ensures check { AnswersCheck (drawing_by national layout) options.now
         (source_call S.remaining S.failure_count stl.old stl.new)
         (source_call T.remaining T.failure_count pes.old pes.new) (N.number pes.old)
         (pes.new ≡ pes.old)
@@ -50,7 +52,7 @@ pub fn print_verdict<N: FirstPacket<T>, S: Source, T: Source, K: Sink>(
     ensures pes_count { CountsFault T.failure_count pes.old result pes.new }
     ensures out_count { CountsFault K.failure_count out.old result out.new }
 {
-    let answer = check_files::<N, S, T>(alloc, stl, pes, national, options);
+    let answer = check_files::<N, S, T>(alloc, stl, pes, national, layout, options);
     print_answer(answer.first, answer.result, out)
 }
 
@@ -67,19 +69,22 @@ fn check_files<N: FirstPacket<T>, S: Source, T: Source>(
     stl: &mut S,
     pes: &mut T,
     national: National,
+    layout: Layout,
     options: &Options,
 ) -> Answer
     requires stl { CanFail (S.failure_count stl.old) }
     requires pes { CanFail (T.failure_count pes.old) }
     ensures checked { IfTold (S.remaining stl.old) (λ file.
-        AreChecked national options.now file (T.remaining pes.old) result.result) }
+        AreChecked (drawing_by national layout) options.now file (T.remaining pes.old)
+        result.result) }
     ensures starts { failed is_subtitle_fault result.result ≡ false
         → StartsAt (N.number pes.old) (source_call T.remaining T.failure_count pes.old pes.new)
         result.first }
     ensures stl_read { (fault : LoadFault)
         → result.result ≡ Err (CheckFault.Subtitles fault)
         → is_read fault ≡ true
-        → FailsLoading national (S.remaining stl.old) (S.remaining stl.new) fault.block }
+        → FailsLoading (drawing_by national layout) (S.remaining stl.old) (S.remaining stl.new)
+        fault.block }
     ensures pes_read { (index : ℕ)
         → result.result ≡ Err (CheckFault.Pes index PesFault.Read)
         → FailsAtPacket index (T.remaining pes.old) (T.remaining pes.new) }
@@ -89,7 +94,7 @@ fn check_files<N: FirstPacket<T>, S: Source, T: Source>(
     ensures pes_count { CountsIf T.failure_count pes.old (failed is_pes_read result.result)
         pes.new }
 {
-    match load(alloc, stl, national) {
+    match load(alloc, stl, national, layout) {
         Err(fault) => Answer {
             first: 0,
             result: Err(CheckFault::Subtitles(fault)),

@@ -13,7 +13,7 @@ ghost use Rattle.sub_listing.specs.Told.{line_of, told_from};
 
 use crate::answering::check::print_accepted;
 use std::alloc::Global;
-use stl_rows::{National, load_all};
+use stl_rows::{Drawing, load_all};
 use sub_check::{Accepted, CheckFault, check_all};
 use sub_io::{Flush, Sink, Source, put_all};
 use sub_listing::{
@@ -33,14 +33,14 @@ pub fn print_every_fault<N: FirstPacket<T>, S: Source, T: Source, K: Flush>(
     alloc: Global,
     stl: &mut S,
     pes: &mut T,
-    national: National,
+    drawing: Drawing,
     options: &Options,
     out: &mut K,
 ) -> Status
     requires stl { CanFail (S.failure_count stl.old) }
     requires pes { CanFail (T.failure_count pes.old) }
     requires out { CanFail (K.failure_count out.old) }
-    ensures all { AnswersAll national options.now
+    ensures all { AnswersAll drawing options.now
         (source_call S.remaining S.failure_count stl.old stl.new)
         (source_call T.remaining T.failure_count pes.old pes.new) (N.number pes.old)
         (pes.new ≡ pes.old)
@@ -61,7 +61,7 @@ pub fn print_every_fault<N: FirstPacket<T>, S: Source, T: Source, K: Flush>(
         waiting: false,
         first: 0,
     };
-    let answer = tell_every_fault::<N, S, T, K>(alloc, stl, pes, national, options, &mut printer);
+    let answer = tell_every_fault::<N, S, T, K>(alloc, stl, pes, drawing, options, &mut printer);
     let Printer {
         out,
         refused,
@@ -81,7 +81,7 @@ fn tell_every_fault<N: FirstPacket<T>, S: Source, T: Source, K: Flush>(
     alloc: Global,
     stl: &mut S,
     pes: &mut T,
-    national: National,
+    drawing: Drawing,
     options: &Options,
     printer: &mut Printer<'_, K>,
 ) -> Result<Option<Accepted>, CheckFault>
@@ -92,7 +92,7 @@ fn tell_every_fault<N: FirstPacket<T>, S: Source, T: Source, K: Flush>(
     requires still { printer.old.waiting ≡ false }
     requires none { printer.old.refused ≡ 0 }
     ensures same { printer.new.out.ghost_name ≡ printer.old.out.ghost_name }
-    ensures told { TellsBoth national options.now
+    ensures told { TellsBoth drawing options.now
         (source_call S.remaining S.failure_count stl.old stl.new)
         (source_call T.remaining T.failure_count pes.old pes.new) (N.number pes.old)
         (pes.new ≡ pes.old)
@@ -104,7 +104,7 @@ fn tell_every_fault<N: FirstPacket<T>, S: Source, T: Source, K: Flush>(
     ensures asked { K.held printer.old.out.now ≡ 0
         → failed is_pes_read result ≡ true → K.held printer.new.out.now ≡ 0 }
 {
-    match load_all(alloc, stl, national, printer) {
+    match load_all(alloc, stl, drawing.national, drawing.layout, printer) {
         Err(fault) => Err(CheckFault::Subtitles(fault)),
         Ok(None) => Ok(None),
         Ok(Some(programme)) => match N::find(pes) {

@@ -47,7 +47,7 @@ subtitles-init g c = rw c.new.ensures.items (record {
     rw c.in-Ok.ensures.start
         (rw (findings_for-begun whole bytes _
         (rw c.whole.ensures at (c.in-Ok.ensures.exact bytes e refl)))
-        at (goes_on-start c.args.national bytes)),
+        at (goes_on-start c.args.drawing bytes)),
   );
 })
 
@@ -59,9 +59,9 @@ subtitles-preserved g c =
     let l = rw (c.in-Ok-Subtitle.field-0-is, i.scope) at (c.in-Ok-Subtitle.ensures.leads refl) in
     let is_clean = c.in-Ok-tell_faults.ensures.clean in
     rw (c.in_default-keep.ensures.all, c.of.ensures.value) (record {
-      early = i.early ++ map (load_fault here) (follow_faults c.args.national c.subtitles.before t);
+      early = i.early ++ map (load_fault here) (follow_faults c.args.drawing c.subtitles.before t);
       told = grind (arith, nat_tests, Tells-trans);
-      early_told = told-next c.args.national c.subtitles.before t c.subtitles.reader.block here
+      early_told = told-next c.args.drawing c.subtitles.before t c.subtitles.reader.block here
           i.early (let b = l.block in omega arith) i.early_told;
       are_kept = are_kept-next t here is_clean i.are_kept c.of.ensures.subtitle;
       some = some-next t here is_clean i.are_kept i.some;
@@ -106,7 +106,7 @@ pub returns-in-Ok-tell_end-clause-told : goal.returns-in-Ok-tell_end-clause-told
 returns-in-Ok-tell_end-clause-told g c = λ bytes e none.
     let refused =
     rw c.whole.ensures at (c.in-Err.ensures.exact bytes e c.in-Ok-tell_end.ensures.file) in
-    tells-end (goes_on-start c.args.national bytes) (Tells-none _)
+    tells-end (goes_on-start c.args.drawing bytes) (Tells-none _)
     (findings_for-refused whole bytes _ refused) c.in-Ok-tell_end.ensures.told
 
 pub returns-in-Err-tell_end-clause-read : goal.returns-in-Err-tell_end-clause-read
@@ -167,7 +167,7 @@ returns-in_default-tell_faults-clause-some g c = λ none.
     let i = c.subtitles.invariant in
     let l = rw (c.in-Ok-Subtitle.field-0-is, i.scope) at (c.in-Ok-Subtitle.ensures.leads refl) in
     of_file-stopped i.early _
-    (told-next c.args.national c.subtitles.before c.next_into.new.subtitle
+    (told-next c.args.drawing c.subtitles.before c.next_into.new.subtitle
     c.subtitles.reader.block c.next_into.new.self.block i.early (let b = l.block in omega arith)
     i.early_told) i.told (rw c.block-block.ensures.value at c.in_default-tell_faults.ensures.stops)
 
@@ -206,8 +206,8 @@ returns-in-Ok-End-clause-exact g c = λ bytes e.
     let l = rw (c.in-Ok-End.field-0-is, i.scope) at (c.in-Ok-End.ensures.leads refl) in
     let end = left-then _ _ here.0 l here.1 in
     if_kept (λ v. v.items)
-    (λ records. loaded c.args.national bytes
-    ≡ Ok (record { national = c.args.national; records = records }))
+    (λ records. loaded c.args.drawing bytes
+    ≡ Ok (record { drawing = c.args.drawing; records = records }))
     c.subtitles.kept
     (λ records h. loads-all here.2 end.2 records h (i.are_kept records h).none)
 

@@ -20,7 +20,7 @@ invariant-subtitles g l = record {
   early_told : All (IsToldBy l.reader.block) early;
   are_kept : (records : List SubtitleValue)
       → option_map (λ v. v.items) l.kept ≡ Some records
-      → AreKept l.national l.before early records;
+      → AreKept l.drawing l.before early records;
   some : option_map (λ v. v.items) l.kept ≡ None → 0 < length early;
   listens : g.D.Audience.has_stopped l.audience ≡ false;
   reading : l.reader.progress ≡ Reading;
@@ -30,7 +30,7 @@ invariant-subtitles g l = record {
       l.reader.block;
   goes_on : (bytes : List ℕ) → g.S.Source.remaining l.fn.source ≡ Some bytes
       → (rest : List ℕ) × (g.S.Source.remaining l.source ≡ Some rest)
-      × GoesOn l.national bytes (findings_from whole l.reader.block l.reader.refused rest)
+      × GoesOn l.drawing bytes (findings_from whole l.reader.block l.reader.refused rest)
       l.before (option_map (λ v. v.items) l.kept) early;
 }
 

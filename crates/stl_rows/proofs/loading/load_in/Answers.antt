@@ -22,7 +22,7 @@ returns-in-Some g c =
     record {
       exact = search rules;
       fault = λ bytes e.
-          tells-first c.args.national bytes c.in-Some.fault _
+          tells-first c.args.drawing bytes c.in-Some.fault _
           (rw (c.new-first.ensures, first) at (c.in-Ok-None.ensures.told bytes e none))
           (rw (c.new-first.ensures, first) at of_file);
       never = own.0;

@@ -6,22 +6,22 @@ use Rattle.stl_rows.proofs.programme.edge_until.Goals as goal
 
 pub returns-then-at-subtitles : goal.returns-then-at-subtitles
 returns-then-at-subtitles c =
-    last_edge-gap c.args.national c.args.subtitles.now c.args.frame c.first_after-at.result
+    last_edge-gap c.args.drawing.now c.args.subtitles.now c.args.frame c.first_after-at.result
     c.requires _ (omega arith) (search rules) (λ k d low high. absurd (omega arith))
     c.tco_before.ensures
 
 pub returns-then-tci-frame : goal.returns-then-tci-frame
 returns-then-tci-frame c =
     rw (c.frame-tci.ensures.value, c.tci.ensures.value)
-    (last_edge-tci c.args.national c.args.subtitles.now c.args.frame c.first_after-at.result
+    (last_edge-tci c.args.drawing.now c.args.subtitles.now c.args.frame c.first_after-at.result
     c.requires c.index-subtitles-at.result (search rules) (omega arith) c.index-subtitles-at.is
     (omega arith))
 
 pub returns : goal.returns
 returns c =
-    last_edge-gap c.args.national c.args.subtitles.now c.args.frame c.first_after-at.result
+    last_edge-gap c.args.drawing.now c.args.subtitles.now c.args.frame c.first_after-at.result
     c.requires _ (omega arith) (search rules)
-    (starts_after c.args.national c.args.subtitles.now c.args.frame c.first_after-at.result
+    (starts_after c.args.drawing.now c.args.subtitles.now c.args.frame c.first_after-at.result
     c.requires c.index-subtitles-at.result (search rules) (omega arith) c.index-subtitles-at.is
     (omega arith))
     c.tco_before-2.ensures

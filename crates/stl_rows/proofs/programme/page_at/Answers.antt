@@ -12,7 +12,7 @@ returns-then-at-subtitles c = grind (arith, nat_tests, none_is_blank)
 pub returns-then-frame-tci : goal.returns-then-frame-tci
 returns-then-frame-tci c =
     c.blank-then-frame-tci.ensures
-    ∙ sym (none_is_blank c.args.national c.args.subtitles.now c.args.frame
+    ∙ sym (none_is_blank c.args.drawing.now c.args.subtitles.now c.args.frame
     (none-between _ _ _ c.first_after-at.result _ c.requires (search rules) (omega arith)
     c.index-subtitles-at.is (omega arith)))
 
@@ -20,8 +20,8 @@ pub returns : goal.returns
 returns c =
     let is = c.index-subtitles-at.is in
     ap (λ r. result_unwrap_or r blank) (sym c.drawn_page.ensures)
-    ∙ sym (due_is_shown c.args.national c.args.subtitles.now c.args.frame
+    ∙ sym (due_is_shown c.args.drawing.now c.args.subtitles.now c.args.frame
     c.index-subtitles-at.result c.requires.in_order
     (c.first_after-at.result, omega arith, sym is) (omega arith)
-    (ends_after c.args.national _ _ c.first_after-at.result _ c.requires (search rules)
+    (ends_after c.args.drawing.now _ _ c.first_after-at.result _ c.requires (search rules)
     (omega arith) is))

@@ -15,13 +15,13 @@ returns-then-at-subtitles c = none_ends c.args.subtitles.now c.args.frame (λ k 
 
 pub returns-then-tco-frame : goal.returns-then-tco-frame
 returns-then-tco-frame c =
-    none_ends-next c.args.national c.args.subtitles.now (c.args.frame - 1)
+    none_ends-next c.args.drawing.now c.args.subtitles.now (c.args.frame - 1)
     c.first_after-at.result c.index-subtitles-at.result c.requires (search rules) (omega arith)
     c.index-subtitles-at.is c.args.frame (omega arith) (search rules)
 
 pub returns : goal.returns
 returns c =
     ap Some (c.frame.ensures.value ∙ c.tci.ensures.value)
-    ∙ ends-next c.args.national c.args.subtitles.now (c.args.frame - 1)
+    ∙ ends-next c.args.drawing.now c.args.subtitles.now (c.args.frame - 1)
     c.first_after-at.result c.index-subtitles-at.result c.requires (search rules) (omega arith)
     c.index-subtitles-at.is c.args.frame (omega arith) (search rules)

@@ -11,7 +11,7 @@ pub returns-in-Some-first_difference-clause-same : goal.returns-in-Some-first_di
 returns-in-Some-first_difference-clause-same c =
     let i = c.loop-edge.invariant in
     let p = c.args.programme.now in
-    still_due (due_in p) p.records _ c.loop-edge.at _ (c.law_of_edges.ensures p.national p.records)
+    still_due (due_in p) p.records _ c.loop-edge.at _ (c.law_of_edges.ensures p.drawing p.records)
     c.in-Some.ensures.value.least i.same i.low
 
 pub loop-edge-preserved : goal.loop-edge-preserved
@@ -25,7 +25,7 @@ loop-edge-preserved c =
       same = λ f low high.
           elim (cases_lt f c.in-Some.edge) [
             | inl before ↦ still_due (due_in p) p.records _ c.loop-edge.at _
-                (c.law_of_edges.ensures p.national p.records) next.least i.same i.low f low before
+                (c.law_of_edges.ensures p.drawing p.records) next.least i.same i.low f low before
             | inr last ↦ grind (arith, nat_tests)
           ];
     }
@@ -34,7 +34,7 @@ pub returns-clause-same : goal.returns-clause-same
 returns-clause-same c =
     let i = c.loop-edge.invariant in
     let p = c.args.programme.now in
-    still_due (due_in p) p.records _ c.loop-edge.at _ (c.law_of_edges.ensures p.national p.records)
+    still_due (due_in p) p.records _ c.loop-edge.at _ (c.law_of_edges.ensures p.drawing p.records)
     (elim c.match-next_edge.branch [
       | in-Some+then-edge-last w ↦
           λ e edge after. omega (arith, w.in-Some.ensures.value.least e edge after)

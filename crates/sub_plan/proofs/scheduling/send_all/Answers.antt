@@ -15,12 +15,12 @@ returns-in_err-count-clause-bytes g c =
     let o = c.args.options.now in
     let s : IsStretch (due_in p) c.args.first c.loop-frame.frame c.next_change-end.result.0
     c.args.last = search rules in
-    let packets : c.packets.result.now ≡ sending o.page p.national c.args.serial
+    let packets : c.packets.result.now ≡ sending o.page p.drawing.national c.args.serial
     (due_in p c.loop-frame.frame) = search rules in
     let e = err_from_is_err_and c.from_residual.result c.from_residual.ensures.1 in
     rw (e.1)
     (prefix-more i.part _ _ _ (sendings-step (due_in p) o.every c.args.first _ _ _ s)
-    (rw (packets, stretch-bytes (due_in p) o p.national c.args.serial c.args.first _ _ _ s)
+    (rw (packets, stretch-bytes (due_in p) o p.drawing.national c.args.serial c.args.first _ _ _ s)
     at c.in_err-count.ensures.bytes))
 
 pub loop-frame-preserved : goal.loop-frame-preserved
@@ -31,7 +31,7 @@ loop-frame-preserved g c =
     let n = c.next_change-end.ensures in
     let s : IsStretch (due_in p) c.args.first c.loop-frame.frame c.next_change-end.result.0
     c.args.last = search rules in
-    let packets : c.packets.result.now ≡ sending o.page p.national c.args.serial
+    let packets : c.packets.result.now ≡ sending o.page p.drawing.national c.args.serial
     (due_in p c.loop-frame.frame) = search rules in
     let e = c.in_ok-count.ensures in
     record {
@@ -44,7 +44,7 @@ loop-frame-preserved g c =
       failures = search rules;
       part = rw e.number
           (part-more i.part _ (sendings-step (due_in p) o.every c.args.first _ _ _ s)
-          (rw (packets, stretch-bytes (due_in p) o p.national c.args.serial c.args.first _ _ _ s)
+          (rw (packets, stretch-bytes (due_in p) o p.drawing.national c.args.serial c.args.first _ _ _ s)
           at e.bytes));
     }
 
@@ -53,7 +53,7 @@ returns g c =
     let p = c.args.programme.now in
     let o = c.args.options.now in
     let at_end : c.loop-frame.frame ≡ c.args.last = omega arith in
-    let packets : c.packets-2.result.now ≡ sending o.page p.national c.args.serial
+    let packets : c.packets-2.result.now ≡ sending o.page p.drawing.national c.args.serial
     (due_in p c.loop-frame.frame) = search rules in
     let all =
     part-end
@@ -67,7 +67,7 @@ returns-in_err-put_at-clause-bytes g c =
     let p = c.args.programme.now in
     let o = c.args.options.now in
     let at_end : c.loop-frame.frame ≡ c.args.last = omega arith in
-    let packets : c.packets-2.result.now ≡ sending o.page p.national c.args.serial
+    let packets : c.packets-2.result.now ≡ sending o.page p.drawing.national c.args.serial
     (due_in p c.loop-frame.frame) = search rules in
     let e = err_from_is_err_and c.from_residual-in_err-put_at.result
     c.from_residual-in_err-put_at.ensures.1 in

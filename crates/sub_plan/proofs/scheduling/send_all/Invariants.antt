@@ -9,14 +9,14 @@ abbrev pub invariant-loop-frame : goal.invariant-loop-frame
 invariant-loop-frame g l = record {
   low : l.first ≤ l.frame;
   high : l.frame ≤ l.last;
-  option : l.national ≡ l.programme.national;
+  option : l.national ≡ l.programme.drawing.national;
   page : l.page ≡ due_in l.programme l.frame;
   starts : l.frame < l.last → IsBase (due_in l.programme) l.first l.frame;
   few : l.count ≤ l.frame - l.first;
   failures : g.K.Sink.failure_count l.sink ≡ g.K.Sink.failure_count l.initial.sink;
   part :
       IsPartDone (g.K.Sink.contents l.initial.sink) (g.K.Sink.contents l.sink)
-      (sending_at (due_in l.programme) l.options l.programme.national l.serial)
+      (sending_at (due_in l.programme) l.options l.programme.drawing.national l.serial)
       l.count (sendings_from (due_in l.programme) l.options.every l.first l.last l.frame)
       (sendings (due_in l.programme) l.options.every l.first l.last);
 }

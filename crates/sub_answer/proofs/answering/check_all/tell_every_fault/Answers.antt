@@ -92,7 +92,7 @@ returns-in-Ok-clause-told g c =
     let e = c.check_all.ensures in
     with_first _ _ _ _ _ _ (value_of g.K.Sink.contents g.K.Sink.failure_count c.args.printer.now)
     _ n _
-    (subst (λ (p : Printer g.row.K.Denot). TellsBoth c.args.national c.args.options.now
+    (subst (λ (p : Printer g.row.K.Denot). TellsBoth c.args.drawing c.args.options.now
     (source_call g.S.Source.remaining g.S.Source.failure_count c.args.stl.now c.load_all.new.source)
     (source_call g.T.Source.remaining g.T.Source.failure_count c.args.pes.now
     c.check_all.new.source) (g.N.FirstPacket.number c.args.pes.now)
@@ -140,7 +140,7 @@ returns-clause-told g c =
     ap (λ (p : Printer g.row.K.Denot). p.failed) kept ∙ c.requires.goes_on in
     with_first _ _ _ _ _ _ (value_of g.K.Sink.contents g.K.Sink.failure_count c.args.printer.now)
     _ n _
-    (subst (λ (p : Printer g.row.K.Denot). TellsBoth c.args.national c.args.options.now
+    (subst (λ (p : Printer g.row.K.Denot). TellsBoth c.args.drawing c.args.options.now
     (source_call g.S.Source.remaining g.S.Source.failure_count c.args.stl.now c.load_all.new.source)
     (source_call g.T.Source.remaining g.T.Source.failure_count c.args.pes.now
     c.find.new.source) (g.N.FirstPacket.number c.args.pes.now)

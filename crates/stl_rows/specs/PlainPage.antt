@@ -1,0 +1,67 @@
+-- The drawn page of a subtitle by the default layout, or its first fault: a line in a box of its
+-- own, one row below the line before it.
+use Rattle.std.specs.Prelude.{ℕ, ◌+◌, ◌-◌, Bool, false, ◌&&◌, List, [], ◌∷◌, ◌++◌, Result, Ok, Err}
+use Rattle.std.specs.Prelude.{◌==◌, nat_lt, if◌then◌else◌, map, length, slice_index_or}
+use Rattle.std.specs.List.{range_with_len}
+use Rattle.ttx_page.specs.Page.{Rows}
+use Rattle.stl_file.specs.Subtitle.{SubtitleValue}
+use Rattle.stl_rows.specs.declared.national.National.{National}
+use Rattle.stl_rows.specs.declared.fault.RowFault.{RowFault}
+use Rattle.stl_rows.specs.declared.fault.RowFaultKind.{RowFaultKind}
+use Rattle.stl_rows.specs.declared.fault.RowFaultKind.TheVariants.{RowTooLong, PastBottom}
+use Rattle.stl_rows.specs.declared.fault.RowFaultKind.TheVariants.{DoubleRow, Hidden}
+use Rattle.stl_rows.specs.TextCode.{text_codes, refused_codes, lines_of_codes, fault_of}
+use Rattle.stl_rows.specs.Line.{columns, has_cells, is_double, prepared, row_of}
+
+-- The last row that a subtitle may use: row 24 is kept free (own).
+abbrev pub last_row : ℕ
+last_row = 23
+
+-- The prepared lines of a subtitle.
+abbrev pub lines : National → SubtitleValue → List (List ℕ)
+lines national t = map prepared (lines_of_codes (text_codes national 0 t.text))
+
+-- ---- what is refused
+
+-- The fault where the test holds.
+abbrev pub when : Bool → RowFaultKind → List RowFaultKind
+when b kind = if b then kind ∷ [] else []
+
+-- What is wrong with a prepared line on a row, under a line of double height or not, in order.
+unfoldable pub line_fault_kinds : ℕ → Bool → List ℕ → List RowFaultKind
+line_fault_kinds row is_under_double line =
+    when (nat_lt columns (length line)) RowTooLong
+    ++ when (has_cells line && nat_lt last_row row) PastBottom
+    ++ when (is_double line && (row == last_row)) DoubleRow
+    ++ when (has_cells line && is_under_double) Hidden
+
+-- What is wrong with lines from a number on, the first of which goes to a row.
+abbrev pub line_faults : ℕ → ℕ → Bool → List (List ℕ) → List RowFault
+line_faults number row is_under_double [] = []
+line_faults number row is_under_double (line ∷ lines) =
+    map (fault_of number) (line_fault_kinds row is_under_double line)
+    ++ line_faults (number + 1) (row + 1) (is_double line) lines
+
+-- All that is wrong, in the order in which it is told: the text by byte, then line by line.
+abbrev pub subtitle_faults : National → SubtitleValue → List RowFault
+subtitle_faults national t =
+    refused_codes (text_codes national 0 t.text) ++ line_faults 0 t.vp false (lines national t)
+
+-- ---- what is shown
+
+-- The line of a row, where line 0 goes to row VP; an empty line for a row that none goes to.
+abbrev pub line_on : ℕ → List (List ℕ) → ℕ → List ℕ
+line_on vp lines row = if nat_lt row vp then [] else slice_index_or lines (row - vp) []
+
+-- The page that shows lines: rows 1 to 24.
+unfoldable pub page_of_lines : ℕ → ℕ → List (List ℕ) → Rows
+page_of_lines jc vp lines = map (λ row. row_of jc (line_on vp lines row)) (range_with_len 1 24)
+
+-- A value where nothing is wrong, else the first fault.
+abbrev pub unless : {A E : Type 0} → List E → A → Result A E
+unless [] value = Ok value
+unless (e ∷ es) value = Err e
+
+-- The drawn page of a subtitle, or its first fault.
+unfoldable pub plainly_drawn : National → SubtitleValue → Result Rows RowFault
+plainly_drawn national t = unless (subtitle_faults national t) (page_of_lines t.jc t.vp (lines national t))
