@@ -9,7 +9,7 @@ use Rattle.ttx_pes.specs.declared.fault.PesFault.{PesFault}
 use Rattle.stl_rows.specs.Programme.{ProgrammeValue}
 use Rattle.sub_plan.specs.FrameTime.{clock_of}
 use Rattle.sub_plan.specs.Options.{OptionsValue}
-use Rattle.sub_rules.specs.Events.{Standing, closing_events, end_events, endings}
+use Rattle.sub_rules.specs.Events.{closing_events, end_events, endings}
 use Rattle.sub_rules.specs.Events.{first_header_events, first_told, nothing_stands, order_events}
 use Rattle.sub_rules.specs.Events.{packet_fault, rest_events, standing_at, unread_fault}
 use Rattle.sub_rules.specs.Fault.{fault_at_pes}
@@ -26,6 +26,7 @@ use Rattle.sub_rules.specs.declared.event.Event.{Event}
 use Rattle.sub_rules.specs.declared.event.Event.TheVariants.{Told}
 use Rattle.sub_rules.specs.declared.fault.CheckFault.{CheckFault}
 use Rattle.sub_rules.specs.declared.packet_rule.PacketRule.{PacketRule}
+use Rattle.sub_rules.proofs.EndRuleLemmas.{end_any}
 use Rattle.sub_rules.proofs.PieceEventLemmas.{all_first, announced_first}
 use Rattle.sub_laws.proofs.MarkTestLemmas.{FramesPass, PassedPass, Passes, before_passes, both_pass}
 use Rattle.sub_laws.proofs.MarkTestLemmas.{each_passes, first_fine, says_bad, says_pass, tells_bad}
@@ -36,6 +37,7 @@ use Rattle.sub_check.specs.CheckedFiles.{all_events_of, events_of_first_pieces}
 use Rattle.sub_check.specs.FirstTold.{is_of_rule}
 use Rattle.sub_rules.specs.PieceEvents.{events_of_pieces}
 use Rattle.sub_rules.specs.Trusted.{told_after}
+use Rattle.sub_rules.specs.declared.standing.Standing.{Standing}
 
 -- A refusal is of no rule.
 abbrev is_foreign : CheckFault → Bool
@@ -51,8 +53,8 @@ foreign e = tells_bad is_foreign at_any e
 
 end_own : (old : Standing) (before : ℕ) (new : Standing) (f : ℕ)
     → list_any foreign (end_events old before new f) ≡ false
-unfolding end_events
-end_own old before new f = grind (arith, nat_tests)
+end_own old before new f =
+    end_any foreign (λ rule f cell. grind arith) (λ rule f. refl) old before new f
 
 rule_own : (r : PacketRule) (frame k : ℕ) → foreign (Told (packet_fault r frame k)) ≡ false
 rule_own r frame k = grind (arith, nat_tests)

@@ -3,25 +3,30 @@
 use Rattle.std.proofs.lemmas.Bool.Decides.{nat_tests}
 use Rattle.std.proofs.Common.{◌≡◌, ℕ, zero, suc, ◌<◌, ◌≤◌, Bool, true, false, ◌&&◌, ◌||◌, not, cond}
 use Rattle.std.proofs.Common.{is_some, List, [], ◌∷◌, ◌++◌, length, Option, Some, None, refl, sym}
-use Rattle.std.proofs.Common.{ap, ◌∙◌, arith, ◌==◌}
+use Rattle.std.proofs.Common.{ap, ◌∙◌, arith, flat_map, ◌==◌}
+use Rattle.std.specs.List.{list_any}
 use Rattle.stl_rows.specs.Programme.{last_out}
-use Rattle.sub_checker.specs.Checker.{CheckerValue, as_standing, is_overdue_at, is_pending_now}
+use Rattle.sub_checker.specs.Checker.{CheckerValue, is_overdue_at, is_pending_now}
 use Rattle.sub_checker.specs.Following.{Follows}
 use Rattle.sub_checker.specs.PieceTelling.{ending_at}
 use Rattle.sub_checker.specs.Steps.{ending_fault, fault_events, last_fault, last_fault_after}
-use Rattle.sub_rules.specs.Events.{Standing, closing_events, end_events, is_late, is_overdue}
-use Rattle.sub_rules.specs.Events.{is_pending, is_short, nothing_stands}
-use Rattle.sub_rules.specs.Events.{rest_events, standing_at, unfinished_since, unread_fault}
+use Rattle.sub_rules.specs.Events.{broken_at, closing_events, end_events, end_rules}
+use Rattle.sub_rules.specs.Events.{is_late, is_overdue, is_pending, is_short, nothing_stands}
+use Rattle.sub_rules.specs.Events.{rest_events, rule_events, standing_at, unfinished_since}
+use Rattle.sub_rules.specs.Events.{unread_fault}
 use Rattle.sub_rules.specs.FrameRules.{Task, Unread, end_frame, frame_at}
 use Rattle.sub_rules.specs.FrameRules.Unread.{BadPacket, NoFrame}
 use Rattle.sub_rules.specs.PieceEvents.{closing_of_pieces, told_of_unread}
 use Rattle.sub_rules.specs.Transmission.{Transmission}
 use Rattle.sub_rules.specs.Trusted.{stands_none, tells_none}
 use Rattle.sub_rules.specs.Trusted.Mark.{Closes}
+use Rattle.sub_rules.specs.declared.end_rule.EndRule.{EndRule}
 use Rattle.sub_rules.specs.declared.event.Event.{Event}
 use Rattle.sub_rules.specs.declared.event.Event.TheVariants.{Told}
 use Rattle.sub_rules.specs.declared.fault.CheckFault.{CheckFault}
 use Rattle.sub_rules.specs.declared.fault.CheckFault.TheVariants as fault
+use Rattle.sub_rules.specs.declared.standing.Standing.{Standing}
+use Rattle.sub_rules.proofs.EndRuleLemmas.{nothing_at, rules_none}
 use Rattle.sub_rules.proofs.TrustedLemmas.{tells_none-two}
 use Rattle.sub_checker.proofs.EndingLemmas.{overdue_is, since_last}
 
@@ -135,7 +140,7 @@ pub closing_some :
     → told ≡ last_fault given c
     → none ≡ nothing_stands
     → closing_events g frames (length frames)
-    ≡ end_events (as_standing c.standing) c.last none c.last ++ fault_events told
+    ≡ end_events c.standing c.last none c.last ++ fault_events told
 unfolding closing_events
 closing_some g frames last c given told none follows is some e nothing =
     go (length frames) refl follows is
@@ -143,12 +148,12 @@ closing_some g frames last c given told none follows is some e nothing =
     go : (n : ℕ) → length frames ≡ n → Follows g frames n last c
         → given ≡ ending_fault n g.unread
         → closing_events g frames n
-        ≡ end_events (as_standing c.standing) c.last none c.last ++ fault_events told
+        ≡ end_events c.standing c.last none c.last ++ fault_events told
     go zero all here is = absurd (omega (arith, some, here.number))
     go (suc n) all here is =
         let at = last_is g frames n last c all here in
         let end = end_is g frames n last c all here in
-        let stands : as_standing c.standing ≡ standing_at g frames (suc n) (frame_at frames n) =
+        let stands : c.standing ≡ standing_at g frames (suc n) (frame_at frames n) =
         here.standing_is (omega arith)
         ∙ ap (λ (k : ℕ). standing_at g frames (suc n) (frame_at frames k)) (omega arith) in
         rw (end, nothing, stands, at, e, is)
@@ -159,7 +164,26 @@ closing_some g frames last c given told none follows is some e nothing =
 -- Whether anything is told of a change.
 tells_end : (s : Standing) (f : ℕ) → tells_none (end_events s f nothing_stands f) ≡ stands_none s
 unfolding end_events
-tells_end s f = grind (arith, nat_tests)
+tells_end s f = go end_rules
+  where
+    one : (rule : EndRule) (o : Option (ℕ × ℕ))
+        → tells_none (rule_events rule o f None f) ≡ not (is_some o)
+    one rule None = refl
+    one rule (Some cell) = refl
+
+    go : (rules : List EndRule)
+        → tells_none
+        (flat_map
+        (λ rule. rule_events rule (broken_at rule s) f (broken_at rule nothing_stands) f) rules)
+        ≡ not (list_any (λ rule. is_some (broken_at rule s)) rules)
+    go [] = refl
+    go (rule ∷ rules) =
+        let here = one rule (broken_at rule s) in
+        let rest = go rules in
+        let parts =
+        tells_none-two (rule_events rule (broken_at rule s) f None f)
+        (flat_map (λ r. rule_events r (broken_at r s) f (broken_at r nothing_stands) f) rules) in
+        rw (nothing_at rule) grind (arith, nat_tests)
 
 -- Whether anything is told then. For `tells_last`.
 pub tells_closing :
@@ -168,7 +192,7 @@ pub tells_closing :
     → Follows g frames (length frames) last c
     → given ≡ ending_fault (length frames) g.unread
     → told ≡ last_fault given c
-    → (is_some told || not (stands_none (as_standing c.standing)))
+    → (is_some told || not (stands_none c.standing))
     ≡ not (tells_none (closing_events g frames (length frames)))
 tells_closing g frames last c given told follows is e = go c.counts.frames refl
   where
@@ -178,11 +202,12 @@ tells_closing g frames last c given told follows is e = go c.counts.frames refl
     by (Some f) = refl
 
     go : (n : ℕ) → c.counts.frames ≡ n
-        → (is_some told || not (stands_none (as_standing c.standing)))
+        → (is_some told || not (stands_none c.standing))
         ≡ not (tells_none (closing_events g frames (length frames)))
     go zero none =
-        let quiet : stands_none (as_standing c.standing) ≡ true =
-        ap stands_none (follows.none (sym follows.number ∙ none)) in
+        let quiet : stands_none c.standing ≡ true =
+        ap stands_none (follows.none (sym follows.number ∙ none))
+        ∙ rules_none nothing_stands nothing_at in
         ap (λ (b : Bool). is_some told || not b) quiet
         ∙ by told
         ∙ ap (λ (es : List Event). not (tells_none es))
@@ -190,9 +215,9 @@ tells_closing g frames last c given told follows is e = go c.counts.frames refl
     go (suc n) some =
         let all = closing_some g frames last c given told nothing_stands follows is
         (omega (arith, some)) e refl in
-        let ends = end_events (as_standing c.standing) c.last nothing_stands c.last in
+        let ends = end_events c.standing c.last nothing_stands c.last in
         let parts = tells_none-two ends (fault_events told) in
-        let end = tells_end (as_standing c.standing) c.last in
+        let end = tells_end c.standing c.last in
         let rest = by told in
         grind (arith, nat_tests)
 

@@ -15,13 +15,12 @@ use Rattle.ttx_page.specs.PacketKind.{kind}
 use Rattle.ttx_page.specs.Shown.{shown}
 use Rattle.ttx_page.specs.Span.{is_open_after}
 use Rattle.sub_plan.specs.Schedule.{due_in}
-use Rattle.sub_checker.specs.Checker.{CheckerValue, after_end, as_standing, end_marks}
-use Rattle.sub_checker.specs.Checker.{is_overdue_at, is_unfinished_now, late_now, none_stands}
+use Rattle.sub_checker.specs.Checker.{CheckerValue, after_end, end_marks}
+use Rattle.sub_checker.specs.Checker.{is_overdue_at, is_unfinished_now, late_now}
 use Rattle.sub_checker.specs.Checker.{quiet_end, since_now, stands}
-use Rattle.sub_checker.specs.declared.standing.StandingRules.{StandingRules}
 use Rattle.sub_checker.specs.Following.{HasBegun, Remembers, since_before}
-use Rattle.sub_rules.specs.Events.{Standing, content_events, end_before, end_events}
-use Rattle.sub_rules.specs.Events.{events_at_end, first_cell, gap_length, rule_events}
+use Rattle.sub_rules.specs.Events.{end_before, end_events, end_rules, events_at_end}
+use Rattle.sub_rules.specs.Events.{first_cell, gap_length, nothing_stands}
 use Rattle.sub_rules.specs.Events.{is_incomplete, is_late, is_overdue, is_unfinished}
 use Rattle.sub_rules.specs.Events.{latest, since_frames, since_in_gap, standing_at}
 use Rattle.sub_rules.specs.Events.{standing_before, undue_after, unfinished_from}
@@ -31,9 +30,9 @@ use Rattle.sub_rules.specs.PieceEvents.{marks_at_end}
 use Rattle.sub_rules.specs.Transmission.{Transmission}
 use Rattle.sub_rules.specs.Trusted.{Mark}
 use Rattle.sub_rules.specs.Trusted.Mark.{AtEnd, Says}
-use Rattle.sub_rules.specs.declared.end_rule.EndRule.TheVariants as end
 use Rattle.sub_rules.specs.declared.event.Event.{Event}
-use Rattle.sub_rules.specs.declared.fault.CheckFault.TheVariants as fault
+use Rattle.sub_rules.proofs.EndRuleLemmas.{end_from_none}
+use Rattle.sub_rules.specs.declared.standing.Standing.{Standing}
 
 -- ---- since which frame the page is not whole
 
@@ -116,16 +115,6 @@ end_before_high frames n f l = grind (arith, nat_tests)
 
 -- ---- an end
 
--- What is told at an end, rule by rule.
-pub end_events_are :
-    (old : Standing) (before : ℕ) (new : Standing) (f : ℕ)
-    → end_events old before new f
-    ≡ content_events old.content before new.content f
-    ++ (rule_events end.Gap (fault.Gap f) old.gap before new.gap
-    ++ rule_events end.Incomplete (fault.Incomplete f) old.incomplete before new.incomplete)
-unfolding end_events
-end_events_are old before new f = grind (arith, nat_tests)
-
 -- What is told at the end of a frame, by what is kept.
 ends_are :
     (g : Task) (frames : Transmission) (i n f : ℕ) (old new : Standing) (last : ℕ)
@@ -133,8 +122,8 @@ ends_are :
     → (0 < i → last ≡ end_before frames i f)
     → new ≡ standing_at g frames n f
     → end_events old last new f ≡ events_at_end g frames i n f
-unfolding standing_before end_events
-ends_are g frames zero n f old new last is at now = rw (is, now) refl
+unfolding standing_before
+ends_are g frames zero n f old new last is at now = rw (is, now) (end_from_none _ _ _ _)
 ends_are g frames (suc i) n f old new last is at now = rw (is, now, at (omega arith)) refl
 
 -- Whether the page had to be whole, by what is kept.
@@ -153,7 +142,7 @@ late_by w a b same = grind (arith, nat_tests)
 module _ (g : Task) (frames : Transmission) (i n f : ℕ) (last : List (List ℕ)) (c : CheckerValue)
     (known : Remembers g frames n last c) (begun : HasBegun g frames n c) (at : c.frame ≡ f)
     (due : c.listener.comparison.due ≡ due_in c.programme c.frame)
-    (stood : as_standing c.standing ≡ standing_before g frames i f)
+    (stood : c.standing ≡ standing_before g frames i f)
     (before : 0 < i → c.last ≡ end_before frames i f)
     (since : 0 < g.within → c.since ≡ since_before g frames i f)
     (on : unfinished_since g frames n f
@@ -206,19 +195,19 @@ module _ (g : Task) (frames : Transmission) (i n f : ℕ) (last : List (List ℕ
         (sym known.task_is))
 
     -- What stands broken.
-    pub stands_are : as_standing (stands so_far c) ≡ standing_at g frames n f
+    pub stands_are : (stands so_far c) ≡ standing_at g frames n f
     unfolding standing_at
     stands_are = rw (late_is, wrong_is, undue_is, incomplete_is, begun.late_is f, at) refl
 
     -- What comes there.
     pub marks_are : end_marks so_far c ≡ marks_at_end g frames i n f
     marks_are =
-        ap (λ (ms : List Mark). ms ++ map Says (end_events (as_standing c.standing) c.last
-        (as_standing (stands so_far c)) c.frame)) firsts
+        ap (λ (ms : List Mark). ms ++ map Says (end_events c.standing c.last
+        ((stands so_far c)) c.frame)) firsts
         ∙ ap (λ (es : List Event). (cond (g.within == 0) []
         (AtEnd f (unfinished_since g frames n f) (is_late g frames n f) ∷ [])) ++ map Says es)
-        (ap (end_events (as_standing c.standing) c.last (as_standing (stands so_far c))) at
-        ∙ ends_are g frames i n f (as_standing c.standing) (as_standing (stands so_far c)) c.last
+        (ap (end_events c.standing c.last ((stands so_far c))) at
+        ∙ ends_are g frames i n f c.standing ((stands so_far c)) c.last
         stood before stands_are)
       where
         by : (w : ℕ) → (0 < w → since_now so_far c ≡ unfinished_since g frames n f)
@@ -344,7 +333,7 @@ pub quiet_stands : (heard : List (List ℕ)) (c : CheckerValue)
     → wrong_after c.listener.watched.page heard c.listener.comparison.due ≡ None
     → (c.listener.watched.complete && is_open_after (kind c.listener.watched.page) heard) ≡ false
     → c.frame + 1 < c.late_at
-    → (stands heard c ≡ none_stands) × (since_now heard c ≡ None)
+    → (stands heard c ≡ nothing_stands) × (since_now heard c ≡ None)
 quiet_stands heard c due right shut early =
     let undue =
     no_undue c.listener.watched.page heard (due_in c.programme) c.listener.comparison.due c.first
@@ -355,27 +344,27 @@ quiet_stands heard c due right shut early =
     )
   where
     by : (late : Bool)
-        → (let s : StandingRules = record {
+        → (let s : Standing = record {
           content = cond late None None;
           gap = false;
           incomplete = late && false;
         } in s)
-        ≡ none_stands
+        ≡ nothing_stands
     by true = refl
     by false = refl
 
 -- ---- an end, by what is found there
 
 -- Where the page has to be whole at the end of each frame.
-pub once_marks : (heard : List (List ℕ)) (d c : CheckerValue) (s : StandingRules)
+pub once_marks : (heard : List (List ℕ)) (d c : CheckerValue) (s : Standing)
     → d ≡ c
     → c.within ≡ 0
     → s ≡ stands heard c
     → end_marks heard c
-    ≡ map Says (end_events (as_standing d.standing) d.last (as_standing s) d.frame)
+    ≡ map Says (end_events d.standing d.last s d.frame)
 once_marks heard d c s same each is = rw (same, is, each) refl
 
-pub once_after : (heard : List (List ℕ)) (d c : CheckerValue) (s : StandingRules)
+pub once_after : (heard : List (List ℕ)) (d c : CheckerValue) (s : Standing)
     → d ≡ c
     → c.within ≡ 0
     → s ≡ stands heard c
@@ -383,7 +372,7 @@ pub once_after : (heard : List (List ℕ)) (d c : CheckerValue) (s : StandingRul
 once_after heard d c s same each is = rw (same, is, each) refl
 
 -- Where it need not.
-pub within_marks : (heard : List (List ℕ)) (d c : CheckerValue) (s : StandingRules)
+pub within_marks : (heard : List (List ℕ)) (d c : CheckerValue) (s : Standing)
     (since : Option ℕ) (late : Bool)
     → d ≡ c
     → 0 < c.within
@@ -392,12 +381,12 @@ pub within_marks : (heard : List (List ℕ)) (d c : CheckerValue) (s : StandingR
     → late ≡ late_now heard c
     → end_marks heard c
     ≡ (AtEnd d.frame since late ∷ [])
-    ++ map Says (end_events (as_standing d.standing) d.last (as_standing s) d.frame)
+    ++ map Says (end_events d.standing d.last s d.frame)
 within_marks heard d c s since late same some is since_is late_is =
     let not_each : (c.within == 0) ≡ false = grind (arith, nat_tests) in
     rw (same, is, since_is, late_is, not_each) refl
 
-pub within_after : (heard : List (List ℕ)) (d c : CheckerValue) (s : StandingRules)
+pub within_after : (heard : List (List ℕ)) (d c : CheckerValue) (s : Standing)
     (since : Option ℕ)
     → d ≡ c
     → 0 < c.within
@@ -409,16 +398,16 @@ within_after heard d c s since same some is since_is =
     rw (same, is, since_is, not_each) refl
 
 -- Where nothing stands broken, and nothing did.
-none_told : (old new : StandingRules) (before f : ℕ)
-    → old ≡ none_stands
-    → new ≡ none_stands
-    → end_events (as_standing old) before (as_standing new) f ≡ []
-unfolding end_events
+none_told : (old new : Standing) (before f : ℕ)
+    → old ≡ nothing_stands
+    → new ≡ nothing_stands
+    → end_events old before new f ≡ []
+unfolding end_events end_rules
 none_told old new before f none none_now = rw (none, none_now) refl
 
 pub quiet_marks : (heard : List (List ℕ)) (c : CheckerValue)
-    → c.standing ≡ none_stands
-    → stands heard c ≡ none_stands
+    → c.standing ≡ nothing_stands
+    → stands heard c ≡ nothing_stands
     → since_now heard c ≡ None
     → end_marks heard c ≡ cond (c.within == 0) [] (AtEnd c.frame None false ∷ [])
 quiet_marks heard c stood stand since =
@@ -437,8 +426,8 @@ quiet_marks heard c stood stand since =
         rw (not_each, since) refl
 
 pub quiet_after : (heard : List (List ℕ)) (c : CheckerValue)
-    → c.standing ≡ none_stands
-    → stands heard c ≡ none_stands
+    → c.standing ≡ nothing_stands
+    → stands heard c ≡ nothing_stands
     → since_now heard c ≡ None
     → quiet_end c ≡ after_end heard c
 quiet_after heard c stood stand since = rw (stand, since, sym stood) refl

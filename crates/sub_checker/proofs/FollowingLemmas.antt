@@ -9,7 +9,7 @@ use Rattle.std.proofs.lemmas.Bool.{cases_lt, true≢false}
 use Rattle.std.proofs.lemmas.List.{append-nil}
 use Rattle.stl_rows.specs.Programme.{first_in}
 use Rattle.sub_plan.specs.Schedule.{due_in}
-use Rattle.sub_checker.specs.Checker.{CheckerValue, after_end, as_standing, at_first, at_frame}
+use Rattle.sub_checker.specs.Checker.{CheckerValue, after_end, at_first, at_frame}
 use Rattle.sub_checker.specs.Checker.{at_next, end_marks, nothing_counted, stands}
 use Rattle.sub_checker.specs.declared.counts.Counts.{Counts}
 use Rattle.sub_checker.specs.Following.{Arrives, Follows, HasBegun, Keeps, Remembers, Waits}
@@ -44,7 +44,7 @@ pub Follows-none :
     → c.counts.headers ≡ 0
     → c.counts.frames ≡ 0
     → c.since ≡ None
-    → as_standing c.standing ≡ nothing_stands
+    → c.standing ≡ nothing_stands
     → Follows g frames 0 last c
 unfolding since_frames
 Follows-none g frames last c task knows none sent since stood = grind (arith, nat_tests)
@@ -55,7 +55,7 @@ pub Keeps-none :
     → KnowsLast [] last c.listener
     → c.counts ≡ nothing_counted
     → c.since ≡ None
-    → as_standing c.standing ≡ nothing_stands
+    → c.standing ≡ nothing_stands
     → Keeps g [] last c
 Keeps-none g last c task knows counts since stood =
     let shut : c.counts.is_open ≡ false = ap (λ (n : Counts). n.is_open) counts in
@@ -139,8 +139,8 @@ module _ (g : Task) (frames : Transmission) (n f : ℕ) (last : List (List ℕ))
     begun_there : HasBegun g frames n b
     begun_there = grind (arith, nat_tests)
 
-    stood_there : as_standing b.standing ≡ standing_before g frames n f
-    stood_there = ap (λ (c : CheckerValue). as_standing c.standing) moved ∙ waits.standing_is
+    stood_there : b.standing ≡ standing_before g frames n f
+    stood_there = ap (λ (c : CheckerValue). c.standing) moved ∙ waits.standing_is
 
     before_there : 0 < n → b.last ≡ end_before frames n f
     before_there l = ap (λ (c : CheckerValue). c.last) moved ∙ waits.last_is l
@@ -153,7 +153,7 @@ module _ (g : Task) (frames : Transmission) (n f : ℕ) (last : List (List ℕ))
         marks_are g frames n n f last b known_there begun_there at_there due stood_there
         before_there since_there (gap_on g frames n f some later)
 
-    stands_there : as_standing (stands (packets_before frames n) b) ≡ standing_at g frames n f
+    stands_there : (stands (packets_before frames n) b) ≡ standing_at g frames n f
     stands_there =
         stands_are g frames n n f last b known_there begun_there at_there due stood_there
         before_there since_there (gap_on g frames n f some later)

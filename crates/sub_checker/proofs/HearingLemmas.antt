@@ -10,7 +10,7 @@ use Rattle.std.specs.List.{list_any}
 use Rattle.sub_plan.specs.Schedule.{due_in}
 use Rattle.ttx_page.specs.PacketKind.{kind}
 use Rattle.ttx_page.specs.Span.{holds_header}
-use Rattle.sub_checker.specs.Checker.{CheckerValue, HasHeard, after_end, as_standing, after_headers}
+use Rattle.sub_checker.specs.Checker.{CheckerValue, HasHeard, after_end, after_headers}
 use Rattle.sub_checker.specs.Checker.{end_marks, later_by, stands}
 use Rattle.sub_checker.specs.Following.{Arrives, Follows, Heard, Remembers}
 use Rattle.sub_rules.specs.Events.{covers, first_header_events, is_gap, packets_told}
@@ -169,7 +169,7 @@ module _ (g : Task) (frames : Transmission) (n : ℕ) (last : List (List ℕ)) (
           marks_are g frames n (suc n) (frame_at frames n) last c is.known is.begun is.frame_is due
           is.standing_is is.last_is is.since_is (frame_on g frames n)
 
-      stands_then : as_standing (stands heard c)
+      stands_then : (stands heard c)
           ≡ standing_at g frames (suc n) (frame_at frames n)
       stands_then =
           stands_are g frames n (suc n) (frame_at frames n) last c is.known is.begun is.frame_is due
@@ -180,13 +180,13 @@ module _ (g : Task) (frames : Transmission) (n : ℕ) (last : List (List ℕ)) (
           → d ≡ after_end heard c
           → f ≡ d.frame
           → has ≡ holds_header (kind g.watched.page) (packets_of_frame frames n)
-          → none ≡ stands_none (as_standing d.standing)
+          → none ≡ stands_none d.standing
           → Ends f has none
           ≡ Ends (frame_at frames n)
           (holds_header (kind g.watched.page) (packets_of_frame frames n))
           (stands_none (standing_at g frames (suc n) (frame_at frames n)))
       end_mark f has none d end at holds stand =
-          let stood = ap (λ (v : CheckerValue). stands_none (as_standing v.standing)) end
+          let stood = ap (λ (v : CheckerValue). stands_none v.standing) end
           ∙ ap stands_none stands_then in
           rw (at ∙ ap (λ (v : CheckerValue). v.frame) end ∙ is.frame_is, holds, stand ∙ stood) refl
 

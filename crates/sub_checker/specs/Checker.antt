@@ -7,7 +7,7 @@ use Rattle.stl_rows.specs.Programme.{ProgrammeValue}
 use Rattle.ttx_page.specs.PacketKind.{kind}
 use Rattle.ttx_page.specs.Span.{is_open_after}
 use Rattle.ttx_pes.specs.DataUnit.{UnitValue}
-use Rattle.sub_rules.specs.Events.{Standing, end_events, is_missed, undue_after, unfinished_from}
+use Rattle.sub_rules.specs.Events.{end_events, is_missed, undue_after, unfinished_from}
 use Rattle.sub_rules.specs.Events.{wrong_after}
 use Rattle.stl_rows.specs.DuePage.{TellsNextEdge, tci_of_ending}
 use Rattle.sub_rules.specs.PacketRules.{header_count, packets_of_units}
@@ -15,19 +15,11 @@ use Rattle.sub_rules.specs.Transmission.{SentFrame}
 use Rattle.sub_rules.specs.Trusted.{Mark}
 use Rattle.sub_rules.specs.Trusted.Mark.{AtEnd, Says}
 use Rattle.sub_rules.specs.declared.sending.Sending.{Sending}
+use Rattle.sub_rules.specs.declared.standing.Standing.{Standing}
 use Rattle.sub_packets.specs.Listener.{KnowsLast}
 use Rattle.sub_packets.specs.declared.listener.Listener.{Listener}
 use Rattle.sub_checker.specs.declared.counts.Counts.{Counts}
-use Rattle.sub_checker.specs.declared.standing.StandingRules.{StandingRules}
 use Rattle.sub_plan.specs.Schedule.{due_in}
-
--- What stands broken, as it is kept.
-abbrev pub as_standing : StandingRules → Standing
-as_standing s = record { content = s.content; gap = s.gap; incomplete = s.incomplete }
-
--- Nothing stands broken.
-abbrev pub none_stands : StandingRules
-none_stands = record { content = None; gap = false; incomplete = false }
 
 -- ---- what is counted
 
@@ -71,7 +63,7 @@ pub record CheckerValue : Type 0 where
   pub latest : ℕ
   pub frame : ℕ
   pub last : ℕ
-  pub standing : StandingRules
+  pub standing : Standing
   pub since : Option ℕ
   pub late_at : ℕ
   pub counts : Counts
@@ -143,7 +135,7 @@ late_now heard c =
     c.within == 0 || is_overdue_at c.programme c.within c.first (since_now heard c) c.frame
 
 -- What stands broken.
-abbrev pub stands : List (List ℕ) → CheckerValue → StandingRules
+abbrev pub stands : List (List ℕ) → CheckerValue → Standing
 stands heard c = record {
   content =
       if late_now heard c
@@ -160,7 +152,7 @@ abbrev pub end_marks : List (List ℕ) → CheckerValue → List Mark
 end_marks heard c =
     (if c.within == 0 then [] else AtEnd c.frame (since_now heard c) (late_now heard c) ∷ [])
     ++ map Says
-    (end_events (as_standing c.standing) c.last (as_standing (stands heard c)) c.frame)
+    (end_events c.standing c.last (stands heard c) c.frame)
 
 -- The checker after it.
 abbrev pub after_end : List (List ℕ) → CheckerValue → CheckerValue

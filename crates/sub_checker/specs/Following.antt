@@ -3,7 +3,7 @@
 use Rattle.std.specs.Prelude.{◌≡◌, ℕ, zero, suc, ◌+◌, ◌-◌, ◌<◌, ◌==◌, List, [], ◌++◌, length, map}
 use Rattle.std.specs.Prelude.{nat_le, false, true, Option, None, if◌then◌else◌}
 use Rattle.sub_rules.specs.Transmission.{Transmission}
-use Rattle.sub_checker.specs.Checker.{CheckerValue, as_standing}
+use Rattle.sub_checker.specs.Checker.{CheckerValue}
 use Rattle.sub_rules.specs.Events.{end_before, gap_length, is_gap, latest, nothing_stands}
 use Rattle.sub_rules.specs.Events.{order_events, since_frames, standing_at, standing_before}
 use Rattle.sub_rules.specs.Events.{unfinished_since}
@@ -45,11 +45,11 @@ pub record Follows
     (g : Task) (frames : Transmission) (n : ℕ) (last : List (List ℕ)) (c : CheckerValue)
     : Type 0 where
   pub known : Remembers g frames n last c
-  pub none : n ≡ 0 → as_standing c.standing ≡ nothing_stands
+  pub none : n ≡ 0 → c.standing ≡ nothing_stands
   pub begun : 0 < n → HasBegun g frames n c
   pub latest_is : 0 < n → c.latest ≡ latest frames n
   pub standing_is :
-      0 < n → as_standing c.standing ≡ standing_at g frames n (frame_at frames (n - 1))
+      0 < n → c.standing ≡ standing_at g frames n (frame_at frames (n - 1))
   pub last_is : 0 < n → c.last ≡ frame_at frames (n - 1)
   pub since_is : 0 < g.within → c.since ≡ since_frames g frames n
   pub number : c.counts.frames ≡ n
@@ -60,7 +60,7 @@ pub record Waits
     : Type 0 where
   pub known : Remembers g frames n last c
   pub begun : HasBegun g frames n c
-  pub standing_is : as_standing c.standing ≡ standing_before g frames n f
+  pub standing_is : c.standing ≡ standing_before g frames n f
   pub last_is : 0 < n → c.last ≡ end_before frames n f
   pub since_is : 0 < g.within → c.since ≡ since_before g frames n f
   pub number : c.counts.frames ≡ n
@@ -79,7 +79,7 @@ pub record Heard
     : Type 0 where
   pub known : Remembers g frames (suc n) last c
   pub begun : HasBegun g frames (suc n) c
-  pub standing_is : as_standing c.standing ≡ standing_before g frames n (frame_at frames n)
+  pub standing_is : c.standing ≡ standing_before g frames n (frame_at frames n)
   pub last_is : 0 < n → c.last ≡ end_before frames n (frame_at frames n)
   pub since_is : 0 < g.within → c.since ≡ since_before g frames n (frame_at frames n)
   pub number : c.counts.frames ≡ suc n

@@ -7,13 +7,12 @@ ghost use Rattle.stl_rows.specs.Programme.{IsProgramme};
 ghost use Rattle.sub_plan.specs.Options.{IsOptions};
 
 use crate::counts::Counts;
-use crate::standing::StandingRules;
 use crate::telling::Accepted;
 use std::marker::Model;
 use stl_rows::Programme;
 use sub_packets::Listener;
 use sub_plan::Options;
-use sub_rules::Watched;
+use sub_rules::{Standing, Watched};
 
 /// How far the check has come.
 #[derive(Drop)]
@@ -34,7 +33,7 @@ pub(crate) struct Checker<'a> {
     pub edge: Option<u32>,
     // The frame of the last end, and what stood broken there.
     pub last: u32,
-    pub standing: StandingRules,
+    pub standing: Standing,
     // The first of the frames up to the last end at whose ends the page was not whole, where it
     // need not be whole at each.
     pub since: Option<u32>,
@@ -96,7 +95,7 @@ impl<'a> Checker<'a> {
             frame: 0,
             edge: programme.next_edge(0),
             last: 0,
-            standing: StandingRules::none(),
+            standing: Standing::none(),
             since: None,
             late_at: 0,
             counts: Counts::new(),

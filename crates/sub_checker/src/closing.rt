@@ -10,9 +10,9 @@ ghost use Rattle.sub_checker.specs.Following.{Follows};
 ghost use Rattle.sub_checker.specs.Steps.{ending_fault, fault_events, last_fault};
 
 use crate::checker::Checker;
-use crate::standing::StandingRules;
+use crate::standing::tell_change;
 use sub_io::{Audience, Stopped};
-use sub_rules::{CheckFault, Event};
+use sub_rules::{CheckFault, Event, Standing};
 
 impl<'a> Checker<'a> {
     /// What is told after the end of the last frame, where this fault ended reading, if one did:
@@ -40,9 +40,8 @@ impl<'a> Checker<'a> {
         if self.counts.frames == 0 {
             return tell_fault(last, audience);
         }
-        let none = StandingRules::none();
-        self.standing
-            .tell_change(self.last, &none, self.last, audience)?;
+        let none = Standing::none();
+        tell_change(&self.standing, self.last, &none, self.last, audience)?;
         tell_fault(last, audience)
     }
 

@@ -2,12 +2,12 @@
 ghost use Rattle.std.specs.Prelude.{◌≡◌, ◌==◌, ◌&&◌, ℕ, suc, ◌+◌, ◌<◌, List, OnOk, IsTrue, None};
 ghost use Rattle.std.specs.Prelude.{false, is_err, length, nat_le, not, true};
 ghost use Rattle.stl_file.specs.TimeCode.{day};
-ghost use Rattle.sub_checker.specs.Checker.{after_end, end_marks, none_stands, quiet_end, stands};
+ghost use Rattle.sub_checker.specs.Checker.{after_end, end_marks, quiet_end, stands};
 ghost use Rattle.sub_checker.specs.Checker.{AreFew, is_overdue_at, late_now, since_now};
 ghost use Rattle.sub_checker.specs.Following.{Follows, Heard, Keeps, quiet_stage};
 ghost use Rattle.sub_checker.specs.Passing.{Moves, StagePasses};
 ghost use Rattle.sub_packets.specs.Listener.{Knows};
-ghost use Rattle.sub_rules.specs.Events.{undue_after, wrong_after};
+ghost use Rattle.sub_rules.specs.Events.{nothing_stands, undue_after, wrong_after};
 ghost use Rattle.sub_rules.specs.FrameRules.{Task, packets_of_frame};
 ghost use Rattle.sub_rules.specs.PieceEvents.{marks_of_ending, marks_of_waiting};
 ghost use Rattle.sub_rules.specs.Transmission.{Transmission};
@@ -18,16 +18,16 @@ ghost use Rattle.ttx_page.specs.Span.{holds_header};
 use crate::checker::Checker;
 use crate::late_end::{is_overdue, unfinished_from};
 use crate::passing::Stage;
-use crate::standing::StandingRules;
+use crate::standing::tell_change;
 use sub_io::{Audience, Stopped};
 use sub_packets::tell_if;
-use sub_rules::{CheckFault, Event};
+use sub_rules::{CheckFault, Event, Standing};
 
 /// What is found at an end, where the page need not be whole at each.
 #[derive(Drop)]
 pub(crate) struct EndWithin {
     /// What stands broken.
-    pub standing: StandingRules,
+    pub standing: Standing,
     /// The first of the frames up to this end at whose ends the page is not whole.
     pub since: Option<u32>,
     /// The page had to be whole by now.
@@ -41,7 +41,7 @@ impl<'a> Checker<'a> {
     #[tactic(auto, using(crate::proofs::EndingLemmas::quiet_stands))]
     fn is_quiet(&self) -> bool
         ensures { (heard : List (List ℕ)) → Knows heard self.now.listener → IsTrue result
-            → (self.now.standing ≡ none_stands) × (stands heard self.now ≡ none_stands)
+            → (self.now.standing ≡ nothing_stands) × (stands heard self.now ≡ nothing_stands)
             × (since_now heard self.now ≡ None) }
     {
         if !self.standing.has_none() {
@@ -55,7 +55,7 @@ impl<'a> Checker<'a> {
 
     // What stands broken at the frame that was reached, where the page has to be whole at the end
     // of each.
-    fn standing_now(&self) -> StandingRules
+    fn standing_now(&self) -> Standing
         requires each { self.now.within ≡ 0 }
         ensures { (heard : List (List ℕ)) → Knows heard self.now.listener
             → result ≡ stands heard self.now }
@@ -63,7 +63,7 @@ impl<'a> Checker<'a> {
         let content = self.listener.first_wrong();
         let gap = self.has_gap();
         let incomplete = self.listener.is_incomplete();
-        StandingRules {
+        Standing {
             content,
             gap,
             incomplete,
@@ -99,7 +99,7 @@ impl<'a> Checker<'a> {
             self.first_undue(differing)
         };
         let gap = self.has_gap();
-        let standing = StandingRules {
+        let standing = Standing {
             content,
             gap,
             incomplete: is_late && is_open,
@@ -167,8 +167,7 @@ impl<'a> Checker<'a> {
     {
         let frame = self.frame;
         let standing = self.standing_now();
-        self.standing
-            .tell_change(self.last, &standing, frame, stage)?;
+        tell_change(&self.standing, self.last, &standing, frame, stage)?;
         self.standing = standing;
         self.last = frame;
         Ok(())
@@ -191,8 +190,7 @@ impl<'a> Checker<'a> {
         let frame = self.frame;
         let end = self.end_now();
         stage.at_end(frame, end.since, end.is_late);
-        self.standing
-            .tell_change(self.last, &end.standing, frame, stage)?;
+        tell_change(&self.standing, self.last, &end.standing, frame, stage)?;
         self.standing = end.standing;
         self.since = end.since;
         self.last = frame;

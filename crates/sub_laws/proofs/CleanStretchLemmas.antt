@@ -2,7 +2,7 @@
 -- A clean stretch has what suffices: `law_of_untold_stretch`.
 use Rattle.std.proofs.lemmas.Bool.Decides.{nat_tests}
 use Rattle.std.proofs.Common.{◌≡◌, ℕ}
-use Rattle.std.proofs.Common.{Option, ap, ◌∙◌}
+use Rattle.std.proofs.Common.{Option, ap, refl, ◌∙◌}
 use Rattle.std.proofs.Common.{IsTrue, IsFalse, arith}
 use Rattle.ttx_page.specs.Shown.{shown}
 use Rattle.stl_rows.specs.Programme.{ProgrammeValue}
@@ -11,6 +11,7 @@ use Rattle.sub_rules.specs.Events.{standing_at}
 use Rattle.sub_rules.specs.FrameRules.{Task, Unread}
 use Rattle.sub_rules.specs.FrameRules.{task_of}
 use Rattle.sub_rules.specs.Transmission.{Transmission}
+use Rattle.sub_rules.specs.declared.end_rule.EndRule.TheVariants.{Content, Incomplete}
 use Rattle.sub_laws.specs.CleanStretch.{AtEnds, IsUntold, LawOfUntoldStretch}
 use Rattle.sub_laws.specs.OnScreen.{CompleteWithin}
 use Rattle.sub_laws.specs.Sufficient.{IsSufficient}
@@ -31,7 +32,7 @@ module _ (programme : ProgrammeValue) (transmission : Transmission) (options : O
     content = λ f row column low high named.
         let end = end_of programme transmission options unread a b untold f low high in
         ap (λ ps. shown options.page ps row column) end.2
-        ∙ (stands_broken g transmission end.0 f at_once end.1.1).content.0
+        ∙ ((stands_broken g transmission end.0 f at_once end.1.1).rules Content).0
         (untold.content end.0 f end.1 low high) row column named;
   }
 
@@ -43,8 +44,8 @@ module _ (programme : ProgrammeValue) (transmission : Transmission) (options : O
   complete asks closed f low high holds =
       let end = end_of programme transmission options unread a b untold f low high in
       let shut =
-      (stands_broken g transmission end.0 f at_once end.1.1).incomplete.0
-      (closed end.0 f end.1 low high)
+      ((stands_broken g transmission end.0 f at_once end.1.1).rules Incomplete).0
+      (rw (closed end.0 f end.1 low high) refl)
       asks in
       grind (arith, nat_tests)
 

@@ -3,7 +3,7 @@
 -- `all_told`. Part by part, `law_of_broken_places`; and of the whole, `law_of_nothing_told`.
 use Rattle.std.proofs.Common.{◌≡◌, ℕ, zero, suc, ◌+◌, ◌-◌, ◌<◌, ◌≤◌, ◌⊎◌, inl, inr, Bool, true}
 use Rattle.std.proofs.Common.{false, not, List, [], ◌∷◌, length, Option, Some, None, refl, ◌↔◌, sym}
-use Rattle.std.proofs.Common.{ap, subst, arith, append_assoc, if◌then◌else◌, ◌∙◌, ◌||◌, ◌&&◌}
+use Rattle.std.proofs.Common.{ap, subst, arith, append_assoc, if◌then◌else◌, ◌∙◌, ◌||◌}
 use Rattle.std.proofs.Common.{IsFalse}
 use Rattle.std.specs.Bool.{Decides}
 use Rattle.std.proofs.lemmas.Bool.{cases_lt}
@@ -11,27 +11,30 @@ use Rattle.std.proofs.lemmas.Bool.Decides.{nat_tests, Decides-ltb}
 use Rattle.std.proofs.lemmas.List.{append-nil}
 use Rattle.std.proofs.lemmas.Option.{none-some, same_Some}
 use Rattle.ttx_packet.specs.PacketAddress.{IsPacket}
-use Rattle.sub_rules.specs.Events.{broken_cell, closing_events, end_before, end_events}
-use Rattle.sub_rules.specs.Events.{events_at_end, first_header_events}
-use Rattle.sub_rules.specs.Events.{first_told}
-use Rattle.sub_rules.specs.Events.{gap_length, is_gap, is_incomplete}
-use Rattle.sub_rules.specs.Events.{is_late, is_pending, is_short, latest, late_events}
-use Rattle.sub_rules.specs.Events.{nothing_stands, order_events, packet_events, packet_fault}
-use Rattle.sub_rules.specs.Events.{packets_told, rest_events, rules_told, standing_at}
-use Rattle.sub_rules.specs.Events.{standing_before, unread_fault}
+use Rattle.sub_rules.specs.Events.{broken_at, broken_cell, closing_events, end_before}
+use Rattle.sub_rules.specs.Events.{end_events, end_fault, end_rules, events_at_end}
+use Rattle.sub_rules.specs.Events.{first_header_events, first_told, gap_length, is_pending}
+use Rattle.sub_rules.specs.Events.{is_short, late_events, latest, nothing_stands, order_events}
+use Rattle.sub_rules.specs.Events.{packet_events, packet_fault, packets_told, rest_events}
+use Rattle.sub_rules.specs.Events.{rule_events, rules_told, standing_at, standing_before}
+use Rattle.sub_rules.specs.Events.{unread_fault}
 use Rattle.sub_rules.specs.FrameRules.{HasHeader, Task, Unread, end_frame, frame_at, packets_before}
 use Rattle.sub_rules.specs.FrameRules.{packets_of_frame, task_of}
 use Rattle.sub_rules.specs.PacketRules.{AreClean, KeepsAllRules}
 use Rattle.sub_rules.specs.Transmission.{EachPacket, Transmission}
+use Rattle.sub_rules.specs.declared.end_rule.EndRule.{EndRule}
+use Rattle.sub_rules.specs.declared.end_rule.EndRule.TheVariants as end
 use Rattle.sub_rules.specs.declared.event.Event.{Event}
 use Rattle.sub_rules.specs.declared.event.Event.TheVariants.{Told}
 use Rattle.sub_rules.specs.declared.fault.CheckFault.{CheckFault}
 use Rattle.sub_rules.specs.declared.fault.CheckFault.TheVariants as fault
 use Rattle.sub_rules.specs.declared.packet_rule.PacketRule.{PacketRule}
 use Rattle.sub_rules.proofs.EndLemmas.{gap_length-is, standing_before_is}
+use Rattle.sub_rules.proofs.EndRuleLemmas.{nothing_at, rules_none, stands_nothing}
 use Rattle.sub_laws.specs.BrokenPlaces.{TellsBroken}
 use Rattle.sub_laws.proofs.BrokenRuleLemmas.{clean_decided, refuted, rule_decided}
 use Rattle.sub_laws.proofs.FirstFoundLemmas.{Finds, Finds-append, Finds-like, Finds-none}
+use Rattle.sub_laws.proofs.FirstFoundLemmas.{end_found}
 use Rattle.sub_laws.proofs.FirstFoundLemmas.{first_found, found_so_far, packet_found}
 use Rattle.sub_laws.proofs.FrameByFrame.{AllOk, AreOk, FrameOk, IsQuiet, IsReadTo, OrderOk}
 use Rattle.sub_laws.proofs.FrameByFrame.{PacketsOk}
@@ -48,6 +51,7 @@ use Rattle.sub_plan.specs.Options.{OptionsValue}
 use Rattle.sub_rules.specs.Good.{Good}
 use Rattle.sub_rules.specs.PieceEvents.{all_of_pieces}
 use Rattle.sub_rules.specs.Pieces.Piece.{Sent}
+use Rattle.sub_rules.specs.declared.standing.Standing.{Standing}
 use Rattle.sub_laws.specs.OnScreen.{Complete}
 
 -- ---- what is told first
@@ -130,25 +134,34 @@ module _ (g : Task) (frames : Transmission) (Named : CheckFault → Type 0)
 
   -- ---- an end
 
-  -- Where nothing stood broken at the end before.
-  standing_told : (prior f : ℕ) (o : Option (ℕ × ℕ)) (late unended : Bool)
-      → ((x : ℕ × ℕ) → o ≡ Some x → Named (fault.Content f x.0 x.1))
-      → Tells (record { content = o; gap = late; incomplete = unended } ≡ nothing_stands)
-      (end_events nothing_stands prior
-      (record { content = o; gap = late; incomplete = unended }) f)
-  unfolding end_events
-  standing_told prior f (Some x) late unended named = grind (arith, nat_tests, rule_told, none-some)
-  standing_told prior f None true unended named = grind (arith, nat_tests, rule_told)
-  standing_told prior f None false true named = grind (arith, nat_tests, rule_told)
-  standing_told prior f None false false named = Finds-none refl
+  -- Of a rule that did not stand broken at the end before.
+  rule_at_end : (rule : EndRule) (o : Option (ℕ × ℕ)) (prior f : ℕ)
+      → ((x : ℕ × ℕ) → o ≡ Some x → Named (end_fault rule f x))
+      → Tells (o ≡ None) (rule_events rule None prior o f)
+  rule_at_end rule None prior f named = Finds-none refl
+  rule_at_end rule (Some x) prior f named =
+      rule_told (end_fault rule f x) (named x refl) (λ e. none-some x (sym e))
 
+  -- How each is named.
+  end_named : (n f : ℕ) → IsReadTo g frames n f → (rule : EndRule) (x : ℕ × ℕ)
+      → broken_at rule (standing_at g frames n f) ≡ Some x
+      → Named (end_fault rule f x)
+  unfolding standing_at
+  end_named n f read end.Content x e = wrong n f x read e
+  end_named n f read end.Gap x e = plain _ refl
+  end_named n f read end.Incomplete x e = plain _ refl
+
+  -- Where nothing stood broken at the end before.
   quiet_told : (n f prior : ℕ) → IsReadTo g frames n f
       → Tells (IsQuiet g frames n f)
       (end_events nothing_stands prior (standing_at g frames n f) f)
-  unfolding standing_at
   quiet_told n f prior read =
-      standing_told prior f (broken_cell g frames n f) (is_gap g frames n f)
-      (is_late g frames n f && is_incomplete g frames n) (λ x e. wrong n f x read e)
+      let now : Standing = standing_at g frames n f in
+      Finds-like (λ quiet rule. ap (broken_at rule) quiet ∙ nothing_at rule)
+      (λ none. stands_nothing now (rules_none now none))
+      (end_found nothing_stands prior now f
+      (λ rule. rw (nothing_at rule)
+      (rule_at_end rule (broken_at rule now) prior f (end_named n f read rule))))
 
   -- ---- the frames of the day before a frame
 
@@ -418,7 +431,7 @@ module _ (g : Task) (frames : Transmission) (Named : CheckFault → Type 0)
 
   closing_told : (n : ℕ) → n ≡ length frames → AreOk g frames (length frames)
       → Tells (AllOk g frames) (closing_events g frames n)
-  unfolding closing_events end_events
+  unfolding closing_events end_events end_rules
   closing_told zero e past = grind (arith, nat_tests, rule_told)
   closing_told (suc m) e past =
       let last : standing_at g frames (suc m) (end_frame frames) ≡ nothing_stands =

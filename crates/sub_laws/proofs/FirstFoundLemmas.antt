@@ -1,20 +1,24 @@
 -- For what is told and what may stay.
 -- What is found first in a list of events, whatever is looked for in them, and where it is nothing:
--- `Finds`. Of one list after another, `Finds-append`; of lists that grow, `found_so_far`; and of
--- what is told of a packet, `packet_found`.
+-- `Finds`. Of one list after another, `Finds-append`; of lists that grow, `found_so_far`; of what
+-- is told of a packet, `packet_found`; and at an end, `end_found`.
 use Rattle.std.proofs.lemmas.Bool.Decides.{nat_tests}
 use Rattle.std.proofs.Common.{◌≡◌, ℕ, zero, suc, ◌<◌, Bool, true, List, [], ◌∷◌, ◌++◌, map, filter}
-use Rattle.std.proofs.Common.{Option, Some, None, refl, arith, get_or}
+use Rattle.std.proofs.Common.{Option, Some, None, refl, arith, flat_map, get_or}
 use Rattle.std.specs.List.{AllByRecursion}
 use Rattle.std.specs.Option.{option_or}
 use Rattle.std.proofs.lemmas.Bool.{cases_lt}
 use Rattle.std.proofs.lemmas.List.Elements.{recursion_from_All}
-use Rattle.sub_rules.specs.Events.{packet_fault, rules_told}
+use Rattle.sub_rules.specs.Events.{broken_at, end_events, end_rules, packet_fault}
+use Rattle.sub_rules.specs.Events.{rule_events, rules_told}
 use Rattle.sub_rules.specs.PacketTests.{breaks, broken_rules, packet_rules}
+use Rattle.sub_rules.specs.declared.end_rule.EndRule.{EndRule}
 use Rattle.sub_rules.specs.declared.event.Event.{Event}
 use Rattle.sub_rules.specs.declared.event.Event.TheVariants.{Told}
 use Rattle.sub_rules.specs.declared.packet_rule.PacketRule.{PacketRule}
 use Rattle.sub_rules.specs.declared.packet_rule.Watched.{Watched}
+use Rattle.sub_rules.specs.declared.standing.Standing.{Standing}
+use Rattle.sub_rules.proofs.EndRuleLemmas.{each_end_rule}
 
 module _ {X : Type 0} where
   -- What is looked for, in the first of these events that has it.
@@ -100,3 +104,30 @@ module _ {X : Type 0} (look : Event → Option X) (At : X → Type 0) (frame k :
   packet_found w before p =
       Finds-like (of_each_rule _) (each_rule _)
       (rules_found (λ r. breaks r w before p) packet_rules)
+
+-- ---- the rules of a frame's end
+
+module _ {X : Type 0} {look : Event → Option X} {At : X → Type 0} {Given Holds : EndRule → Type 0}
+  where
+    -- In what is told at an end, by what is told of each of them.
+    pub end_found : (old : Standing) (before : ℕ) (new : Standing) (f : ℕ)
+        → ((rule : EndRule)
+        → Finds look At (Given rule) (Holds rule)
+        (rule_events rule (broken_at rule old) before (broken_at rule new) f))
+        → Finds look At ((rule : EndRule) → Given rule) ((rule : EndRule) → Holds rule)
+        (end_events old before new f)
+    unfolding end_events
+    end_found old before new f each =
+        Finds-like
+        (λ given. recursion_from_All Given end_rules (λ k d l. given (get_or end_rules k d)))
+        (each_end_rule Holds) (go end_rules)
+      where
+        go : (rules : List EndRule)
+            → Finds look At (AllByRecursion Given rules) (AllByRecursion Holds rules)
+            (flat_map (λ rule. rule_events rule (broken_at rule old) before (broken_at rule new) f)
+            rules)
+        go [] = Finds-none tt
+        go (rule ∷ rules) =
+            Finds-append (each rule)
+            (λ one. Finds-like (λ given. given.1) (λ others. (one, others)) (go rules))
+            (λ given. given.0)

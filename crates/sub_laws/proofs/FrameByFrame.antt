@@ -1,10 +1,8 @@
 -- For what is told and what may stay.
 -- What is asked of a transmission, frame by frame of the list.
 use Rattle.std.proofs.Common.{◌≡◌, ℕ, ◌+◌, ◌-◌, ◌<◌, ◌≤◌, ◌⊎◌, length, Some, None, IsFalse}
-use Rattle.ttx_page.specs.Page.{IsCell}
 use Rattle.sub_rules.specs.Events.{is_pending, nothing_stands, standing_at}
-use Rattle.sub_rules.specs.FrameRules.{HasHeader, IsCovered, IsEnded, ShowsDue, Task, end_frame}
-use Rattle.sub_rules.specs.FrameRules.{frame_at, packets_of_frame}
+use Rattle.sub_rules.specs.FrameRules.{HasHeader, Task, end_frame, frame_at, packets_of_frame}
 use Rattle.sub_rules.specs.PacketRules.{KeepsAllRules}
 use Rattle.sub_rules.specs.Transmission.{Transmission}
 use Rattle.sub_laws.proofs.PrefixLemmas.{IsInGap, before, packet_at}
@@ -12,12 +10,6 @@ use Rattle.sub_laws.proofs.PrefixLemmas.{IsInGap, before, packet_at}
 -- Nothing stands broken after n frames of the list, at the end of frame f.
 abbrev pub IsQuiet : Task → Transmission → ℕ → ℕ → Type 0
 IsQuiet g frames n f = standing_at g frames n f ≡ nothing_stands
-
--- The page is whole there, and not too long ago was sent.
-pub record IsWhole (g : Task) (frames : Transmission) (n f : ℕ) : Type 0 where
-  pub shows : (row column : ℕ) → IsCell row column → ShowsDue g frames n f row column
-  pub covered : IsCovered g frames n f
-  pub ended : IsEnded g frames n
 
 -- The number of frame i of the list is as asked.
 pub record OrderOk (g : Task) (frames : Transmission) (i : ℕ) : Type 0 where

@@ -10,7 +10,7 @@ use Rattle.std.proofs.lemmas.Option.{same_Some}
 use Rattle.std.proofs.lemmas.List.Folds.{list_any-append}
 use Rattle.std.specs.List.{list_any}
 use Rattle.std.specs.Prelude.{⊤}
-use Rattle.sub_rules.specs.Events.{Standing, end_before, end_events, events_at_end}
+use Rattle.sub_rules.specs.Events.{end_before, end_events, events_at_end}
 use Rattle.sub_rules.specs.Events.{first_header_events, first_told, gap_length, is_late, latest}
 use Rattle.sub_rules.specs.Events.{order_events, packet_fault, packets_told}
 use Rattle.sub_rules.specs.Fault.{fault_at_pes}
@@ -33,6 +33,7 @@ use Rattle.sub_rules.specs.declared.packet_rule.PacketRule.{PacketRule}
 use Rattle.sub_rules.specs.declared.packet_rule.Watched.{Watched}
 use Rattle.sub_rules.specs.Trusted.{Mark, at_pes, closing_at, doubted_by, is_said, pes_told, run_of}
 use Rattle.sub_rules.specs.Trusted.{told_after, told_at, trusted, trusted_up_to, whole_of}
+use Rattle.sub_rules.specs.declared.standing.Standing.{Standing}
 
 module _ (test : Mark → Bool) where
   -- An event passes where it is said.

@@ -37,7 +37,10 @@ use Rattle.sub_rules.specs.FrameRules.{HasHeader, IsCovered, IsEnded, Task, Unre
 use Rattle.sub_rules.specs.FrameRules.{frame_at, packets_before, packets_of_frame, task_of}
 use Rattle.sub_rules.specs.FrameRules.{watched_of}
 use Rattle.sub_laws.specs.CleanStretch.{IsEnd}
-use Rattle.sub_laws.proofs.FrameByFrame.{AllOk, FrameOk, IsQuiet, IsWhole}
+use Rattle.sub_rules.specs.declared.end_rule.EndRule.{EndRule}
+use Rattle.sub_rules.specs.declared.end_rule.EndRule.TheVariants.{Content, Incomplete}
+use Rattle.sub_laws.specs.BrokenPlaces.{IsKept}
+use Rattle.sub_laws.proofs.FrameByFrame.{AllOk, FrameOk, IsQuiet}
 use Rattle.sub_laws.proofs.GoodLemmas.{any_sent, each_packet, number_at, rises_each, sent_any}
 use Rattle.sub_laws.proofs.GoodLemmas.{whole}
 use Rattle.ttx_page.proofs.SpanPush.{span-push}
@@ -46,8 +49,8 @@ use Rattle.sub_laws.proofs.PrefixLemmas.{EachAfter, RiseTo, before_more, each_af
 use Rattle.sub_laws.proofs.PrefixLemmas.{first-same, rises_strictly, last-same, on_air_at, IsInGap}
 use Rattle.sub_laws.proofs.PrefixLemmas.{end_at, end_before_rest, end_high, end_is_on_air, end_low}
 use Rattle.sub_laws.proofs.PrefixLemmas.{on_air_is}
-use Rattle.sub_laws.proofs.StandingLemmas.{always_late, broken_is, ended_is, incomplete_decided}
-use Rattle.sub_laws.proofs.StandingLemmas.{gap_decided, no_wrong, quiet_parts, whole_is}
+use Rattle.sub_laws.proofs.StandingLemmas.{all_kept, always_late, broken_is, ended_is}
+use Rattle.sub_laws.proofs.StandingLemmas.{gap_decided, incomplete_decided, no_wrong, quiet_parts}
 use Rattle.sub_rules.proofs.FrameLists.{joined_more}
 use Rattle.sub_laws.proofs.CleanSpanLemmas.{MayFollow, clean_cuts, last_clean}
 use Rattle.sub_rules.specs.declared.packet_rule.PacketRule.TheVariants as rule
@@ -240,17 +243,18 @@ module _ (programme : ProgrammeValue) (options : OptionsValue) (unread : Option 
   -- ---- within 0 frames
 
   module _ (at_once : options.within ≡ 0) where
-    -- At the end of each frame the page is whole.
-    whole_at : (n f : ℕ) → IsEnd t n f → IsWhole (task_of programme options unread) t n f
-    whole_at n f end =
-        whole_is (task_of programme options unread) t n f at_once end.1 (quiet_at n f end)
+    -- At each end all rules are kept.
+    kept_at : (n f : ℕ) → IsEnd t n f → (rule : EndRule)
+        → IsKept rule (task_of programme options unread) t n f
+    kept_at n f end =
+        all_kept (task_of programme options unread) t n f at_once end.1 (quiet_at n f end)
 
     -- The due page is shown.
     shows_at : (f row column : ℕ) → first_frame t ≤ f → f ≤ last_frame t → IsCell row column
         → shown options.page (on_air_until t f) row column ≡ cell (due_in programme f) row column
     shows_at f row column low high is =
         let (n, end, on, from) = end_of f low high in
-        ap (λ xs. shown options.page xs row column) on ∙ (whole_at n f end).shows row column is
+        ap (λ xs. shown options.page xs row column) on ∙ kept_at n f end Content row column is
 
     -- The transmission is good.
     pub Good-from_holds : EachPacket (λ packet. length packet ≡ 42) t → Good programme t options
@@ -260,7 +264,7 @@ module _ (programme : ProgrammeValue) (options : OptionsValue) (unread : Option 
     pub Complete-from_holds : IsTrue options.asks_complete → Complete t options
     Complete-from_holds asks f low high holds =
         let (n, end, on, from) = end_of f low high in
-        let ended = (whole_at n f end).ended asks in
+        let ended = kept_at n f end Incomplete asks in
         grind (arith, nat_tests)
 
 -- ---- the law, the other way

@@ -1,7 +1,7 @@
 -- For what is told and what may stay.
 -- What stands broken at an end: its first wrong cell, `first_wrong`, `none_wrong`; whether the
--- repeat bound has passed, `gap_decided`; whether the page is open, `incomplete_decided`; and
--- whether anything stands broken, `stands_broken`.
+-- repeat bound has passed, `gap_decided`; whether the page is open, `incomplete_decided`; whether
+-- anything stands broken, `quiet_parts`; and rule by rule, `stands_broken`.
 use Rattle.std.proofs.Common.{◌≡◌, ◌↔◌, ℕ, zero, suc, ◌+◌, ◌-◌, ◌<◌, ◌≤◌, Bool, true, false, []}
 use Rattle.std.proofs.Common.{length, take, Option, Some, None, refl, sym, subst, arith, not, ◌||◌}
 use Rattle.std.proofs.Common.{◌&&◌, ◌==◌, ◌∙◌, ap, get_or, is_some, option_map}
@@ -18,14 +18,17 @@ use Rattle.ttx_packet.specs.OneBit.{first_below}
 use Rattle.ttx_packet.proofs.OneBitLemmas.{first_below_is}
 use Rattle.ttx_page.specs.Page.{IsCell, cell}
 use Rattle.ttx_page.specs.Shown.{shown}
-use Rattle.sub_rules.specs.Events.{broken_cell, covers, first_cell, is_gap, is_incomplete, is_late}
-use Rattle.sub_rules.specs.Events.{nothing_stands, standing_at, wrong_after, wrong_cell}
+use Rattle.sub_rules.specs.Events.{broken_at, broken_cell, covers, first_cell, is_gap}
+use Rattle.sub_rules.specs.Events.{is_incomplete, is_late, standing_at, wrong_after, wrong_cell}
 use Rattle.sub_rules.specs.FrameRules.{HasHeader, IsCovered, IsEnded, ShowsDue, Task, frame_at}
 use Rattle.sub_rules.specs.FrameRules.{packets_before}
 use Rattle.sub_rules.specs.Transmission.{SentFrame, Transmission}
 use Rattle.sub_rules.proofs.TestLemmas.{below_before, below_none, holds}
-use Rattle.sub_laws.specs.BrokenPlaces.{StandsBroken, WrongFirst}
-use Rattle.sub_laws.proofs.FrameByFrame.{IsQuiet, IsWhole}
+use Rattle.sub_rules.specs.declared.end_rule.EndRule.{EndRule}
+use Rattle.sub_rules.specs.declared.end_rule.EndRule.TheVariants as end
+use Rattle.sub_rules.proofs.EndRuleLemmas.{nothing_at}
+use Rattle.sub_laws.specs.BrokenPlaces.{IsKept, StandsBroken, WrongFirst}
+use Rattle.sub_laws.proofs.FrameByFrame.{IsQuiet}
 
 -- ---- the first cell
 
@@ -127,12 +130,6 @@ module _ (test : ℕ → ℕ → Bool) where
 
 -- ---- what stands broken at an end
 
--- Of the three none stands.
-none_stands : (o : Option (ℕ × ℕ)) (late unended : Bool)
-    → (record { content = o; gap = late; incomplete = unended } ≡ nothing_stands)
-    ↔ ((o ≡ None) × (late ≡ false) × (unended ≡ false))
-none_stands o late unended = grind (arith, nat_tests)
-
 module _ (g : Task) (frames : Transmission) (n f : ℕ) where
   -- A cell shows another code than is due.
   abbrev is_wrong : ℕ → ℕ → Bool
@@ -197,13 +194,17 @@ module _ (g : Task) (frames : Transmission) (n f : ℕ) where
   unfolding is_incomplete
   incomplete_decided = grind (arith, nat_tests)
 
-  -- Nothing stands broken exactly where none of the three does.
+  -- Nothing stands broken exactly where no rule does.
   pub quiet_parts : IsQuiet g frames n f
       ↔ ((broken_cell g frames n f ≡ None)
       × (is_gap g frames n f ≡ false)
       × ((is_late g frames n f && is_incomplete g frames n) ≡ false))
   unfolding standing_at
-  quiet_parts = none_stands _ _ _
+  quiet_parts = (
+    λ quiet.
+        (ap (λ s. s.content) quiet, ap (λ s. s.gap) quiet, ap (λ s. s.incomplete) quiet),
+    λ parts. rw (parts.0, parts.1, parts.2) refl,
+  )
 
   -- ---- within 0 frames
 
@@ -221,25 +222,22 @@ module _ (g : Task) (frames : Transmission) (n f : ℕ) where
     pub ended_is : (is_late g frames n f && is_incomplete g frames n) ≡ is_incomplete g frames n
     ended_is = rw always_late refl
 
-    -- Nothing stands broken exactly where the page is whole.
-    pub whole_is : n ≤ length frames → IsQuiet g frames n f → IsWhole g frames n f
-    whole_is l quiet =
-        let parts = quiet_parts.0 quiet in
-        record {
-          shows = none_wrong (sym broken_is ∙ parts.0);
-          covered = (gap_decided l).0 (ap not parts.1);
-          ended = incomplete_decided.0 (ap not (sym ended_is ∙ parts.2));
-        }
+    -- A rule stands broken exactly where it is not kept.
+    kept_is : n ≤ length frames → (rule : EndRule)
+        → (broken_at rule (standing_at g frames n f) ≡ None) ↔ IsKept rule g frames n f
+    unfolding standing_at
+    kept_is l end.Content =
+        (λ e. none_wrong (sym broken_is ∙ e), λ shows. broken_is ∙ no_wrong shows)
+    kept_is l end.Gap = grind (arith, nat_tests, gap_decided l)
+    kept_is l end.Incomplete = let ended = ended_is in grind (arith, nat_tests, incomplete_decided)
 
-    -- Each of the three. For `law_of_broken_places`.
+    -- So all are kept where nothing stands broken.
+    pub all_kept : n ≤ length frames → IsQuiet g frames n f → (rule : EndRule)
+        → IsKept rule g frames n f
+    all_kept l quiet rule = (kept_is l rule).0 (ap (broken_at rule) quiet ∙ nothing_at rule)
+
+    -- For `law_of_broken_places`.
     pub stands_broken : n ≤ length frames → StandsBroken g frames n f
     unfolding standing_at
     stands_broken l =
-        let broken = broken_is in
-        let ended = ended_is in
-        record {
-          content = (λ e. none_wrong (sym broken ∙ e), λ shows. broken ∙ no_wrong shows);
-          cell = λ x e. first_wrong x (sym broken ∙ e);
-          gap = grind (arith, nat_tests, gap_decided l);
-          incomplete = grind (arith, nat_tests, incomplete_decided);
-        }
+        record { rules = kept_is l; cell = λ x e. first_wrong x (sym broken_is ∙ e) }

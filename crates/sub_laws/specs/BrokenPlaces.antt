@@ -6,8 +6,8 @@ use Rattle.ttx_packet.specs.PacketAddress.{IsPacket}
 use Rattle.ttx_page.specs.Page.{IsCell}
 use Rattle.stl_rows.specs.Programme.{IsProgramme, ProgrammeValue}
 use Rattle.sub_plan.specs.Options.{OptionsValue}
-use Rattle.sub_rules.specs.Events.{first_header_events, first_told, late_events, order_events}
-use Rattle.sub_rules.specs.Events.{standing_at}
+use Rattle.sub_rules.specs.Events.{broken_at, first_header_events, first_told, late_events}
+use Rattle.sub_rules.specs.Events.{order_events, standing_at}
 use Rattle.sub_rules.specs.FrameRules.{HasHeader, IsCovered, IsEnded, ShowsDue, Task, Unread}
 use Rattle.sub_rules.specs.FrameRules.{end_frame, frame_at, task_of}
 use Rattle.sub_rules.specs.Good.{Good}
@@ -18,6 +18,8 @@ use Rattle.sub_rules.specs.Pieces.Piece.{Sent}
 use Rattle.sub_rules.specs.PacketRules.{AreClean, KeepsRule}
 use Rattle.sub_rules.specs.PacketTests.{breaks}
 use Rattle.sub_rules.specs.Transmission.{EachPacket, Transmission}
+use Rattle.sub_rules.specs.declared.end_rule.EndRule.{EndRule}
+use Rattle.sub_rules.specs.declared.end_rule.EndRule.TheVariants as end
 use Rattle.sub_rules.specs.declared.packet_rule.PacketRule.{PacketRule}
 use Rattle.sub_rules.specs.declared.packet_rule.PacketRule.TheVariants as rule
 use Rattle.sub_rules.specs.declared.packet_rule.Watched.{Watched}
@@ -30,18 +32,23 @@ pub record WrongFirst (g : Task) (frames : Transmission) (n f row column : ℕ) 
   pub above : (r k : ℕ) → IsCell r k → r < row → ShowsDue g frames n f r k
   pub before : (k : ℕ) → k < column → ShowsDue g frames n f row k
 
--- What stands broken at the end of frame f, after n frames of the list: content, at the first cell
--- that is wrong, where one is; the repeat bound, and the page's end, exactly where they are broken.
+-- What each rule of a frame's end asks at the end of frame f, after n frames of the list.
+abbrev pub IsKept : EndRule → Task → Transmission → ℕ → ℕ → Type 0
+IsKept end.Content g frames n f =
+    (row column : ℕ) → IsCell row column → ShowsDue g frames n f row column
+IsKept end.Gap g frames n f = IsCovered g frames n f
+IsKept end.Incomplete g frames n f = IsEnded g frames n
+
+-- What stands broken there: a rule exactly where it is not kept; content at the first cell that is
+-- wrong.
 pub record StandsBroken (g : Task) (frames : Transmission) (n f : ℕ) : Type 0 where
-  pub content :
-      ((standing_at g frames n f).content ≡ None)
-      ↔ ((row column : ℕ) → IsCell row column → ShowsDue g frames n f row column)
+  pub rules :
+      (rule : EndRule)
+      → (broken_at rule (standing_at g frames n f) ≡ None) ↔ IsKept rule g frames n f
   pub cell :
       (x : ℕ × ℕ)
       → (standing_at g frames n f).content ≡ Some x
       → WrongFirst g frames n f x.0 x.1
-  pub gap : IsFalse (standing_at g frames n f).gap ↔ IsCovered g frames n f
-  pub incomplete : IsFalse (standing_at g frames n f).incomplete ↔ IsEnded g frames n
 
 -- A packet after whole packets that keep all rules, whole itself, of a code word for an address,
 -- and of odd parity where it is a row of the open page. Two such packets of one row that have the

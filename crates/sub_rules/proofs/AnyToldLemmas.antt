@@ -7,7 +7,7 @@ use Rattle.std.proofs.Common.{◌++◌, map, length, Option, refl, ◌∙◌, ap
 use Rattle.std.specs.List.{list_any}
 use Rattle.std.proofs.lemmas.Bool.{or_parts}
 use Rattle.std.proofs.lemmas.List.Folds.{list_any-append}
-use Rattle.sub_rules.specs.Events.{Standing, closing_events, end_events, endings}
+use Rattle.sub_rules.specs.Events.{closing_events, end_events, endings}
 use Rattle.sub_rules.specs.Events.{first_header_events, nothing_stands}
 use Rattle.sub_rules.specs.Events.{order_events, packet_fault, packets_told, rest_events}
 use Rattle.sub_rules.specs.Events.{rules_told, standing_at}
@@ -19,6 +19,8 @@ use Rattle.sub_rules.specs.declared.fault.CheckFault.TheVariants as fault
 use Rattle.sub_rules.specs.declared.packet_rule.PacketRule.{PacketRule}
 use Rattle.sub_rules.specs.declared.packet_rule.Watched.{Watched}
 use Rattle.sub_rules.specs.Trusted.{at_pes}
+use Rattle.sub_rules.specs.declared.standing.Standing.{Standing}
+use Rattle.sub_rules.proofs.EndRuleLemmas.{end_any}
 use Rattle.sub_rules.proofs.FrameEvents.{frame_events, gap_events}
 
 -- ---- a test of each event
@@ -81,10 +83,10 @@ own_names pes (e ∷ es) own =
     let each = or_parts (is_foreign pes e) _ own in
     ap₂ ◌∷◌ (own_at pes e each.0) (own_names pes es each.1)
 
-own_end : (pes : ℕ) (old : Standing) (before : ℕ) (new : Standing) (f : ℕ)
+pub own_end : (pes : ℕ) (old : Standing) (before : ℕ) (new : Standing) (f : ℕ)
     → list_any (is_foreign pes) (end_events old before new f) ≡ false
-unfolding end_events
-own_end pes old before new f = grind (arith, nat_tests)
+own_end pes old before new f =
+    end_any (is_foreign pes) (λ rule f cell. grind arith) (λ rule f. refl) old before new f
 
 own_rule : (pes : ℕ) (r : PacketRule) (frame k : ℕ)
     → is_foreign pes (Told (packet_fault r frame k)) ≡ false

@@ -2,6 +2,7 @@ pub mod AnyToldLemmas
 pub mod CodeWordLemmas
 pub mod CodesLemmas
 pub mod EndLemmas
+pub mod EndRuleLemmas
 pub mod FirstFrameLemmas
 pub mod FrameEvents
 pub mod FrameLists

@@ -2,11 +2,13 @@
 -- first piece that is passed over. Main lemma: first_told_is.
 use Rattle.std.proofs.Common.{◌≡◌, ℕ, suc, ◌+◌, List, [], ◌∷◌, ◌++◌, length, map, Option, Some}
 use Rattle.std.proofs.Common.{None, refl, sym, ap, ◌∙◌, arith, append_assoc, length-append}
+use Rattle.std.proofs.Common.{flat_map}
 use Rattle.std.proofs.lemmas.Bool.Decides.{nat_tests}
 use Rattle.std.proofs.lemmas.List.{append-nil}
 use Rattle.std.specs.Option.{option_or}
-use Rattle.sub_rules.specs.Events.{Standing, closing_events, end_events, endings}
-use Rattle.sub_rules.specs.Events.{first_told, unread_fault}
+use Rattle.sub_rules.specs.Events.{broken_at, closing_events, end_events, end_rules}
+use Rattle.sub_rules.specs.Events.{endings, first_told, nothing_stands, rule_events}
+use Rattle.sub_rules.specs.Events.{unread_fault}
 use Rattle.sub_rules.specs.Fault.{fault_at_pes}
 use Rattle.sub_rules.specs.FrameRules.{Task, Unread}
 use Rattle.sub_rules.specs.PieceEvents.{LawOfFirstTold, all_announced, announced, all_of_pieces}
@@ -17,11 +19,13 @@ use Rattle.sub_rules.specs.PieceEvents.{passed_after_all, until_passed}
 use Rattle.sub_rules.specs.Pieces.{Piece, frames_of, read_until_passed, sent_after}
 use Rattle.sub_rules.specs.Pieces.Piece.{Passed, Sent}
 use Rattle.sub_rules.specs.Transmission.{Transmission}
+use Rattle.sub_rules.specs.declared.end_rule.EndRule.{EndRule}
 use Rattle.sub_rules.specs.declared.event.Event.{Event}
 use Rattle.sub_rules.specs.declared.event.Event.TheVariants.{Told}
 use Rattle.sub_rules.specs.PieceEvents.{PassedRun}
 use Rattle.sub_rules.proofs.PrefixEventLemmas.{frame_events-prefix}
 use Rattle.sub_rules.proofs.AnyToldLemmas.{own_closing, own_names}
+use Rattle.sub_rules.proofs.EndRuleLemmas.{nothing_at}
 use Rattle.sub_rules.proofs.JoinedLemmas.{joined-within, sent_after-none}
 use Rattle.sub_rules.proofs.MarkEventLemmas.{marks_first, none_waits, said_by, said_says, said_sent}
 use Rattle.sub_rules.proofs.MarkEventLemmas.{first_of_two}
@@ -29,6 +33,7 @@ use Rattle.sub_rules.proofs.PacketLists.{or-none}
 use Rattle.sub_rules.specs.Trusted.{Mark, at_pes, pes_told, told_after}
 use Rattle.sub_rules.proofs.FrameEvents.{events, events_of_first, frame_events}
 use Rattle.sub_rules.specs.Pieces.{PesFileValue}
+use Rattle.sub_rules.specs.declared.standing.Standing.{Standing}
 
 -- ---- what is told first
 
@@ -57,7 +62,21 @@ all_first told =
 -- Bytes that can't be read on are told first after the last frame: what stood broken has ended.
 endings_first : (last : Standing) (f : ℕ) → first_told (endings last f) ≡ None
 unfolding end_events
-endings_first last f = grind (arith, nat_tests)
+endings_first last f = go end_rules
+  where
+    ended : (rule : EndRule) (o : Option (ℕ × ℕ)) (rest : List Event)
+        → first_told (rule_events rule o f None f ++ rest) ≡ first_told rest
+    ended rule None rest = refl
+    ended rule (Some cell) rest = refl
+
+    go : (rules : List EndRule)
+        → first_told
+        (flat_map
+        (λ rule. rule_events rule (broken_at rule last) f (broken_at rule nothing_stands) f) rules)
+        ≡ None
+    go [] = refl
+    go (rule ∷ rules) =
+        rw (nothing_at rule) (ended rule (broken_at rule last) _ ∙ go rules)
 
 closing_first : (g : Task) (frames : Transmission) (n : ℕ) (u : Unread)
     → length frames ≡ n

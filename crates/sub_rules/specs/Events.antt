@@ -9,7 +9,7 @@
 use Rattle.std.specs.Prelude.{ℕ, zero, suc, max, ◌+◌, ◌-◌, ◌&&◌, ◌==◌, Bool, true, false, not, List}
 use Rattle.std.specs.Prelude.{[], ◌∷◌, ◌++◌, map, length, take, Option, Some, None, is_some}
 use Rattle.std.specs.Prelude.{◌||◌, option_and_then, option_map, nat_le, nat_lt, if◌then◌else◌}
-use Rattle.std.specs.Prelude.{slice_index_or, unwrap_or}
+use Rattle.std.specs.Prelude.{flat_map, slice_index_or, unwrap_or}
 use Rattle.std.specs.List.{list_any}
 use Rattle.ttx_packet.specs.OneBit.{first_below}
 use Rattle.ttx_packet.specs.PageId.{PageIdValue}
@@ -31,15 +31,24 @@ use Rattle.sub_rules.specs.declared.fault.CheckFault.TheVariants as fault
 use Rattle.sub_rules.specs.declared.packet_rule.PacketRule.{PacketRule}
 use Rattle.sub_rules.specs.declared.packet_rule.PacketRule.TheVariants as rule
 use Rattle.sub_rules.specs.declared.packet_rule.Watched.{Watched}
+use Rattle.sub_rules.specs.declared.standing.Standing.{Standing}
 
 -- ---- what stands broken at an end
 
--- What of the three rules of a frame's end stands broken: the page's content, at its first wrong
--- cell; the repeat bound; the page's end, where complete pages are asked for.
-pub record Standing : Type 0 where
-  pub content : Option (ℕ × ℕ)
-  pub gap : Bool
-  pub incomplete : Bool
+-- The rules of a frame's end, in the order in which they are told.
+unfoldable pub end_rules : List EndRule
+end_rules = end.Content ∷ end.Gap ∷ end.Incomplete ∷ []
+
+-- A rule of the whole frame is broken: at no cell, (0, 0).
+abbrev pub whole_frame : Bool → Option (ℕ × ℕ)
+whole_frame true = Some (0, 0)
+whole_frame false = None
+
+-- Where each of them stands broken, if it does.
+abbrev pub broken_at : EndRule → Standing → Option (ℕ × ℕ)
+broken_at end.Content s = s.content
+broken_at end.Gap s = whole_frame s.gap
+broken_at end.Incomplete s = whole_frame s.incomplete
 
 -- Nothing stands broken.
 abbrev pub nothing_stands : Standing
@@ -173,32 +182,28 @@ standing_at g frames n f = record {
 
 -- ---- what is told at an end
 
--- What is told of the first wrong cell, where one stood at the end before, of frame `before`, and
--- one stands at the end of frame f.
-abbrev pub content_events : Option (ℕ × ℕ) → ℕ → Option (ℕ × ℕ) → ℕ → List Event
-content_events None before None f = []
-content_events None before (Some new) f = Told (fault.Content f new.0 new.1) ∷ []
-content_events (Some old) before None f = Ended end.Content before ∷ []
-content_events (Some old) before (Some new) f =
+-- The refusal of a rule that is broken at this place, at the end of frame f.
+abbrev pub end_fault : EndRule → ℕ → ℕ × ℕ → CheckFault
+end_fault end.Content f cell = fault.Content f cell.0 cell.1
+end_fault end.Gap f cell = fault.Gap f
+end_fault end.Incomplete f cell = fault.Incomplete f
+
+-- What is told of a rule, where it stood broken there at the end before, of frame `before`, and
+-- stands broken here at the end of frame f.
+abbrev pub rule_events : EndRule → Option (ℕ × ℕ) → ℕ → Option (ℕ × ℕ) → ℕ → List Event
+rule_events rule None before None f = []
+rule_events rule None before (Some new) f = Told (end_fault rule f new) ∷ []
+rule_events rule (Some old) before None f = Ended rule before ∷ []
+rule_events rule (Some old) before (Some new) f =
     if (old.0 == new.0) && (old.1 == new.1)
     then []
-    else Ended end.Content before ∷ Told (fault.Content f new.0 new.1) ∷ []
-
--- What is told of a rule without a place in the frame, by whether it stood broken at the end
--- before, of frame `before`, and stands broken now.
-abbrev pub rule_events : EndRule → CheckFault → Bool → ℕ → Bool → List Event
-rule_events rule told false before true = Told told ∷ []
-rule_events rule told true before false = Ended rule before ∷ []
-rule_events rule told false before false = []
-rule_events rule told true before true = []
+    else Ended rule before ∷ Told (end_fault rule f new) ∷ []
 
 -- What is told at the end of frame f, where the one stood at the end before, of frame `before`, and
--- the other stands now.
+-- the other stands now: of each rule in their order.
 unfoldable pub end_events : Standing → ℕ → Standing → ℕ → List Event
 end_events old before new f =
-    content_events old.content before new.content f
-    ++ rule_events end.Gap (fault.Gap f) old.gap before new.gap
-    ++ rule_events end.Incomplete (fault.Incomplete f) old.incomplete before new.incomplete
+    flat_map (λ rule. rule_events rule (broken_at rule old) before (broken_at rule new) f) end_rules
 
 -- ---- the ends in their order
 

@@ -13,15 +13,16 @@
 -- Where the page need not be whole at each end, what is trusted is so only where it was at one of
 -- them; and where a run is over at a late end, those are not since which the page is not whole.
 use Rattle.std.specs.Prelude.{ℕ, suc, ◌-◌, ◌&&◌, ◌||◌, Bool, true, false, not, List, [], ◌∷◌}
-use Rattle.std.specs.Prelude.{◌++◌, Option, Some, None, is_none, nat_lt, unwrap_or}
+use Rattle.std.specs.Prelude.{◌++◌, Option, Some, None, is_none, is_some, nat_lt, unwrap_or}
 use Rattle.std.specs.Prelude.{if◌then◌else◌}
 use Rattle.std.specs.List.{list_any}
 use Rattle.std.specs.Option.{option_or}
-use Rattle.sub_rules.specs.Events.{Standing}
+use Rattle.sub_rules.specs.Events.{broken_at, end_rules}
 use Rattle.sub_rules.specs.Fault.{doubted_frame, fault_at_pes, fault_row}
 use Rattle.sub_rules.specs.declared.event.Event.{Event}
 use Rattle.sub_rules.specs.declared.event.Event.TheVariants.{Told, Trusted}
 use Rattle.sub_rules.specs.declared.fault.CheckFault.TheVariants as fault
+use Rattle.sub_rules.specs.declared.standing.Standing.{Standing}
 
 -- What follows is told of this PES packet; this is told; the packets of a frame with this number
 -- follow; what follows is told at the end of a frame, up to which the ends are unfinished since
@@ -91,7 +92,7 @@ stays_quiet (m ∷ past) = stays_quiet past
 
 -- Nothing stands broken at an end.
 abbrev pub stands_none : Standing → Bool
-stands_none s = is_none s.content && not s.gap && not s.incomplete
+stands_none s = not (list_any (λ rule. is_some (broken_at rule s)) end_rules)
 
 -- ---- a run of quiet frames
 

@@ -20,6 +20,7 @@ mod fault_row;
 mod packet_rule;
 mod piece;
 mod sending;
+mod standing;
 
 pub use end_rule::EndRule;
 pub use event::Event;
@@ -29,3 +30,4 @@ pub use fault_row::FaultRow;
 pub use packet_rule::{PacketRule, Watched};
 pub use piece::{NextPiece, next_piece};
 pub use sending::{Sending, units_of};
+pub use standing::Standing;

@@ -9,7 +9,7 @@ use Rattle.std.proofs.Common.{le_refl, unwrap_or, if◌then◌else◌, ap}
 use Rattle.std.proofs.lemmas.Bool.{cases_lt}
 use Rattle.std.proofs.lemmas.Option.{none-some}
 use Rattle.std.specs.List.{list_any}
-use Rattle.sub_rules.specs.Events.{Standing, end_before, end_events, events_at_end, is_late}
+use Rattle.sub_rules.specs.Events.{end_before, end_events, events_at_end, is_late}
 use Rattle.sub_rules.specs.Events.{standing_at, standing_before}
 use Rattle.sub_rules.specs.FrameRules.{Task, frame_at}
 use Rattle.sub_rules.specs.PieceEvents.{marks_at_end}
@@ -24,8 +24,10 @@ use Rattle.sub_trusted.proofs.AllTrustedStretchLemmas.{Fits}
 use Rattle.sub_trusted.proofs.LateDoubtLemmas.{end_doubt, seen_since}
 use Rattle.sub_trusted.proofs.AllTrustedLeadLemmas.{Leads, Leads-cons, said_told}
 use Rattle.sub_trusted.proofs.SayMarkLemmas.{IsSaid, doubt_of, is_order, rose, said}
+use Rattle.sub_rules.proofs.EndRuleLemmas.{end_any}
 use Rattle.sub_rules.proofs.TrustedLemmas.{past_after}
 use Rattle.sub_rules.specs.Trusted.{Mark, late_of, run_of, since_of, tells_fall, whole_at, whole_of}
+use Rattle.sub_rules.specs.declared.standing.Standing.{Standing}
 use Rattle.std.specs.Option.{option_or}
 
 -- ---- tests
@@ -51,8 +53,9 @@ late_past late since f b past h = grind (arith, nat_tests)
 -- Nothing of what is told at an end is told of the order.
 pub end_orders : (old : Standing) (before : ℕ) (new : Standing) (f : ℕ)
     → list_any is_order (end_events old before new f) ≡ false
-unfolding end_events is_order tells_fall
-end_orders old before new f = grind (arith, nat_tests)
+unfolding is_order tells_fall
+end_orders old before new f =
+    end_any is_order (λ rule f cell. grind arith) (λ rule f. refl) old before new f
 
 module _ (g : Task) (frames : Transmission) (a b i : ℕ)
     (fits : Fits g frames a b i) where

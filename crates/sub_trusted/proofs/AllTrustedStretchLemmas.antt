@@ -9,13 +9,14 @@ use Rattle.std.proofs.lemmas.Bool.{cases_lt}
 use Rattle.std.proofs.lemmas.List.{take-append-drop}
 use Rattle.ttx_page.specs.PacketKind.{kind}
 use Rattle.ttx_page.specs.Span.{holds_header}
-use Rattle.sub_rules.specs.Events.{Standing, is_late, is_unfinished, standing_at}
+use Rattle.sub_rules.specs.Events.{is_late, is_unfinished, nothing_stands, standing_at}
 use Rattle.sub_rules.specs.Events.{unfinished_since}
 use Rattle.sub_rules.specs.FrameRules.{Task, Unread, frame_at, packets_before, packets_of_frame}
 use Rattle.sub_rules.specs.PacketTests.{breaks}
 use Rattle.sub_rules.specs.PieceEvents.{sent_by_pieces}
 use Rattle.sub_rules.specs.Pieces.{Piece}
 use Rattle.sub_rules.specs.Transmission.{Transmission}
+use Rattle.sub_rules.proofs.EndRuleLemmas.{stands_nothing}
 use Rattle.sub_rules.proofs.PrefixEventLemmas.{packets_before-prefix, unfinished_since-prefix}
 use Rattle.sub_laws.specs.CleanStretch.{IsEnd}
 use Rattle.sub_trusted.specs.TrustedFrames.{CanStay, rising_part}
@@ -28,6 +29,7 @@ use Rattle.sub_trusted.proofs.TrustedFrameLemmas.{standing-take}
 use Rattle.sub_laws.proofs.UnfinishedLemmas.{none_since, since_after, since_end, unfinished_at}
 use Rattle.sub_laws.proofs.UnfinishedLemmas.{unfinished_is}
 use Rattle.sub_rules.specs.Trusted.{stands_none}
+use Rattle.sub_rules.specs.declared.standing.Standing.{Standing}
 
 -- ---- ends of the rising part
 
@@ -101,10 +103,6 @@ unseen : (at_once : Bool) {since : Option ℕ} → since ≡ None
     → (if at_once then None else since) ≡ None
 unseen at_once none = grind (arith, nat_tests)
 
-none_three : (s : Standing) → s.content ≡ None → s.gap ≡ false → s.incomplete ≡ false
-    → stands_none s ≡ true
-none_three s content gap closed = rw (content, gap, closed) refl
-
 module _ (g : Task) (pieces : List Piece) (a b : ℕ) (can : CanStay g pieces a b) where
   abbrev frames : Transmission
   frames = sent_by_pieces g pieces
@@ -129,8 +127,7 @@ module _ (g : Task) (pieces : List Piece) (a b : ℕ) (can : CanStay g pieces a 
       let few = end.1 in
       ap stands_none
       (sym (standing-take g frames m n f some (risen_low frames) (omega arith)))
-      ∙ none_three (standing_at g part n f) (can.untold.content n f end low high)
-      (can.untold.gap n f end low high) (can.closed n f end low high)
+      ∙ can.quiet n f end low high
 
   since_in_part : (n f : ℕ) → IsEnd part n f
       → unfinished_since g frames n f ≡ unfinished_since g part n f
@@ -141,11 +138,13 @@ module _ (g : Task) (pieces : List Piece) (a b : ℕ) (can : CanStay g pieces a 
 
   -- Where each end is told at once the last frame is finished, since nothing stands at its end.
   at_once_finished : (n f : ℕ) → (g.within == 0) ≡ true
-      → (standing_at g part n f).content ≡ None
-      → (standing_at g part n f).incomplete ≡ false
+      → standing_at g part n f ≡ nothing_stands
       → is_unfinished g part n f ≡ false
   unfolding standing_at is_late
-  at_once_finished n f at_once content closed = grind (arith, nat_tests)
+  at_once_finished n f at_once quiet =
+      let content = ap (λ (s : Standing). s.content) quiet in
+      let closed = ap (λ (s : Standing). s.incomplete) quiet in
+      grind (arith, nat_tests)
 
   finished_there : (n : ℕ) → IsEnd part n b → is_unfinished g part n b ≡ false
   finished_there n end =
@@ -154,8 +153,7 @@ module _ (g : Task) (pieces : List Piece) (a b : ℕ) (can : CanStay g pieces a 
         | inl within ↦ can.finished within n b end (omega arith) (omega arith)
         | inr none ↦
             at_once_finished n b (grind (arith, nat_tests))
-            (can.untold.content n b end order (omega arith))
-            (can.closed n b end order (omega arith))
+            (stands_nothing _ (can.quiet n b end order (omega arith)))
       ]
 
   -- The end of its last frame is finished.

@@ -13,21 +13,26 @@ use Rattle.std.proofs.lemmas.List.{get_or-append-add, get_or_append_left, take-a
 use Rattle.std.proofs.lemmas.List.Elements.{All-append, All-cons, All-nil}
 use Rattle.std.proofs.lemmas.Option.{none-some}
 use Rattle.std.specs.List.{list_any}
-use Rattle.sub_rules.specs.Events.{Standing, end_events, first_header_events, gap_length}
-use Rattle.sub_rules.specs.Events.{is_unfinished, latest, order_events, packet_fault, packets_told}
+use Rattle.sub_rules.specs.Events.{broken_at, end_events, end_fault}
+use Rattle.sub_rules.specs.Events.{first_header_events, gap_length, is_unfinished, latest}
+use Rattle.sub_rules.specs.Events.{order_events, packet_fault, packets_told, rule_events}
 use Rattle.sub_rules.specs.Events.{rules_told, since_frames, since_in_gap, unfinished_from}
 use Rattle.sub_rules.specs.Events.{unfinished_since, unread_fault}
 use Rattle.sub_rules.specs.FrameRules.{Task, Unread, frame_at}
 use Rattle.sub_rules.specs.PacketTests.{breaks}
 use Rattle.sub_rules.specs.Transmission.{Transmission}
+use Rattle.sub_rules.specs.declared.end_rule.EndRule.{EndRule}
 use Rattle.sub_rules.specs.declared.event.Event.TheVariants.{Told}
 use Rattle.sub_rules.specs.declared.packet_rule.PacketRule.{PacketRule}
 use Rattle.sub_rules.specs.declared.packet_rule.Watched.{Watched}
+use Rattle.sub_rules.proofs.AnyToldLemmas.{own_end}
+use Rattle.sub_rules.proofs.EndRuleLemmas.{none_at, rules_none}
 use Rattle.sub_laws.specs.CleanStretch.{is_needed}
 use Rattle.sub_trusted.proofs.DoubtLemmas.{EachTrusted, OnTrusted, each-own}
 use Rattle.sub_laws.proofs.FirstFoundLemmas.{Finds, Finds-like, first_found, found_so_far}
-use Rattle.sub_laws.proofs.FirstFoundLemmas.{packet_found}
+use Rattle.sub_laws.proofs.FirstFoundLemmas.{end_found, packet_found}
 use Rattle.sub_rules.specs.Trusted.{Mark, doubted_by, last_begun, late_of, stands_none, tells_fall}
+use Rattle.sub_rules.specs.declared.standing.Standing.{Standing}
 use Rattle.sub_trusted.proofs.SayMarkLemmas.{is_order}
 
 -- ---- packets
@@ -114,9 +119,8 @@ module _ (P : ℕ → ℕ → Type 0) where
 
   pub end_own : (old : Standing) (before : ℕ) (new : Standing) (f : ℕ)
       → EachTrusted P (end_events old before new f)
-  unfolding end_events
   end_own old before new f =
-      each-own P 0 (end_events old before new f) (grind (arith, nat_tests))
+      each-own P 0 (end_events old before new f) (own_end 0 old before new f)
 
   pub order_own : (g : Task) (frames : Transmission) (i : ℕ)
       → EachTrusted P (order_events g frames i)
@@ -158,13 +162,29 @@ passed_at t pes u = grind (arith, nat_tests)
 
 -- ---- an end
 
--- What is told at an end doubts its frame, or at a late end the one since which the page is not
--- whole; where it does not, nothing stands that did not stand before.
+-- What is told of a rule doubts the frame of its end, or at a late end the one since which the page
+-- is not whole.
+end_rule_doubts : (t : List Mark) (rule : EndRule) (f : ℕ) (cell : ℕ × ℕ)
+    → doubted_by t (Told (end_fault rule f cell)) ≡ Some (unwrap_or (late_of t) f)
+unfolding doubted_by
+end_rule_doubts t rule f cell = grind arith
+
+end_rule_doubt : (t : List Mark) (rule : EndRule) (before f : ℕ) (old new : Option (ℕ × ℕ))
+    → Finds (doubted_by t) (λ x. x ≡ unwrap_or (late_of t) f) (new ≡ None) (old ≡ None → new ≡ None)
+    (rule_events rule old before new f)
+unfolding doubted_by
+end_rule_doubt t rule before f old None = grind (arith, nat_tests)
+end_rule_doubt t rule before f old (Some cell) =
+    let doubts = end_rule_doubts t rule f cell in grind (arith, nat_tests)
+
+-- So does what is told at an end; where it does not, nothing stands that did not stand before.
 pub end_doubt : (t : List Mark) (before f : ℕ) (old new : Standing)
     → Finds (doubted_by t) (λ x. x ≡ unwrap_or (late_of t) f) (stands_none new ≡ true)
     (stands_none old ≡ true → stands_none new ≡ true) (end_events old before new f)
-unfolding end_events doubted_by
-end_doubt t before f old new = grind (arith, nat_tests)
+end_doubt t before f old new =
+    Finds-like (none_at new) (λ each was. rules_none new (λ rule. each rule (none_at old was rule)))
+    (end_found old before new f
+    (λ rule. end_rule_doubt t rule before f (broken_at rule old) (broken_at rule new)))
 
 -- That is not after it.
 pub late_low : (late : Bool) (since : Option ℕ) (f : ℕ)

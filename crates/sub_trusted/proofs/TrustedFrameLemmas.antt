@@ -10,11 +10,12 @@ use Rattle.std.proofs.lemmas.Bool.{cases_lt, cases_eq}
 use Rattle.std.proofs.lemmas.List.{length-take-le, take-append-drop, take-take}
 use Rattle.ttx_page.specs.PacketKind.{kind}
 use Rattle.ttx_page.specs.Span.{holds_header}
-use Rattle.sub_rules.specs.Events.{Standing, standing_at}
+use Rattle.sub_rules.specs.Events.{standing_at}
 use Rattle.sub_rules.specs.FrameRules.{Task, frame_at, packets_of_frame}
 use Rattle.sub_rules.specs.PacketTests.{breaks}
 use Rattle.sub_rules.specs.Transmission.{Transmission, last_frame, packets_of}
 use Rattle.sub_rules.specs.declared.packet_rule.PacketRule.{PacketRule}
+use Rattle.sub_rules.proofs.EndRuleLemmas.{stands_nothing}
 use Rattle.sub_rules.proofs.PrefixEventLemmas.{standing_at-prefix}
 use Rattle.sub_laws.specs.CleanStretch.{AtEnds, IsEnd, IsStretch, IsUntold, is_needed}
 use Rattle.sub_trusted.specs.TrustedFrames.{rises_at, rising_count, rising_part}
@@ -23,6 +24,7 @@ use Rattle.sub_laws.proofs.PrefixLemmas.{RiseTo, before, first-same, frame_at-ta
 use Rattle.sub_laws.proofs.PrefixLemmas.{packets-take, rises_to, take_last, take_rising}
 use Rattle.sub_trusted.proofs.TrustedRunLemmas.{StaysTo}
 use Rattle.sub_rules.specs.Trusted.{stands_none}
+use Rattle.sub_rules.specs.declared.standing.Standing.{Standing}
 
 -- ---- the rising part
 
@@ -103,11 +105,6 @@ standing-take g frames m n f some fits l =
     (standing_at-prefix g g.unread (take m frames) (drop m frames) n f (omega arith) (omega arith))
     ∙ ap (λ fs. standing_at g fs n f) (take-append-drop m frames)
 
--- Where nothing stands none of the three does.
-pub none_of_three : (s : Standing) → stands_none s ≡ true
-    → (s.content ≡ None) × (s.gap ≡ false) × (s.incomplete ≡ false)
-none_of_three s e = grind (arith, nat_tests)
-
 module _ (g : Task) (frames : Transmission) (from to : ℕ) (stays : StaysTo g frames from to) where
   abbrev m : ℕ
   m = risen frames
@@ -186,13 +183,16 @@ module _ (g : Task) (frames : Transmission) (from to : ℕ) (stays : StaysTo g f
     packets = λ r needed i k l below low high.
         let all = part_length frames in
         grind (arith, nat_tests, packets-take, frame_at-take, take-take, packets_quiet);
-    content = λ n f at low high. (none_of_three _ (stands_quiet n f at low high)).0;
-    gap = λ n f at low high. (none_of_three _ (stands_quiet n f at low high)).1;
+    content = λ n f at low high.
+        ap (λ (s : Standing). s.content) (stands_nothing _ (stands_quiet n f at low high));
+    gap = λ n f at low high.
+        ap (λ (s : Standing). s.gap) (stands_nothing _ (stands_quiet n f at low high));
   }
 
   -- And the page stands open at no end of it.
   pub closed : AtEnds (λ n f. IsFalse (standing_at g part n f).incomplete) part from to
-  closed n f at low high = (none_of_three _ (stands_quiet n f at low high)).2
+  closed n f at low high =
+      ap (λ (s : Standing). s.incomplete) (stands_nothing _ (stands_quiet n f at low high))
 
   pub header_there : holds_header (kind g.watched.page) (packets_of part from) ≡ true
   header_there =

@@ -13,6 +13,7 @@ use Rattle.sub_rules.specs.Pieces.{Piece}
 use Rattle.sub_rules.specs.Pieces.Piece.{Passed}
 use Rattle.sub_rules.specs.Transmission.{IsRising, Transmission, first_frame, last_frame}
 use Rattle.sub_rules.specs.Transmission.{packets_of}
+use Rattle.sub_rules.specs.Trusted.{stands_none}
 use Rattle.sub_rules.specs.declared.event.Event.TheVariants.{Trusted}
 use Rattle.sub_laws.specs.CleanStretch.{AtEnds, IsUntold}
 use Rattle.sub_laws.specs.OnScreen.{CompleteWithin}
@@ -99,14 +100,14 @@ LawOfTrusted =
 -- ---- nothing is left out
 
 -- A stretch of frames of the rising part may be trusted: nothing of which a receiver depends is
--- told of it, the page is open at no end of it where complete pages are asked for, and within some
--- frames its last one is finished; no piece is passed over that may have been sent in it; and it
--- ends before the last of these frames where that is doubted, since a frame that is not after it
--- follows, or bytes that can't be read on.
+-- told of it, nothing stands broken at any end of it, and within some frames its last one is
+-- finished; no piece is passed over that may have been sent in it; and it ends before the last of
+-- these frames where that is doubted, since a frame that is not after it follows, or bytes that
+-- can't be read on.
 pub record CanStay (g : Task) (pieces : List Piece) (a b : ℕ) : Type 0 where
   pub untold : IsUntold g (rising_of g pieces) a b
-  pub closed :
-      AtEnds (λ n f. IsFalse (standing_at g (rising_of g pieces) n f).incomplete)
+  pub quiet :
+      AtEnds (λ n f. IsTrue (stands_none (standing_at g (rising_of g pieces) n f)))
       (rising_of g pieces) a b
   pub finished :
       0 < g.within

@@ -1,0 +1,95 @@
+-- The table of the rules of a frame's end. What is so of each rule in it is so of any,
+-- `each_end_rule`; nothing stands broken exactly where none of them does, `rules_none`,
+-- `stands_nothing`; and of what is told at an end nothing passes a test that nothing of a rule
+-- passes, `end_any`.
+use Rattle.std.proofs.lemmas.Bool.Decides.{nat_tests}
+use Rattle.std.proofs.Common.{◌≡◌, ℕ, Bool, true, false, ◌||◌, List, [], ◌∷◌, Option, Some, None}
+use Rattle.std.proofs.Common.{is_some, not, refl, ◌∙◌, ◌++◌, ap, ap₂, arith, flat_map}
+use Rattle.std.proofs.lemmas.List.Folds.{list_any-append}
+use Rattle.std.specs.List.{AllByRecursion, list_any}
+use Rattle.sub_rules.specs.Events.{broken_at, end_events, end_fault, end_rules}
+use Rattle.sub_rules.specs.Events.{nothing_stands, rule_events}
+use Rattle.sub_rules.specs.Trusted.{stands_none}
+use Rattle.sub_rules.specs.declared.end_rule.EndRule.{EndRule}
+use Rattle.sub_rules.specs.declared.event.Event.{Event}
+use Rattle.sub_rules.specs.declared.event.Event.TheVariants.{Ended, Told}
+use Rattle.sub_rules.specs.declared.standing.Standing.{Standing}
+
+-- ---- all of them
+
+pub each_end_rule : (P : EndRule → Type 0) → AllByRecursion P end_rules → (rule : EndRule) → P rule
+unfolding end_rules
+each_end_rule P h rule = grind arith
+
+-- ---- nothing stands broken
+
+pub nothing_at : (rule : EndRule) → broken_at rule nothing_stands ≡ None
+nothing_at rule = grind arith
+
+-- Where none of them stands broken.
+pub rules_none : (s : Standing) → ((rule : EndRule) → broken_at rule s ≡ None)
+    → stands_none s ≡ true
+rules_none s none = ap not (go end_rules)
+  where
+    go : (rules : List EndRule) → list_any (λ rule. is_some (broken_at rule s)) rules ≡ false
+    go [] = refl
+    go (rule ∷ rules) = rw (none rule) (go rules)
+
+pub stands_nothing : (s : Standing) → stands_none s ≡ true → s ≡ nothing_stands
+unfolding end_rules
+stands_nothing s e = grind (arith, nat_tests)
+
+pub none_at : (s : Standing) → stands_none s ≡ true → (rule : EndRule) → broken_at rule s ≡ None
+none_at s e rule = ap (broken_at rule) (stands_nothing s e) ∙ nothing_at rule
+
+-- ---- what is told at an end
+
+-- Where nothing stood broken at the end before, whichever that is.
+from_none : (rule : EndRule) (a b : ℕ) (o : Option (ℕ × ℕ)) (f : ℕ)
+    → rule_events rule None a o f ≡ rule_events rule None b o f
+from_none rule a b None f = refl
+from_none rule a b (Some cell) f = refl
+
+pub end_from_none : (a b : ℕ) (new : Standing) (f : ℕ)
+    → end_events nothing_stands a new f ≡ end_events nothing_stands b new f
+unfolding end_events
+end_from_none a b new f = go end_rules
+  where
+    go : (rules : List EndRule)
+        → flat_map (λ rule. rule_events rule (broken_at rule nothing_stands) a
+        (broken_at rule new) f) rules
+        ≡ flat_map (λ rule. rule_events rule (broken_at rule nothing_stands) b
+        (broken_at rule new) f) rules
+    go [] = refl
+    go (rule ∷ rules) =
+        ap₂ ◌++◌
+        (rw (nothing_at rule) (from_none rule a b (broken_at rule new) f)) (go rules)
+
+module _ (test : Event → Bool)
+    (told : (rule : EndRule) (f : ℕ) (cell : ℕ × ℕ) → test (Told (end_fault rule f cell)) ≡ false)
+    (ended : (rule : EndRule) (f : ℕ) → test (Ended rule f) ≡ false) where
+  rule_any : (rule : EndRule) (before f : ℕ) (old new : Option (ℕ × ℕ))
+      → list_any test (rule_events rule old before new f) ≡ false
+  rule_any rule before f None None = refl
+  rule_any rule before f None (Some new) = rw (told rule f new) refl
+  rule_any rule before f (Some old) None = rw (ended rule before) refl
+  rule_any rule before f (Some old) (Some new) =
+      let one = told rule f new in let other = ended rule before in grind (arith, nat_tests)
+
+  rules_any : (old : Standing) (before : ℕ) (new : Standing) (f : ℕ) (rules : List EndRule)
+      → list_any test
+      (flat_map (λ rule. rule_events rule (broken_at rule old) before (broken_at rule new) f) rules)
+      ≡ false
+  rules_any old before new f [] = refl
+  rules_any old before new f (rule ∷ rules) =
+      let here = rule_any rule before f (broken_at rule old) (broken_at rule new) in
+      let rest = rules_any old before new f rules in
+      let both =
+      list_any-append test (rule_events rule (broken_at rule old) before (broken_at rule new) f)
+      (flat_map (λ r. rule_events r (broken_at r old) before (broken_at r new) f) rules) in
+      grind (arith, nat_tests)
+
+  pub end_any : (old : Standing) (before : ℕ) (new : Standing) (f : ℕ)
+      → list_any test (end_events old before new f) ≡ false
+  unfolding end_events
+  end_any old before new f = rules_any old before new f end_rules
