@@ -1,27 +1,17 @@
 -- Who starts late: what was sent before a header of the page does not matter, `sends-later` and
 -- `shown-later`.
-use Rattle.std.proofs.Common.{◌≡◌, ℕ, suc, ◌<◌, Bool, true, List, [], ◌∷◌, ◌++◌, length, take}
-use Rattle.std.proofs.Common.{slice_index_or, find, Option, Some, None, Contains, option_map}
-use Rattle.std.proofs.Common.{unwrap_or, All, IsTrue, refl, sym, ap, ◌∙◌, subst, arith}
-use Rattle.std.proofs.Common.{append_assoc}
+use Rattle.std.proofs.Common.{◌≡◌, ℕ, Bool, true, List, [], ◌∷◌, ◌++◌}
+use Rattle.std.proofs.Common.{unwrap_or, All, subst, arith}
 use Rattle.std.proofs.lemmas.Bool.Decides.{nat_tests}
-use Rattle.std.proofs.lemmas.List.{append-nil, get_or_default}
-use Rattle.std.proofs.lemmas.List.Elements.{All-nil, All-push, All-tail}
-use Rattle.std.proofs.lemmas.List.Folds.{list_any_at}
+use Rattle.std.proofs.lemmas.List.Elements.{All-tail}
 use Rattle.ttx_packet.specs.PageHeader.{HasExactWords}
 use Rattle.ttx_packet.specs.PageId.{PageIdValue}
-use Rattle.ttx_packet.specs.Parity.{code_of}
-use Rattle.ttx_packet.specs.RowPacket.{text_byte}
-use Rattle.ttx_page.specs.Noise.{ErasesPage, HasSameCodes, IsOddRow, IsSameRow, IsSound}
-use Rattle.ttx_page.specs.Page.{space}
-use Rattle.ttx_page.specs.PacketKind.{kind, is_row}
+use Rattle.ttx_page.specs.Noise.{ErasesPage, HasSameCodes, IsOddRow, IsSameRow}
+use Rattle.ttx_page.specs.PacketKind.{kind}
 use Rattle.ttx_page.specs.Shown.{shown}
 use Rattle.ttx_page.specs.Repeats.{HasCodes, SendsText}
 use Rattle.ttx_page.specs.Span.{holds_header, is_open_after, is_unended, span, text_span}
-use Rattle.ttx_page.specs.declared.packet_kind.PacketKind.TheVariants.{Row}
-use Rattle.ttx_page.proofs.NoiseLaws.{shown_is}
-use Rattle.ttx_page.proofs.SpanLists.{after-append, after-none, holds-append_right, none_pass}
-use Rattle.ttx_page.proofs.SpanPush.{span-push}
+use Rattle.ttx_page.proofs.SpanLists.{after-append, holds-append_right}
 use Rattle.ttx_page.proofs.TextSpan.{text_span-later}
 
 -- What holds of two lists joined holds of the second.

@@ -1,34 +1,32 @@
 -- The laws of noise and of lost rows: the law of repeats where no repeat may keep, `cell_shown`,
 -- gives `law_of_recovery` and `law_of_lost_rows`; the others follow.
-use Rattle.std.proofs.Common.{rules, ◌≡◌, ℕ, suc, ◌<◌, ◌⊎◌, inl, inr, Bool, true, false, not, ◌||◌}
-use Rattle.std.proofs.Common.{List, [], ◌∷◌, length, map, zip, find, Option, Some, None, option_map}
-use Rattle.std.proofs.Common.{All, unwrap_or, Contains, IsTrue, refl, ap, ◌∙◌, arith}
-use Rattle.std.specs.List.{AllByRecursion, list_any, AllZip, items_where_true}
+use Rattle.std.proofs.Common.{rules, ◌≡◌, ℕ, ◌<◌, ◌⊎◌, inl, inr, Bool, true, false}
+use Rattle.std.proofs.Common.{List, [], ◌∷◌, map, zip, find, Option, Some, None, option_map}
+use Rattle.std.proofs.Common.{All, unwrap_or, Contains, IsTrue, refl, ◌∙◌, arith}
+use Rattle.std.specs.List.{AllByRecursion, AllZip, items_where_true}
 use Rattle.std.proofs.lemmas.Bool.Decides.{nat_tests}
 use Rattle.std.proofs.lemmas.List.{get_or_default}
 use Rattle.std.proofs.lemmas.List.Elements.{recursion_from_All, All-cons, All-contains, All-nil}
 use Rattle.std.proofs.lemmas.List.Folds.{list_any_at}
-use Rattle.std.proofs.lemmas.Slice.Zip.{firsts-zip, AllZip-long}
 use Rattle.ttx_packet.specs.OneBit.{AreNear}
 use Rattle.ttx_packet.specs.Parity.{code_of}
 use Rattle.ttx_packet.specs.PageId.{PageIdValue}
 use Rattle.ttx_packet.specs.RowPacket.{text_byte}
 use Rattle.ttx_page.specs.Page.{space, cell, IsCell}
-use Rattle.ttx_page.specs.declared.packet_kind.PacketKind.{PacketKind}
 use Rattle.ttx_page.specs.declared.packet_kind.PacketKind.TheVariants.{Row}
 use Rattle.ttx_page.specs.PacketKind.{kind, is_row}
 use Rattle.ttx_page.specs.DroppedRows.{ExcusedBy}
 use Rattle.ttx_page.specs.Receiver.{HearsBy, ReceiverClass, State}
 use Rattle.ttx_page.specs.Receiver.ReceiverClass.{Storing}
-use Rattle.ttx_page.specs.Span.{holds_header, is_unended, is_open_after, span}
-use Rattle.ttx_page.specs.Shown.{shown, IsHit}
-use Rattle.ttx_page.specs.Noise.{HasSameCodes, IsSound, LawOfNoise, LawOfQuiet}
+use Rattle.ttx_page.specs.Span.{holds_header, span}
+use Rattle.ttx_page.specs.Shown.{shown}
+use Rattle.ttx_page.specs.Noise.{HasSameCodes, IsSound, LawOfNoise}
 use Rattle.ttx_page.specs.LostRows.{IsHitOrLost, LawOfLostRows, LawOfNothingLost, MayBeMarked}
 use Rattle.ttx_page.specs.LostRows.{arrivals_of}
 use Rattle.ttx_page.specs.Recovery.{LawOfRecovery}
 use Rattle.ttx_page.specs.Repeats.{EndsForgetting, SendsText}
-use Rattle.ttx_page.proofs.SpanLists.{Any-map, map-Any, find_is, find_none, none_pass, list_any-map}
-use Rattle.ttx_page.proofs.SpanLists.{after-map, span-map, zip-map}
+use Rattle.ttx_page.proofs.SpanLists.{Any-map, map-Any, find_is, find_none, none_pass}
+use Rattle.ttx_page.proofs.SpanLists.{span-map, zip-map}
 use Rattle.ttx_page.proofs.NoiseSteps.{kind_of_item, row_from_test}
 use Rattle.ttx_page.proofs.RepeatLaws.{law_of_forgetting, law_of_repeats}
 use Rattle.ttx_page.proofs.TextSpan.{beginning-none_keeps, text_span-none_keeps}

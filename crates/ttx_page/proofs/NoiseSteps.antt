@@ -1,6 +1,6 @@
 -- What becomes of a receiver by packets that are sent, each got with wrong bits or lost: at one
 -- packet, `at_lost` and `at_got`, and by a run over many, `over`.
-use Rattle.std.proofs.Common.{rules, ◌≡◌, ℕ, ◌<◌, ◌⊎◌, inl, inr, true, false, not, ◌&&◌, ◌||◌, List}
+use Rattle.std.proofs.Common.{◌≡◌, ℕ, ◌<◌, ◌⊎◌, inl, inr, true, false, not, ◌&&◌, ◌||◌, List}
 use Rattle.std.proofs.Common.{[], ◌∷◌, ◌++◌, zip, Option, Some, None, Bool, is_some, Contains, refl}
 use Rattle.std.proofs.Common.{IsFalse, ap, arith, cond, subst, sym, ◌∙◌}
 use Rattle.std.specs.List.{list_any, AllByRecursion, AllZip, items_where_true}

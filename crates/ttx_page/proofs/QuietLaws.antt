@@ -1,15 +1,15 @@
 -- Receivers that keep, with no wrong bit: each cell holds what is kept, `law_of_kept`; where no
 -- repeat may keep, what is shown: `law_of_quiet`.
 use Rattle.std.proofs.Common.{◌≡◌, ℕ, ◌⊎◌, inl, inr, Bool, true, false, not, ◌&&◌, ◌||◌, cond, List}
-use Rattle.std.proofs.Common.{[], ◌∷◌, ◌++◌, find, Option, Some, None, Contains, option_map}
-use Rattle.std.proofs.Common.{unwrap_or, All, IsFalse, refl, sym, ap, ◌∙◌, subst, arith}
+use Rattle.std.proofs.Common.{[], ◌∷◌, ◌++◌, Option, Contains, option_map}
+use Rattle.std.proofs.Common.{unwrap_or, IsFalse, refl, sym, ap, ◌∙◌, subst, arith}
 use Rattle.std.specs.List.{AllByRecursion, list_any}
 use Rattle.std.proofs.lemmas.Bool.{cases_Bool}
 use Rattle.std.proofs.lemmas.Bool.Decides.{nat_tests}
 use Rattle.std.proofs.lemmas.List.{append-nil, append_assoc}
 use Rattle.std.proofs.lemmas.List.Elements.{All-contains, Contains-append_left, Contains-push}
 use Rattle.std.proofs.lemmas.List.Elements.{recursion_from_All}
-use Rattle.std.proofs.lemmas.List.Folds.{list_any-append, list_any_at}
+use Rattle.std.proofs.lemmas.List.Folds.{list_any-append}
 use Rattle.ttx_packet.specs.PageId.{PageIdValue}
 use Rattle.ttx_packet.specs.Parity.{code_of}
 use Rattle.ttx_packet.specs.RowPacket.{HasOddText, text_byte}
@@ -20,12 +20,11 @@ use Rattle.ttx_page.specs.Receiver.{Hears, State, Step}
 use Rattle.ttx_page.specs.Repeats.{HasCodes, LawOfKept}
 use Rattle.ttx_page.specs.Shown.{kept}
 use Rattle.ttx_page.specs.Span.{holds_beginning, holds_header, is_open_after, text_span}
-use Rattle.ttx_page.specs.declared.packet_kind.PacketKind.{PacketKind}
 use Rattle.ttx_page.specs.declared.packet_kind.PacketKind.TheVariants.{Row}
 use Rattle.ttx_page.proofs.NoiseLaws.{AreNear-themselves, law_of_noise}
 use Rattle.ttx_page.proofs.NoiseSteps.{both_left, both_right, cell-blank, row_from_test}
 use Rattle.ttx_page.proofs.RepeatLaws.{kept_shown}
-use Rattle.ttx_page.proofs.SpanLists.{find_is, find_none}
+use Rattle.ttx_page.proofs.SpanLists.{find_none}
 use Rattle.ttx_page.proofs.SpanPush.{holds-push, open-other, open-this}
 use Rattle.ttx_page.proofs.TextSpan.{beginning-none_keeps, beginning-push, beginning_is_header}
 use Rattle.ttx_page.proofs.TextSpan.{begins_is_header, text_span-push}

@@ -1,9 +1,8 @@
 -- The law of repeats, `law_of_repeats`, by what a run over items leaves; and that receivers that
 -- keep are among those that may forget, `law_of_forgetting`.
-use Rattle.std.proofs.Common.{◌≡◌, ℕ, suc, ◌<◌, ◌⊎◌, inl, inr, Bool, true, false, not, ◌||◌}
+use Rattle.std.proofs.Common.{◌≡◌, ℕ, suc, ◌⊎◌, inl, inr, Bool, true, false}
 use Rattle.std.proofs.Common.{List, [], ◌∷◌, find, length, map, option_map, unwrap_or, zip, Option}
-use Rattle.std.proofs.Common.{Some, None}
-use Rattle.std.proofs.Common.{All, Contains, IsTrue, refl, ap, ◌∙◌, arith}
+use Rattle.std.proofs.Common.{Contains, refl, ap, ◌∙◌, arith}
 use Rattle.std.specs.List.{list_any, AllZip, items_where_true}
 use Rattle.std.proofs.lemmas.Bool.Decides.{nat_tests}
 use Rattle.std.proofs.lemmas.List.{length-map, get_or-map}
@@ -21,7 +20,7 @@ use Rattle.ttx_page.specs.Receiver.{ReceiverClass, State, StepBy}
 use Rattle.ttx_page.specs.Receiver.ReceiverClass.{Dropping, Storing}
 use Rattle.ttx_page.specs.Repeats.{EndsForgetting, HasCodes, HasNoRow, HearsForgetting, IsFresh}
 use Rattle.ttx_page.specs.Repeats.{LawOfForgetting, LawOfRepeats, SendsText, StepForgetting}
-use Rattle.ttx_page.specs.Span.{holds_beginning, holds_header, is_unended, is_open_after, span}
+use Rattle.ttx_page.specs.Span.{holds_beginning, holds_header, is_unended, span}
 use Rattle.ttx_page.specs.Span.{text_span}
 use Rattle.ttx_page.specs.Noise.{IsOddRow}
 use Rattle.ttx_page.specs.LostRows.{IsHitOrLost, MayBeMarked, arrivals_of}

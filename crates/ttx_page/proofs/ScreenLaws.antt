@@ -7,7 +7,7 @@ use Rattle.ttx_packet.specs.PageHeader.{HasExactWords}
 use Rattle.ttx_packet.specs.PageId.{PageIdValue}
 use Rattle.ttx_page.specs.LostRows.{MayBeMarked}
 use Rattle.ttx_page.specs.PacketKind.{kind}
-use Rattle.ttx_page.specs.Receiver.{HearsBy, ReceiverClass, StepBy}
+use Rattle.ttx_page.specs.Receiver.{ReceiverClass}
 use Rattle.ttx_page.specs.Span.{holds_header}
 use Rattle.ttx_page.specs.Repeats.{HearsForgetting, LawOfForgettingScreen, ShowsForgetting}
 use Rattle.ttx_page.specs.Repeats.{StepForgetting}

@@ -10,7 +10,7 @@ use Rattle.ttx_page.proofs.SpanLists.{after-none, list_any-map, map-cond}
 use Rattle.ttx_page.proofs.SpanPush.{list_any-push}
 use Rattle.ttx_page.specs.declared.packet_kind.PacketKind.{PacketKind}
 use Rattle.ttx_page.specs.PacketKind.{begins_text, is_this_page, ends_page}
-use Rattle.ttx_page.specs.Span.{holds_header, after_last_header, before_end, is_open_after, span}
+use Rattle.ttx_page.specs.Span.{holds_header, before_end, is_open_after, span}
 use Rattle.ttx_page.specs.Span.{from_beginning, holds_beginning, is_unended, text_span, while_open}
 
 -- A header with which the text begins is a header of the page.

@@ -3,24 +3,24 @@
 -- `sends_of_sound`, `sound_of_sends`.
 use Rattle.std.proofs.Common.{◌≡◌, ℕ, suc, ◌<◌, inl, inr, Bool, true, false, not, ◌&&◌, cond, List}
 use Rattle.std.proofs.Common.{[], ◌∷◌, ◌++◌, length, take, slice_index_or, find, Option, Some, None}
-use Rattle.std.proofs.Common.{Contains, option_map, unwrap_or, All, IsTrue, IsFalse, refl, sym, ap}
+use Rattle.std.proofs.Common.{Contains, option_map, unwrap_or, All, refl, sym, ap}
 use Rattle.std.proofs.Common.{◌∙◌, subst, arith, append_assoc}
 use Rattle.std.specs.Option.{option_or}
 use Rattle.std.proofs.lemmas.Bool.{cases_Bool}
 use Rattle.std.proofs.lemmas.Bool.Decides.{nat_tests}
 use Rattle.std.proofs.lemmas.List.{append-nil, get_or_default}
-use Rattle.std.proofs.lemmas.List.Elements.{All-contains, All-nil, All-push, Contains-append_right}
+use Rattle.std.proofs.lemmas.List.Elements.{All-nil, All-push, Contains-append_right}
 use Rattle.std.proofs.lemmas.List.Folds.{find-append, list_any_at}
 use Rattle.ttx_packet.specs.PageHeader.{HasExactWords}
 use Rattle.ttx_packet.specs.PageId.{PageIdValue}
 use Rattle.ttx_packet.specs.Parity.{code_of}
 use Rattle.ttx_packet.specs.RowPacket.{text_byte}
-use Rattle.ttx_page.specs.Noise.{ErasesPage, HasSameCodes, IsOddRow, IsSound}
+use Rattle.ttx_page.specs.Noise.{ErasesPage, IsOddRow, IsSound}
 use Rattle.ttx_page.specs.Page.{space}
 use Rattle.ttx_page.specs.PacketKind.{begins_text, ends_page, is_row, is_this_page, kind}
 use Rattle.ttx_page.specs.Repeats.{HasCodes, MayFollow, SendsText}
-use Rattle.ttx_page.specs.Shown.{kept, shown}
-use Rattle.ttx_page.specs.Span.{holds_header, is_open_after, span, text_span}
+use Rattle.ttx_page.specs.Shown.{kept}
+use Rattle.ttx_page.specs.Span.{holds_header, is_open_after, text_span}
 use Rattle.ttx_page.specs.declared.packet_kind.PacketKind.TheVariants.{Row}
 use Rattle.ttx_page.proofs.LateStart.{open-later, shown-later}
 use Rattle.ttx_page.proofs.NoiseLaws.{sends_shown}
