@@ -5,7 +5,6 @@ use Rattle.std.proofs.Common.{Ok, Some, inl, inr, refl, subst, sym}
 use Rattle.std.proofs.lemmas.List.{length-drop, length-take-le, take-append-le}
 use Rattle.sub_io.specs.declared.source.Failed.{Failed}
 use Rattle.ttx_pes.specs.PieceRange.{HoldsNoMore, IsDecided}
-use Rattle.ttx_pes.specs.declared.range_source.Phase.{Phase}
 use Rattle.ttx_pes.specs.declared.range_source.Phase.TheVariants.{Between, Giving, Open}
 use Rattle.ttx_pes.proofs.PieceRangeLemmas.{lent_gives, pulls_after, pulls_none, pulls_piece}
 use Rattle.ttx_pes.proofs.range_source.RangeSourceSource.pull.Goals as goal
