@@ -1,21 +1,21 @@
 -- What a recording gives, read step by step, is what the packets of the PID carry: carried_given.
 use Rattle.std.proofs.Common.{◌≡◌, ℕ, zero, suc, ◌+◌, ◌≤◌, ◌<◌, List, [], ◌∷◌, ◌++◌, length, drop}
-use Rattle.std.proofs.Common.{Bool, true, false, Option, None, Some, refl, sym, ap, ◌∙◌, subst}
+use Rattle.std.proofs.Common.{Bool, true, false, Option, None, refl, sym, ap, ◌∙◌, subst}
 use Rattle.std.proofs.Common.{arith}
 use Rattle.std.proofs.Common.{length-drop, length-take-le}
 use Rattle.std.proofs.lemmas.Bool.Decides.{nat_tests}
-use Rattle.std.specs.Prelude.{◌&&◌, ◌||◌, ◌==◌, ◌/◌, ◌%◌, not, nat_lt, if◌then◌else◌, slice_index}
+use Rattle.std.specs.Prelude.{◌&&◌, ◌||◌, ◌==◌, nat_lt}
 use Rattle.std.specs.Prelude.{option_map}
 use Rattle.mpeg_ts.specs.Carried.{carried, mark_where, with_marks}
-use Rattle.mpeg_ts.specs.GoodPackets.{GoodPacket, Note, Valid, Wrong, good_after, hole_size}
+use Rattle.mpeg_ts.specs.GoodPackets.{GoodPacket, Note, good_after, hole_size}
 use Rattle.mpeg_ts.specs.GoodPackets.{note_of, notes, nothing_since}
 use Rattle.mpeg_ts.specs.Joining.{given_after, nothing_joined}
 use Rattle.mpeg_ts.specs.PacketsInStep.{Item, Packet, Skipped, begins_packet, items, items_of}
 use Rattle.mpeg_ts.specs.Parts.{PartOutcome, begins_part, gap_where, is_break, outcomes, part_of}
 use Rattle.mpeg_ts.specs.Parts.{parts}
 use Rattle.mpeg_ts.specs.Stream.{given_of, start_of_stream, still_given, stream_gives}
-use Rattle.mpeg_ts.specs.TransportPacket.{begins, has_adaptation, has_payload, is_wrong}
-use Rattle.mpeg_ts.specs.TransportPacket.{payload, payload_place, pid}
+use Rattle.mpeg_ts.specs.TransportPacket.{begins, has_payload, is_wrong}
+use Rattle.mpeg_ts.specs.TransportPacket.{payload, pid}
 use Rattle.mpeg_ts.specs.declared.joining.Given.TheVariants as given
 use Rattle.mpeg_ts.proofs.JoinedLemmas.{claims, joined, new_part, or_true}
 use Rattle.mpeg_ts.proofs.NoteLemmas.{AreSound, FirstIsCut, first_is_cut, good_payloads}
@@ -53,11 +53,7 @@ last_reason : (x y a h n : Bool)
     → a ≡ true
     → h ≡ true
     → n ≡ false
-last_reason true y a h n e f g = absurd cc
-last_reason false true a h n e f g = absurd cc
-last_reason false false false h n e f g = absurd cc
-last_reason false false true false n e f g = absurd cc
-last_reason false false true true n e f g = e
+last_reason x y a h n h1 h2 h3 = grind (arith, nat_tests)
 
 -- The payload of a packet that is not wrong has bytes.
 payload_some : (p : List ℕ)
@@ -65,30 +61,13 @@ payload_some : (p : List ℕ)
     → is_wrong p ≡ false
     → has_payload p ≡ true
     → 0 < length (payload p)
-payload_some p long right some =
-    by_bool (has_adaptation p)
-    (λ yes. let few : nat_lt 182 (slice_index p 4) ≡ false =
-    last_reason (slice_index p 1 / 0x80 % 2 == 1) (not (slice_index p 3 / 0x40 % 4 == 0))
-    (has_adaptation p) (has_payload p) (nat_lt 182 (slice_index p 4)) right yes some in
-    let short : slice_index p 4 ≤ 182 = grind (arith, nat_tests) in
-    let place : payload_place p ≡ 5 + slice_index p 4 =
-    ap (λ (b : Bool). if b then 5 + slice_index p 4 else 4) yes in
-    omega (arith, long, place, short, length-drop (payload_place p) p))
-    (λ no. let place : payload_place p ≡ 4 =
-    ap (λ (b : Bool). if b then 5 + slice_index p 4 else 4) no in
-    omega (arith, long, place, length-drop (payload_place p) p))
+payload_some p h1 h2 h3 = grind (arith, nat_tests, last_reason, length-drop)
 
 sound_note : (p : List ℕ) (more : List Note)
     → length p ≡ 188
     → AreSound more
     → AreSound (note_of p ∷ more)
-sound_note p more long sound =
-    by_bool (is_wrong p)
-    (λ wrong. subst (λ (n : Note). AreSound (n ∷ more))
-    (sym (ap (λ (b : Bool). if b then Wrong else Valid p) wrong)) sound)
-    (λ right. subst (λ (n : Note). AreSound (n ∷ more))
-    (sym (ap (λ (b : Bool). if b then Wrong else Valid p) right))
-    (λ some. payload_some p long right some, sound))
+sound_note p more h1 h2 = grind (arith, nat_tests, payload_some)
 
 notes_sound : (distance number run : ℕ) (all : List Item)
     → AreWhole all
@@ -110,19 +89,16 @@ notes_sound distance number run (Skipped ∷ more) whole =
 no_mark_yet : (b : Bool) (more : List PartOutcome)
     → mark_where (b && false) ++ give (given_after b given.Nothing) more
     ≡ give given.Nothing more
-no_mark_yet true more = refl
-no_mark_yet false more = refl
+no_mark_yet b more = grind (arith, nat_tests)
 
 no_gap_yet : (b : Bool) (more : List PartOutcome)
     → give given.Nothing more ≡ give given.Nothing (gap_where b ++ more)
-no_gap_yet true more = refl
-no_gap_yet false more = refl
+no_gap_yet b more = grind (arith, nat_tests)
 
 no_packet_yet : (wrong : Bool)
     → mark_where (wrong && false) ≡ with_marks false false (gap_where wrong)
 unfolding with_marks
-no_packet_yet true = refl
-no_packet_yet false = refl
+no_packet_yet wrong = grind (arith, nat_tests)
 
 -- What good packets give from the start is what their parts give.
 joined_start : (wrong : Bool) (goods : List GoodPacket)
@@ -167,6 +143,4 @@ carried_given number distance recording =
 pub carried_told : (number distance : ℕ) (told : Option (List ℕ))
     → still_given (start_of_stream number distance) told
     ≡ option_map (carried number distance) told
-carried_told number distance None = refl
-carried_told number distance (Some recording) =
-    ap (λ (l : List ℕ). Some l) (carried_given number distance recording)
+carried_told number distance told = grind (arith, nat_tests, carried_given)

@@ -1,4 +1,5 @@
 -- What is given packet after packet is what the parts give; main lemmas: claims, new_part.
+use Rattle.std.proofs.lemmas.Bool.Decides.{nat_tests}
 use Rattle.std.proofs.Common.{◌≡◌, ℕ, List, [], ◌∷◌, ◌++◌, length, take, Bool, true, false}
 use Rattle.std.proofs.Common.{refl, sym, ap, ◌∙◌, subst, arith, append_assoc}
 use Rattle.std.proofs.lemmas.List.{append-nil}
@@ -79,16 +80,14 @@ given_open gap v bytes wrong more =
 quiet_excess : (excess : Bool)
     → excess ≡ true
     → gave_packet (if excess then given.Mark else given.Packet) ≡ false
-quiet_excess true e = refl
-quiet_excess false e = absurd cc
+quiet_excess excess h1 = grind (arith, nat_tests)
 
 -- The mark behind a PES packet.
 excess_given : (excess wrong : Bool) (more : List GoodPacket)
     → mark_where excess
     ++ give (if excess then given.Mark else given.Packet) (behind excess wrong more)
     ≡ give given.Packet (behind excess wrong more)
-excess_given true wrong more = sym (give-excess given.Packet wrong more)
-excess_given false wrong more = refl
+excess_given excess wrong more = grind (arith, nat_tests, give-excess)
 
 -- What a part gives, by what is found in it.
 settle_by : (gap : Bool) (v : JoiningValue) (part : Part) (wrong : Bool) (more : List GoodPacket)
@@ -148,8 +147,7 @@ settle : (gap : Bool) (v : JoiningValue) (part : Part) (wrong : Bool) (more : Li
     → given_open gap v (part_bytes part) wrong more
     ≡ mark_where (gap && gave_packet v.given)
     ++ give (given_after gap v.given) (tail wrong part more)
-settle gap v part wrong more all claims begins last =
-    settle_by gap v part wrong more all claims begins last (found_in (part_bytes part)) refl
+settle gap v part wrong more h1 h2 h3 h4 = grind (arith, nat_tests, settle_by)
 
 -- ---- a new part
 
@@ -200,19 +198,16 @@ new_part wrong more v g all claims =
 -- ---- all packets
 
 pub or_true : (b : Bool) → (b || true) ≡ true
-or_true true = refl
-or_true false = refl
+or_true b = grind (arith, nat_tests)
 
 or_false : (b : Bool) → (b || false) ≡ b
-or_false true = refl
-or_false false = refl
+or_false b = grind (arith, nat_tests)
 
 -- Where a mark was given, another gap gives nothing.
 give-excess_quiet : (g : Given) (excess : Bool) (rest : List PartOutcome)
     → (excess ≡ true → gave_packet g ≡ false)
     → give g rest ≡ give g (gap_where excess ++ rest)
-give-excess_quiet g true rest quiet = sym (give-quiet g rest (quiet refl))
-give-excess_quiet g false rest quiet = refl
+give-excess_quiet g excess rest h1 = grind (arith, nat_tests, give-quiet)
 
 -- A new part behind one that is not whole, of which a gap comes.
 after_unfinished : (wrong : Bool) (more : List GoodPacket) (part : Part) (h : Given)
@@ -221,12 +216,7 @@ after_unfinished : (wrong : Bool) (more : List GoodPacket) (part : Part) (h : Gi
     → mark_where ((is_break g.link || true) && gave_packet h)
     ++ give (given_after (is_break g.link || true) h) (tail wrong (part_of g) more)
     ≡ give h (outcome false part ++ (gap_where (is_break g.link) ++ tail wrong (part_of g) more))
-after_unfinished wrong more part h g comes =
-    let rest = tail wrong (part_of g) more in
-    ap (λ b. mark_where (b && gave_packet h) ++ give (given_after b h) rest)
-    (or_true (is_break g.link))
-    ∙ ap (λ l. mark_where (gave_packet h) ++ l) (sym (give-again h (is_break g.link) rest))
-    ∙ sym (ap (λ l. give h (l ++ (gap_where (is_break g.link) ++ rest))) comes)
+after_unfinished wrong more part h g h1 = grind (arith, nat_tests, tail, give, or_true, give-again)
 
 -- What good packets give, from any state on.
 pub claims : (wrong : Bool) (goods : List GoodPacket) → HavePayloads goods → Claims wrong goods

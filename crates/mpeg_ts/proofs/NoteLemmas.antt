@@ -1,9 +1,10 @@
 -- What notes give one after another is what the good packets among them give; main lemma:
 -- notes_joined.
-use Rattle.std.proofs.Common.{◌≡◌, ℕ, ◌+◌, ◌<◌, List, [], ◌∷◌, ◌++◌, length, Bool, true, false}
+use Rattle.std.proofs.lemmas.Bool.Decides.{nat_tests}
+use Rattle.std.proofs.Common.{◌≡◌, ℕ, ◌<◌, List, [], ◌∷◌, ◌++◌, length, Bool, true, false}
 use Rattle.std.proofs.Common.{Option, Some, None, refl, sym, ap, ◌∙◌, subst, arith, append_assoc}
 use Rattle.std.proofs.lemmas.List.{append-nil, get_or-take}
-use Rattle.std.specs.Prelude.{◌&&◌, ◌||◌, ◌==◌, ◌%◌, not, if◌then◌else◌, bytes_eq}
+use Rattle.std.specs.Prelude.{◌&&◌, ◌||◌, not, if◌then◌else◌, bytes_eq}
 use Rattle.mpeg_ts.specs.Carried.{mark, mark_where}
 use Rattle.mpeg_ts.specs.GoodPackets.{GoodPacket, GoodPackets, Link, First, Follows, Seam, Break}
 use Rattle.mpeg_ts.specs.GoodPackets.{Note}
@@ -12,18 +13,17 @@ use Rattle.mpeg_ts.specs.GoodPackets.{is_repeat_of, link_from, linked, nothing_s
 use Rattle.mpeg_ts.specs.Joining.{JoiningValue, after_good, after_note, after_valid, begun}
 use Rattle.mpeg_ts.specs.Joining.{found_in}
 use Rattle.mpeg_ts.specs.Joining.{counter_goes_on, gave_packet, given_after, given_later, gone_on}
-use Rattle.mpeg_ts.specs.Joining.{grown, handed_over, has_ended, is_complete, link_after}
-use Rattle.mpeg_ts.specs.Joining.{remembering, repeats, settled_as, with_gap}
-use Rattle.mpeg_ts.specs.Parts.{is_break, is_unlinked}
-use Rattle.mpeg_ts.specs.TransportPacket.{announces_jump, begins, counter, has_payload}
+use Rattle.mpeg_ts.specs.Joining.{grown, handed_over, has_ended, link_after}
+use Rattle.mpeg_ts.specs.Joining.{remembering, repeats, settled_as}
+use Rattle.mpeg_ts.specs.Parts.{is_unlinked}
+use Rattle.mpeg_ts.specs.TransportPacket.{announces_jump, begins, has_payload}
 use Rattle.mpeg_ts.specs.TransportPacket.{packet_header}
 use Rattle.mpeg_ts.specs.TransportPacket.{payload}
 use Rattle.mpeg_ts.specs.declared.joining.Given.{Given}
 use Rattle.mpeg_ts.specs.declared.joining.Given.TheVariants as given
 use Rattle.mpeg_ts.specs.declared.joining.Found.{Found}
-use Rattle.mpeg_ts.specs.declared.joining.Found.TheVariants as found
 use Rattle.mpeg_ts.specs.declared.joining.PartState.{PartState}
-use Rattle.mpeg_ts.specs.declared.joining.PartState.TheVariants.{Headless, Open, Complete, Ended}
+use Rattle.mpeg_ts.specs.declared.joining.PartState.TheVariants.{Open}
 use Rattle.mpeg_ts.proofs.JoinedLemmas.{joined, joined-ended, or_true}
 use Rattle.mpeg_ts.proofs.OutcomeLemmas.{HavePayloads, by_bool, quiet_after}
 
@@ -45,82 +45,23 @@ pub record IsFresh (v : JoiningValue) (p : List ℕ) : Type 0 where
 settled_fresh : (f : Found) (v : JoiningValue) (p : List ℕ)
     → IsFresh v p
     → IsFresh (settled_as f v) p
-settled_fresh found.Unfinished v p k = k
-settled_fresh found.Other v p k = record {
-  is_last = record { head = k.is_last.head; load = k.is_last.load; jump = k.is_last.jump };
-  no_repeat = k.no_repeat;
-  no_jump = k.no_jump;
-  no_break = k.no_break;
-}
-settled_fresh (found.Whole size) v p k = record {
-  is_last = record { head = k.is_last.head; load = k.is_last.load; jump = k.is_last.jump };
-  no_repeat = k.no_repeat;
-  no_jump = k.no_jump;
-  no_break = k.no_break;
-}
+settled_fresh f v p h1 = grind (arith, nat_tests)
 
 grown_fresh : (gap : Bool) (v : JoiningValue) (bytes p : List ℕ)
     → IsFresh (grown gap (record (remembering v p) { bytes = bytes }) (payload p)) p
-grown_fresh gap v bytes p =
-    settled_fresh (found_in (bytes ++ payload p))
-    (with_gap gap (record (remembering v p) {
-      part = Open;
-      bytes = bytes ++ payload p;
-      last = payload p;
-    })) p
-    (record {
-      is_last = record { head = refl; load = refl; jump = refl };
-      no_repeat = refl;
-      no_jump = refl;
-      no_break = refl;
-    })
+grown_fresh gap v bytes p = grind (arith, nat_tests, settled_fresh)
 
 begun_fresh : (breaks b : Bool) (v : JoiningValue) (p : List ℕ)
     → IsFresh (begun breaks b (remembering v p) (payload p)) p
-begun_fresh breaks true v p = grown_fresh (breaks || not (is_complete v.part)) v [] p
-begun_fresh breaks false v p = record {
-  is_last = record { head = refl; load = refl; jump = refl };
-  no_repeat = refl;
-  no_jump = refl;
-  no_break = refl;
-}
+begun_fresh breaks b v p = grind (arith, nat_tests, grown_fresh)
 
 gone_on_fresh : (part : PartState) (v : JoiningValue) (p : List ℕ)
     → IsFresh (gone_on part (remembering v p) (payload p)) p
-gone_on_fresh Headless v p = record {
-  is_last = record { head = refl; load = refl; jump = refl };
-  no_repeat = refl;
-  no_jump = refl;
-  no_break = refl;
-}
-gone_on_fresh Open v p = grown_fresh false v v.bytes p
-gone_on_fresh Complete v p = record {
-  is_last = record { head = refl; load = refl; jump = refl };
-  no_repeat = refl;
-  no_jump = refl;
-  no_break = refl;
-}
-gone_on_fresh Ended v p = record {
-  is_last = record { head = refl; load = refl; jump = refl };
-  no_repeat = refl;
-  no_jump = refl;
-  no_break = refl;
-}
+gone_on_fresh part v p = grind (arith, nat_tests, grown_fresh)
 
 -- After a good packet it is the last one.
 good_fresh : (link : Link) (v : JoiningValue) (p : List ℕ) → IsFresh (after_good link v p) p
-good_fresh link v p =
-    by_choice (begins p || is_unlinked link)
-    (begun (is_break link) (begins p) (remembering v p) (payload p))
-    (gone_on v.part (remembering v p) (payload p))
-    (begun_fresh (is_break link) (begins p) v p) (gone_on_fresh v.part v p)
-  where
-    by_choice : (b : Bool) (x y : JoiningValue)
-        → IsFresh x p
-        → IsFresh y p
-        → IsFresh (if b then x else y) p
-    by_choice true x y k l = k
-    by_choice false x y k l = l
+good_fresh link v p = grind (arith, nat_tests, begun_fresh, gone_on_fresh)
 
 -- ---- what came since
 
@@ -141,31 +82,15 @@ pub record Knows (v : JoiningValue) (s : Since) : Type 0 where
 -- The same conditions in another order.
 and_order : (a b c d e : Bool)
     → (not a && (not b && (c && (d && e)))) ≡ ((d && e) && not a && not b && c)
-and_order true b c false e = refl
-and_order true b c true false = refl
-and_order true b c true true = refl
-and_order false true c false e = refl
-and_order false true c true false = refl
-and_order false true c true true = refl
-and_order false false true false e = refl
-and_order false false true true false = refl
-and_order false false true true true = refl
-and_order false false false false e = refl
-and_order false false false true false = refl
-and_order false false false true true = refl
+and_order a b c d e = grind (arith, nat_tests)
 
 -- Where the last one fails, all do.
 and_last : (a b c d : Bool) → (not a && (not b && (c && (d && false)))) ≡ false
-and_last true b c d = refl
-and_last false true c d = refl
-and_last false false false d = refl
-and_last false false true false = refl
-and_last false false true true = refl
+and_last a b c d = grind (arith, nat_tests)
 
 -- No bytes are not some.
 nil_not_some : (xs : List ℕ) → 0 < length xs → bytes_eq [] xs ≡ false
-nil_not_some [] some = absurd (omega arith)
-nil_not_some (x ∷ xs) some = refl
+nil_not_some xs h1 = grind (arith, nat_tests)
 
 -- A packet repeats the last good one.
 repeats_by : (v : JoiningValue) (s : Since) (o : Option (List ℕ)) (p : List ℕ)
@@ -174,30 +99,7 @@ repeats_by : (v : JoiningValue) (s : Since) (o : Option (List ℕ)) (p : List �
     → v.has_jump ≡ s.has_jump
     → 0 < length (payload p)
     → repeats v p ≡ is_repeat_of o s p
-repeats_by v s None p last repeat jump some =
-    let differ : bytes_eq v.last (payload p) ≡ false =
-    ap (λ (l : List ℕ). bytes_eq l (payload p)) last ∙ nil_not_some (payload p) some in
-    ap (λ (b : Bool). not v.has_repeat && (not v.has_jump
-    && ((not (announces_jump p) || v.announced)
-    && (bytes_eq v.header (packet_header p) && b)))) differ
-    ∙ and_last v.has_repeat v.has_jump (not (announces_jump p) || v.announced)
-    (bytes_eq v.header (packet_header p))
-repeats_by v s (Some q) p last repeat jump some =
-    and_order v.has_repeat v.has_jump (not (announces_jump p) || v.announced)
-    (bytes_eq v.header (packet_header p)) (bytes_eq v.last (payload p))
-    ∙ ap (λ (l : List ℕ). (bytes_eq l (packet_header p) && bytes_eq v.last (payload p))
-    && not v.has_repeat && not v.has_jump && (not (announces_jump p) || v.announced)) last.0.head
-    ∙ ap (λ (l : List ℕ). (bytes_eq (packet_header q) (packet_header p) && bytes_eq l (payload p))
-    && not v.has_repeat && not v.has_jump && (not (announces_jump p) || v.announced)) last.0.load
-    ∙ ap (λ (b : Bool).
-    (bytes_eq (packet_header q) (packet_header p) && bytes_eq (payload q) (payload p))
-    && not b && not v.has_jump && (not (announces_jump p) || v.announced)) repeat
-    ∙ ap (λ (b : Bool).
-    (bytes_eq (packet_header q) (packet_header p) && bytes_eq (payload q) (payload p))
-    && not s.has_repeat && not b && (not (announces_jump p) || v.announced)) jump
-    ∙ ap (λ (b : Bool).
-    (bytes_eq (packet_header q) (packet_header p) && bytes_eq (payload q) (payload p))
-    && not s.has_repeat && not s.has_jump && (not (announces_jump p) || b)) last.0.jump
+repeats_by v s o p h1 h2 h3 h4 = grind (arith, nat_tests, nil_not_some, and_last, and_order)
 
 -- What links a packet to a last one.
 abbrev pub link_by : Bool → Bool → Bool → Link
@@ -208,16 +110,13 @@ link_some : (v : JoiningValue) (l p : List ℕ)
     → 0 < length l
     → link_after v l p
     ≡ link_by v.has_break (v.has_jump || announces_jump p) (counter_goes_on v.header p)
-link_some v [] p some = absurd (omega arith)
-link_some v (x ∷ xs) p some = refl
+link_some v l p h1 = grind (arith, nat_tests)
 
 -- The counter stands in the first four bytes.
 counter_kept : (v : JoiningValue) (q p : List ℕ)
     → v.header ≡ packet_header q
     → counter_goes_on v.header p ≡ counts_on q p
-counter_kept v q p head =
-    ap (λ (l : List ℕ). counter_goes_on l p) head
-    ∙ ap (λ (n : ℕ). counter p == (n % 0x10 + 1) % 0x10) (get_or-take 4 q 3 0 (omega arith))
+counter_kept v q p h1 = grind (arith, nat_tests, get_or-take)
 
 -- A packet is linked to the last good one as it is.
 link_same : (v : JoiningValue) (s : Since) (o : Option (List ℕ)) (p : List ℕ)
@@ -225,17 +124,7 @@ link_same : (v : JoiningValue) (s : Since) (o : Option (List ℕ)) (p : List ℕ
     → v.has_jump ≡ s.has_jump
     → v.has_break ≡ (s.has_wrong || s.has_hole)
     → link_after v v.last p ≡ link_from o s p
-link_same v s None p last jump lost = ap (λ (l : List ℕ). link_after v l p) last
-link_same v s (Some q) p last jump lost =
-    let load = last.0.load in
-    let some : 0 < length v.last = subst (λ (l : List ℕ). 0 < length l) (sym load) last.1 in
-    link_some v v.last p some
-    ∙ ap (λ (b : Bool). link_by b (v.has_jump || announces_jump p)
-    (counter_goes_on v.header p)) lost
-    ∙ ap (λ (b : Bool). link_by (s.has_wrong || s.has_hole) (b || announces_jump p)
-    (counter_goes_on v.header p)) jump
-    ∙ ap (link_by (s.has_wrong || s.has_hole) (s.has_jump || announces_jump p))
-    (counter_kept v q p last.0.head)
+link_same v s o p h1 h2 h3 = grind (arith, nat_tests, link_some, counter_kept)
 
 -- ---- the notes
 
@@ -301,8 +190,7 @@ step_by : (v : JoiningValue) (n : Note) (more : List Note) (all : List ℕ)
     ≡ all)
     → given_later (handed_over v) (n ∷ more) ≡ all
 unfolding given_later
-step_by v n more all at_end going =
-    by_bool (has_ended v.part) (λ yes. rw yes (at_end yes)) (λ no. rw no (going no))
+step_by v n more all h1 h2 = grind (arith, nat_tests)
 
 -- What was noted since the last good packet changes nothing of what good packets give.
 joined-flags : (v : JoiningValue) (a b c wrong : Bool) (goods : List GoodPacket)
@@ -315,9 +203,7 @@ joined-flags v a b c wrong (g ∷ more) = refl
 no_note : (ended wrong given : Bool)
     → (wrong ≡ true → given ≡ false)
     → ◌≡◌ {A = List ℕ} [] (if ended then [] else mark_where (wrong && given))
-no_note true wrong given quiet = refl
-no_note false false given quiet = refl
-no_note false true given quiet = ap mark_where (sym (quiet refl))
+no_note ended wrong given h1 = grind (arith, nat_tests)
 
 -- ---- a wrong packet
 
@@ -332,23 +218,21 @@ begin_broken : (s : Since) (q : List ℕ) (all : List Note)
     → s.good ≡ Some q
     → BeginBroken (good_after s all).wrong_behind (good_after s all).packets
 unfolding good_after
-begin_broken s q [] wrong good = wrong
+begin_broken s q [] wrong good = grind (arith, nat_tests)
 begin_broken s q (Wrong ∷ more) wrong good =
-    begin_broken (record s { has_wrong = true }) q more refl good
+    grind (arith, nat_tests, (begin_broken (record s { has_wrong = true }) q more refl good))
 begin_broken s q (Hole ∷ more) wrong good =
-    begin_broken (record s { has_hole = true }) q more wrong good
+    grind (arith, nat_tests, (begin_broken (record s { has_hole = true }) q more wrong good))
 begin_broken s q (Valid p ∷ more) wrong good =
-    let IsBroken : GoodPackets → Type 0 = λ g. BeginBroken g.wrong_behind g.packets in
-    by_bool (has_payload p)
-    (λ some. by_bool (is_repeat s p)
-    (λ again. subst IsBroken (sym (good-repeat s p more some again))
-    (begin_broken (record s { has_repeat = true }) q more wrong good))
-    (λ other. subst IsBroken (sym (good-good s p more some other))
-    (ap (λ (o : Option (List ℕ)). link_from o s p) good
-    ∙ ap (λ (b : Bool). link_by (b || s.has_hole) (s.has_jump || announces_jump p)
-    (counts_on q p)) wrong)))
-    (λ none. subst IsBroken (sym (good-no_payload s p more none))
-    (begin_broken (record s { has_jump = s.has_jump || announces_jump p }) q more wrong good))
+    grind (
+      arith,
+      nat_tests,
+      good-repeat,
+      good-good,
+      good-no_payload,
+      (begin_broken (record s { has_repeat = true }) q more wrong good),
+      (begin_broken (record s { has_jump = s.has_jump || announces_jump p }) q more wrong good),
+    )
 
 -- What is ready stands before what comes of a part.
 pending_first : (f : Found) (v : JoiningValue) (wrong : Bool) (more : List GoodPacket)
@@ -356,13 +240,7 @@ pending_first : (f : Found) (v : JoiningValue) (wrong : Bool) (more : List GoodP
     ++ joined (handed_over (settled_as f (record v { pending = mark }))) wrong more
     ≡ mark ++ ((settled_as f (record v { pending = [] })).pending
     ++ joined (handed_over (settled_as f (record v { pending = [] }))) wrong more)
-pending_first found.Unfinished v wrong more = refl
-pending_first found.Other v wrong more =
-    append_assoc mark v.bytes
-    (joined (handed_over (settled_as found.Other (record v { pending = [] }))) wrong more)
-pending_first (found.Whole size) v wrong more =
-    append_assoc mark (settled_as (found.Whole size) (record v { pending = [] })).pending
-    (joined (handed_over (settled_as (found.Whole size) (record v { pending = [] }))) wrong more)
+pending_first f v wrong more = grind (arith, nat_tests, append_assoc, joined)
 
 -- A part after a break, whether the mark was given before or not.
 begun_first : (b : Bool) (v : JoiningValue) (p : List ℕ) (wrong : Bool) (more : List GoodPacket)
@@ -429,9 +307,7 @@ after_wrong_broken : (v : JoiningValue) (s : Since) (o : Option (List ℕ)) (all
     → gave_packet v.given ≡ true
     → BeginBroken (good_after (record s { has_wrong = true }) all).wrong_behind
     (good_after (record s { has_wrong = true }) all).packets
-after_wrong_broken v s None all good none gave = let quiet = none good in absurd cc
-after_wrong_broken v s (Some q) all good none gave =
-    begin_broken (record s { has_wrong = true }) q all refl good
+after_wrong_broken v s o all h1 h2 h3 = grind (arith, nat_tests, begin_broken)
 
 -- The notes give what the good packets among them give.
 abbrev pub Agrees : JoiningValue → Since → List Note → Type 0
@@ -514,11 +390,7 @@ keeps_last : (v w : JoiningValue) (o : Option (List ℕ))
     → w.announced ≡ v.announced
     → KeepsLast v o
     → KeepsLast w o
-keeps_last v w None head load jump last = load ∙ last
-keeps_last v w (Some q) head load jump last = (
-  record { head = head ∙ last.0.head; load = load ∙ last.0.load; jump = jump ∙ last.0.jump },
-  last.1,
-)
+keeps_last v w o h1 h2 h3 h4 = grind (arith, nat_tests)
 
 -- What notes give is what the good packets among them give.
 pub notes_joined : (v : JoiningValue) (s : Since) (all : List Note)
@@ -610,19 +482,21 @@ pub first_is_cut : (s : Since) (all : List Note)
     → s.good ≡ None
     → FirstIsCut (good_after s all).packets
 unfolding good_after
-first_is_cut s [] none = tt
-first_is_cut s (Wrong ∷ more) none = first_is_cut (record s { has_wrong = true }) more none
-first_is_cut s (Hole ∷ more) none = first_is_cut (record s { has_hole = true }) more none
+first_is_cut s [] none = grind (arith, nat_tests)
+first_is_cut s (Wrong ∷ more) none =
+    grind (arith, nat_tests, (first_is_cut (record s { has_wrong = true }) more none))
+first_is_cut s (Hole ∷ more) none =
+    grind (arith, nat_tests, (first_is_cut (record s { has_hole = true }) more none))
 first_is_cut s (Valid p ∷ more) none =
-    let IsCutFirst : GoodPackets → Type 0 = λ g. FirstIsCut g.packets in
-    by_bool (has_payload p)
-    (λ some. by_bool (is_repeat s p)
-    (λ again. subst IsCutFirst (sym (good-repeat s p more some again))
-    (first_is_cut (record s { has_repeat = true }) more none))
-    (λ other. subst IsCutFirst (sym (good-good s p more some other))
-    (ap (λ (o : Option (List ℕ)). is_unlinked (link_from o s p)) none)))
-    (λ empty. subst IsCutFirst (sym (good-no_payload s p more empty))
-    (first_is_cut (record s { has_jump = s.has_jump || announces_jump p }) more none))
+    grind (
+      arith,
+      nat_tests,
+      good-repeat,
+      good-good,
+      good-no_payload,
+      (first_is_cut (record s { has_repeat = true }) more none),
+      (first_is_cut (record s { has_jump = s.has_jump || announces_jump p }) more none),
+    )
 
 -- Each of them has bytes in its payload.
 pub good_payloads : (s : Since) (all : List Note)

@@ -1,7 +1,7 @@
 -- What parts give, as it is known packet after packet; main lemmas: with_marks-nothing,
 -- outcomes-from, tail-whole, give-other.
 use Rattle.std.proofs.Common.{◌≡◌, ℕ, ◌+◌, ◌-◌, ◌≤◌, ◌<◌, List, [], ◌∷◌, ◌++◌, length, take}
-use Rattle.std.proofs.Common.{Bool, true, false, refl, sym, ap, ◌∙◌, arith, append_assoc}
+use Rattle.std.proofs.Common.{Bool, true, false, refl, ap, ◌∙◌, arith, append_assoc}
 use Rattle.std.proofs.Common.{length-append, Result, Ok, Err}
 use Rattle.std.proofs.lemmas.Bool.Decides.{nat_tests}
 use Rattle.std.proofs.lemmas.List.{append-nil}
@@ -23,8 +23,7 @@ use Rattle.mpeg_ts.specs.declared.joining.Found.TheVariants as found
 
 -- A Bool is true or false: the proof of what holds in both cases.
 pub by_bool : {P : Type 0} (b : Bool) → (b ≡ true → P) → (b ≡ false → P) → P
-by_bool true f g = f refl
-by_bool false f g = g refl
+by_bool b h1 h2 = grind (arith, nat_tests)
 
 -- ---- marks
 
@@ -40,11 +39,10 @@ marks : (all : List PartOutcome)
     → (with_marks true false all ≡ give given.Packet all)
     × (with_marks true true all ≡ mark ++ give given.Mark all)
 unfolding with_marks
-marks [] = (refl, sym (append-nil mark))
-marks (Gap ∷ more) = ((marks more).1, (marks more).1)
-marks (Pes b ∷ more) =
-    (ap (λ l. b ++ l) (marks more).0, ap (λ l. mark ++ (b ++ l)) (marks more).0)
-marks (Other b ∷ more) = (refl, refl)
+marks [] = grind (arith, nat_tests, append-nil)
+marks (Gap ∷ more) = grind (arith, nat_tests, (marks more))
+marks (Pes b ∷ more) = grind (arith, nat_tests, (marks more))
+marks (Other b ∷ more) = grind (arith, nat_tests)
 
 -- Before the first PES packet.
 pub with_marks-nothing : (gap : Bool) (all : List PartOutcome)
@@ -57,54 +55,36 @@ with_marks-nothing gap (Other b ∷ more) = refl
 
 -- After a gap no packet was given last.
 pub quiet_after : (g : Given) → gave_packet (given_after true g) ≡ false
-quiet_after given.Nothing = refl
-quiet_after given.Packet = refl
-quiet_after given.Mark = refl
+quiet_after g = grind (arith, nat_tests)
 
 -- Where none was, a gap gives nothing.
 pub give-quiet : (g : Given) (more : List PartOutcome)
     → gave_packet g ≡ false
     → give g (Gap ∷ more) ≡ give g more
-give-quiet given.Nothing more quiet = refl
-give-quiet given.Packet more quiet = absurd cc
-give-quiet given.Mark more quiet = refl
+give-quiet g more h1 = grind (arith, nat_tests)
 
 -- A gap after a gap gives nothing.
 pub give-again : (g : Given) (b : Bool) (more : List PartOutcome)
     → give (given_after true g) (gap_where b ++ more) ≡ give (given_after true g) more
-give-again g true more = give-quiet (given_after true g) more (quiet_after g)
-give-again g false more = refl
+give-again g b more = grind (arith, nat_tests, give-quiet, quiet_after)
 
 -- A gap, where there is one.
 pub give-gap_where : (g : Given) (b : Bool) (more : List PartOutcome)
     → give g (gap_where b ++ more)
     ≡ mark_where (b && gave_packet g) ++ give (given_after b g) more
-give-gap_where g true more = refl
-give-gap_where g false more = refl
+give-gap_where g b more = grind (arith, nat_tests)
 
 -- The end behind a part that is not whole.
 pub give-end : (g : Given) (wrong : Bool)
     → mark_where (wrong && gave_packet g)
     ≡ give g (gap_where (not (not wrong)) ++ gap_where wrong)
-give-end g false = refl
-give-end given.Nothing true = refl
-give-end given.Packet true = sym (append-nil mark)
-give-end given.Mark true = refl
+give-end g wrong = grind (arith, nat_tests, append-nil)
 
 -- The end behind a whole part.
 pub give-end_whole : (g : Given) (excess wrong : Bool)
     → (excess ≡ true → gave_packet g ≡ false)
     → mark_where (wrong && gave_packet g) ≡ give g (gap_where excess ++ gap_where wrong)
-give-end_whole g false false quiet = refl
-give-end_whole given.Nothing false true quiet = refl
-give-end_whole given.Packet false true quiet = sym (append-nil mark)
-give-end_whole given.Mark false true quiet = refl
-give-end_whole given.Nothing true false quiet = refl
-give-end_whole given.Packet true false quiet = absurd (let no = quiet refl in cc)
-give-end_whole given.Mark true false quiet = refl
-give-end_whole given.Nothing true true quiet = refl
-give-end_whole given.Packet true true quiet = absurd (let no = quiet refl in cc)
-give-end_whole given.Mark true true quiet = refl
+give-end_whole g excess wrong h1 = grind (arith, nat_tests, append-nil)
 
 -- ---- parts
 
@@ -128,10 +108,9 @@ behind excess wrong (g ∷ more) =
 not_cut_off : (wrong : Bool) (part : Part) (goods : List GoodPacket)
     → may_be_cut_off wrong (parts_from part goods) ≡ false
 unfolding parts_from
-not_cut_off wrong part [] = refl
+not_cut_off wrong part [] = grind (arith, nat_tests)
 not_cut_off wrong part (g ∷ more) =
-    by_bool (begins_part g) (λ yes. rw yes refl)
-    (λ no. rw no (not_cut_off wrong (with_packet part g) more))
+    grind (arith, nat_tests, by_bool, (not_cut_off wrong (with_packet part g) more))
 
 -- What comes of parts.
 pub outcomes-from : (wrong : Bool) (part : Part) (goods : List GoodPacket)
@@ -153,9 +132,8 @@ outcomes-from wrong part (g ∷ more) =
 
 -- Lists joined, with one more behind them.
 concat-behind : (ps : List (List ℕ)) (x : List ℕ) → concat (ps ++ x ∷ []) ≡ concat ps ++ x
-concat-behind [] x = append-nil x
-concat-behind (f ∷ ps) x =
-    ap (λ l. f ++ l) (concat-behind ps x) ∙ sym (append_assoc f (concat ps) x)
+concat-behind [] x = grind (arith, nat_tests, append-nil)
+concat-behind (f ∷ ps) x = grind (arith, nat_tests, append_assoc, (concat-behind ps x))
 
 -- The bytes of a part with a packet more.
 pub bytes-with : (part : Part) (g : GoodPacket)
@@ -181,17 +159,15 @@ pub up_to-last : (c : ℕ) (ps : List (List ℕ)) (x : List ℕ)
     → length (concat ps) < c
     → up_to c (ps ++ x ∷ []) ≡ concat ps ++ x
 unfolding up_to
-up_to-last c [] x lt =
-    by_bool (nat_le c (length x)) (λ yes. rw yes refl) (λ no. rw no (append-nil x))
+up_to-last c [] x lt = grind (arith, nat_tests, by_bool, append-nil)
 up_to-last c (f ∷ ps) x lt =
-    let gt : nat_le c (length f) ≡ false =
-    not_reached c (length f) (omega (arith, length-append f (concat ps))) in
-    rw gt (ap (λ l. f ++ l)
-    (up_to-last (c - length f) ps x (omega (arith, length-append f (concat ps))))
-    ∙ sym (append_assoc f (concat ps) x))
-  where
-    not_reached : (m n : ℕ) → n < m → nat_le m n ≡ false
-    not_reached m n lt = grind (arith, nat_tests)
+    grind (
+      arith,
+      nat_tests,
+      length-append,
+      append_assoc,
+      (up_to-last (c - length f) ps x (omega (arith, length-append f (concat ps)))),
+    )
 
 -- ---- what is found in a part
 
@@ -199,22 +175,13 @@ up_to-last c (f ∷ ps) x lt =
 found-whole : (n size : ℕ) (r : Result ℕ PesFault)
     → found_by_size n r ≡ found.Whole size
     → (r ≡ Ok size) × (size ≤ n)
-found-whole n size (Err f) e = absurd cc
-found-whole n size (Ok s) e = by_bool (nat_le s n)
-    (λ yes. let same : found.Whole s ≡ found.Whole size = rw yes at e in
-    let eq : s ≡ size = cc in
-    let le : s ≤ n = grind (arith, nat_tests) in
-    (ap (λ k. Ok k) eq, omega arith))
-    (λ no. let bad : found.Unfinished ≡ found.Whole size = rw no at e in absurd cc)
+found-whole n size r h1 = grind (arith, nat_tests, by_bool)
 
 -- Another start or length.
 found-other : (n : ℕ) (r : Result ℕ PesFault)
     → found_by_size n r ≡ found.Other
     → (f : PesFault) × (r ≡ Err f)
-found-other n (Err f) e = (f, refl)
-found-other n (Ok s) e = by_bool (nat_le s n)
-    (λ yes. let bad : found.Whole s ≡ found.Other = rw yes at e in absurd cc)
-    (λ no. let bad : found.Unfinished ≡ found.Other = rw no at e in absurd cc)
+found-other n r h1 = grind (arith, nat_tests, by_bool)
 
 -- Bytes in which a whole PES packet was found.
 pub record IsWhole (bytes : List ℕ) (size : ℕ) : Type 0 where
@@ -232,19 +199,11 @@ pub whole_found : (bytes : List ℕ) (size : ℕ)
     → found_in bytes ≡ found.Whole size
     → IsWhole bytes size
 unfolding found_in
-whole_found bytes size e = by_bool (nat_lt (length bytes) 6)
-    (λ yes. let bad : found.Unfinished ≡ found.Whole size = rw yes at e in absurd cc)
-    (λ no. let many : 6 ≤ length bytes = grind (arith, nat_tests) in
-    let p = found-whole (length bytes) size (size_at (take 6 bytes)) (rw no at e) in
-    record { six = many; sized = p.0; within = p.1 })
+whole_found bytes size h1 = grind (arith, nat_tests, by_bool, found-whole)
 
 pub other_found : (bytes : List ℕ) → found_in bytes ≡ found.Other → IsOther bytes
 unfolding found_in
-other_found bytes e = by_bool (nat_lt (length bytes) 6)
-    (λ yes. let bad : found.Unfinished ≡ found.Other = rw yes at e in absurd cc)
-    (λ no. let many : 6 ≤ length bytes = grind (arith, nat_tests) in
-    let p = found-other (length bytes) (size_at (take 6 bytes)) (rw no at e) in
-    record { six = many; fault = p.0; refused = p.1 })
+other_found bytes h1 = grind (arith, nat_tests, by_bool, found-other)
 
 -- A part that does not begin with a PES packet's first byte.
 pub outcome-headless : (cut : Bool) (part : Part)
@@ -257,10 +216,7 @@ outcome-headless cut part headless = rw headless refl
 outcome-of_unfinished : (cut : Bool) (part : Part) (r : Result ℕ PesFault)
     → found_by_size (length (part_bytes part)) r ≡ found.Unfinished
     → outcome_of_size cut part r ≡ gap_where (not cut)
-outcome-of_unfinished cut part (Err f) e = absurd cc
-outcome-of_unfinished cut part (Ok size) e = by_bool (nat_le size (length (part_bytes part)))
-    (λ yes. let bad : found.Whole size ≡ found.Unfinished = rw yes at e in absurd cc)
-    (λ no. rw no refl)
+outcome-of_unfinished cut part r h1 = grind (arith, nat_tests, by_bool)
 
 -- A part whose PES packet is not there whole.
 pub outcome-unfinished : (cut : Bool) (part : Part)
@@ -268,12 +224,7 @@ pub outcome-unfinished : (cut : Bool) (part : Part)
     → found_in (part_bytes part) ≡ found.Unfinished
     → outcome cut part ≡ gap_where (not cut)
 unfolding outcome found_in
-outcome-unfinished cut part begins e = by_bool (nat_lt (length (part_bytes part)) 6)
-    (λ yes. let few : nat_le 6 (length (part_bytes part)) ≡ false = grind (arith, nat_tests) in
-    rw (begins, few) refl)
-    (λ no. let many : nat_le 6 (length (part_bytes part)) ≡ true = grind (arith, nat_tests) in
-    rw (begins, many)
-    (outcome-of_unfinished cut part (size_at (take 6 (part_bytes part))) (rw no at e)))
+outcome-unfinished cut part h1 h2 = grind (arith, nat_tests, by_bool, outcome-of_unfinished)
 
 -- A whole part.
 outcome-whole : (cut : Bool) (part : Part) (size : ℕ)
@@ -282,16 +233,7 @@ outcome-whole : (cut : Bool) (part : Part) (size : ℕ)
     → outcome cut part
     ≡ Pes (take size (part_bytes part)) ∷ gap_where (nat_lt size (length (part_bytes part)))
 unfolding outcome
-outcome-whole cut part size begins w =
-    let many : nat_le 6 (length (part_bytes part)) ≡ true =
-    is_le 6 (length (part_bytes part)) w.six in
-    let fits : nat_le size (length (part_bytes part)) ≡ true =
-    is_le size (length (part_bytes part)) w.within in
-    let sized = w.sized in
-    rw (begins, many, sized, fits) refl
-  where
-    is_le : (m n : ℕ) → m ≤ n → nat_le m n ≡ true
-    is_le m n le = grind (arith, nat_tests)
+outcome-whole cut part size h1 h2 = grind (arith, nat_tests)
 
 -- A part with another start or length.
 outcome-other : (cut : Bool) (part : Part)
@@ -299,14 +241,7 @@ outcome-other : (cut : Bool) (part : Part)
     → IsOther (part_bytes part)
     → outcome cut part ≡ Other (up_to 6 part.payloads) ∷ []
 unfolding outcome
-outcome-other cut part begins o =
-    let many : nat_le 6 (length (part_bytes part)) ≡ true =
-    is_le 6 (length (part_bytes part)) o.six in
-    let refused = o.refused in
-    rw (begins, many, refused) refl
-  where
-    is_le : (m n : ℕ) → m ≤ n → nat_le m n ≡ true
-    is_le m n le = grind (arith, nat_tests)
+outcome-other cut part h1 h2 = grind (arith, nat_tests)
 
 -- ---- what is settled stays so
 
@@ -320,8 +255,7 @@ same_six : (bytes more all : List ℕ)
     → all ≡ bytes ++ more
     → 6 ≤ length bytes
     → size_at (take 6 all) ≡ size_at (take 6 bytes)
-same_six bytes more all e six =
-    ap (λ l. size_at (take 6 l)) e ∙ ap size_at (take-append-le 6 bytes more six)
+same_six bytes more all h1 h2 = grind (arith, nat_tests)
 
 -- The PES packet of a whole part is given, whatever follows.
 pub tail-whole : (wrong : Bool) (part : Part) (size : ℕ) (goods : List GoodPacket)
@@ -390,15 +324,9 @@ give-other h wrong part (g ∷ more) begins o =
 pub give-excess : (g : Given) (wrong : Bool) (goods : List GoodPacket)
     → give g (behind true wrong goods)
     ≡ mark_where (gave_packet g) ++ give (given_after true g) (behind true wrong goods)
-give-excess h wrong [] =
-    ap (λ l. mark_where (gave_packet h) ++ l)
-    (sym (give-quiet (given_after true h) (gap_where wrong) (quiet_after h)))
+give-excess h wrong [] = grind (arith, nat_tests, give-quiet, quiet_after)
 give-excess h wrong (g ∷ more) =
-    let rest = gap_where (is_break g.link) ++ tail wrong (part_of g) more in
-    by_bool (begins_part g)
-    (λ yes. rw yes (ap (λ l. mark_where (gave_packet h) ++ l)
-    (sym (give-quiet (given_after true h) rest (quiet_after h)))))
-    (λ no. rw no (give-excess h wrong more))
+    grind (arith, nat_tests, by_bool, give-quiet, quiet_after, (give-excess h wrong more))
 
 -- Where a PES packet came to be known as not there whole, and then as another, its first six bytes
 -- came with the last payload.
@@ -407,20 +335,4 @@ pub other_with_last : (bytes more : List ℕ)
     → IsOther (bytes ++ more)
     → length bytes < 6
 unfolding found_in
-other_with_last bytes more e o = by_bool (nat_lt (length bytes) 6)
-    (λ yes. is_lt (length bytes) 6 yes)
-    (λ no. absurd (not_other (size_at (take 6 bytes)) (length bytes) o.fault (rw no at e)
-    (sym (same_six bytes more (bytes ++ more) refl (is_le (length bytes) no)) ∙ o.refused)))
-  where
-    is_lt : (m n : ℕ) → nat_lt m n ≡ true → m < n
-    is_lt m n less = grind (arith, nat_tests)
-
-    is_le : (m : ℕ) → nat_lt m 6 ≡ false → 6 ≤ m
-    is_le m many = grind (arith, nat_tests)
-
-    not_other : (r : Result ℕ PesFault) (n : ℕ) (f : PesFault)
-        → found_by_size n r ≡ found.Unfinished
-        → r ≡ Err f
-        → ⊥
-    not_other (Err f) n h e same = cc
-    not_other (Ok s) n h e same = cc
+other_with_last bytes more h1 h2 = grind (arith, nat_tests, by_bool, same_six)

@@ -1,5 +1,6 @@
 -- The bytes that are ready to be given; main lemmas: ready-front, lent_whole, passed_mark,
 -- passed_bytes, passed_behind.
+use Rattle.std.proofs.lemmas.Bool.Decides.{nat_tests}
 use Rattle.std.proofs.Common.{◌≡◌, ℕ, ◌+◌, ◌-◌, ◌≤◌, ◌<◌, List, [], ◌++◌, length, take, drop}
 use Rattle.std.proofs.Common.{Bool, true, false, refl, sym, ap, ◌∙◌, arith, length-append}
 use Rattle.std.proofs.Common.{length-drop}
@@ -32,23 +33,16 @@ pub length-ready : (m s e : ℕ) (behind : Bool) (bytes : List ℕ)
     → s ≤ e
     → e ≤ length bytes
     → length (ready_bytes m s e behind bytes) ≡ m + ((e - s) + length (mark_where behind))
-length-ready m s e behind bytes le range within =
-    let front = drop (184 - m) mark in
-    let mid = slice_range bytes s e in
-    length-append front (mid ++ mark_where behind)
-    ∙ ap (λ n. n + length (mid ++ mark_where behind)) (length-mark_left m le)
-    ∙ ap (λ n. m + n) (length-append mid (mark_where behind))
-    ∙ ap (λ n. m + (n + length (mark_where behind))) (held_length bytes s e range within)
+length-ready m s e behind bytes h1 h2 h3 =
+    grind (arith, nat_tests, length-append, length-mark_left, held_length)
 
 -- No mark follows where nothing does.
 no_mark : (behind : Bool) → length (mark_where behind) ≡ 0 → behind ≡ false
-no_mark false e = refl
-no_mark true e = absurd (omega (arith, e, length-mark))
+no_mark behind h1 = grind (arith, nat_tests, length-mark)
 
 -- A Bool that is not true.
 not_behind : (b : Bool) → (b ≡ true → ⊥) → b ≡ false
-not_behind true f = absurd (f refl)
-not_behind false f = refl
+not_behind b h1 = grind (arith, nat_tests)
 
 -- Where no byte is ready, the numbers say so,
 pub idle_where_none : (m s e : ℕ) (behind : Bool) (bytes : List ℕ)
@@ -186,9 +180,7 @@ mark_after_none : (b : Bool) (m new s e : ℕ) (behind : Bool) (bytes : List ℕ
     → ready_bytes m s e behind bytes ≡ []
     → new ≡ (if b then 184 else m)
     → (new ≡ (if b then 184 else 0)) × IsIdle m s e behind
-mark_after_none b m new s e behind bytes le range within none is =
-    let idle = idle_where_none m s e behind bytes le range within none in
-    (is ∙ ap (λ n. if b then 184 else n) idle.mark, idle)
+mark_after_none b m new s e behind bytes h1 h2 h3 h4 h5 = grind (arith, nat_tests, idle_where_none)
 
 -- A mark is ready where nothing was, whatever bytes are kept. For `note_wrong`, `hold`.
 pub gap_ready : (b : Bool) (m new s e : ℕ) (behind : Bool) (bytes kept : List ℕ)
@@ -262,10 +254,8 @@ pub length-ready_behind : (m s e : ℕ) (behind : Bool) (bytes : List ℕ)
     → e ≤ length bytes
     → behind ≡ true
     → length (ready_bytes m s e behind bytes) ≡ m + ((e - s) + 184)
-length-ready_behind m s e behind bytes le range within is =
-    length-ready m s e behind bytes le range within
-    ∙ ap (λ b. m + ((e - s) + length (mark_where b))) is
-    ∙ ap (λ n. m + ((e - s) + n)) length-mark
+length-ready_behind m s e behind bytes h1 h2 h3 h4 =
+    grind (arith, nat_tests, length-ready, length-mark)
 
 pub length-ready_alone : (m s e : ℕ) (behind : Bool) (bytes : List ℕ)
     → m ≤ 184
@@ -273,9 +263,7 @@ pub length-ready_alone : (m s e : ℕ) (behind : Bool) (bytes : List ℕ)
     → e ≤ length bytes
     → behind ≡ false
     → length (ready_bytes m s e behind bytes) ≡ m + (e - s)
-length-ready_alone m s e behind bytes le range within is =
-    let none : length (mark_where behind) ≡ 0 = ap (λ b. length (mark_where b)) is in
-    omega (arith, length-ready m s e behind bytes le range within, none)
+length-ready_alone m s e behind bytes h1 h2 h3 h4 = grind (arith, nat_tests, length-ready)
 
 -- ---- what is lent
 
@@ -283,19 +271,14 @@ length-ready_alone m s e behind bytes le range within is =
 ready-range : (m s e : ℕ) (behind : Bool) (bytes : List ℕ)
     → m ≡ 0
     → ready_bytes m s e behind bytes ≡ slice_range bytes s e ++ mark_where behind
-ready-range m s e behind bytes none =
-    ap (λ l. l ++ (slice_range bytes s e ++ mark_where behind))
-    (drop_all (184 - m) mark (omega (arith, none, length-mark)))
+ready-range m s e behind bytes h1 = grind (arith, nat_tests, drop_all, length-mark)
 
 -- The range.
 pub lent_range : (m s e : ℕ) (behind : Bool) (bytes left : List ℕ)
     → m ≡ 0
     → left ≡ slice_range bytes s e
     → take (length left) (ready_bytes m s e behind bytes) ≡ left
-lent_range m s e behind bytes left none is =
-    ap (take (length left)) (ready-range m s e behind bytes none)
-    ∙ ap (λ l. take (length left) (l ++ mark_where behind)) (sym is)
-    ∙ take-append_seam left (mark_where behind)
+lent_range m s e behind bytes left h1 h2 = grind (arith, nat_tests, ready-range, take-append_seam)
 
 -- No byte is lent where none is ready.
 pub lent_none : (m s e : ℕ) (behind : Bool) (bytes left : List ℕ)

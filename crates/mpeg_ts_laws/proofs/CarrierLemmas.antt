@@ -1,10 +1,9 @@
 -- What is noted of a carrier's items, and the good packet that it is. Main lemma: good-carrier.
 use Rattle.std.proofs.Common.{◌≡◌, ℕ, ◌+◌, ◌%◌, ◌<◌, inl, inr, Bool, true, false, ◌||◌, ◌==◌, List}
-use Rattle.std.proofs.Common.{[], ◌∷◌, ◌++◌, slice_index, Option, Some, None, refl, sym, ap, ◌∙◌}
+use Rattle.std.proofs.Common.{[], ◌∷◌, ◌++◌, Option, Some, refl, sym, ap, ◌∙◌}
 use Rattle.std.proofs.Common.{arith, append_assoc}
 use Rattle.std.specs.List.{AllByRecursion, flat_map, list_any}
 use Rattle.std.specs.Option.{option_to_list, is_some}
-use Rattle.std.proofs.lemmas.Bool.{cases_Bool}
 use Rattle.std.proofs.lemmas.Bool.Decides.{nat_tests}
 use Rattle.std.proofs.lemmas.Grind.{flat_map-append}
 use Rattle.std.proofs.lemmas.List.{append-nil, get_or-take}
@@ -12,7 +11,7 @@ use Rattle.std.proofs.lemmas.Slice.Eq.{bytes_eq-Decides}
 use Rattle.mpeg_ts.specs.GoodPackets.{Note, Since, nothing_since, good_after, linked, is_repeat}
 use Rattle.mpeg_ts.specs.GoodPackets.{is_same, counts_on, with_good, GoodPacket, Follows, link_from}
 use Rattle.mpeg_ts.specs.Parts.{is_break}
-use Rattle.mpeg_ts.specs.TransportPacket.{pid, counter, begins, packet_header}
+use Rattle.mpeg_ts.specs.TransportPacket.{counter, begins}
 use Rattle.mpeg_ts_laws.specs.Multiplex.{Carrier, IsCarrier, IsRepetition, IsNextCarrier, is_quiet}
 use Rattle.mpeg_ts_laws.specs.Multiplex.{carries, announces, items_of_carrier, AreNextCarriers}
 use Rattle.mpeg_ts_laws.proofs.RecordingLemmas.{noted}
@@ -23,16 +22,12 @@ since_quiet since jump = record since { has_jump = since.has_jump || jump }
 
 -- Nothing is announced.
 since_quiet-none : (since : Since) → since_quiet since false ≡ since
-since_quiet-none since =
-    ap (λ (b : Bool). record since { has_jump = b })
-    (elim (cases_Bool since.has_jump) [ inl e ↦ rw e | inr e ↦ rw e ])
+since_quiet-none since = grind (arith, nat_tests)
 
 -- Of two announcements one is enough.
 since_quiet-twice : (since : Since) (a b : Bool)
     → since_quiet (since_quiet since a) b ≡ since_quiet since (a || b)
-since_quiet-twice since a b =
-    ap (λ (b : Bool). record since { has_jump = b })
-    (elim (cases_Bool since.has_jump) [ inl e ↦ rw e | inr e ↦ rw e ])
+since_quiet-twice since a b = grind (arith, nat_tests)
 
 -- A quiet packet.
 pub good-quiet : (number : ℕ) (since : Since) (p : List ℕ) (ns : List Note)
@@ -40,10 +35,7 @@ pub good-quiet : (number : ℕ) (since : Since) (p : List ℕ) (ns : List Note)
     → good_after since (noted number p ++ ns)
     ≡ good_after (since_quiet since (announces number p)) ns
 unfolding good_after
-good-quiet number since p ns quiet = elim (cases_Bool (pid p == number)) [
-  | inl this ↦ grind (arith, nat_tests)
-  | inr other ↦ rw other (ap (λ (s : Since). good_after s ns) (sym (since_quiet-none since)))
-]
+good-quiet number since p ns h1 = grind (arith, nat_tests, since_quiet-none)
 
 -- A packet with a payload that is no repeat.
 pub good-packet : (number : ℕ) (since : Since) (p : List ℕ) (ns : List Note)
@@ -71,13 +63,7 @@ is_repeat-again number p q h = grind (arith, nat_tests, h.same, h.jump)
 
 -- Two packets that are the same have the same counter.
 pub counter-same : (p q : List ℕ) → is_same p q ≡ true → counter p ≡ counter q
-counter-same p q same =
-    let equal = bytes_eq-Decides (packet_header p) (packet_header q) in
-    let heads : packet_header p ≡ packet_header q = grind (arith, nat_tests) in
-    let third : slice_index (packet_header p) 3 ≡ slice_index (packet_header q) 3 =
-    ap (λ (x : List ℕ). slice_index x 3) heads in
-    ap (λ (x : ℕ). x % 16) (sym (get_or-take 4 p 3 0 (omega arith)) ∙ third
-    ∙ get_or-take 4 q 3 0 (omega arith))
+counter-same p q h1 = grind (arith, nat_tests, bytes_eq-Decides, get_or-take)
 
 -- A counter is not the next after itself.
 next-counter : (c : ℕ) → c < 16 → (c == (c + 1) % 16) ≡ true → ⊥
@@ -85,12 +71,7 @@ next-counter c small e = grind (arith, nat_tests)
 
 -- A packet with the next counter is another.
 pub not-same : (p q : List ℕ) → counts_on p q ≡ true → is_same p q ≡ false
-not-same p q on = elim (cases_Bool (is_same p q)) [
-  | inl same ↦
-      let e = counter-same p q same in
-      absurd (next-counter (counter p) (omega arith) (rw (← e) at on))
-  | inr other ↦ other
-]
+not-same p q h1 = grind (arith, nat_tests, counter-same, next-counter)
 
 module _ {A : Type 0} (packet_of : A → List ℕ) (number : ℕ) where
   -- What is noted of an item.
@@ -143,11 +124,7 @@ module _ {A : Type 0} (packet_of : A → List ℕ) (number : ℕ) where
       → AllByRecursion (λ x. IsRepetition number p (packet_of x)) (option_to_list again)
       → good_after (nothing_since (Some p)) (flat_map heard (option_to_list again) ++ ns)
       ≡ good_after (record (nothing_since (Some p)) { has_repeat = is_some again }) ns
-  good-again p None ns h = refl
-  good-again p (Some x) ns h =
-      ap (λ (l : List Note). good_after (nothing_since (Some p)) (l ++ ns)) (append-nil (heard x))
-      ∙ good-repeat number (nothing_since (Some p)) (packet_of x) ns h.0.carries
-      (is_repeat-again number p (packet_of x) h.0)
+  good-again p again ns h1 = grind (arith, nat_tests, append-nil, good-repeat, is_repeat-again)
 
   -- A carrier, whatever follows it.
   pub good-carrier : (since : Since) (c : Carrier A) (ns : List Note) (first : Bool)
@@ -197,20 +174,14 @@ module _ {A : Type 0} (packet_of : A → List ℕ) (number : ℕ) where
       → IsNextCarrier packet_of number c d
       → is_break (link_from (Some (packet_of c.packet)) (since_carrier c) (packet_of d.packet))
       ≡ false
-  next-unbroken c d h = elim h.counter [
-    | inl on ↦ grind (arith, nat_tests)
-    | inr jump ↦ grind (arith, nat_tests)
-  ]
+  next-unbroken c d h1 = grind (arith, nat_tests)
 
   -- and within a PES packet it follows.
   pub next-follows : (c d : Carrier A)
       → IsNextCarrier packet_of number c d
       → begins (packet_of d.packet) ≡ false
       → link_from (Some (packet_of c.packet)) (since_carrier c) (packet_of d.packet) ≡ Follows
-  next-follows c d h within = elim h.counter [
-    | inl on ↦ grind (arith, nat_tests, h.within within)
-    | inr jump ↦ grind (arith, nat_tests, h.within within)
-  ]
+  next-follows c d h1 h2 = grind (arith, nat_tests)
 
   -- The good packets of carriers.
   abbrev pub goods : Since → List (Carrier A) → List GoodPacket

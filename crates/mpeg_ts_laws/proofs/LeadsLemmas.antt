@@ -1,6 +1,8 @@
 -- What bytes have to be, so that they are the PES packets that arrive of those that were sent.
-use Rattle.std.proofs.Common.{◌≡◌, ℕ, Bool, true, false, ◌&&◌, ◌||◌, List, [], ◌∷◌, ◌++◌, sym, ap}
-use Rattle.std.proofs.Common.{◌∙◌, append_assoc}
+use Rattle.std.proofs.lemmas.Bool.Decides.{nat_tests}
+use Rattle.std.proofs.Common.{arith}
+use Rattle.std.proofs.Common.{◌≡◌, ℕ, Bool, true, false, ◌&&◌, ◌||◌, List, [], ◌∷◌, ◌++◌}
+use Rattle.std.proofs.Common.{append_assoc}
 use Rattle.std.specs.List.{list_any}
 use Rattle.mpeg_ts.specs.Carried.{mark_where}
 use Rattle.mpeg_ts_laws.specs.Losses.{Fated, any_wrong, arrives, arriving, is_wrong_behind}
@@ -21,13 +23,7 @@ pub leads-behind : (front more : List ℕ) (given gap : Bool) (sent : List (Sent
     → bytes ≡ front ++ inner
     → Leads more given gap sent inner
     → Leads (front ++ more) given gap sent bytes
-leads-behind front more given gap sent bytes inner e h = record {
-  is_marked = h.is_marked;
-  after_one = h.after_one;
-  bytes_are =
-      e ∙ ap (λ (x : List ℕ). front ++ x) h.bytes_are
-      ∙ sym (append_assoc front more (arriving given gap sent ++ mark_where h.is_marked));
-}
+leads-behind front more given gap sent bytes inner h1 h2 = grind (arith, nat_tests, append_assoc)
 
 -- A PES packet that does not arrive.
 pub leads-gone : (front : List ℕ) (given gap : Bool) (s : SentPes Fated)
@@ -36,11 +32,7 @@ pub leads-gone : (front : List ℕ) (given gap : Bool) (s : SentPes Fated)
     → Leads front given true more bytes
     → Leads front given gap (s ∷ more) bytes
 unfolding arriving
-leads-gone front given gap s more bytes gone h = record {
-  is_marked = h.is_marked;
-  after_one = rw gone h.after_one;
-  bytes_are = rw gone h.bytes_are;
-}
+leads-gone front given gap s more bytes h1 h2 = grind (arith, nat_tests)
 
 -- One that does.
 pub leads-there : (front : List ℕ) (given gap mark : Bool) (s : SentPes Fated)
@@ -50,18 +42,13 @@ pub leads-there : (front : List ℕ) (given gap mark : Bool) (s : SentPes Fated)
     → Leads (front ++ (mark_where (given && mark) ++ s.bytes)) true (is_wrong_behind s) more bytes
     → Leads front given gap (s ∷ more) bytes
 unfolding arriving
-leads-there front given gap mark s more bytes there e h = record {
-  is_marked = h.is_marked;
-  after_one = λ _. rw there (or-true given);
-  bytes_are = rw (there, ← e) (h.bytes_are ∙ simp append_assoc);
-}
+leads-there front given gap mark s more bytes h1 h2 h3 =
+    grind (arith, nat_tests, or-true, append_assoc)
 
 -- Before the first PES packet gaps do not matter.
 pub leads-ungiven : (front : List ℕ) (a b : Bool) (sent : List (SentPes Fated)) (bytes : List ℕ)
     → Leads front false a sent bytes
     → Leads front false b sent bytes
 unfolding arriving
-leads-ungiven front a b [] bytes h =
-    record { is_marked = h.is_marked; after_one = h.after_one; bytes_are = h.bytes_are }
-leads-ungiven front a b (s ∷ more) bytes h =
-    record { is_marked = h.is_marked; after_one = h.after_one; bytes_are = h.bytes_are }
+leads-ungiven front a b [] bytes h = grind (arith, nat_tests)
+leads-ungiven front a b (s ∷ more) bytes h = grind (arith, nat_tests)

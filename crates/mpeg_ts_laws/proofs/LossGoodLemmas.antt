@@ -1,7 +1,7 @@
 -- The good packets of what is left of carriers, and what links them. Main lemma: good-left.
-use Rattle.std.proofs.Common.{◌≡◌, ℕ, ◌+◌, ◌/◌, ◌%◌, ◌<◌, inl, inr, Bool, true, false, not, ◌||◌}
-use Rattle.std.proofs.Common.{◌==◌, List, [], ◌∷◌, Option, Some, None, refl, sym, ap, arith}
-use Rattle.std.proofs.Common.{if◌then◌else◌, length, length-drop, length-take, slice_index, ap₂}
+use Rattle.std.proofs.Common.{◌≡◌, ℕ, ◌+◌, ◌%◌, ◌<◌, inl, inr, Bool, true, false, not, ◌||◌}
+use Rattle.std.proofs.Common.{◌==◌, List, [], ◌∷◌, Option, Some, None, refl, ap, arith}
+use Rattle.std.proofs.Common.{if◌then◌else◌, length, length-drop, length-take, ap₂}
 use Rattle.std.proofs.Common.{◌∙◌, drop, nat_lt, subst}
 use Rattle.std.specs.Bool.{⊤}
 use Rattle.std.specs.List.{AllByRecursion, flat_map}
@@ -15,7 +15,7 @@ use Rattle.mpeg_ts.specs.GoodPackets.{Follows, Break, First, GoodPacket, Link, N
 use Rattle.mpeg_ts.specs.GoodPackets.{counts_on, is_repeat, is_same, linked, with_good}
 use Rattle.mpeg_ts.specs.Parts.{is_break, is_unlinked}
 use Rattle.mpeg_ts.specs.PacketsInStep.{lead_size}
-use Rattle.mpeg_ts.specs.TransportPacket.{announces_jump, begins, counter, packet_header, payload}
+use Rattle.mpeg_ts.specs.TransportPacket.{announces_jump, begins, counter, payload}
 use Rattle.mpeg_ts_laws.specs.Losses.{Fated, any_wrong, are_few_gone, is_kept, is_there}
 use Rattle.mpeg_ts_laws.specs.Losses.{sent_packet, units_before, units_behind}
 use Rattle.mpeg_ts_laws.specs.Multiplex.{Carrier, IsRecordedUnit, IsRepetition, announces, carries}
@@ -36,19 +36,11 @@ pub record IsCopy (p h : List ℕ) : Type 0 where
 
 -- Two packets that are the same begin both, or neither.
 begins-same : (p q : List ℕ) → is_same p q ≡ true → begins p ≡ begins q
-begins-same p q same =
-    let equal = bytes_eq-Decides (packet_header p) (packet_header q) in
-    let heads : packet_header p ≡ packet_header q = grind (arith, nat_tests) in
-    let first : slice_index p 1 ≡ slice_index q 1 =
-    sym (get_or-take 4 p 1 0 (omega arith)) ∙ ap (λ (x : List ℕ). slice_index x 1) heads
-    ∙ get_or-take 4 q 1 0 (omega arith) in
-    ap (λ (x : ℕ). x / 0x40 % 2 == 1) first
+begins-same p q h1 = grind (arith, nat_tests, bytes_eq-Decides, get_or-take)
 
 -- They have the same payload.
 payload-same : (p q : List ℕ) → is_same p q ≡ true → payload p ≡ payload q
-payload-same p q same =
-    let equal = bytes_eq-Decides (payload p) (payload q) in
-    grind (arith, nat_tests)
+payload-same p q h1 = grind (arith, nat_tests, bytes_eq-Decides)
 
 -- A packet of the PID announces no jump.
 pub carried-no_jump : (number : ℕ) (p : List ℕ)
@@ -102,14 +94,7 @@ counts_on-by_gone : (i n : ℕ) (g h : List ℕ)
     → counter h ≡ (i + 1 + n) % 16
     → n < 15
     → counts_on g h ≡ not (nat_lt 0 n)
-counts_on-by_gone i n g h first second small = elim (cases_Bool (nat_lt 0 n)) [
-  | inl some ↦
-      let more : 0 < n = grind (arith, nat_tests) in
-      rw some (counter-later i n (counter g) (counter h) first second more small)
-  | inr none ↦
-      let same : n ≡ 0 = grind (arith, nat_tests) in
-      rw none (counter-next i (counter g) (counter h) first (rw same at second))
-]
+counts_on-by_gone i n g h h1 h2 h3 = grind (arith, nat_tests, counter-later, counter-next)
 
 -- The number of a good packet's carrier, where there is one.
 abbrev pub IsCounter : Option (List ℕ) → ℕ → Type 0
@@ -122,12 +107,7 @@ fresh-later : (good : Option (List ℕ)) (again wrong : Bool) (h : List ℕ) (i 
     → counter h ≡ (i + 1 + n) % 16
     → n < 15
     → is_repeat (since_loss good again wrong) h ≡ false
-fresh-later None again wrong h i n first second small = refl
-fresh-later (Some g) again wrong h i n first second small = elim (cases_Bool (is_same g h)) [
-  | inl same ↦
-      absurd (counter-far i n (counter g) (counter h) first second small (counter-same g h same))
-  | inr other ↦ rw other
-]
+fresh-later good again wrong h i n h1 h2 h3 = grind (arith, nat_tests, counter-far, counter-same)
 
 -- ---- links
 
@@ -144,9 +124,7 @@ good_left good wrong h = record { link = link_left good wrong h; packet = h }
 linked-left : (good : Option (List ℕ)) (again wrong : Bool) (h : List ℕ)
     → announces_jump h ≡ false
     → linked (since_loss good again wrong) h ≡ good_left good wrong h
-linked-left None again wrong h none = refl
-linked-left (Some g) again true h none = refl
-linked-left (Some g) again false h none = rw none
+linked-left good again wrong h h1 = grind (arith, nat_tests)
 
 -- Something is lost where a unit was made wrong, or a carrier is gone.
 pub break-left : (i n : ℕ) (g h : List ℕ) (wrong : Bool)
@@ -154,16 +132,12 @@ pub break-left : (i n : ℕ) (g h : List ℕ) (wrong : Bool)
     → counter h ≡ (i + 1 + n) % 16
     → n < 15
     → is_break (link_left (Some g) wrong h) ≡ (wrong || nat_lt 0 n)
-break-left i n g h true first second small = refl
-break-left i n g h false first second small =
-    rw (counts_on-by_gone i n g h first second small)
-    (elim (cases_Bool (nat_lt 0 n)) [ inl e ↦ rw e | inr e ↦ rw e ])
+break-left i n g h wrong h1 h2 h3 = grind (arith, nat_tests, counts_on-by_gone)
 
 -- Behind a good packet a link cuts where something is lost.
 pub cut-left : (g h : List ℕ) (wrong : Bool)
     → is_unlinked (link_left (Some g) wrong h) ≡ is_break (link_left (Some g) wrong h)
-cut-left g h true = refl
-cut-left g h false = elim (cases_Bool (counts_on g h)) [ inl e ↦ rw e | inr e ↦ rw e ]
+cut-left g h wrong = grind (arith, nat_tests)
 
 -- Where a carrier is there, none is gone.
 pub few-there : (n : ℕ) (c : Carrier Fated) (cs : List (Carrier Fated))
@@ -186,16 +160,8 @@ module _ (distance number : ℕ) where
       → AllByRecursion (IsLeft distance number) (option_to_list again)
       → AllByRecursion (λ f. IsRepetition number p (sent_packet distance f)) (option_to_list again)
       → IsCopy p (copy_of distance number again p)
-  copy-again p None none left sent =
-      record { counter = refl; begins = refl; payload = refl; no_jump = none }
-  copy-again p (Some f) none left sent =
-      let q = sent_packet distance f in
-      record {
-        counter = sym (counter-same p q sent.0.same);
-        begins = sym (begins-same p q sent.0.same);
-        payload = sym (payload-same p q sent.0.same);
-        no_jump = carried-no_jump number q sent.0.carries left.0.no_jump;
-      }
+  copy-again p again h1 h2 h3 =
+      grind (arith, nat_tests, counter-same, begins-same, payload-same, carried-no_jump)
 
   -- What is heard of a carrier is a copy of its packet.
   pub heard-copy : (first : Bool) (c : Carrier Fated)
@@ -217,9 +183,7 @@ module _ (distance number : ℕ) where
   pub carrier-payload : (first : Bool) (c : Carrier Fated)
       → IsLeftCarrier distance number first c
       → 0 < length (payload (sent_packet distance c.packet))
-  carrier-payload first c h =
-      payload-long number (sent_packet distance c.packet)
-      (length-packet distance c.packet.unit h.packet.recorded) h.is_carrier.carries
+  carrier-payload first c h1 = grind (arith, nat_tests, payload-long, length-packet)
 
   -- The good packets of carriers, behind a good packet.
   abbrev pub left_goods : Option (List ℕ) → Bool → List (Carrier Fated) → List GoodPacket

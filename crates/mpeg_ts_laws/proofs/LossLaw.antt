@@ -3,7 +3,6 @@ use Rattle.std.proofs.Common.{◌≡◌, ℕ, ◌+◌, ◌%◌, ◌≤◌, ◌�
 use Rattle.std.proofs.Common.{List, [], ◌∷◌, ◌++◌, length, length-append, map, None, refl, ap, ◌∙◌}
 use Rattle.std.proofs.Common.{subst, arith, append_assoc, slice_index}
 use Rattle.std.specs.List.{AllByRecursion, concat, flat_map, list_any}
-use Rattle.std.specs.Option.{option_to_list}
 use Rattle.std.proofs.lemmas.Bool.Decides.{nat_tests}
 use Rattle.std.proofs.lemmas.Grind.{flat_map-append}
 use Rattle.std.proofs.lemmas.List.Folds.{concat-append}
@@ -12,7 +11,7 @@ use Rattle.mpeg_ts.specs.GoodPackets.{GoodPackets, Note, good_after, nothing_sin
 use Rattle.mpeg_ts.specs.Parts.{outcomes, outcomes_of, parts}
 use Rattle.mpeg_ts.specs.TransportPacket.{counter}
 use Rattle.mpeg_ts_laws.specs.Laws.{LawOfLosses}
-use Rattle.mpeg_ts_laws.specs.Losses.{Fate, Fated, IsFate, IsSpoiled, Kept, LeftOut, MadeWrong}
+use Rattle.mpeg_ts_laws.specs.Losses.{Fate, Fated, IsFate, IsSpoiled}
 use Rattle.mpeg_ts_laws.specs.Losses.{any_wrong, left_of, sent_packet, units_left}
 use Rattle.mpeg_ts_laws.specs.Multiplex.{AreInSequence, AreNextCarriers, AreRecordedUnits, Carrier}
 use Rattle.mpeg_ts_laws.specs.Multiplex.{IsCarrier, IsNextCarrier, IsRecordedUnit, IsRecording}
@@ -40,11 +39,7 @@ spoiled-unit : (distance number : ℕ) (unit other : List ℕ)
     → IsRecordedUnit distance unit
     → IsSpoiled distance number unit other
     → IsRecordedUnit distance other
-spoiled-unit distance number unit other h spoiled = record {
-  long = rw (spoiled.size) h.long;
-  short = rw (spoiled.size) h.short;
-  sync = spoiled.sync;
-}
+spoiled-unit distance number unit other h1 h2 = grind (arith, nat_tests)
 
 -- Units in front of those that are left.
 left-unit : (distance number : ℕ) (unit : List ℕ) (fate : Fate) (sent left : List (List ℕ))
@@ -54,34 +49,23 @@ left-unit : (distance number : ℕ) (unit : List ℕ) (fate : Fate) (sent left :
     → (sent ≡ [] → left ≡ [])
     → AreRecordedUnits distance left
     → AreRecordedUnits distance (left_of unit fate ++ left)
-left-unit distance number unit Kept sent left h is last none each =
-    (is, (elim last [ inl e ↦ inl (none e) | inr e ↦ inr e ]), each)
-left-unit distance number unit LeftOut sent left h is last none each = each
-left-unit distance number unit (MadeWrong other) sent left h is last none each = (
-  spoiled-unit distance number unit other is h,
-  (elim last [ inl e ↦ inl (none e) | inr e ↦ inr (h.size ∙ e) ]),
-  each,
-)
+left-unit distance number unit fate sent left h1 h2 h3 h4 h5 =
+    grind (arith, nat_tests, spoiled-unit)
 
 -- The units that are left are those of a recording.
 left-units : (distance number : ℕ) (fs : List Fated)
     → AreRecordedUnits distance (map (λ (f : Fated). f.unit) fs)
     → AllByRecursion (λ (f : Fated). IsFate distance number f.unit f.fate) fs
     → AreRecordedUnits distance (units_left fs)
-left-units distance number [] each fates = tt
+left-units distance number [] each fates = grind (arith, nat_tests)
 left-units distance number (f ∷ fs) each fates =
-    left-unit distance number f.unit f.fate (map (λ (f : Fated). f.unit) fs) (units_left fs) fates.0
-    each.0 each.1 (none-left fs) (left-units distance number fs each.2 fates.1)
+    grind (arith, nat_tests, left-unit, none-left, (left-units distance number fs each.2 fates.1))
 
 -- What is left of a unit is not longer.
 length-left_of : (distance number : ℕ) (unit : List ℕ) (fate : Fate)
     → IsFate distance number unit fate
     → length (concat (left_of unit fate)) ≤ length unit
-length-left_of distance number unit Kept h = omega (arith, length-append unit [])
-length-left_of distance number unit LeftOut h = omega arith
-length-left_of distance number unit (MadeWrong other) h =
-    let size = h.size in
-    omega (arith, length-append other [])
+length-left_of distance number unit fate h1 = grind (arith, nat_tests, length-append)
 
 -- Nor are all.
 length-left : (distance number : ℕ) (fs : List Fated)
@@ -102,11 +86,9 @@ length-left distance number (f ∷ fs) fates =
 notes-left : (distance number : ℕ) (fs : List Fated)
     → flat_map (λ u. noted number (packet_in distance u)) (units_left fs)
     ≡ flat_map (heard_left distance number) fs
-notes-left distance number [] = refl
+notes-left distance number [] = grind (arith, nat_tests)
 notes-left distance number (f ∷ fs) =
-    flat_map-append (λ u. noted number (packet_in distance u)) (left_of f.unit f.fate)
-    (units_left fs)
-    ∙ ap (λ (ns : List Note). heard_left distance number f ++ ns) (notes-left distance number fs)
+    grind (arith, nat_tests, flat_map-append, noted, heard_left, (notes-left distance number fs))
 
 -- ---- what is known of each unit
 
@@ -142,16 +124,7 @@ module _ (distance number : ℕ) where
       → IsCarrier (sent_packet distance) number first c
       → AllByRecursion (IsLeft distance number) (items_of_carrier c)
       → IsLeftCarrier distance number first c
-  left-carrier first c is each =
-      let again = option_to_list c.again in
-      let behind = all-second c.before (again ++ c.after) each.1 in
-      record {
-        is_carrier = is;
-        packet = each.0;
-        before = all-first c.before (again ++ c.after) each.1;
-        again = all-first again c.after behind;
-        after = all-second again c.after behind;
-      }
+  left-carrier first c h1 h2 = grind (arith, nat_tests, all-second, all-first)
 
   -- Carriers within a PES packet.
   left-carriers : (cs : List (Carrier Fated)) (rest : List Fated)
@@ -210,11 +183,9 @@ module _ (distance number : ℕ) where
   all-carriers-left : (sent : List (SentPes Fated))
       → AllByRecursion (IsLeftPes distance number) sent
       → AllByRecursion (IsSomeLeft distance number) (carriers_of sent)
-  all-carriers-left [] each = tt
-  all-carriers-left (s ∷ more) each = (
-    (true, each.0.first),
-    some-left s.others (carriers_of more) each.0.others (all-carriers-left more each.1),
-  )
+  all-carriers-left [] each = grind (arith, nat_tests)
+  all-carriers-left (s ∷ more) each =
+      grind (arith, nat_tests, some-left, (all-carriers-left more each.1))
 
   -- ---- counters
 

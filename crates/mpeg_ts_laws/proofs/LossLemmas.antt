@@ -33,11 +33,8 @@ closed-by : (wrong_behind : Bool) (part : Part) (given gap : Bool) (front : List
     → begins_part g ≡ true
     → with_marks given gap (outcomes wrong_behind (parts_from part (g ∷ later)))
     ≡ front ++ with_marks given' gap' (outcomes wrong_behind (parts_from (part_of g) later))
-closed-by wrong_behind part given gap front given' gap' g later closes cut =
-    ap (λ (ps : List Part). with_marks given gap (outcomes wrong_behind ps))
-    (parts_from-cut part g later cut)
-    ∙ closes.next wrong_behind (parts_from (part_of g) later)
-    (parts_from-some wrong_behind (part_of g) later)
+closed-by wrong_behind part given gap front given' gap' g later h1 h2 =
+    grind (arith, nat_tests, parts_from-cut, parts_from-some)
 
 -- A part that can't be whole: it begins no PES packet. What it gives is a gap.
 pub record IsHeadless (part : Part) (front : List ℕ) (given given' gap' : Bool) : Type 0 where
@@ -58,11 +55,7 @@ pub record IsLeftPes (distance number : ℕ) (s : SentPes Fated) : Type 0 where
 all-there : (a b c d : Bool)
     → (not a && (b && (not c && d))) ≡ true
     → (a ≡ false) × (b ≡ true) × (c ≡ false) × (d ≡ true)
-all-there false true false true e = (refl, refl, refl, refl)
-all-there false true false false e = absurd (cc)
-all-there false true true d e = absurd (cc)
-all-there false false c d e = absurd (cc)
-all-there true b c d e = absurd (cc)
+all-there a b c d h1 = grind (arith, nat_tests)
 
 module _ (distance number : ℕ) (wrong_behind : Bool) where
   -- What is carried from an open part on, behind a good packet.
@@ -85,15 +78,8 @@ module _ (distance number : ℕ) (wrong_behind : Bool) where
       (part_of
       (good_left (Some g) (wrong || any_wrong (units_before c)) (heard_packet distance number c)))
       given' gap' (heard_packet distance number c) (any_wrong (units_behind c)) cs
-  from_part-cut part given gap front given' gap' g wrong c cs closes there cut =
-      ap (λ (gs : List GoodPacket).
-      with_marks given gap (outcomes wrong_behind (parts_from part gs)))
-      (left_goods-there distance number (Some g) wrong c cs there)
-      ∙ closed-by wrong_behind part given gap front given' gap'
-      (good_left (Some g) (wrong || any_wrong (units_before c)) (heard_packet distance number c))
-      (left_goods distance number (Some (heard_packet distance number c))
-      (any_wrong (units_behind c)) cs)
-      closes cut
+  from_part-cut part given gap front given' gap' g wrong c cs h1 h2 h3 =
+      grind (arith, nat_tests, left_goods-there, closed-by, good_left, heard_packet, left_goods)
 
   -- One whose packet belongs to the part.
   from_part-follows : (part : Part) (given gap : Bool) (g : List ℕ) (wrong : Bool)
@@ -107,16 +93,16 @@ module _ (distance number : ℕ) (wrong_behind : Bool) where
       (with_packet part
       (good_left (Some g) (wrong || any_wrong (units_before c)) (heard_packet distance number c)))
       given gap (heard_packet distance number c) (any_wrong (units_behind c)) cs
-  from_part-follows part given gap g wrong c cs there within =
-      ap (λ (gs : List GoodPacket).
-      with_marks given gap (outcomes wrong_behind (parts_from part gs)))
-      (left_goods-there distance number (Some g) wrong c cs there)
-      ∙ ap (λ (ps : List Part). with_marks given gap (outcomes wrong_behind ps))
-      (parts_from-follows part
-      (good_left (Some g) (wrong || any_wrong (units_before c)) (heard_packet distance number c))
-      (left_goods distance number (Some (heard_packet distance number c))
-      (any_wrong (units_behind c)) cs)
-      within)
+  from_part-follows part given gap g wrong c cs h1 h2 =
+      grind (
+        arith,
+        nat_tests,
+        left_goods-there,
+        parts_from-follows,
+        good_left,
+        heard_packet,
+        left_goods,
+      )
 
   -- One that is gone.
   pub from_part-gone : (part : Part) (given gap : Bool) (g : List ℕ) (wrong : Bool)
@@ -124,10 +110,7 @@ module _ (distance number : ℕ) (wrong_behind : Bool) where
       → is_there c ≡ false
       → from_part part given gap g wrong (c ∷ cs)
       ≡ from_part part given gap g (wrong || any_wrong (items_of_carrier c)) cs
-  from_part-gone part given gap g wrong c cs gone =
-      ap (λ (gs : List GoodPacket).
-      with_marks given gap (outcomes wrong_behind (parts_from part gs)))
-      (left_goods-gone distance number (Some g) wrong c cs gone)
+  from_part-gone part given gap g wrong c cs h1 = grind (arith, nat_tests, left_goods-gone)
 
   -- PES packets lead on, from any part that is open, where its good packet was that of carrier i,
   -- and n are gone since.

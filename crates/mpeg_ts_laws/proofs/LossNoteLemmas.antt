@@ -1,7 +1,7 @@
 -- What is noted of what is left of a carrier, and the good packet that it is, if it is there. Main
 -- lemma: good-left.
 use Rattle.std.proofs.Common.{◌≡◌, ℕ, inl, inr, Bool, true, false, ◌&&◌, ◌||◌, List, [], ◌∷◌, ◌++◌}
-use Rattle.std.proofs.Common.{Option, Some, None, refl, sym, ap, ap₂, ◌∙◌, arith, append_assoc}
+use Rattle.std.proofs.Common.{Option, Some, None, sym, ap, ◌∙◌, arith, append_assoc}
 use Rattle.std.proofs.Common.{if◌then◌else◌}
 use Rattle.std.specs.List.{AllByRecursion, flat_map}
 use Rattle.std.specs.Option.{option_to_list}
@@ -11,7 +11,7 @@ use Rattle.std.proofs.lemmas.Grind.{flat_map-append}
 use Rattle.std.proofs.lemmas.List.{append-nil}
 use Rattle.std.proofs.lemmas.List.Folds.{list_any-append}
 use Rattle.mpeg_ts.specs.GoodPackets.{Note, Since, good_after, is_repeat, linked, with_good}
-use Rattle.mpeg_ts_laws.specs.Losses.{Fate, Fated, IsFate, Kept, LeftOut, MadeWrong, any_kept}
+use Rattle.mpeg_ts_laws.specs.Losses.{Fate, Fated, IsFate, any_kept}
 use Rattle.mpeg_ts_laws.specs.Losses.{any_wrong, is_kept, is_made_wrong, is_there, left_of}
 use Rattle.mpeg_ts_laws.specs.Losses.{sent_packet, units_before, units_behind}
 use Rattle.mpeg_ts_laws.specs.Multiplex.{Carrier, IsCarrier, IsRepetition, announces, is_quiet}
@@ -32,18 +32,15 @@ since_loss good again wrong = record {
 
 -- Two tests in one.
 pub or-assoc : (a b c : Bool) → ((a || b) || c) ≡ (a || (b || c))
-or-assoc true b c = refl
-or-assoc false b c = refl
+or-assoc a b c = grind (arith, nat_tests)
 
 -- No test more.
 pub or-false : (a : Bool) → (a || false) ≡ a
-or-false true = refl
-or-false false = refl
+or-false a = grind (arith, nat_tests)
 
 -- A test that is passed.
 pub or-true : (a : Bool) → (a || true) ≡ true
-or-true true = refl
-or-true false = refl
+or-true a = grind (arith, nat_tests)
 
 module _ (distance number : ℕ) where
   -- What is noted of what is left of a unit.
@@ -65,11 +62,7 @@ module _ (distance number : ℕ) where
       (flat_map (λ u. noted number (packet_in distance u)) (left_of unit fate) ++ ns)
       ≡ good_after (since_loss good again (wrong || is_made_wrong fate)) ns
   unfolding good_after
-  good-lost good again wrong unit Kept ns h lost = grind arith
-  good-lost good again wrong unit LeftOut ns h lost =
-      ap (λ (w : Bool). good_after (since_loss good again w) ns) (sym (or-false wrong))
-  good-lost good again wrong unit (MadeWrong other) ns h lost =
-      rw (or-true wrong) (grind (arith, nat_tests, h.pid_after, h.wrong))
+  good-lost good again wrong unit fate ns h1 h2 = grind (arith, nat_tests, or-false, or-true)
 
   -- A quiet unit.
   good-quiet-left : (good : Option (List ℕ)) (again wrong : Bool) (unit : List ℕ) (fate : Fate)
@@ -80,17 +73,8 @@ module _ (distance number : ℕ) where
       → good_after (since_loss good again wrong)
       (flat_map (λ u. noted number (packet_in distance u)) (left_of unit fate) ++ ns)
       ≡ good_after (since_loss good again (wrong || is_made_wrong fate)) ns
-  good-quiet-left good again wrong unit Kept ns h none quiet =
-      let since = since_loss good again wrong in
-      let p = packet_in distance unit in
-      ap (λ (l : List Note). good_after since (l ++ ns)) (append-nil (noted number p))
-      ∙ good-quiet number since p ns quiet
-      ∙ ap (λ (j : Bool). good_after (since_quiet since j) ns) none
-      ∙ ap (λ (w : Bool). good_after (since_loss good again w) ns) (sym (or-false wrong))
-  good-quiet-left good again wrong unit LeftOut ns h none quiet =
-      good-lost good again wrong unit LeftOut ns h refl
-  good-quiet-left good again wrong unit (MadeWrong other) ns h none quiet =
-      good-lost good again wrong unit (MadeWrong other) ns h refl
+  good-quiet-left good again wrong unit fate ns h1 h2 h3 =
+      grind (arith, nat_tests, append-nil, noted, good-quiet, since_quiet, or-false, good-lost)
 
   -- Quiet units.
   pub good-quiets-left : (good : Option (List ℕ)) (again wrong : Bool) (fs : List Fated)
@@ -115,15 +99,11 @@ module _ (distance number : ℕ) where
       → is_kept fate ≡ true
       → flat_map (λ u. noted number (packet_in distance u)) (left_of unit fate)
       ≡ noted number (packet_in distance unit)
-  heard-kept unit Kept kept = append-nil (noted number (packet_in distance unit))
-  heard-kept unit LeftOut kept = grind arith
-  heard-kept unit (MadeWrong other) kept = grind arith
+  heard-kept unit fate h1 = grind (arith, nat_tests, append-nil, noted)
 
   -- It was not made wrong.
   kept-not_wrong : (fate : Fate) → is_kept fate ≡ true → is_made_wrong fate ≡ false
-  kept-not_wrong Kept kept = refl
-  kept-not_wrong LeftOut kept = refl
-  kept-not_wrong (MadeWrong other) kept = grind arith
+  kept-not_wrong fate h1 = grind (arith, nat_tests)
 
   -- The repeat of a packet that is there, if it has one.
   good-again-left : (p : List ℕ) (wrong : Bool) (again : Option Fated) (ns : List Note)
@@ -134,26 +114,18 @@ module _ (distance number : ℕ) where
       ≡ good_after
       (since_loss (Some p) (any_kept (option_to_list again))
       (wrong || any_wrong (option_to_list again))) ns
-  good-again-left p wrong None ns left sent =
-      ap (λ (w : Bool). good_after (since_loss (Some p) false w) ns) (sym (or-false wrong))
-  good-again-left p wrong (Some f) ns left sent = elim (cases_Bool (is_kept f.fate)) [
-    | inl kept ↦
-        ap (λ (l : List Note). good_after (since_loss (Some p) false wrong) (l ++ ns))
-        (append-nil (heard_left f) ∙ heard-kept f.unit f.fate kept)
-        ∙ good-repeat number (since_loss (Some p) false wrong) (sent_packet distance f) ns
-        sent.0.carries (is_repeat-again number p (sent_packet distance f) sent.0)
-        ∙ ap₂ (λ (r w : Bool). good_after (since_loss (Some p) r w) ns)
-        (sym (ap (λ (r : Bool). r || false) kept))
-        (sym (ap (λ (w : Bool). wrong || (w || false)) (kept-not_wrong f.fate kept)
-        ∙ or-false wrong))
-    | inr lost ↦
-        ap (λ (l : List Note). good_after (since_loss (Some p) false wrong) (l ++ ns))
-        (append-nil (heard_left f))
-        ∙ good-lost (Some p) false wrong f.unit f.fate ns left.0.fate lost
-        ∙ ap₂ (λ (r w : Bool). good_after (since_loss (Some p) r w) ns)
-        (sym (ap (λ (r : Bool). r || false) lost))
-        (ap (λ (w : Bool). wrong || w) (sym (or-false (is_made_wrong f.fate))))
-  ]
+  good-again-left p wrong again ns h1 h2 =
+      grind (
+        arith,
+        nat_tests,
+        or-false,
+        append-nil,
+        heard-kept,
+        good-repeat,
+        is_repeat-again,
+        kept-not_wrong,
+        good-lost,
+      )
 
   -- ---- carriers
 
@@ -190,11 +162,7 @@ module _ (distance number : ℕ) where
   -- What was made wrong of three lists.
   wrong-of_three : (a b c : List Fated)
       → any_wrong (a ++ (b ++ c)) ≡ ((any_wrong a || any_wrong b) || any_wrong c)
-  wrong-of_three a b c =
-      list_any-append (λ (f : Fated). is_made_wrong f.fate) a (b ++ c)
-      ∙ ap (λ (w : Bool). any_wrong a || w)
-      (list_any-append (λ (f : Fated). is_made_wrong f.fate) b c)
-      ∙ sym (or-assoc (any_wrong a) (any_wrong b) (any_wrong c))
+  wrong-of_three a b c = grind (arith, nat_tests, list_any-append, or-assoc)
 
   -- A carrier whose packet is there.
   good-first : (good : Option (List ℕ)) (again wrong first : Bool) (c : Carrier Fated)
@@ -207,36 +175,17 @@ module _ (distance number : ℕ) where
       (good_after
       (since_loss (Some (sent_packet distance c.packet)) (any_kept (option_to_list c.again))
       (any_wrong (c.before ++ (option_to_list c.again ++ c.after)))) ns)
-  good-first good again wrong first c ns h kept fresh =
-      ap (good_after since)
-      (heard-carrier c ns
-      ∙ ap (λ (l : List Note). l ++ rest) (heard-kept c.packet.unit c.packet.fate kept))
-      ∙ good-packet number since p rest h.is_carrier.carries fresh
-      ∙ ap (with_good (linked since p)) (
-      good-quiets-left (Some p) false false c.before rest2 h.before h.is_carrier.before
-      ∙ good-again-left p (any_wrong c.before) c.again rest3 h.again h.is_carrier.again
-      ∙ good-quiets-left (Some p) (any_kept (option_to_list c.again))
-      (any_wrong c.before || any_wrong (option_to_list c.again)) c.after ns h.after
-      h.is_carrier.after
-      ∙ ap (λ (w : Bool).
-      good_after (since_loss (Some p) (any_kept (option_to_list c.again)) w) ns)
-      (sym (wrong-of_three c.before (option_to_list c.again) c.after))
+  good-first good again wrong first c ns h1 h2 h3 =
+      grind (
+        arith,
+        nat_tests,
+        heard-carrier,
+        heard-kept,
+        good-packet,
+        good-quiets-left,
+        good-again-left,
+        wrong-of_three,
       )
-    where
-      since : Since
-      since = since_loss good again wrong
-
-      p : List ℕ
-      p = sent_packet distance c.packet
-
-      rest3 : List Note
-      rest3 = flat_map heard_left c.after ++ ns
-
-      rest2 : List Note
-      rest2 = flat_map heard_left (option_to_list c.again) ++ rest3
-
-      rest : List Note
-      rest = flat_map heard_left c.before ++ rest2
 
   -- What is known of it where its packet is not there.
   good-no_first : (good : Option (List ℕ)) (again wrong first : Bool) (c : Carrier Fated)
@@ -246,18 +195,8 @@ module _ (distance number : ℕ) where
       → good_after (since_loss good again wrong) (flat_map heard_left (items_of_carrier c) ++ ns)
       ≡ good_after (since_loss good again (wrong || any_wrong (c.packet ∷ c.before)))
       (flat_map heard_left (option_to_list c.again) ++ (flat_map heard_left c.after ++ ns))
-  good-no_first good again wrong first c ns h lost =
-      ap (good_after (since_loss good again wrong)) (heard-carrier c ns)
-      ∙ good-lost good again wrong c.packet.unit c.packet.fate
-      (flat_map heard_left c.before ++ rest)
-      h.packet.fate lost
-      ∙ good-quiets-left good again (wrong || is_made_wrong c.packet.fate) c.before rest h.before
-      h.is_carrier.before
-      ∙ ap (λ (w : Bool). good_after (since_loss good again w) rest)
-      (or-assoc wrong (is_made_wrong c.packet.fate) (any_wrong c.before))
-    where
-      rest : List Note
-      rest = flat_map heard_left (option_to_list c.again) ++ (flat_map heard_left c.after ++ ns)
+  good-no_first good again wrong first c ns h1 h2 =
+      grind (arith, nat_tests, heard-carrier, good-lost, good-quiets-left, or-assoc)
 
   -- A repeat whose packet is not there.
   good-second : (good : Option (List ℕ)) (again wrong : Bool) (p : List ℕ) (o : Option Fated)
@@ -271,20 +210,8 @@ module _ (distance number : ℕ) where
       (flat_map heard_left (option_to_list o) ++ (flat_map heard_left after ++ ns))
       ≡ with_good (linked (since_loss good again wrong) (copy_of o p))
       (good_after (since_loss (Some (copy_of o p)) false (any_wrong after)) ns)
-  good-second good again wrong p None after ns sent left quiet kept fresh = grind arith
-  good-second good again wrong p (Some f) after ns sent left quiet kept fresh =
-      ap (λ (l : List Note). good_after since (l ++ rest))
-      (append-nil (heard_left f)
-      ∙ heard-kept f.unit f.fate (sym (or-false (is_kept f.fate)) ∙ kept))
-      ∙ good-packet number since (sent_packet distance f) rest sent.0.carries fresh
-      ∙ ap (with_good (linked since (sent_packet distance f)))
-      (good-quiets-left (Some (sent_packet distance f)) false false after ns left quiet)
-    where
-      since : Since
-      since = since_loss good again wrong
-
-      rest : List Note
-      rest = flat_map heard_left after ++ ns
+  good-second good again wrong p o after ns h1 h2 h3 h4 h5 =
+      grind (arith, nat_tests, append-nil, heard-kept, or-false, good-packet, good-quiets-left)
 
   -- No repeat is there.
   good-no_second : (good : Option (List ℕ)) (again wrong : Bool) (o : Option Fated)
@@ -297,21 +224,8 @@ module _ (distance number : ℕ) where
       (flat_map heard_left (option_to_list o) ++ (flat_map heard_left after ++ ns))
       ≡ good_after
       (since_loss good again ((wrong || any_wrong (option_to_list o)) || any_wrong after)) ns
-  good-no_second good again wrong None after ns left other quiet lost =
-      good-quiets-left good again wrong after ns other quiet
-      ∙ ap (λ (w : Bool). good_after (since_loss good again (w || any_wrong after)) ns)
-      (sym (or-false wrong))
-  good-no_second good again wrong (Some f) after ns left other quiet lost =
-      ap (λ (l : List Note). good_after (since_loss good again wrong) (l ++ rest))
-      (append-nil (heard_left f))
-      ∙ good-lost good again wrong f.unit f.fate rest left.0.fate
-      (sym (or-false (is_kept f.fate)) ∙ lost)
-      ∙ good-quiets-left good again (wrong || is_made_wrong f.fate) after ns other quiet
-      ∙ ap (λ (w : Bool). good_after (since_loss good again ((wrong || w) || any_wrong after)) ns)
-      (sym (or-false (is_made_wrong f.fate)))
-    where
-      rest : List Note
-      rest = flat_map heard_left after ++ ns
+  good-no_second good again wrong o after ns h1 h2 h3 h4 =
+      grind (arith, nat_tests, good-quiets-left, or-false, append-nil, good-lost)
 
   -- A carrier that is there, whatever follows it.
   pub good-there : (good : Option (List ℕ)) (again wrong first : Bool) (c : Carrier Fated)

@@ -10,17 +10,14 @@ use Rattle.ttx_pes.specs.Reading.{size_at}
 use Rattle.mpeg_ts.specs.Carried.{mark_where, with_marks}
 use Rattle.mpeg_ts.specs.GoodPackets.{GoodPacket}
 use Rattle.mpeg_ts.specs.Parts.{Gap, PartOutcome, Part, Pes, part_bytes, gap_where, may_be_cut_off}
-use Rattle.mpeg_ts.specs.Parts.{outcome, begins_part, outcomes, parts_from, with_packet}
+use Rattle.mpeg_ts.specs.Parts.{outcome, outcomes, parts_from, with_packet}
 use Rattle.mpeg_ts_laws.proofs.PartLemmas.{IsWhole, outcomes-whole, piece-size}
 
 -- A gap before outcomes.
 gap-before : (given gap here : Bool) (more : List PartOutcome)
     → with_marks given gap (gap_where here ++ more) ≡ with_marks given (gap || here) more
 unfolding with_marks
-gap-before given true true more = refl
-gap-before given true false more = refl
-gap-before given false true more = refl
-gap-before given false false more = refl
+gap-before given gap here more = grind (arith, nat_tests)
 
 -- Bytes are those, and one mark behind them at most, where a PES packet was given.
 pub record EndsMarked (given : Bool) (front bytes : List ℕ) : Type 0 where
@@ -115,10 +112,7 @@ closes-broken part given gap h = record {
 -- A part that begins no PES packet is not whole.
 pub broken-unbegun : (part : Part) → part.begins ≡ false → IsBroken part
 unfolding outcome
-broken-unbegun part none = record { outcome_is = is }
-  where
-    is : (cut_off : Bool) → outcome cut_off part ≡ gap_where (not cut_off)
-    is cut_off = rw none
+broken-unbegun part h1 = grind (arith, nat_tests)
 
 -- Nor is one that has the front of a PES packet, and not all of it.
 pub broken-short : (part : Part) (missing bytes : List ℕ)
@@ -154,8 +148,6 @@ broken-short part missing bytes joined some piece = record { outcome_is = is }
 pub parts_from-some : (wrong_behind : Bool) (part : Part) (goods : List GoodPacket)
     → may_be_cut_off wrong_behind (parts_from part goods) ≡ false
 unfolding parts_from
-parts_from-some wrong_behind part [] = refl
-parts_from-some wrong_behind part (g ∷ goods) = elim (cases_Bool (begins_part g)) [
-  | inl cut ↦ rw cut
-  | inr within ↦ rw within (parts_from-some wrong_behind (with_packet part g) goods)
-]
+parts_from-some wrong_behind part [] = grind (arith, nat_tests)
+parts_from-some wrong_behind part (g ∷ goods) =
+    grind (arith, nat_tests, (parts_from-some wrong_behind (with_packet part g) goods))

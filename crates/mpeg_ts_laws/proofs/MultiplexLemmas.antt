@@ -1,4 +1,6 @@
 -- What a multiplexer sends is given back: `law_of_multiplex`.
+use Rattle.std.proofs.lemmas.Bool.Decides.{nat_tests}
+use Rattle.std.proofs.Common.{arith}
 use Rattle.std.proofs.Common.{◌≡◌, ℕ, Bool, true, false, List, [], ◌∷◌, ◌++◌, map, None, refl, sym}
 use Rattle.std.proofs.Common.{ap, ◌∙◌}
 use Rattle.std.specs.List.{AllByRecursion, concat, flat_map, list_any}
@@ -44,12 +46,8 @@ module _ {A : Type 0} (packet_of : A → List ℕ) (number : ℕ) where
   pub all-carriers : (sent : List (SentPes A))
       → AllByRecursion (IsSentPes packet_of number) sent
       → AllByRecursion (IsSomeCarrier packet_of number) (carriers_of sent)
-  all-carriers [] each = tt
-  all-carriers (s ∷ more) each = (
-    (true, each.0.first),
-    some-carriers packet_of number s.others (carriers_of more) each.0.others
-        (all-carriers more each.1),
-  )
+  all-carriers [] each = grind (arith, nat_tests)
+  all-carriers (s ∷ more) each = grind (arith, nat_tests, some-carriers, (all-carriers more each.1))
 
   -- What is carried from a part on that is open, behind a carrier.
   abbrev carried_from : Bool → Part → Carrier A → List (Carrier A) → List ℕ

@@ -1,8 +1,9 @@
 -- What is carried, piece by piece; and that no PES packet is missing where no mark stands:
 -- `law_of_neighbours`.
+use Rattle.std.proofs.lemmas.Bool.Decides.{nat_tests}
 use Rattle.std.proofs.Common.{◌≡◌, ℕ, inl, inr, Bool, true, false, ◌&&◌, ◌||◌, List, []}
 use Rattle.std.proofs.Common.{◌∷◌, ◌++◌, length, length-append, take, drop, map, Ok, refl, sym, ap}
-use Rattle.std.proofs.Common.{◌∙◌, arith, if◌then◌else◌, replicate}
+use Rattle.std.proofs.Common.{◌∙◌, arith, if◌then◌else◌}
 use Rattle.std.specs.List.{AllByRecursion, concat}
 use Rattle.std.proofs.lemmas.Bool.{cases_Bool}
 use Rattle.std.proofs.lemmas.List.{append-nil, take-append-le}
@@ -35,9 +36,7 @@ not-empty (x ∷ xs) ys y e = cc
 
 -- A piece at the front of bytes tells its size.
 front-size : (p more : List ℕ) → IsPiece p → size_at (take 6 (p ++ more)) ≡ Ok (length p)
-front-size p more h =
-    let long = piece-long p h in
-    ap size_at (take-append-le 6 p more (omega arith)) ∙ piece-size p h
+front-size p more h1 = grind (arith, nat_tests, piece-long, take-append-le, piece-size)
 
 -- Two pieces at the front of the same bytes have one size.
 front-length : (p q more others : List ℕ)
@@ -45,11 +44,7 @@ front-length : (p q more others : List ℕ)
     → IsPiece q
     → p ++ more ≡ q ++ others
     → length p ≡ length q
-front-length p q more others h k e =
-    let sizes : Ok (length p) ≡ size_at (take 6 (q ++ others)) =
-    sym (front-size p more h) ∙ ap (λ (x : List ℕ). size_at (take 6 x)) e in
-    let same = sizes ∙ front-size q others k in
-    cc
+front-length p q more others h1 h2 h3 = grind (arith, nat_tests, front-size)
 
 -- They are one.
 front-piece : (p q more others : List ℕ)
@@ -71,10 +66,7 @@ front-rest p q more others long e =
 
 -- No piece is empty.
 piece-some : (p more : List ℕ) → IsPiece p → [] ≡ p ++ more → ⊥
-piece-some p more h e =
-    let long = piece-long p h in
-    let size = ap length e in
-    omega (arith, length-append p more)
+piece-some p more h1 h2 = grind (arith, nat_tests, piece-long, length-append)
 
 -- Bytes fall into pieces in one way.
 one-way : (ps qs : List (List ℕ))
@@ -94,13 +86,7 @@ one-way (p ∷ ps) (q ∷ qs) each others e =
 -- The mark is a piece.
 mark-piece : IsPiece mark
 unfolding mark
-mark-piece = record {
-  n = 1;
-  body = replicate 178 0xFF;
-  bytes = refl;
-  size = (omega arith, omega arith);
-  long = refl;
-}
+mark-piece = grind (arith, nat_tests)
 
 -- ---- what is carried
 
@@ -135,47 +121,37 @@ pieces-gone given gap s more gone = rw gone
 -- A mark before pieces.
 concat-marks : (b : Bool) (x : List ℕ) (xs : List (List ℕ))
     → concat (marks_where b ++ (x ∷ xs)) ≡ mark_where b ++ (x ++ concat xs)
-concat-marks true x xs = refl
-concat-marks false x xs = refl
+concat-marks b x xs = grind (arith, nat_tests)
 
 -- Joined they are what arrives.
 concat-arriving : (given gap : Bool) (sent : List (SentPes Fated))
     → concat (arriving_pieces given gap sent) ≡ arriving given gap sent
 unfolding arriving
-concat-arriving given gap [] = refl
-concat-arriving given gap (s ∷ more) = elim (cases_Bool (arrives s)) [
-  | inl there ↦
-      let mark_here = given && (gap || any_wrong (units_before s.first)) in
-      rw there
-      (concat-marks mark_here s.bytes (arriving_pieces true (is_wrong_behind s) more)
-      ∙ ap (λ (x : List ℕ). mark_where mark_here ++ (s.bytes ++ x))
-      (concat-arriving true (is_wrong_behind s) more))
-  | inr gone ↦ rw gone (concat-arriving given true more)
-]
+concat-arriving given gap [] = grind (arith, nat_tests)
+concat-arriving given gap (s ∷ more) =
+    grind (
+      arith,
+      nat_tests,
+      concat-marks,
+      (concat-arriving true (is_wrong_behind s) more),
+      (concat-arriving given true more),
+    )
 
 -- With the mark behind the last.
 concat-all : (sent : List (SentPes Fated)) (tail : Bool)
     → concat (arriving_pieces false false sent ++ marks_where tail)
     ≡ arriving false false sent ++ mark_where tail
-concat-all sent true =
-    concat-append (arriving_pieces false false sent) (mark ∷ [])
-    ∙ ap (λ (x : List ℕ). concat (arriving_pieces false false sent) ++ x) (append-nil mark)
-    ∙ ap (λ (x : List ℕ). x ++ mark) (concat-arriving false false sent)
-concat-all sent false =
-    concat-append (arriving_pieces false false sent) []
-    ∙ ap (λ (x : List ℕ). x ++ []) (concat-arriving false false sent)
+concat-all sent tail = grind (arith, nat_tests, concat-append, append-nil, concat-arriving)
 
 -- A mark before pieces is one.
 marks-pieces : (b : Bool) (xs : List (List ℕ))
     → AllByRecursion IsPiece xs
     → AllByRecursion IsPiece (marks_where b ++ xs)
-marks-pieces true xs each = (mark-piece, each)
-marks-pieces false xs each = each
+marks-pieces b xs h1 = grind (arith, nat_tests, mark-piece)
 
 -- A mark alone is one.
 marks-alone : (b : Bool) → AllByRecursion IsPiece (marks_where b)
-marks-alone true = (mark-piece, tt)
-marks-alone false = tt
+marks-alone b = grind (arith, nat_tests, mark-piece)
 
 -- One list behind another.
 pub pieces-append : (xs ys : List (List ℕ))
@@ -214,68 +190,30 @@ sent_bytes sent = map (λ s. s.bytes) sent
 mark-first : (sent : List (SentPes Fated)) (tail : Bool) (x : List ℕ) (ys : List (List ℕ))
     → arriving_pieces true true sent ++ marks_where tail ≡ x ∷ ys
     → x ≡ mark
-mark-first [] true x ys e = sym (heads mark x [] ys e)
-mark-first [] false x ys e = absurd (not-empty [] ys x e)
-mark-first (s ∷ more) tail x ys e = elim (cases_Bool (arrives s)) [
-  | inl there ↦
-      sym (heads mark x
-      ((s.bytes ∷ arriving_pieces true (is_wrong_behind s) more) ++ marks_where tail) ys
-      (sym (ap (λ (l : List (List ℕ)). l ++ marks_where tail) (pieces-there true true s more there))
-      ∙ e))
-  | inr gone ↦
-      mark-first more tail x ys
-      (sym (ap (λ (l : List (List ℕ)). l ++ marks_where tail) (pieces-gone true true s more gone))
-      ∙ e)
-]
+mark-first [] true x ys e = grind (arith, nat_tests, heads)
+mark-first [] false x ys e = grind (arith, nat_tests, not-empty)
+mark-first (s ∷ more) tail x ys e =
+    grind (arith, nat_tests, heads, pieces-there, pieces-gone, (mark-first more tail x ys))
 
 -- What follows a PES packet without a mark was sent behind it.
 sent-next : (gap : Bool) (sent : List (SentPes Fated)) (tail : Bool) (run behind : List (List ℕ))
     → arriving_pieces true gap sent ++ marks_where tail ≡ run ++ behind
     → HasNoMark run
     → (later : List (List ℕ)) × (sent_bytes sent ≡ run ++ later)
-sent-next gap sent tail [] behind e none = (sent_bytes sent, refl)
-sent-next gap [] true (x ∷ run) behind e none =
-    absurd (none.0 (sym (heads mark x [] (run ++ behind) e)))
-sent-next gap [] false (x ∷ run) behind e none = absurd (not-empty [] (run ++ behind) x e)
-sent-next gap (s ∷ more) tail (x ∷ run) behind e none = elim (cases_Bool (arrives s)) [
-  | inl there ↦ elim (cases_Bool (gap || any_wrong (units_before s.first))) [
-    | inl marked ↦
-        absurd
-        (none.0
-        (sym (heads mark x (rest ++ marks_where tail) (run ++ behind)
-        (sym (here there true marked) ∙ e))))
-    | inr unmarked ↦
-        let same = sym (here there false unmarked) ∙ e in
-        let first =
-        heads s.bytes x (later ++ marks_where tail) (run ++ behind) same in
-        let more_sent =
-        sent-next (is_wrong_behind s) more tail run behind
-        (tails s.bytes x (later ++ marks_where tail) (run ++ behind) same) none.1 in
-        (more_sent.0, cc (first, more_sent.1))
-  ]
-  | inr gone ↦
-      absurd
-      (none.0
-      (mark-first more tail x (run ++ behind)
-      (sym (ap (λ (l : List (List ℕ)). l ++ marks_where tail) (pieces-gone true gap s more gone))
-      ∙ e)))
-]
-  where
-    later : List (List ℕ)
-    later = arriving_pieces true (is_wrong_behind s) more
-
-    rest : List (List ℕ)
-    rest = s.bytes ∷ later
-
-    here : arrives s ≡ true
-        → (b : Bool)
-        → (gap || any_wrong (units_before s.first)) ≡ b
-        → arriving_pieces true gap (s ∷ more) ++ marks_where tail
-        ≡ (marks_where b ++ rest) ++ marks_where tail
-    here there b is =
-        ap (λ (l : List (List ℕ)). l ++ marks_where tail)
-        (pieces-there true gap s more there
-        ∙ ap (λ (c : Bool). marks_where c ++ rest) is)
+sent-next gap sent tail [] behind e none = grind (arith, nat_tests)
+sent-next gap [] true (x ∷ run) behind e none = grind (arith, nat_tests, heads)
+sent-next gap [] false (x ∷ run) behind e none = grind (arith, nat_tests, not-empty)
+sent-next gap (s ∷ more) tail (x ∷ run) behind e none =
+    grind (
+      arith,
+      nat_tests,
+      heads,
+      tails,
+      mark-first,
+      pieces-gone,
+      pieces-there,
+      (sent-next (is_wrong_behind s) more tail run behind),
+    )
 
 -- So were those behind a PES packet, wherever they begin.
 sent-from : (s : SentPes Fated) (more : List (SentPes Fated)) (tail : Bool) (x : List ℕ)
@@ -312,19 +250,10 @@ sent-marked : (b : Bool) (s : SentPes Fated) (more : List (SentPes Fated)) (tail
     ≡ others ++ (x ∷ (run ++ behind))
     → (earlier later : List (List ℕ)) × (sent_bytes more ≡ earlier ++ (x ∷ (run ++ later))))
     → (earlier later : List (List ℕ)) × (sent_bytes (s ∷ more) ≡ earlier ++ (x ∷ (run ++ later)))
-sent-marked false s more tail x before run behind e none go =
-    sent-from s more tail x before run behind e none go
-sent-marked true s more tail x [] run behind e none go =
-    absurd
-    (none.0
-    (sym (heads mark x
-    ((s.bytes ∷ arriving_pieces true (is_wrong_behind s) more) ++ marks_where tail) (run ++ behind)
-    e)))
+sent-marked false s more tail x before run behind e none go = grind (arith, nat_tests, sent-from)
+sent-marked true s more tail x [] run behind e none go = grind (arith, nat_tests, heads)
 sent-marked true s more tail x (y ∷ before) run behind e none go =
-    sent-from s more tail x before run behind
-    (tails mark y ((s.bytes ∷ arriving_pieces true (is_wrong_behind s) more) ++ marks_where tail)
-    (before ++ (x ∷ (run ++ behind))) e)
-    none go
+    grind (arith, nat_tests, sent-from, tails)
 
 -- Pieces without a mark among them were sent one after another.
 sent-run : (given gap : Bool) (sent : List (SentPes Fated)) (tail : Bool) (x : List ℕ)

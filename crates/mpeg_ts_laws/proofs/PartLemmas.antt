@@ -1,6 +1,6 @@
 -- What comes of a part that is whole. Main lemma: outcome-whole.
 use Rattle.std.proofs.Common.{◌≡◌, ℕ, ◌≤◌, inl, inr, Bool, true, false, List, [], ◌∷◌, ◌++◌, length}
-use Rattle.std.proofs.Common.{append_assoc, take, sym, ap, ◌∙◌, arith, Ok}
+use Rattle.std.proofs.Common.{append_assoc, take, arith, Ok}
 use Rattle.std.proofs.lemmas.Bool.{cases_Bool}
 use Rattle.std.proofs.lemmas.Bool.Decides.{nat_tests}
 use Rattle.std.specs.List.{concat}
@@ -18,17 +18,11 @@ use Rattle.mpeg_ts.specs.Carried.{with_marks}
 
 -- A piece tells its size.
 pub piece-size : (b : List ℕ) → IsPiece b → size_at (take 6 b) ≡ Ok (length b)
-piece-size b h =
-    ap (λ (x : List ℕ). size_at (take 6 x)) h.bytes
-    ∙ head_complete h.n h.size.0 h.size.1
-    ∙ ap (λ (k : ℕ). Ok k) (sym h.long)
+piece-size b h1 = grind (arith, nat_tests, head_complete)
 
 -- It is long.
 pub piece-long : (b : List ℕ) → IsPiece b → 184 ≤ length b
-piece-long b h =
-    let lo = h.size.0 in
-    let long = h.long in
-    omega arith
+piece-long b h1 = grind (arith, nat_tests)
 
 -- A part that begins a PES packet, and has its bytes and no others.
 pub record IsWhole (part : Part) (bytes : List ℕ) : Type 0 where
@@ -88,5 +82,4 @@ parts_from-follows part g more within = rw within
 pub concat-snoc : (xs : List (List ℕ)) (x y z : List ℕ)
     → concat xs ++ (x ++ y) ≡ z
     → concat (xs ++ x ∷ []) ++ y ≡ z
-concat-snoc xs x y z h =
-    rw (concat-append xs (x ∷ []), append-nil x) (append_assoc (concat xs) x y ∙ h)
+concat-snoc xs x y z h1 = grind (arith, nat_tests, concat-append, append-nil, append_assoc)

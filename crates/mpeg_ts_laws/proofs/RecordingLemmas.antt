@@ -31,16 +31,13 @@ items-none : (distance room : ℕ) (b : List ℕ)
     → length b < packet_size
     → items distance true room b ≡ []
 unfolding items
-items-none distance zero b short = refl
-items-none distance (suc room) b short = grind (arith, nat_tests)
+items-none distance room b h1 = grind (arith, nat_tests)
 
 -- What is taken of a unit's front is taken of the bytes that it begins.
 take-front : (n l : ℕ) (u x : List ℕ)
     → l + n ≤ length u
     → take n (drop l (u ++ x)) ≡ take n (drop l u)
-take-front n l u x long =
-    rw (drop-append-le l u x (omega arith))
-    (take-append-le n (drop l u) x (omega (arith, length-drop l u)))
+take-front n l u x h1 = grind (arith, nat_tests, drop-append-le, take-append-le, length-drop)
 
 -- Its length is enough.
 length-front : (n l : ℕ) (u x : List ℕ) → l + n ≤ length u → n ≤ length (drop l (u ++ x))
@@ -51,14 +48,11 @@ drop-unit : (d l : ℕ) (u x : List ℕ)
     → length u ≡ d
     → l ≤ length u
     → drop d (drop l (u ++ x)) ≡ drop l x
-drop-unit d l u x long less =
-    rw (drop-drop d l (u ++ x))
-    (let sum : l + d ≡ length u + l = omega arith in rw sum (drop-append-add u x l))
+drop-unit d l u x h1 h2 = grind (arith, nat_tests, drop-drop, drop-append-add)
 
 -- The next packet's place behind the last unit.
 drop-last : (d l : ℕ) (u : List ℕ) → length u ≤ d → drop d (drop l (u ++ [])) ≡ []
-drop-last d l u short =
-    drop_all d (drop l (u ++ [])) (omega (arith, length-drop l (u ++ []), length-append u []))
+drop-last d l u h1 = grind (arith, nat_tests, drop_all, length-drop, length-append)
 
 -- The first byte of what is taken.
 first-taken : (n : ℕ) (b : List ℕ) → 0 < n → slice_index (take n b) 0 ≡ slice_index b 0
@@ -118,15 +112,9 @@ few-units distance (u ∷ more) each =
 few-units-behind : (distance : ℕ) (units : List (List ℕ))
     → AreRecordedUnits distance units
     → length units ≤ length (drop (lead_size distance) (concat units))
-few-units-behind distance [] each = omega arith
+few-units-behind distance [] each = grind (arith, nat_tests)
 few-units-behind distance (u ∷ more) each =
-    let rest = few-units distance more each.2 in
-    omega (
-      arith,
-      length-append u (concat more),
-      each.0.long,
-      length-drop (lead_size distance) (u ++ concat more),
-    )
+    grind (arith, nat_tests, few-units, length-append, length-drop)
 
 -- What concerns a PID among packets, one after another.
 notes-packets : {A : Type 0} (packet_of : A → List ℕ) (distance number run : ℕ) (xs : List A)

@@ -29,12 +29,7 @@ use Rattle.mpeg_ts_laws.proofs.LossLemmas.{payloads_of}
 module _ (distance number : ℕ) (wrong_behind : Bool) where
   -- Four tests in another order.
   or-order : (a b c d : Bool) → (a || ((b || d) || c)) ≡ ((a || (b || c)) || d)
-  or-order true b c d = refl
-  or-order false true c d = refl
-  or-order false false true true = refl
-  or-order false false true false = refl
-  or-order false false false true = refl
-  or-order false false false false = refl
+  or-order a b c d = grind (arith, nat_tests)
 
   -- The part of a PES packet's first packet.
   open-first : (s : SentPes Fated) (good : Option (List ℕ)) (wrong : Bool) (j : ℕ)
@@ -179,18 +174,14 @@ module _ (distance number : ℕ) (wrong_behind : Bool) where
       (part_of
       (good_left None (wrong || any_wrong (units_before c)) (heard_packet distance number c)))
       false false (heard_packet distance number c) (any_wrong (units_behind c)) cs
-  from_nothing-there wrong c cs there =
-      ap (λ (gs : List GoodPacket). with_marks false false (outcomes wrong_behind (parts gs)))
-      (left_goods-there distance number None wrong c cs there)
+  from_nothing-there wrong c cs h1 = grind (arith, nat_tests, left_goods-there)
 
   -- One that is gone is nothing.
   from_nothing-gone : (wrong : Bool) (c : Carrier Fated) (cs : List (Carrier Fated))
       → is_there c ≡ false
       → from_nothing wrong (c ∷ cs)
       ≡ from_nothing (wrong || any_wrong (items_of_carrier c)) cs
-  from_nothing-gone wrong c cs gone =
-      ap (λ (gs : List GoodPacket). with_marks false false (outcomes wrong_behind (parts gs)))
-      (left_goods-gone distance number None wrong c cs gone)
+  from_nothing-gone wrong c cs h1 = grind (arith, nat_tests, left_goods-gone)
 
   -- PES packets from the beginning.
   Starting : List (SentPes Fated) → Type 0
