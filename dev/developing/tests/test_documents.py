@@ -4,6 +4,7 @@ from __future__ import annotations
 import glob
 import os
 import re
+import shutil
 from typing import Iterator
 
 from subtitles.core.built import TOP, read
@@ -85,3 +86,16 @@ class Documents(Case):
         self.must("rates", len(told) == 2 and all(one in readme for one in told), told)
         self.must("seconds", len(seconds) == 1 and f"takes {seconds[0][0]} s" in readme, seconds)
         self.must("version", version and f"version {version[0]}" in readme, version)
+
+    def test_have_a_picture(self) -> None:
+        """dev/make-picture makes README's picture of a report: PNG, 800 wide."""
+        if not shutil.which("rsvg-convert"):
+            self.skipTest("the picture of README, since there is no rsvg-convert")
+        done = self.call([os.path.join(TOP, "dev", "make-picture"), "-p", self.bench.program,
+                          self.path("new.png")])
+        self.must("made", done.status == 0, done)
+        for path in (self.path("new.png"), os.path.join(TOP, "docs", "refused.png")):
+            with open(path, "rb") as file:
+                head = file.read(24)
+            self.must(path, head[:8] == b"\x89PNG\r\n\x1a\n"
+                      and int.from_bytes(head[16:20], "big") == 800, head)
