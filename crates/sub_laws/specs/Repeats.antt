@@ -183,7 +183,7 @@ LawOfLongerRepeats =
 abbrev pub LawOfPlanRepeats : Type 0
 LawOfPlanRepeats =
     (keeps : Bool) (programme : ProgrammeValue) (options : OptionsValue) (serial : Bool)
-    → IsProgramme programme.national programme.records
+    → IsProgramme programme.drawing programme.records
     → (programme.records ≡ [] → ⊥)
     → IsOptions options
     → GoodBy keeps programme (planned programme options serial) options

@@ -129,7 +129,7 @@ pub record KeepsRulesBy
   pub serial : EachPacket (λ one. EachPacket (IsInOneMode one) transmission) transmission
   -- 4. Each header of the page is a subtitle's. It erases the page; or, where repeats may keep, it
   -- repeats it.
-  pub control : EachPacket (IsOfSubtitle programme.national options.page) transmission
+  pub control : EachPacket (IsOfSubtitle programme.drawing.national options.page) transmission
   pub erases : IsFalse keeps → EachPacket (ErasesPage options.page) transmission
   pub keeping :
       (f n : ℕ)
