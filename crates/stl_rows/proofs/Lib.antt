@@ -6,6 +6,16 @@ pub mod LineByLineLemmas
 pub mod FaultlessLemmas
 pub mod TextFaultLemmas
 pub mod DrawnPageLemmas
+pub mod PreparedLineLemmas
+pub mod FirstLineLemmas
+pub mod LayoutTextLemmas
+pub mod CutAtLemmas
+pub mod LaidOutLemmas
+pub mod DefaultLayoutLemmas
+pub mod CutLemmas
+pub mod DrawLinesLemmas
+pub mod LetterLemmas
+pub mod LetterLaw
 pub mod DuePageLemmas
 pub mod PageShapeLemmas
 pub mod LastRowLemmas

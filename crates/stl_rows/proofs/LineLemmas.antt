@@ -1,4 +1,4 @@
--- The row that shows a line: row_of-put says what it holds, row_small that it holds codes alone.
+-- The row that shows a line: row_from-put says what it holds, row_small that it holds codes alone.
 use Rattle.std.proofs.Common.{◌≡◌, ℕ, ◌+◌, ◌-◌, ◌<◌, ◌≤◌, List, [], ◌∷◌, ◌++◌, length, map, get_or}
 use Rattle.std.proofs.Common.{take, drop, replicate, arith, lit<}
 use Rattle.std.proofs.lemmas.Bool.Decides.{nat_tests}
@@ -7,22 +7,21 @@ use Rattle.std.proofs.lemmas.List.Elements.{All-from_get_or, recursion_from_All}
 use Rattle.std.proofs.lemmas.List.FromFn.{fill_by_all, length-map-range_with_len}
 use Rattle.std.specs.List.{AllByRecursion}
 use Rattle.ttx_page.specs.Page.{AreCodes, space}
-use Rattle.stl_rows.specs.Line.{code_in_column, row_of, start_column}
+use Rattle.stl_rows.specs.Line.{code_in_column}
+use Rattle.stl_rows.specs.PreparedLine.{row_from}
 
--- A line that is put on a row of spaces: for `row_codes`.
-pub row_of-put : (jc start : ℕ) (line row : List ℕ)
-    → start ≡ start_column jc (length line)
+-- A line that is put on a row of spaces: for `codes_from`.
+pub row_from-put : (start : ℕ) (line row : List ℕ)
     → start + length line ≤ 40
     → row ≡ replicate 40 space
     → take start row ++ (line ++ drop (start + length line - start) (drop start row))
-    ≡ row_of jc line
-unfolding row_of
-row_of-put jc start line row e room is =
+    ≡ row_from start line
+unfolding row_from
+row_from-put start line row room is =
     let blank : (k : ℕ) → k < 40 → get_or row k 0 ≡ space =
     λ k l. rw is (get_or-replicate 40 k space 0 l) in
-    rw (← e)
-    (fill_by_all (code_in_column start line) _ 40 0 (grind (arith, places))
-    (λ k h. grind (arith, nat_tests, places, blank, get_or_past line (k - start) space)))
+    fill_by_all (code_in_column start line) _ 40 0 (grind (arith, places))
+    (λ k h. grind (arith, nat_tests, places, blank, get_or_past line (k - start) space))
 
 -- Each cell is a code.
 abbrev pub Small : List ℕ → Type 0
@@ -50,19 +49,19 @@ cell_small : (start column : ℕ) (line : List ℕ)
 cell_small start column line h = grind (arith, nat_tests, holds_at)
 
 -- A row has 40 cells.
-pub row_length : (jc : ℕ) (line : List ℕ) → length (row_of jc line) ≡ 40
-unfolding row_of
-row_length jc line = grind (arith, nat_tests, length-map-range_with_len)
+pub row_length : (start : ℕ) (line : List ℕ) → length (row_from start line) ≡ 40
+unfolding row_from
+row_length start line = grind (arith, nat_tests, length-map-range_with_len)
 
 -- A row that shows a line of codes holds codes alone.
-pub row_small : (jc : ℕ) (line : List ℕ) → Small line → Small (row_of jc line)
-unfolding row_of
-row_small jc line h = grind (arith, nat_tests, holds_map, cell_small)
+pub row_small : (start : ℕ) (line : List ℕ) → Small line → Small (row_from start line)
+unfolding row_from
+row_small start line h = grind (arith, nat_tests, holds_map, cell_small)
 
--- A row that shows a line, where its codes are told column by column: for `row_codes`.
-pub row_of-codes : (jc : ℕ) (line : List ℕ) → AreCodes line → AreCodes (row_of jc line)
-row_of-codes jc line codes column =
-    holds_at (λ c. c < 128) (row_of jc line) column 0 (lit< tt)
-    (row_small jc line
+-- A row that shows a line, where its codes are told column by column: for `codes_from`.
+pub row_from-codes : (start : ℕ) (line : List ℕ) → AreCodes line → AreCodes (row_from start line)
+row_from-codes start line codes column =
+    holds_at (λ c. c < 128) (row_from start line) column 0 (lit< tt)
+    (row_small start line
     (recursion_from_All (λ c. c < 128) line
     (All-from_get_or (λ c. c < 128) line 0 (λ k l. codes k))))

@@ -1,7 +1,7 @@
 -- What is left of a file after some of its subtitles, and what was told of these; main lemmas:
 -- goes_on-next, tells-stop, tells-unread.
 use Rattle.std.proofs.Common.{rules, ◌≡◌, ◌<◌, ◌≤◌, ◌+◌, ℕ, Bool, true, false, List, ◌∷◌, ◌++◌, []}
-use Rattle.std.proofs.Common.{drop, take, length, map, Option, Some, None, Result, Ok, refl, sym}
+use Rattle.std.proofs.Common.{take, length, map, Option, Some, None, Ok, refl, sym}
 use Rattle.std.proofs.Common.{◌∙◌, ap, inl, arith, length-take, append_assoc, append-nil}
 use Rattle.std.proofs.Common.{length-append}
 use Rattle.std.proofs.Math.Seq.{take-append-add, take-length}

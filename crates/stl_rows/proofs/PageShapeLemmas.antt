@@ -1,26 +1,32 @@
--- Each due page is a page, 24 rows of 40 codes below 128: due_is_page.
-use Rattle.std.proofs.Common.{ℕ, zero, suc, ◌+◌, ◌<◌, List, [], ◌∷◌, ◌++◌, map, get_or, refl}
-use Rattle.std.proofs.Common.{◌≡◌, Ok, arith, lit<}
+-- Each due page is a page, 24 rows of 40 codes below 128: due_is_page. The lines of a text hold codes
+-- alone, also as a layout has them: cells_small, prepared_small.
+use Rattle.std.proofs.Common.{◌≡◌, ℕ, zero, suc, ◌+◌, ◌<◌, List, [], ◌∷◌, ◌++◌, map, get_or, refl}
+use Rattle.std.proofs.Common.{Bool, false, Ok, Option, Some, None, arith, drop, length, lit<, take}
 use Rattle.std.specs.List.{range_with_len, AllByRecursion}
-use Rattle.std.proofs.lemmas.Bool.{cond_both}
 use Rattle.std.proofs.lemmas.Bool.Decides.{nat_tests}
 use Rattle.std.proofs.lemmas.List.FromFn.{get_or-map-range_with_len, length-map-range_with_len}
-use Rattle.ttx_page.specs.Page.{IsPage, Rows}
+use Rattle.ttx_page.specs.Page.{IsPage, Rows, blank_row}
 use Rattle.ttx_page.proofs.PageLemmas.{is_page_blank}
 use Rattle.stl_file.specs.Subtitle.{SubtitleValue}
-use Rattle.stl_rows.specs.declared.text_code.TextCode.{TextCode}
-use Rattle.stl_rows.specs.PlainPage.{line_on, lines, page_of_lines}
-use Rattle.stl_rows.specs.DuePage.{due}
-use Rattle.stl_rows.specs.Line.{prepared, row_of}
-use Rattle.stl_rows.specs.TextCode.{HasSevenBits, code_before, codes_after, lines_of_codes}
-use Rattle.stl_rows.specs.TextCode.{text_codes, with_code}
+use Rattle.stl_rows.specs.declared.layout.Attribute.{Attribute}
 use Rattle.stl_rows.specs.declared.layout.Drawing.{Drawing}
+use Rattle.stl_rows.specs.declared.layout.LayoutItems.{LayoutItems}
 use Rattle.stl_rows.specs.declared.national.National.{National}
-use Rattle.stl_rows.specs.DrawnPage.{drawn}
-use Rattle.stl_rows.proofs.DrawnPageLemmas.{drawn-lines}
+use Rattle.stl_rows.specs.declared.text_code.TextCode.{TextCode}
+use Rattle.stl_rows.specs.DrawnPage.{drawn, lines_by, page_of_placed, pitch}
+use Rattle.stl_rows.specs.DrawnPage.{placed, shown_row, unstripped}
+use Rattle.stl_rows.specs.DuePage.{due}
+use Rattle.stl_rows.specs.Layout.{attribute_code, codes_of, items_of}
+use Rattle.stl_rows.specs.Line.{is_double}
+use Rattle.stl_rows.specs.PreparedLine.{ending, framed, headed, leading_codes, prepared_by}
+use Rattle.stl_rows.specs.PreparedLine.{row_from, start_by}
+use Rattle.stl_rows.specs.PreparedLine.{trimmed, whitened}
+use Rattle.stl_rows.specs.TextCode.{HasSevenBits, code_before, codes_after, lines_of_codes}
+use Rattle.stl_rows.specs.TextCode.{with_code}
 use Rattle.stl_rows.proofs.DuePageLemmas.{due_has}
-use Rattle.stl_rows.proofs.TextCodeLemmas.{code_before-small}
+use Rattle.stl_rows.proofs.LaidOutLemmas.{drawn_by-lines, off_of_subtitle}
 use Rattle.stl_rows.proofs.LineLemmas.{Small, holds_at, holds_map, row_length, row_small}
+use Rattle.stl_rows.proofs.TextCodeLemmas.{code_before-small}
 
 -- ---- the cells of a text
 
@@ -32,7 +38,7 @@ with_small : (s : TextCode) (ls : List (List ℕ))
 with_small s ls l h = grind (arith, nat_tests)
 
 -- All cells of a text are codes.
-cells_small : (national : National) (at skip : ℕ) (bytes : List ℕ)
+pub cells_small : (national : National) (at skip : ℕ) (bytes : List ℕ)
     → AllByRecursion Small (lines_of_codes (codes_after national at skip bytes))
 cells_small national at skip [] = (tt, tt)
 cells_small national at (suc skip) (b ∷ bytes) = cells_small national (at + 1) skip bytes
@@ -41,46 +47,136 @@ cells_small national at zero (b ∷ bytes) =
     with_small s.0 (lines_of_codes (codes_after national (at + 1) s.1 bytes))
     (code_before-small national b bytes) (cells_small national (at + 1) s.1 bytes)
 
+-- ---- prepared lines
+
 -- Two lines of codes joined.
 append_small : (xs ys : List ℕ) → Small xs → Small ys → Small (xs ++ ys)
 append_small [] ys h k = k
 append_small (x ∷ xs) ys h k = (h.0, append_small xs ys h.1 k)
 
--- A prepared line of codes holds codes alone.
-prepared_small : (cells : List ℕ) → Small cells → Small (prepared cells)
-unfolding prepared
-prepared_small cells h = grind (arith, nat_tests, append_small)
+-- The front of one, and what is behind it.
+take_small : (n : ℕ) (xs : List ℕ) → Small xs → Small (take n xs)
+take_small zero xs h = tt
+take_small (suc n) [] h = tt
+take_small (suc n) (x ∷ xs) h = (h.0, take_small n xs h.1)
+
+drop_small : (n : ℕ) (xs : List ℕ) → Small xs → Small (drop n xs)
+drop_small zero xs h = h
+drop_small (suc n) [] h = tt
+drop_small (suc n) (x ∷ xs) h = drop_small n xs h.1
+
+-- The code of an attribute is one.
+attribute_small : (a : Attribute) → attribute_code a < 128
+unfolding attribute_code
+attribute_small a = grind (arith, nat_tests)
+
+-- So are those of a list.
+codes_small : (places : List (Option Attribute)) → Small (codes_of places)
+codes_small [] = tt
+codes_small (None ∷ places) = codes_small places
+codes_small (Some a ∷ places) = (attribute_small a, codes_small places)
+
+-- The leading codes with 07.
+whitened_small : (items : LayoutItems) (codes : List ℕ) → Small codes
+    → Small (whitened items codes)
+whitened_small items codes h = grind (arith, nat_tests, append_small codes (0x07 ∷ []) h)
+
+-- What a line gets at its end.
+ending_small : (items : LayoutItems) (n : ℕ) → Small (ending items n)
+ending_small items n = grind (arith, nat_tests, codes_small items.after, take_small)
+
+-- A line with what it gets.
+headed_small : (items : LayoutItems) (cells : List ℕ) → Small cells → Small (headed items cells)
+unfolding headed
+headed_small items cells h =
+    let q = take (leading_codes cells) cells in
+    append_small (codes_of items.ahead ++ whitened items q ++ codes_of items.behind)
+    (drop (leading_codes cells) cells)
+    (append_small (codes_of items.ahead ++ whitened items q) (codes_of items.behind)
+    (append_small (codes_of items.ahead) (whitened items q) (codes_small items.ahead)
+    (whitened_small items q (take_small _ cells h))) (codes_small items.behind))
+    (drop_small (leading_codes cells) cells h)
+
+framed_small : (items : LayoutItems) (cells : List ℕ) → Small cells → Small (framed items cells)
+unfolding framed
+framed_small items [] h = tt
+framed_small items (c ∷ cells) h =
+    append_small (headed items (c ∷ cells)) _ (headed_small items (c ∷ cells) h)
+    (ending_small items (length (headed items (c ∷ cells))))
+
+trimmed_small : (cells : List ℕ) → Small cells → Small (trimmed cells)
+unfolding trimmed
+trimmed_small cells h = take_small _ _ (drop_small _ cells h)
+
+-- A prepared line of codes holds codes alone. For `draw_lines`.
+pub prepared_small : (items : LayoutItems) (cells : List ℕ) → Small cells
+    → Small (prepared_by items cells)
+unfolding prepared_by
+prepared_small items cells h =
+    grind (
+      arith,
+      nat_tests,
+      framed_small items cells h,
+      framed_small items (trimmed cells) (trimmed_small cells h),
+    )
 
 -- Prepared lines of codes hold codes alone.
-all_prepared : (ls : List (List ℕ))
+all_prepared : (items : LayoutItems) (ls : List (List ℕ))
     → AllByRecursion Small ls
-    → AllByRecursion Small (map prepared ls)
-all_prepared [] h = tt
-all_prepared (l ∷ ls) h = (prepared_small l h.0, all_prepared ls h.1)
+    → AllByRecursion Small (map (prepared_by items) ls)
+all_prepared items [] h = tt
+all_prepared items (l ∷ ls) h = (prepared_small items l h.0, all_prepared items ls h.1)
 
 -- ---- the rows of a page
 
+-- A row of 40 codes.
+record IsRowOfCodes (codes : List ℕ) : Type 0 where
+  columns : length codes ≡ 40
+  small : Small codes
+
+blank_is : IsRowOfCodes blank_row
+unfolding blank_row
+blank_is = record { columns = refl; small = grind (arith, nat_tests) }
+
+-- What shows a line of codes is such a row.
+row_is : (start : ℕ) (line : List ℕ) → Small line → IsRowOfCodes (row_from start line)
+row_is start line h = record { columns = row_length start line; small = row_small start line h }
+
+-- So is each row on which lines of codes are.
+shown_is : (items : LayoutItems) (jc off row number depth : ℕ) (under : Bool)
+    (lines : List (List ℕ))
+    → AllByRecursion Small lines
+    → IsRowOfCodes (shown_row items jc off (placed items number depth under lines) row)
+shown_is items jc off row number depth under [] h = blank_is
+shown_is items jc off row number depth under (line ∷ lines) h =
+    grind (
+      arith,
+      nat_tests,
+      row_is (start_by items jc line) line h.0,
+      shown_is items jc off row (number + 1) depth under lines h.1,
+      shown_is items jc off row (number + 1) (depth + pitch items) (is_double line) lines h.1,
+    )
+
 -- The page that shows lines of codes is a page.
-page_is : (jc vp : ℕ) (ls : List (List ℕ))
+page_is : (items : LayoutItems) (jc off depth : ℕ) (ls : List (List ℕ))
     → AllByRecursion Small ls
-    → IsPage (page_of_lines jc vp ls)
-unfolding page_of_lines
-page_is jc vp ls h = record {
-  rows = length-map-range_with_len line_row 1 24;
-  columns = λ r l. rw (get_or-map-range_with_len line_row 1 24 r (1 + r) [] l refl)
-      (row_length jc (line_on vp ls (1 + r)));
+    → IsPage (page_of_placed items jc off (placed items 0 depth false ls))
+unfolding page_of_placed
+page_is items jc off depth ls h = record {
+  rows = length-map-range_with_len shown 1 24;
+  columns = λ r l. rw (get_or-map-range_with_len shown 1 24 r (1 + r) [] l refl)
+      (each (1 + r)).columns;
   codes = λ r c.
-      holds_at (λ n. n < 128) (get_or (map line_row (range_with_len 1 24)) r []) c 0 (lit< tt)
-      (holds_at Small (map line_row (range_with_len 1 24)) r [] tt
-      (holds_map Small line_row (range_with_len 1 24)
-      (λ row. row_small jc (line_on vp ls row) (line_small row))));
+      holds_at (λ n. n < 128) (get_or (map shown (range_with_len 1 24)) r []) c 0 (lit< tt)
+      (holds_at Small (map shown (range_with_len 1 24)) r [] tt
+      (holds_map Small shown (range_with_len 1 24) (λ row. (each row).small)));
 }
   where
-    line_row : ℕ → List ℕ
-    line_row row = row_of jc (line_on vp ls row)
+    shown : ℕ → List ℕ
+    shown = shown_row items jc off (placed items 0 depth false ls)
 
-    line_small : (row : ℕ) → Small (line_on vp ls row)
-    line_small row = grind (arith, nat_tests, cond_both, holds_at)
+    each : (row : ℕ) → IsRowOfCodes (shown row)
+    each row = shown_is items jc off row 0 depth false ls h
 
 -- Each drawn page is a page.
 drawn_is_page : (drawing : Drawing) (t : SubtitleValue) (page : Rows)
@@ -89,9 +185,10 @@ drawn_is_page : (drawing : Drawing) (t : SubtitleValue) (page : Rows)
 unfolding drawn
 drawn_is_page drawing t page e =
     let n = drawing.national in
-    rw ((drawn-lines n t page e).1)
-    (page_is t.jc t.vp (lines n t)
-    (all_prepared (lines_of_codes (text_codes n 0 t.text)) (cells_small n 0 0 t.text)))
+    let items = items_of drawing.layout in
+    rw ((drawn_by-lines n items t page e).1)
+    (page_is items t.jc (off_of_subtitle n items t) _ (lines_by n items t.text)
+    (all_prepared items _ (cells_small n 0 0 (unstripped items t.text))))
 
 -- Each due page is a page: for `law_of_due_pages`.
 pub due_is_page : (drawing : Drawing) (ts : List SubtitleValue) (f : ℕ)

@@ -1,21 +1,145 @@
--- The drawn page of a subtitle, or its first fault.
-use Rattle.std.specs.Prelude.{Result}
-use Rattle.ttx_page.specs.Page.{Rows}
+-- The drawn page of a subtitle by a national option and a layout, or its first fault.
+use Rattle.std.specs.Prelude.{◌≡◌, ◌≤◌, ℕ, ◌+◌, Bool, false, not, ◌&&◌, List, [], ◌∷◌, ◌++◌, Result, ◌==◌}
+use Rattle.std.specs.Prelude.{nat_lt, nat_le, if◌then◌else◌, map, length}
+use Rattle.std.specs.List.{find, range_with_len}
+use Rattle.std.specs.Option.{option_map_or}
+use Rattle.ttx_page.specs.Page.{Rows, blank_row}
 use Rattle.stl_file.specs.Subtitle.{SubtitleValue}
 use Rattle.stl_rows.specs.declared.layout.Drawing.{Drawing}
-use Rattle.stl_rows.specs.declared.layout.Layout.{Layout}
+use Rattle.stl_rows.specs.declared.layout.LayoutItems.{LayoutItems}
 use Rattle.stl_rows.specs.declared.national.National.{National}
+use Rattle.stl_rows.specs.declared.text_code.TextCode.{TextCode}
 use Rattle.stl_rows.specs.declared.fault.RowFault.{RowFault}
-use Rattle.stl_rows.specs.PlainPage.{plainly_drawn}
+use Rattle.stl_rows.specs.declared.fault.RowFaultKind.{RowFaultKind}
+use Rattle.stl_rows.specs.declared.fault.RowFaultKind.TheVariants.{RowTooLong, PastBottom}
+use Rattle.stl_rows.specs.declared.fault.RowFaultKind.TheVariants.{DoubleRow, Hidden}
+use Rattle.stl_rows.specs.Layout.{default_layout, drawing_by, items_of, strips}
+use Rattle.stl_rows.specs.Line.{columns, has_cells, is_double}
+use Rattle.stl_rows.specs.PlainPage.{last_row, plainly_drawn, unless, when}
+use Rattle.stl_rows.specs.PreparedLine.{prepared_by, row_from, start_by}
+use Rattle.stl_rows.specs.TextCode.{fault_of, lines_of_codes, refused_codes, text_codes}
 
--- The layout that is taken where none is given.
-abbrev pub default_layout : Layout
-default_layout = record {}
+-- ---- the lines of a text
 
--- How texts are drawn by an option and a layout.
-abbrev pub drawing_by : National → Layout → Drawing
-drawing_by national layout = record { national = national; layout = layout }
+-- A text in which each byte that `strip` names is read as 80, which gives no cell.
+abbrev pub unstripped : LayoutItems → List ℕ → List ℕ
+unstripped items text = map (λ byte. if strips items byte then 0x80 else byte) text
+
+-- The text codes of a text.
+abbrev pub codes_by : National → LayoutItems → List ℕ → List (ℕ × TextCode)
+codes_by national items text = text_codes national 0 (unstripped items text)
+
+-- The prepared lines of a text.
+abbrev pub lines_by : National → LayoutItems → List ℕ → List (List ℕ)
+lines_by national items text =
+    map (prepared_by items) (lines_of_codes (codes_by national items text))
+
+-- ---- the rows of lines
+
+-- A prepared line that takes rows: its number among all, how many rows it is below row 0 if none
+-- were taken off, whether the line before it has double height and may hide it, and its cells.
+pub record PlacedLine : Type 0 where
+  pub number : ℕ
+  pub depth : ℕ
+  pub is_under_double : Bool
+  pub cells : List ℕ
+
+-- `double`: the rows from one line to the next.
+abbrev pub pitch : LayoutItems → ℕ
+pitch items = if items.double then 2 else 1
+
+-- `pack`: a line takes no row.
+abbrev pub takes_none : LayoutItems → List ℕ → Bool
+takes_none items line = items.pack && not (has_cells line)
+
+-- The lines that take rows, of those from a number on; the first that does has this depth.
+abbrev pub placed : LayoutItems → ℕ → ℕ → Bool → List (List ℕ) → List PlacedLine
+placed items number depth is_under_double [] = []
+placed items number depth is_under_double (line ∷ lines) =
+    if takes_none items line
+    then placed items (number + 1) depth is_under_double lines
+    else record {
+      number = number;
+      depth = depth;
+      is_under_double = is_under_double;
+      cells = line;
+    } ∷ placed items (number + 1) (depth + pitch items) (is_double line) lines
+
+-- The depth of the last line that is not empty, of those from a depth on; else another.
+abbrev pub last_depth : LayoutItems → ℕ → ℕ → List (List ℕ) → ℕ
+last_depth items depth other [] = other
+last_depth items depth other (line ∷ lines) =
+    if has_cells line
+    then last_depth items (depth + pitch items) depth lines
+    else last_depth items (if items.pack then depth else depth + pitch items) other lines
+
+-- `row`: the depth of line 0. A row is a depth less the rows that are taken off.
+abbrev pub first_depth : LayoutItems → ℕ → ℕ
+first_depth items vp = vp + items.lower
+
+-- `row` and `last`: the rows that are taken off. With `last` the last line that is not empty goes
+-- to the row of line 0.
+abbrev pub rows_off : LayoutItems → List (List ℕ) → ℕ
+rows_off items lines = items.higher + (if items.last then last_depth items 0 0 lines else 0)
+
+-- The lines of a subtitle that take rows.
+abbrev pub placed_lines : LayoutItems → ℕ → List (List ℕ) → List PlacedLine
+placed_lines items vp lines = placed items 0 (first_depth items vp) false lines
+
+-- ---- what is refused
+
+-- The line is on a row of a page that a subtitle may use.
+abbrev pub is_on_page : ℕ → PlacedLine → Bool
+is_on_page off line = nat_lt off line.depth && nat_le line.depth (off + last_row)
+
+-- What is wrong with a line, in order.
+unfoldable pub placed_fault_kinds : LayoutItems → ℕ → PlacedLine → List RowFaultKind
+placed_fault_kinds items off line =
+    when (nat_lt columns (length line.cells)) RowTooLong
+    ++ when (has_cells line.cells && not (is_on_page off line)) PastBottom
+    ++ when (is_double line.cells && (line.depth == off + last_row)) DoubleRow
+    ++ when (has_cells line.cells && line.is_under_double && not items.double) Hidden
+
+-- What is wrong with lines.
+abbrev pub placed_faults : LayoutItems → ℕ → List PlacedLine → List RowFault
+placed_faults items off [] = []
+placed_faults items off (line ∷ lines) =
+    map (fault_of line.number) (placed_fault_kinds items off line) ++ placed_faults items off lines
+
+-- ---- what is shown
+
+-- A line that is not empty goes to a row.
+abbrev pub is_on_row : ℕ → ℕ → PlacedLine → Bool
+is_on_row off row line = has_cells line.cells && (line.depth == off + row)
+
+-- The codes of a row: those of the line that goes to it, else spaces.
+abbrev pub shown_row : LayoutItems → ℕ → ℕ → List PlacedLine → ℕ → List ℕ
+shown_row items jc off lines row =
+    option_map_or (λ (line : PlacedLine). row_from (start_by items jc line.cells) line.cells)
+    (find (is_on_row off row) lines) blank_row
+
+-- The page that shows lines: rows 1 to 24.
+unfoldable pub page_of_placed : LayoutItems → ℕ → ℕ → List PlacedLine → Rows
+page_of_placed items jc off lines = map (shown_row items jc off lines) (range_with_len 1 24)
+
+-- The drawn page of a subtitle, or its first fault: of the text by byte, then line by line.
+unfoldable pub drawn_by : National → LayoutItems → SubtitleValue → Result Rows RowFault
+drawn_by national items t =
+    let codes : List (ℕ × TextCode) = codes_by national items t.text in
+    let lines : List (List ℕ) = lines_by national items t.text in
+    let off : ℕ = rows_off items lines in
+    let taken : List PlacedLine = placed_lines items t.vp lines in
+    unless (refused_codes codes ++ placed_faults items off taken)
+    (page_of_placed items t.jc off taken)
 
 -- The drawn page of a subtitle, or its first fault.
 unfoldable pub drawn : Drawing → SubtitleValue → Result Rows RowFault
-drawn drawing t = plainly_drawn drawing.national t
+drawn drawing t = drawn_by drawing.national (items_of drawing.layout) t
+
+-- By the default layout a subtitle is drawn plainly: a layout with each item at its default changes
+-- nothing.
+abbrev pub LawOfDefaultLayout : Type 0
+LawOfDefaultLayout =
+    (national : National) (t : SubtitleValue)
+    → 1 ≤ t.vp
+    → drawn (drawing_by national default_layout) t ≡ plainly_drawn national t

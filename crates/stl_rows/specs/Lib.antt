@@ -1,9 +1,14 @@
 pub mod SubSets
+pub mod Layout
 pub mod TextCode
 pub mod Line
 pub mod PlainPage
 pub mod LineByLine
+pub mod LayoutText
+pub mod PreparedLine
 pub mod DrawnPage
+pub mod LineByLayout
+pub mod Letters
 pub mod Programme
 pub mod DuePage
 pub mod Loading

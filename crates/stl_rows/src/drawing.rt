@@ -2,12 +2,15 @@
 
 ghost use Rattle.std.specs.Prelude.{◌≡◌, ◌<◌, ◌≤◌, ◌++◌, [], ◌∷◌, false, Ok, IsOk, length};
 ghost use Rattle.ttx_page.specs.Page.{AreCodes};
-ghost use Rattle.stl_rows.specs.DrawnPage.{drawn, drawing_by};
+ghost use Rattle.stl_rows.specs.DrawnPage.{LawOfDefaultLayout, drawn};
+ghost use Rattle.stl_rows.specs.Layout.{drawing_by};
 ghost use Rattle.stl_rows.specs.PlainPage.{line_faults, page_of_lines};
+ghost use Rattle.stl_rows.specs.Letters.{LawOfLetters};
 ghost use Rattle.stl_rows.specs.LineByLine.{FitsRow, put_line, prepared_lines};
 ghost use Rattle.stl_rows.specs.TextCode.{text_codes};
 
 use crate::fault::RowFault;
+use crate::laid_out::draw_by;
 use crate::layout::{Drawing, Layout};
 use crate::line::{prepare, row_codes};
 use crate::national::National;
@@ -75,19 +78,26 @@ pub(crate) fn drawn_page(subtitle: &Subtitle, drawing: &Drawing) -> Page
     requires { IsOk (drawn drawing.now subtitle.now) }
     ensures { drawn drawing.now subtitle.now ≡ Ok result }
 {
-    page_of_text(
-        drawing.national,
-        subtitle.jc(),
-        subtitle.vp(),
-        subtitle.text(),
-    )
+    match &drawing.layout.items {
+        None => page_of_text(
+            drawing.national,
+            subtitle.jc(),
+            subtitle.vp(),
+            subtitle.text(),
+        ),
+        Some(items) => match draw_by(drawing.national, items, subtitle) {
+            Ok(page) => page,
+            Err(_) => unreachable!(),
+        },
+    }
 }
 
 /// Draws a subtitle's text on a page by the table of a national option, as a layout says (EBU Tech
 /// 3264, TTI block, fields TF, VP and JC; EN 300 706, packets X/1 to X/24).
 ///
-/// Each line that 8A ends goes to a row of its own, the first to row VP, placed by JC. A line that
-/// isn't empty and has no start box is put in a box. All other cells of rows 1 to 24 are spaces.
+/// Each line that 8A ends goes to a row of its own, by default the first to row VP, placed by JC. A
+/// line that isn't empty and has no start box gets what the layout puts beside it, by default a
+/// box. All other cells of rows 1 to 24 are spaces.
 ///
 /// # Errors
 ///
@@ -102,3 +112,15 @@ pub fn draw(subtitle: &Subtitle, national: National, layout: Layout) -> Result<P
         None => Ok(drawn_page(subtitle, &drawing)),
     }
 }
+
+/// By the default layout a subtitle is drawn plainly: each line in a box of its own, one row below
+/// the line before it.
+#[tactic(auto, using(crate::proofs::DefaultLayoutLemmas::default_is_plain))]
+pub fn law_of_default_layout()
+    ensures { LawOfDefaultLayout }
+{}
+
+/// No layout adds, changes, loses or moves past another any letter of a text.
+pub fn law_of_letters()
+    ensures { LawOfLetters }
+{}

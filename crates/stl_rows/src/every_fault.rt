@@ -14,7 +14,8 @@ ghost use Rattle.stl_rows.specs.EveryFault.{faults, kept_after, load_fault};
 ghost use Rattle.stl_rows.specs.Fault.{is_read};
 ghost use Rattle.stl_rows.specs.Loading.{EndsRecord, loaded};
 ghost use Rattle.stl_rows.specs.Programme.{IsProgramme, follow_faults, row_faults};
-ghost use Rattle.stl_rows.specs.DrawnPage.{drawing_by, drawn};
+ghost use Rattle.stl_rows.specs.DrawnPage.{drawn};
+ghost use Rattle.stl_rows.specs.Layout.{drawing_by};
 ghost use Rattle.stl_rows.specs.TextCode.{first_of};
 ghost use Rattle.stl_rows.specs.declared.fault.LoadFaultKind.TheVariants.{File, Memory};
 

@@ -16,17 +16,20 @@
 mod drawing;
 mod every_fault;
 mod fault;
+mod laid_out;
 mod layout;
+mod layout_text;
 mod line;
 mod loading;
 mod national;
+mod prepared_line;
 mod programme;
 mod sub_sets;
 mod text_code;
 mod text_faults;
 mod times;
 
-pub use drawing::draw;
+pub use drawing::{draw, law_of_default_layout, law_of_letters};
 pub use every_fault::{load_all, load_all_in};
 pub use fault::{LoadFault, LoadFaultKind, RowFault, RowFaultKind};
 pub use layout::{Drawing, Layout};

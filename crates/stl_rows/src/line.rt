@@ -3,6 +3,7 @@
 ghost use Rattle.std.specs.Prelude.{◌≡◌, ◌+◌, ◌≤◌, ◌++◌, length};
 ghost use Rattle.ttx_page.specs.Page.{AreCodes};
 ghost use Rattle.stl_rows.specs.Line.{is_boxed, prepared, row_of, start_column};
+ghost use Rattle.stl_rows.specs.PreparedLine.{row_from};
 
 use arrayvec::ArrayVec;
 
@@ -55,15 +56,25 @@ fn start_of(jc: u8, len: usize) -> usize
     }
 }
 
-/// The 40 codes of the row that shows a line.
+/// The 40 codes of the row that shows a line from a column on.
+pub(crate) fn codes_from(start: usize, line: &[u8]) -> [u8; 40]
+    requires room { start + length line.now ≤ 40 }
+    requires codes { AreCodes line.now }
+    ensures value { result ≡ row_from start line.now }
+    ensures codes { AreCodes result }
+{
+    let mut codes = [0x20; 40];
+    codes[start..start + line.len()].copy_from_slice(line);
+    codes
+}
+
+/// The 40 codes of the row that shows a line, placed by JC.
+#[tactic(auto, unfolding(crate::specs::Line::row_of, crate::specs::PreparedLine::row_from))]
 pub(crate) fn row_codes(jc: u8, line: &[u8]) -> [u8; 40]
     requires room { length line.now ≤ 40 }
     requires codes { AreCodes line.now }
     ensures value { result ≡ row_of jc line.now }
     ensures codes { AreCodes result }
 {
-    let start = start_of(jc, line.len());
-    let mut codes = [0x20; 40];
-    codes[start..start + line.len()].copy_from_slice(line);
-    codes
+    codes_from(start_of(jc, line.len()), line)
 }

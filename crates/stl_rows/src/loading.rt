@@ -5,7 +5,7 @@ ghost use Rattle.sub_io.specs.Device.{CanFail, CountsIf, failed};
 ghost use Rattle.sub_io.specs.Reading.{IfTold};
 ghost use Rattle.stl_file.specs.declared.fault.StlFault.TheVariants.{Ended};
 ghost use Rattle.stl_rows.specs.Fault.{is_read};
-ghost use Rattle.stl_rows.specs.DrawnPage.{drawing_by};
+ghost use Rattle.stl_rows.specs.Layout.{drawing_by};
 ghost use Rattle.stl_rows.specs.declared.fault.LoadFaultKind.TheVariants.{File};
 ghost use Rattle.stl_rows.specs.Loading.{FailsLoading, LawOfLoading, TellsFault, loaded};
 ghost use Rattle.stl_rows.specs.Programme.{IsProgramme};

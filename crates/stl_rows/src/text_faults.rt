@@ -7,6 +7,7 @@ ghost use Rattle.stl_rows.specs.LineByLine.{told_first, with_cell};
 ghost use Rattle.stl_rows.specs.TextCode.{first_of, text_codes};
 
 use crate::fault::{RowFault, RowFaultKind};
+use crate::laid_out::draw_by;
 use crate::layout::Drawing;
 use crate::national::National;
 use crate::text_code::{TextCode, text_code_at};
@@ -137,11 +138,16 @@ fn fault_of_text(national: National, vp: u8, text: &[u8]) -> Option<RowFault>
 }
 
 /// What keeps a subtitle from being drawn. `None` where it draws a page.
-///
-/// The text is read once and no cell is kept.
 pub(crate) fn first_fault(subtitle: &Subtitle, drawing: &Drawing) -> Option<RowFault>
     ensures { MatchOption result (IsOk (drawn drawing.now subtitle.now))
         (λ fault. drawn drawing.now subtitle.now ≡ Err fault) }
 {
-    fault_of_text(drawing.national, subtitle.vp(), subtitle.text())
+    match &drawing.layout.items {
+        // The text is read once and no cell is kept.
+        None => fault_of_text(drawing.national, subtitle.vp(), subtitle.text()),
+        Some(items) => match draw_by(drawing.national, items, subtitle) {
+            Ok(_) => None,
+            Err(fault) => Some(fault),
+        },
+    }
 }

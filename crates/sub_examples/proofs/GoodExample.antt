@@ -17,10 +17,11 @@ use Rattle.sub_rules.specs.Events.{since_frames, since_in_gap, unfinished_since,
 use Rattle.sub_rules.specs.Events.{first_cell, is_gap, is_incomplete, latest, closing_events}
 use Rattle.ttx_packet.specs.RowPacket.{first_even_byte}
 use Rattle.ttx_page.specs.PacketKind.{kind}
-use Rattle.stl_rows.specs.DrawnPage.{drawn}
-use Rattle.stl_rows.specs.PlainPage.{page_of_lines, line_fault_kinds, plainly_drawn}
+use Rattle.stl_rows.specs.DrawnPage.{drawn, drawn_by, page_of_placed, placed_fault_kinds}
 use Rattle.stl_rows.specs.DuePage.{due}
-use Rattle.stl_rows.specs.Line.{is_boxed, is_double, prepared, row_of}
+use Rattle.stl_rows.specs.Layout.{attribute_code, default_items}
+use Rattle.stl_rows.specs.Line.{is_boxed, is_double}
+use Rattle.stl_rows.specs.PreparedLine.{framed, headed, prepared_by, row_from, start_by}
 use Rattle.stl_rows.specs.SubSets.{sub_set}
 use Rattle.stl_rows.specs.TextCode.{cell_of, cell_of_pair, is_common}
 use Rattle.sub_examples.specs.Examples.{ExampleOfGood}
@@ -34,6 +35,7 @@ unfolding events events_of_first frame_events order_events gap_events gap_length
     closing_events is_pending unfinished_since since_in_gap since_frames
     are_code_words is_word_below first_even_byte kind address
     header coded_header decoded is_near is_odd count_ones ones_in due blank
-    blank_row drawn plainly_drawn page_of_lines row_of line_fault_kinds prepared is_boxed is_double
+    blank_row drawn drawn_by page_of_placed placed_fault_kinds prepared_by framed headed start_by
+    row_from default_items attribute_code is_boxed is_double
     is_common cell_of cell_of_pair sub_set
 example_of_good = good_by_events _ _ _ refl (omega arith) refl refl

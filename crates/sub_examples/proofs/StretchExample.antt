@@ -17,10 +17,11 @@ use Rattle.sub_rules.specs.Events.{wrong_after}
 use Rattle.ttx_page.specs.PacketKind.{kind}
 use Rattle.ttx_page.specs.Receiver.ReceiverClass.{Storing}
 use Rattle.ttx_page.proofs.NoiseLaws.{all_kept, may_all}
-use Rattle.stl_rows.specs.DrawnPage.{drawn}
-use Rattle.stl_rows.specs.PlainPage.{page_of_lines, line_fault_kinds, plainly_drawn}
+use Rattle.stl_rows.specs.DrawnPage.{drawn, drawn_by, page_of_placed, placed_fault_kinds}
 use Rattle.stl_rows.specs.DuePage.{due}
-use Rattle.stl_rows.specs.Line.{is_boxed, is_double, prepared, row_of}
+use Rattle.stl_rows.specs.Layout.{attribute_code, default_items}
+use Rattle.stl_rows.specs.Line.{is_boxed, is_double}
+use Rattle.stl_rows.specs.PreparedLine.{framed, headed, prepared_by, row_from, start_by}
 use Rattle.stl_rows.specs.SubSets.{sub_set}
 use Rattle.stl_rows.specs.TextCode.{cell_of, cell_of_pair, is_common}
 use Rattle.sub_laws.specs.CleanStretch.{IsUntold}
@@ -45,13 +46,15 @@ clean : IsUntold (task_of later_subtitle (each 1) None) damaged_first 900001 900
 unfolding are_code_words is_word_below first_even_byte breaks columns_differing is_gap
     packet_rules standing_at is_late wrong_after first_cell is_incomplete
     kind address header coded_header decoded is_near is_odd count_ones ones_in due blank
-    blank_row drawn plainly_drawn page_of_lines row_of line_fault_kinds prepared is_boxed is_double
+    blank_row drawn drawn_by page_of_placed placed_fault_kinds prepared_by framed headed start_by
+    row_from default_items attribute_code is_boxed is_double
     is_common cell_of cell_of_pair sub_set
 clean = untold_by_test _ _ _ _ refl
 
 pub example_of_clean_stretch : ExampleOfCleanStretch
 unfolding kind address header coded_header decoded is_near is_odd count_ones ones_in due blank
-    blank_row drawn plainly_drawn page_of_lines row_of line_fault_kinds prepared is_boxed is_double
+    blank_row drawn drawn_by page_of_placed placed_fault_kinds prepared_by framed headed start_by
+    row_from default_items attribute_code is_boxed is_double
     is_common cell_of cell_of_pair sub_set
 example_of_clean_stretch = record {
   refused = refused;

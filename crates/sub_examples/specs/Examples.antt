@@ -8,7 +8,7 @@ use Rattle.ttx_page.specs.Page.{cell, space}
 use Rattle.ttx_page.specs.Receiver.{Hears, State}
 use Rattle.ttx_page.specs.Receiver.ReceiverClass.{Storing}
 use Rattle.stl_rows.specs.declared.national.National.TheVariants.{English}
-use Rattle.stl_rows.specs.DrawnPage.{default_layout, drawing_by}
+use Rattle.stl_rows.specs.Layout.{default_layout, drawing_by}
 use Rattle.stl_rows.specs.Programme.{ProgrammeValue}
 use Rattle.sub_plan.specs.Examples.{page_888}
 use Rattle.sub_plan.specs.Options.{OptionsValue}

@@ -1,7 +1,7 @@
 //! `schedule STL PES`: writes the schedule of a subtitle file.
 ghost use Rattle.std.specs.Prelude.{◌≡◌, OnOk, codes};
 ghost use Rattle.sub_io.specs.Device.{CanFail, CountsIf, failed};
-ghost use Rattle.stl_rows.specs.DrawnPage.{drawing_by};
+ghost use Rattle.stl_rows.specs.Layout.{drawing_by};
 ghost use Rattle.sub_plan.specs.Fault.{is_plan_write};
 ghost use Rattle.sub_listing.specs.DeviceCall.{CountsFault, sink_call, source_call};
 ghost use Rattle.sub_listing.specs.Writing.{EndsWork, Schedules, WritesSchedule};

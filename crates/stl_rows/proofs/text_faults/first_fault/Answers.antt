@@ -1,11 +1,23 @@
 -- The first of all faults is told: told-faults, drawn-first.
 use Rattle.std.proofs.Common.{arith}
 use Rattle.std.proofs.lemmas.Bool.Decides.{nat_tests}
-use Rattle.stl_rows.specs.DrawnPage.{drawn}
+use Rattle.stl_rows.proofs.DefaultLayoutLemmas.{drawn-none, drawn-some}
 use Rattle.stl_rows.proofs.DrawnPageLemmas.{drawn-first}
 use Rattle.stl_rows.proofs.TextFaultLemmas.{told-faults}
 use Rattle.stl_rows.proofs.text_faults.first_fault.Goals as goal
 
-pub returns : goal.returns
-unfolding drawn
-returns c = grind (arith, nat_tests, told-faults, drawn-first)
+pub returns-in-None : goal.returns-in-None
+returns-in-None c =
+    grind (
+      arith,
+      nat_tests,
+      told-faults,
+      drawn-first,
+      drawn-none c.args.drawing.now c.args.subtitle.now,
+    )
+
+pub returns-in-Ok : goal.returns-in-Ok
+returns-in-Ok c = grind (arith, nat_tests, drawn-some c.args.drawing.now c.args.subtitle.now)
+
+pub returns-in-Err : goal.returns-in-Err
+returns-in-Err c = grind (arith, nat_tests, drawn-some c.args.drawing.now c.args.subtitle.now)

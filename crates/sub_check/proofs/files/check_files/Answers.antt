@@ -2,7 +2,7 @@
 -- `files_accepted`, `files_refused`, and within frames.
 use Rattle.std.proofs.lemmas.Bool.Decides.{nat_tests}
 use Rattle.std.proofs.Common.{arith}
-use Rattle.stl_rows.specs.DrawnPage.{drawing_by}
+use Rattle.stl_rows.specs.Layout.{drawing_by}
 use Rattle.sub_check.proofs.FilesLemmas.{files_accepted, files_accepted_within, files_refused}
 use Rattle.sub_check.proofs.FilesLemmas.{files_refused_within}
 use Rattle.sub_check.proofs.files.check_files.Goals as goal

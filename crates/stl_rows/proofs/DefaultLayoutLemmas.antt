@@ -1,0 +1,194 @@
+-- By the default layout a subtitle is drawn plainly: drawn_by-default.
+use Rattle.std.proofs.Common.{◌≡◌, ℕ, ◌+◌, ◌≤◌, Bool, false, List, [], ◌∷◌, ◌++◌}
+use Rattle.std.proofs.Common.{length, map, refl, ap, ◌∙◌, arith}
+use Rattle.std.proofs.Common.{append_assoc, None, Some, Result}
+use Rattle.std.proofs.lemmas.Bool.Decides.{nat_tests}
+use Rattle.std.proofs.lemmas.List.{get_or-replicate, take-append-drop}
+use Rattle.std.specs.List.{range_with_len}
+use Rattle.ttx_page.specs.Page.{Rows}
+use Rattle.stl_file.specs.Subtitle.{SubtitleValue}
+use Rattle.stl_rows.specs.declared.fault.RowFault.{RowFault}
+use Rattle.stl_rows.specs.declared.layout.Drawing.{Drawing}
+use Rattle.stl_rows.specs.declared.layout.LayoutItems.{LayoutItems}
+use Rattle.stl_rows.specs.declared.national.National.{National}
+use Rattle.stl_rows.specs.declared.text_code.TextCode.{TextCode}
+use Rattle.stl_rows.specs.DrawnPage.{drawn_by, first_depth}
+use Rattle.stl_rows.specs.DrawnPage.{page_of_placed, placed, placed_fault_kinds, placed_faults}
+use Rattle.stl_rows.specs.DrawnPage.{LawOfDefaultLayout, drawn, placed_lines, rows_off, shown_row, unstripped}
+use Rattle.stl_rows.specs.Layout.{attribute_code, default_items, default_layout}
+use Rattle.stl_rows.specs.Layout.{drawing_by}
+use Rattle.stl_rows.specs.Line.{is_boxed, is_double, prepared, row_of, start_column}
+use Rattle.stl_rows.specs.PlainPage.{line_fault_kinds, line_faults, line_on, lines, page_of_lines}
+use Rattle.stl_rows.specs.PlainPage.{plainly_drawn, subtitle_faults, unless}
+use Rattle.stl_rows.specs.PreparedLine.{framed, headed, prepared_by, row_from, start_by}
+use Rattle.stl_rows.specs.TextCode.{fault_of, lines_of_codes, refused_codes, text_codes}
+use Rattle.stl_rows.proofs.DrawnPageLemmas.{row_of-none}
+use Rattle.stl_rows.proofs.LaidOutLemmas.{none_above}
+
+-- ---- the lines
+
+-- Nothing is stripped.
+none_stripped : (text : List ℕ) → unstripped default_items text ≡ text
+unfolding default_items
+none_stripped [] = refl
+none_stripped (b ∷ text) =
+    grind (arith, nat_tests, get_or-replicate 32 b false false, none_stripped text)
+
+-- A line is put in a box where it has none.
+prepared-default : (cells : List ℕ) → prepared_by default_items cells ≡ prepared cells
+unfolding prepared_by prepared framed headed default_items attribute_code is_boxed
+prepared-default [] = refl
+prepared-default (c ∷ cs) = grind (arith, nat_tests, take-append-drop, append_assoc)
+
+-- So are all.
+lines-default : (ls : List (List ℕ)) → map (prepared_by default_items) ls ≡ map prepared ls
+lines-default [] = refl
+lines-default (l ∷ ls) = rw (prepared-default l, lines-default ls) refl
+
+-- ---- the faults
+
+-- The faults of a line.
+kinds-default : (number row : ℕ) (under : Bool) (line : List ℕ)
+    → 1 ≤ row
+    → placed_fault_kinds default_items 0 (record {
+      number = number;
+      depth = row;
+      is_under_double = under;
+      cells = line;
+    })
+    ≡ line_fault_kinds row under line
+unfolding placed_fault_kinds line_fault_kinds default_items
+kinds-default number row under line low = grind (arith, nat_tests)
+
+-- Those of lines one below the other.
+faults-default : (number row : ℕ) (under : Bool) (ls : List (List ℕ))
+    → 1 ≤ row
+    → placed_faults default_items 0 (placed default_items number row under ls)
+    ≡ line_faults number row under ls
+unfolding default_items
+faults-default number row under [] low = refl
+faults-default number row under (l ∷ ls) low =
+    rw (faults-default (number + 1) (row + 1) (is_double l) ls (omega arith))
+    (ap (λ kinds. map (fault_of number) kinds ++ line_faults (number + 1) (row + 1) (is_double l) ls)
+    (kinds-default number row under l low))
+
+-- ---- the page
+
+-- The column at which a line starts.
+start-default : (jc : ℕ) (line : List ℕ)
+    → start_by default_items jc line ≡ start_column jc (length line)
+unfolding start_by default_items
+start-default jc line = grind (arith, nat_tests)
+
+-- The row that shows it.
+row-default : (jc : ℕ) (line : List ℕ)
+    → row_from (start_by default_items jc line) line ≡ row_of jc line
+unfolding row_from row_of
+row-default jc line = rw (start-default jc line) refl
+
+-- Empty lines take rows, and the rows are one below the other.
+default-pack : default_items.pack ≡ false
+unfolding default_items
+default-pack = refl
+
+default-double : default_items.double ≡ false
+unfolding default_items
+default-double = refl
+
+-- The row of a page on which lines are one below the other.
+shown-default : (jc number first row : ℕ) (under : Bool) (ls : List (List ℕ))
+    → shown_row default_items jc 0 (placed default_items number first under ls) row
+    ≡ row_of jc (line_on first ls row)
+shown-default jc number first row under [] = grind (arith, nat_tests, row_of-none)
+shown-default jc number first row under (l ∷ ls) =
+    grind (
+      arith,
+      nat_tests,
+      default-pack,
+      default-double,
+      row_of-none,
+      row-default jc l,
+      none_above default_items 0 row (number + 1) (first + 1) (is_double l) ls,
+      shown-default jc (number + 1) (first + 1) row (is_double l) ls,
+    )
+
+-- The page.
+page-default : (jc vp : ℕ) (ls : List (List ℕ))
+    → page_of_placed default_items jc 0 (placed default_items 0 vp false ls)
+    ≡ page_of_lines jc vp ls
+unfolding page_of_placed page_of_lines
+page-default jc vp ls = λ i. map (λ row. shown-default jc 0 vp row false ls i) (range_with_len 1 24)
+
+-- ---- all
+
+-- No row is taken off, and line 0 goes to VP.
+off-default : (ls : List (List ℕ)) → rows_off default_items ls ≡ 0
+unfolding default_items
+off-default ls = refl
+
+first-default : (vp : ℕ) → first_depth default_items vp ≡ vp
+unfolding default_items
+first-default vp = omega arith
+
+-- All faults, and the whole page.
+faults-all : (vp : ℕ) (ls : List (List ℕ))
+    → 1 ≤ vp
+    → placed_faults default_items (rows_off default_items ls) (placed_lines default_items vp ls)
+    ≡ line_faults 0 vp false ls
+faults-all vp ls low =
+    ap (λ off. placed_faults default_items off (placed_lines default_items vp ls)) (off-default ls)
+    ∙ ap (λ first. placed_faults default_items 0 (placed default_items 0 first false ls))
+    (first-default vp)
+    ∙ faults-default 0 vp false ls low
+
+page-all : (jc vp : ℕ) (ls : List (List ℕ))
+    → page_of_placed default_items jc (rows_off default_items ls)
+    (placed_lines default_items vp ls)
+    ≡ page_of_lines jc vp ls
+page-all jc vp ls =
+    ap (λ off. page_of_placed default_items jc off (placed_lines default_items vp ls))
+    (off-default ls)
+    ∙ ap (λ first. page_of_placed default_items jc 0 (placed default_items 0 first false ls))
+    (first-default vp)
+    ∙ page-default jc vp ls
+
+-- What is drawn of lines and text codes.
+drawn_of : National → ℕ → ℕ → List (ℕ × TextCode) → List (List ℕ) → Result Rows RowFault
+drawn_of national jc vp codes ls =
+    unless (refused_codes codes
+    ++ placed_faults default_items (rows_off default_items ls) (placed_lines default_items vp ls))
+    (page_of_placed default_items jc (rows_off default_items ls) (placed_lines default_items vp ls))
+
+-- By the default layout a subtitle is drawn plainly: for `draw`.
+drawn_by-default : (national : National) (t : SubtitleValue)
+    → 1 ≤ t.vp
+    → drawn_by national default_items t ≡ plainly_drawn national t
+unfolding drawn_by plainly_drawn drawn_of
+drawn_by-default national t low =
+    let cut : List ℕ → List (List ℕ) = λ text. lines_of_codes (text_codes national 0 text) in
+    ap (λ text. drawn_of national t.jc t.vp (text_codes national 0 text)
+    (map (prepared_by default_items) (cut text))) (none_stripped t.text)
+    ∙ ap (drawn_of national t.jc t.vp (text_codes national 0 t.text)) (lines-default (cut t.text))
+    ∙ ap (λ faults. unless (refused_codes (text_codes national 0 t.text) ++ faults)
+    (page_of_placed default_items t.jc (rows_off default_items (lines national t))
+    (placed_lines default_items t.vp (lines national t))))
+    (faults-all t.vp (lines national t) low)
+    ∙ ap (unless (subtitle_faults national t)) (page-all t.jc t.vp (lines national t))
+
+-- Where a drawing has no items, and where it has some: for `first_fault` and `drawn_page`.
+pub drawn-none : (drawing : Drawing) (t : SubtitleValue)
+    → drawing.layout.items ≡ None
+    → 1 ≤ t.vp
+    → drawn drawing t ≡ plainly_drawn drawing.national t
+unfolding drawn
+drawn-none drawing t is low = rw is (drawn_by-default drawing.national t low)
+
+pub drawn-some : (drawing : Drawing) (t : SubtitleValue) (items : LayoutItems)
+    → drawing.layout.items ≡ Some items
+    → drawn drawing t ≡ drawn_by drawing.national items t
+unfolding drawn
+drawn-some drawing t items is = rw is refl
+
+-- For `law_of_default_layout`.
+pub default_is_plain : LawOfDefaultLayout
+default_is_plain national t low = drawn-none (drawing_by national default_layout) t refl low

@@ -1,0 +1,60 @@
+-- The first line of cells that are read one by one: first_line-more, first_line-end, first_line-all.
+use Rattle.std.proofs.Common.{◌≡◌, ℕ, ◌+◌, ◌<◌, ◌≤◌, List, [], ◌∷◌, ◌++◌, length, get_or, take, drop}
+use Rattle.std.proofs.Common.{refl, sym, ap, ◌∙◌, true, false, ◌==◌, add-one, drop-cons}
+use Rattle.std.proofs.Math.Seq.{take-suc}
+use Rattle.std.proofs.lemmas.List.{drop_all, take_all}
+use Rattle.std.proofs.lemmas.List.Splits.{slice_split-cons_no, slice_split-cons_yes}
+use Rattle.stl_rows.specs.LineByLayout.{cut_lines}
+use Rattle.stl_rows.specs.LineByLine.{onto}
+use Rattle.stl_rows.specs.TextCode.{new_line}
+use Rattle.stl_rows.proofs.LineByLineLemmas.{onto_code, onto_line_end}
+
+module _ (cells : List ℕ) (at : ℕ) where
+  -- The lines of the cells are those of what is left, with the cells so far before the first.
+  abbrev pub AreOnto : Type 0
+  AreOnto = cut_lines cells ≡ onto (take at cells) (cut_lines (drop at cells))
+
+  -- The cells from a place on begin with the one there.
+  here : at < length cells → drop at cells ≡ get_or cells at 0 ∷ drop (at + 1) cells
+  here low = rw (add-one, drop-cons cells at 0) refl
+
+  -- Those before it end with the one before.
+  one_more : at < length cells
+      → take (at + 1) cells ≡ take at cells ++ get_or cells at 0 ∷ []
+  one_more low = rw add-one (take-suc cells at 0 low)
+
+  -- A cell that is no new line is one of the cells so far.
+  pub first_line-more : at < length cells
+      → (get_or cells at 0 == new_line) ≡ false
+      → AreOnto
+      → cut_lines cells ≡ onto (take (at + 1) cells) (cut_lines (drop (at + 1) cells))
+  first_line-more low other h =
+      h
+      ∙ ap (λ left. onto (take at cells) (cut_lines left)) (here low)
+      ∙ ap (onto (take at cells))
+      (slice_split-cons_no (λ c. c == new_line) (get_or cells at 0) (drop (at + 1) cells) other)
+      ∙ onto_code (take at cells) (get_or cells at 0) (cut_lines (drop (at + 1) cells))
+      ∙ ap (λ front. onto front (cut_lines (drop (at + 1) cells))) (sym (one_more low))
+
+  -- A new line ends them.
+  pub first_line-end : (more : List ℕ)
+      → at < length cells
+      → (get_or cells at 0 == new_line) ≡ true
+      → AreOnto
+      → more ≡ drop 1 (drop at cells)
+      → cut_lines cells ≡ take at cells ∷ cut_lines more
+  first_line-end more low own h is =
+      h
+      ∙ ap (λ left. onto (take at cells) (cut_lines left)) (here low)
+      ∙ ap (onto (take at cells))
+      (slice_split-cons_yes (λ c. c == new_line) (get_or cells at 0) (drop (at + 1) cells) own)
+      ∙ onto_line_end (take at cells) (cut_lines (drop (at + 1) cells))
+      ∙ ap (λ left. take at cells ∷ cut_lines left) (sym (is ∙ ap (drop 1) (here low)))
+
+  -- So does the end.
+  pub first_line-all : length cells ≤ at → AreOnto → cut_lines cells ≡ cells ∷ []
+  first_line-all past h =
+      h
+      ∙ ap (λ left. onto (take at cells) (cut_lines left)) (drop_all at cells past)
+      ∙ onto_line_end (take at cells) []
+      ∙ ap (λ line. line ∷ []) (take_all at cells past)

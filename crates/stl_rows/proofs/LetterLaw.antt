@@ -1,0 +1,443 @@
+-- A page has the letters of its text: law_of_letters.
+use Rattle.std.proofs.Common.{◌≡◌, ◌≢◌, ℕ, zero, suc, ◌+◌, ◌<◌, ◌≤◌, Bool, true, false, List, []}
+use Rattle.std.proofs.Common.{◌∷◌, ◌++◌, map, refl, sym, ap, ◌∙◌, arith, Option, Some}
+use Rattle.std.proofs.Common.{None, Ok, inl, inr, ◌⊎◌}
+use Rattle.std.proofs.lemmas.Bool.{cases_lt}
+use Rattle.std.proofs.lemmas.Bool.Decides.{nat_tests}
+use Rattle.std.specs.List.{AllByRecursion, filter, find, onto_first, range_with_len}
+use Rattle.std.specs.Option.{option_map_or}
+use Rattle.std.specs.Prelude.{if◌then◌else◌}
+use Rattle.ttx_page.specs.Page.{Rows, blank_row}
+use Rattle.stl_file.specs.Subtitle.{SubtitleValue}
+use Rattle.stl_rows.specs.declared.layout.LayoutItems.{LayoutItems}
+use Rattle.stl_rows.specs.declared.national.National.{National}
+use Rattle.stl_rows.specs.declared.sub_sets.NationalCharacter.{NationalCharacter}
+use Rattle.stl_rows.specs.declared.text_code.TextCode.{TextCode}
+use Rattle.stl_rows.specs.declared.text_code.TextCode.TheVariants.{Cell, NewLine, NoCell, Refused}
+use Rattle.stl_rows.specs.DrawnPage.{PlacedLine, codes_by, drawn, drawn_by, first_depth, is_on_row}
+use Rattle.stl_rows.specs.DrawnPage.{lines_by}
+use Rattle.stl_rows.specs.DrawnPage.{page_of_placed, pitch, placed, placed_fault_kinds}
+use Rattle.stl_rows.specs.DrawnPage.{placed_faults, shown_row, takes_none, unstripped}
+use Rattle.stl_rows.specs.Layout.{items_of, strips}
+use Rattle.stl_rows.specs.Letters.{LawOfLetters, letters, printed, printed_lines, prints}
+use Rattle.stl_rows.specs.Line.{has_cells, is_double}
+use Rattle.stl_rows.specs.PreparedLine.{prepared_by, row_from, start_by}
+use Rattle.stl_rows.specs.SubSets.{cell_in, has_bytes, sub_set}
+use Rattle.stl_rows.specs.TextCode.{cell_of, cell_of_pair, code_before, code_of_other, codes_after}
+use Rattle.stl_rows.specs.TextCode.{fault_of, first_of, is_common, lines_of_codes, with_code}
+use Rattle.stl_rows.proofs.FaultlessLemmas.{empty_parts, map_empty}
+use Rattle.stl_rows.proofs.LaidOutLemmas.{drawn_by-lines, none_above}
+use Rattle.stl_rows.proofs.LaidOutLemmas.{off_of_subtitle, on_page}
+use Rattle.stl_rows.proofs.LetterLemmas.{letters-lines, printed-prepared, printed-row}
+
+-- ---- the rows of a page are its lines
+
+-- The cells of lines.
+abbrev cells_of : List PlacedLine → List (List ℕ)
+cells_of lines = map (λ (line : PlacedLine). line.cells) lines
+
+-- Nothing of the blank row prints.
+printed-blank : printed blank_row ≡ []
+unfolding printed blank_row
+printed-blank = refl
+
+-- A line without a fault has at most 40 cells, so the row that shows it has what it has.
+printed-shown : (items : LayoutItems) (jc off : ℕ) (line : PlacedLine)
+    → placed_fault_kinds items off line ≡ []
+    → printed (row_from (start_by items jc line.cells) line.cells) ≡ printed line.cells
+unfolding placed_fault_kinds start_by
+printed-shown items jc off line none =
+    printed-row (start_by items jc line.cells) line.cells (grind (arith, nat_tests))
+
+-- A row before others.
+printed_lines-cons : (line : List ℕ) (lines : List (List ℕ)) (own : List ℕ)
+    → printed line ≡ own
+    → printed_lines (line ∷ lines) ≡ filter has_cells (own ∷ []) ++ printed_lines lines
+printed_lines-cons line lines [] is = rw is refl
+printed_lines-cons line lines (c ∷ own) is = rw is refl
+
+-- The rows from one on show the lines from a depth on, where none of these goes to a row before.
+abbrev RowsShow : LayoutItems → ℕ → ℕ → List PlacedLine → ℕ → ℕ → Type 0
+RowsShow items jc off lines row count =
+    printed_lines (map (shown_row items jc off lines) (range_with_len row count))
+    ≡ printed_lines (cells_of lines)
+
+-- Two ways to show the rows from one on that agree.
+range_same : (f g : ℕ → List ℕ) (row count : ℕ)
+    → ((at : ℕ) → row ≤ at → f at ≡ g at)
+    → map f (range_with_len row count) ≡ map g (range_with_len row count)
+range_same f g row zero h = refl
+range_same f g row (suc count) h =
+    let rest = range_same f g (row + 1) count (λ at low. h at (omega (arith, low))) in
+    rw (h row (omega arith), rest) refl
+
+-- Rows on which no line is.
+rows-none : (items : LayoutItems) (jc off row count : ℕ)
+    → RowsShow items jc off [] row count
+rows-none items jc off row zero = refl
+rows-none items jc off row (suc count) =
+    printed_lines-cons blank_row _ [] printed-blank ∙ rows-none items jc off (row + 1) count
+
+-- The faults of a line, and of those behind it.
+own_and_rest : (items : LayoutItems) (off : ℕ) (line : PlacedLine) (rest : List PlacedLine)
+    → placed_faults items off (line ∷ rest) ≡ []
+    → (placed_fault_kinds items off line ≡ []) × (placed_faults items off rest ≡ [])
+own_and_rest items off line rest none =
+    let parts = empty_parts (map (fault_of line.number) (placed_fault_kinds items off line))
+    (placed_faults items off rest) none in
+    (map_empty (fault_of line.number) (placed_fault_kinds items off line) parts.0, parts.1)
+
+printed-nothing : printed [] ≡ []
+unfolding printed
+printed-nothing = refl
+
+-- A line that is empty, before others.
+printed_lines-empty : (line : List ℕ) (lines : List (List ℕ))
+    → has_cells line ≡ false
+    → printed_lines (line ∷ lines) ≡ printed_lines lines
+printed_lines-empty [] lines none = printed_lines-cons [] lines [] printed-nothing
+printed_lines-empty (c ∷ line) lines none = cc
+
+-- A line at a place, and those behind it that take rows.
+abbrev place_of : ℕ → ℕ → Bool → List ℕ → PlacedLine
+place_of number depth under line = record {
+  number = number;
+  depth = depth;
+  is_under_double = under;
+  cells = line;
+}
+
+abbrev behind : LayoutItems → ℕ → ℕ → List ℕ → List (List ℕ) → List PlacedLine
+behind items number depth line lines =
+    placed items (number + 1) (depth + pitch items) (is_double line) lines
+
+-- Rows go on.
+pitch_some : (items : LayoutItems) → 0 < pitch items
+pitch_some items = grind (arith, nat_tests)
+
+-- A line has cells or not, and one that takes no row has none.
+has_cases : (line : List ℕ) → (has_cells line ≡ false) ⊎ (has_cells line ≡ true)
+has_cases [] = inl refl
+has_cases (c ∷ line) = inr refl
+
+none_empty : (items : LayoutItems) (line : List ℕ) → takes_none items line ≡ true
+    → has_cells line ≡ false
+none_empty items line is = grind (arith, nat_tests)
+
+-- By the test whether a line takes a row.
+by_test : (items : LayoutItems) (number depth : ℕ) (under : Bool) (line : List ℕ)
+    (lines : List (List ℕ)) (P : List PlacedLine → Type 0) (b : Bool)
+    → takes_none items line ≡ b
+    → (takes_none items line ≡ true → P (placed items (number + 1) depth under lines))
+    → (takes_none items line ≡ false
+    → P (place_of number depth under line ∷ behind items number depth line lines))
+    → P (placed items number depth under (line ∷ lines))
+by_test items number depth under line lines P true is none some = rw is (none is)
+by_test items number depth under line lines P false is none some = rw is (some is)
+
+module _ (items : LayoutItems) (jc off : ℕ) where
+  -- Below the last row lines without a fault have nothing.
+  abbrev HasNothing : List PlacedLine → Type 0
+  HasNothing lines = placed_faults items off lines ≡ [] → printed_lines (cells_of lines) ≡ []
+
+  nothing-cells : (place : PlacedLine) (rest : List PlacedLine) (b : Bool)
+      → off + 24 ≤ place.depth
+      → has_cells place.cells ≡ b
+      → HasNothing rest
+      → HasNothing (place ∷ rest)
+  nothing-cells place rest true low some more sound =
+      let on = on_page items off place (own_and_rest items off place rest sound).0 some in
+      absurd (omega (arith, low, on.1))
+  nothing-cells place rest false low empty more sound =
+      printed_lines-empty place.cells (cells_of rest) empty
+      ∙ more (own_and_rest items off place rest sound).1
+
+  nothing_below : (number depth : ℕ) (under : Bool) (lines : List (List ℕ))
+      → off + 24 ≤ depth
+      → HasNothing (placed items number depth under lines)
+  nothing_below number depth under [] low = λ none. refl
+  nothing_below number depth under (line ∷ lines) low =
+      by_test items number depth under line lines HasNothing (takes_none items line) refl
+      (λ is. nothing_below (number + 1) depth under lines low)
+      (λ is. nothing-cells (place_of number depth under line)
+      (behind items number depth line lines) (has_cells line) low refl
+      (nothing_below (number + 1) (depth + pitch items) (is_double line) lines (omega (arith, low))))
+
+  -- Rows from one on show lines without a fault.
+  abbrev Show : ℕ → ℕ → List PlacedLine → Type 0
+  Show row count lines =
+      placed_faults items off lines ≡ [] → RowsShow items jc off lines row count
+
+  -- A row that a line does not go to shows those behind it.
+  others : (place : PlacedLine) (rest : List PlacedLine) (at : ℕ)
+      → (has_cells place.cells ≡ false) ⊎ (off + at ≢ place.depth)
+      → shown_row items jc off (place ∷ rest) at ≡ shown_row items jc off rest at
+  others place rest at other = grind (arith, nat_tests)
+
+  -- An empty line shows nothing.
+  show-empty : (place : PlacedLine) (rest : List PlacedLine) (row count : ℕ)
+      → has_cells place.cells ≡ false
+      → Show row count rest
+      → Show row count (place ∷ rest)
+  show-empty place rest row count empty more sound =
+      ap printed_lines (range_same _ _ row count (λ at above. others place rest at (inl empty)))
+      ∙ more (own_and_rest items off place rest sound).1
+      ∙ sym (printed_lines-empty place.cells (cells_of rest) empty)
+
+  -- The row of a line shows it, and those below it the lines behind it.
+  show-line : (place : PlacedLine) (rest : List PlacedLine) (row count : ℕ)
+      → has_cells place.cells ≡ true
+      → off + row ≡ place.depth
+      → Show (row + 1) count rest
+      → Show row (suc count) (place ∷ rest)
+  show-line place rest row count some here more sound =
+      let parts = own_and_rest items off place rest sound in
+      let own : shown_row items jc off (place ∷ rest) row
+      ≡ row_from (start_by items jc place.cells) place.cells = grind (arith, nat_tests) in
+      printed_lines-cons _ _ (printed place.cells)
+      (ap printed own ∙ printed-shown items jc off place parts.0)
+      ∙ ap (λ lines. filter has_cells (printed place.cells ∷ []) ++ lines)
+      (ap printed_lines (range_same _ _ (row + 1) count (λ at above.
+      others place rest at (inr (λ e. omega (arith, e, here, above)))))
+      ∙ more parts.1)
+      ∙ sym (printed_lines-cons place.cells (cells_of rest) (printed place.cells) refl)
+
+  -- A row above all lines shows nothing.
+  show-above : (lines : List PlacedLine) (row count : ℕ)
+      → find (is_on_row off row) lines ≡ None
+      → Show (row + 1) count lines
+      → Show row (suc count) lines
+  show-above lines row count none more sound =
+      printed_lines-cons _ _ []
+      (ap (λ found. printed (option_map_or
+      (λ (line : PlacedLine). row_from (start_by items jc line.cells) line.cells) found
+      blank_row)) none
+      ∙ printed-blank)
+      ∙ more sound
+
+  -- The rows from one on show the lines from a depth on, where none goes to a row before.
+  rows_show : (lines : List (List ℕ)) (count number depth row : ℕ) (under : Bool)
+      → row + count ≡ 25
+      → off + row ≤ depth
+      → Show row count (placed items number depth under lines)
+  rows_show [] count number depth row under all low = λ none. rows-none items jc off row count
+  rows_show (line ∷ lines) zero number depth row under all low = λ none.
+      sym (nothing_below number depth under (line ∷ lines) (omega (arith, low, all)) none)
+  rows_show (line ∷ lines) (suc count) number depth row under all low =
+      elim (cases_lt (off + row) depth) [
+        | inl above ↦
+            show-above (placed items number depth under (line ∷ lines)) row count
+            (none_above items off row number depth under (line ∷ lines) above)
+            (rows_show (line ∷ lines) count number depth (row + 1) under (omega (arith, all))
+            (omega (arith, above)))
+        | inr at ↦
+            by_test items number depth under line lines (Show row (suc count))
+            (takes_none items line) refl
+            (λ is. rows_show lines (suc count) (number + 1) depth row under all low)
+            (λ is. elim (has_cases line) [
+              | inl empty ↦
+                  show-empty (place_of number depth under line)
+                  (behind items number depth line lines) row (suc count) empty
+                  (rows_show lines (suc count) (number + 1) (depth + pitch items) row
+                  (is_double line) all (omega (arith, low)))
+              | inr some ↦
+                  show-line (place_of number depth under line)
+                  (behind items number depth line lines) row count some (omega (arith, low, at))
+                  (rows_show lines count (number + 1) (depth + pitch items) (row + 1)
+                  (is_double line) (omega (arith, all)) (omega (arith, low, pitch_some items)))
+            ])
+      ]
+
+  -- Rows 1 to 24 show lines without a fault: those above row 1 are empty.
+  page-empty : (place : PlacedLine) (rest : List PlacedLine) (b : Bool)
+      → place.depth ≤ off
+      → has_cells place.cells ≡ b
+      → Show 1 24 rest
+      → Show 1 24 (place ∷ rest)
+  page-empty place rest true above some more sound =
+      let on = on_page items off place (own_and_rest items off place rest sound).0 some in
+      absurd (omega (arith, above, on.0))
+  page-empty place rest false above empty more sound =
+      show-empty place rest 1 24 empty more sound
+
+  page_shows : (lines : List (List ℕ)) (number depth : ℕ) (under : Bool)
+      → Show 1 24 (placed items number depth under lines)
+  page_shows [] number depth under = λ none. rows-none items jc off 1 24
+  page_shows (line ∷ lines) number depth under =
+      elim (cases_lt off depth) [
+        | inl below ↦
+            rows_show (line ∷ lines) 24 number depth 1 under refl (omega (arith, below))
+        | inr above ↦
+            by_test items number depth under line lines (Show 1 24) (takes_none items line) refl
+            (λ is. page_shows lines (number + 1) depth under)
+            (λ is. page-empty (place_of number depth under line)
+            (behind items number depth line lines) (has_cells line) above refl
+            (page_shows lines (number + 1) (depth + pitch items) (is_double line)))
+      ]
+
+-- ---- lines
+
+-- The lines that take rows have what all have.
+printed-placed : (items : LayoutItems) (number depth : ℕ) (under : Bool) (lines : List (List ℕ))
+    → printed_lines (cells_of (placed items number depth under lines)) ≡ printed_lines lines
+printed-placed items number depth under [] = refl
+printed-placed items number depth under (line ∷ lines) =
+    by_test items number depth under line lines
+    (λ taken. printed_lines (cells_of taken) ≡ printed_lines (line ∷ lines))
+    (takes_none items line) refl
+    (λ is. printed-placed items (number + 1) depth under lines
+    ∙ sym (printed_lines-empty line lines (none_empty items line is)))
+    (λ is. printed_lines-cons line _ (printed line) refl
+    ∙ ap (λ more. filter has_cells (printed line ∷ []) ++ more)
+    (printed-placed items (number + 1) (depth + pitch items) (is_double line) lines)
+    ∙ sym (printed_lines-cons line lines (printed line) refl))
+
+-- Prepared lines have what their cells have.
+printed-lines : (items : LayoutItems) (lines : List (List ℕ))
+    → printed_lines (map (prepared_by items) lines) ≡ printed_lines lines
+printed-lines items [] = refl
+printed-lines items (line ∷ lines) =
+    printed_lines-cons (prepared_by items line) _ (printed line) (printed-prepared items line)
+    ∙ ap (λ more. filter has_cells (printed line ∷ []) ++ more) (printed-lines items lines)
+    ∙ sym (printed_lines-cons line lines (printed line) refl)
+
+-- ---- letters of a text
+
+-- The byte of a character is above 20 and is not 80; behind a mark it is a letter.
+abbrev HaveLetters : List NationalCharacter → Type 0
+HaveLetters characters =
+    AllByRecursion (λ (c : NationalCharacter). (0x20 < c.byte) × (c.byte ≢ 0x80)) characters
+
+have_letters : (n : National) → HaveLetters (sub_set n).characters
+unfolding sub_set
+have_letters n = grind (arith, nat_tests)
+
+-- So no other byte gives one, behind a mark or by itself.
+no_character : (characters : List NationalCharacter) (mark : Option ℕ) (byte : ℕ)
+    → HaveLetters characters
+    → (byte ≤ 0x20) ⊎ (byte ≡ 0x80)
+    → cell_in characters mark byte ≡ None
+unfolding has_bytes
+no_character [] mark byte h other = refl
+no_character (c ∷ characters) mark byte h other =
+    grind (arith, nat_tests, no_character characters mark byte h.1 other)
+
+-- The letter that a text code gives.
+abbrev letter_of : TextCode → List ℕ
+letter_of (Cell code) = filter prints (code ∷ [])
+letter_of _ = []
+
+letters-first : (code : ℕ) (lines : List (List ℕ))
+    → letters (onto_first code lines) ≡ filter prints (code ∷ []) ++ letters lines
+letters-first code [] = grind (arith, nat_tests)
+letters-first code (line ∷ lines) = grind (arith, nat_tests)
+
+letters-code : (code : TextCode) (lines : List (List ℕ))
+    → letters (with_code code lines) ≡ letter_of code ++ letters lines
+letters-code (Cell code) lines = letters-first code lines
+letters-code NoCell lines = refl
+letters-code NewLine lines = refl
+letters-code (Refused kind) lines = refl
+
+-- Two text codes that give the same letter, and take as many bytes.
+abbrev AreAlike : TextCode × ℕ → TextCode × ℕ → Type 0
+AreAlike a b = (letter_of a.0 ≡ letter_of b.0) × (a.1 ≡ b.1)
+
+-- A byte below 20 gives no letter, as 80 gives none.
+low_byte : (n : National) (byte : ℕ) (bytes : List ℕ)
+    → (byte < 0x20) ⊎ (byte ≡ 0x80)
+    → AreAlike (code_before n byte bytes) (NoCell, 0)
+unfolding cell_of cell_of_pair code_of_other is_common
+low_byte n byte bytes low =
+    grind (
+      arith,
+      nat_tests,
+      no_character (sub_set n).characters None byte (have_letters n),
+    )
+
+-- What comes behind a byte that is not stripped gives no other pair with it.
+pair_kept : (items : LayoutItems) (n : National) (byte : ℕ) (bytes : List ℕ)
+    → cell_of_pair n byte (first_of (unstripped items bytes))
+    ≡ cell_of_pair n byte (first_of bytes)
+unfolding cell_of_pair
+pair_kept items n byte [] = refl
+pair_kept items n byte (next ∷ bytes) =
+    grind (
+      arith,
+      nat_tests,
+      no_character (sub_set n).characters (Some byte) next (have_letters n),
+      no_character (sub_set n).characters (Some byte) 0x80 (have_letters n),
+    )
+
+-- A text code has the same letter where bytes are stripped.
+code_kept-by : (items : LayoutItems) (n : National) (byte : ℕ) (bytes : List ℕ) (b : Bool)
+    → strips items byte ≡ b
+    → AreAlike
+    (code_before n (if strips items byte then 0x80 else byte) (unstripped items bytes))
+    (code_before n byte bytes)
+code_kept-by items n byte bytes true is =
+    let own = low_byte n byte bytes (inl (grind (arith, nat_tests))) in
+    let other = low_byte n 0x80 (unstripped items bytes) (inr refl) in
+    rw is (other.0 ∙ sym own.0, other.1 ∙ sym own.1)
+code_kept-by items n byte bytes false is = rw (is, pair_kept items n byte bytes) (refl, refl)
+
+code_kept : (items : LayoutItems) (n : National) (byte : ℕ) (bytes : List ℕ)
+    → AreAlike
+    (code_before n (if strips items byte then 0x80 else byte) (unstripped items bytes))
+    (code_before n byte bytes)
+code_kept items n byte bytes = code_kept-by items n byte bytes (strips items byte) refl
+
+-- So has a text.
+letters-kept : (items : LayoutItems) (n : National) (place taken : ℕ) (bytes : List ℕ)
+    → letters (lines_of_codes (codes_after n place taken (unstripped items bytes)))
+    ≡ letters (lines_of_codes (codes_after n place taken bytes))
+letters-kept items n place taken [] = refl
+letters-kept items n place (suc taken) (byte ∷ bytes) =
+    letters-kept items n (place + 1) taken bytes
+letters-kept items n place zero (byte ∷ bytes) =
+    let alike = code_kept items n byte bytes in
+    letters-code
+    (code_before n (if strips items byte then 0x80 else byte) (unstripped items bytes)).0
+    (lines_of_codes (codes_after n (place + 1)
+    (code_before n (if strips items byte then 0x80 else byte) (unstripped items bytes)).1
+    (unstripped items bytes)))
+    ∙ ap (λ own. own ++ letters (lines_of_codes (codes_after n (place + 1)
+    (code_before n (if strips items byte then 0x80 else byte) (unstripped items bytes)).1
+    (unstripped items bytes)))) alike.0
+    ∙ ap (λ more. letter_of (code_before n byte bytes).0 ++ more)
+    (ap (λ k. letters (lines_of_codes (codes_after n (place + 1) k (unstripped items bytes)))) alike.1
+    ∙ letters-kept items n (place + 1) (code_before n byte bytes).1 bytes)
+    ∙ sym (letters-code (code_before n byte bytes).0
+    (lines_of_codes (codes_after n (place + 1) (code_before n byte bytes).1 bytes)))
+
+-- ---- the law
+
+-- A page that is drawn has what the lines of its text have.
+printed-drawn : (national : National) (items : LayoutItems) (t : SubtitleValue) (page : Rows)
+    → drawn_by national items t ≡ Ok page
+    → printed_lines page ≡ printed_lines (lines_of_codes (codes_by national items t.text))
+unfolding page_of_placed
+printed-drawn national items t page e =
+    let is = drawn_by-lines national items t page e in
+    let lines = lines_by national items t.text in
+    let off = off_of_subtitle national items t in
+    let first = first_depth items t.vp in
+    ap printed_lines is.1
+    ∙ page_shows items t.jc off lines 0 first false is.0
+    ∙ printed-placed items 0 first false lines
+    ∙ printed-lines items (lines_of_codes (codes_by national items t.text))
+
+-- No layout adds, changes, loses or moves past another any letter: for `law_of_letters`.
+pub letters_stay : LawOfLetters
+unfolding drawn
+letters_stay national layout t page e =
+    let items = items_of layout in
+    let lines = printed-drawn national items t page e in
+    record {
+      letters =
+          sym (letters-lines page)
+          ∙ ap letters lines
+          ∙ letters-lines (lines_of_codes (codes_by national items t.text))
+          ∙ letters-kept items national 0 0 t.text;
+      lines = lines;
+    }

@@ -1,0 +1,236 @@
+-- A line from its first cell that prints to its last is that of the prepared line, and of the row
+-- that shows it: printed-prepared, printed-row.
+use Rattle.std.proofs.Common.{◌≡◌, ℕ, zero, suc, ◌+◌, ◌-◌, ◌≤◌, Bool, true, false, List, []}
+use Rattle.std.proofs.Common.{◌∷◌, ◌++◌, length, take, drop, replicate, refl, sym, ap, ◌∙◌}
+use Rattle.std.proofs.Common.{arith, Option, Some, None, append-nil}
+use Rattle.std.proofs.lemmas.Bool.Decides.{nat_tests}
+use Rattle.std.proofs.lemmas.List.{take-append-drop}
+use Rattle.std.specs.List.{AllByRecursion, filter, list_all}
+use Rattle.ttx_page.specs.Page.{space}
+use Rattle.stl_rows.specs.declared.layout.Attribute.{Attribute}
+use Rattle.stl_rows.specs.declared.layout.LayoutItems.{LayoutItems}
+use Rattle.stl_rows.specs.Layout.{attribute_code, codes_of}
+use Rattle.stl_rows.specs.Letters.{before_left, from_first, letters, printed, printed_lines, prints}
+use Rattle.stl_rows.specs.Letters.{to_last}
+use Rattle.stl_rows.specs.PreparedLine.{ending, framed, headed, leading, leading_codes, prepared_by}
+use Rattle.stl_rows.specs.PreparedLine.{row_from, trailing, trimmed, whitened}
+use Rattle.stl_rows.specs.PreparedLine.{without_leading_spaces}
+use Rattle.stl_rows.specs.TextCode.{is_within}
+use Rattle.stl_rows.proofs.LineLemmas.{row_from-put}
+
+-- ---- cells that don't print
+
+-- None of the cells prints.
+abbrev pub NonePrints : List ℕ → Type 0
+NonePrints cells = AllByRecursion (λ (c : ℕ). c ≤ space) cells
+
+-- Two such lines joined, the front of one, and what is behind it.
+none-append : (xs ys : List ℕ) → NonePrints xs → NonePrints ys → NonePrints (xs ++ ys)
+none-append [] ys h k = k
+none-append (x ∷ xs) ys h k = (h.0, none-append xs ys h.1 k)
+
+none-take : (n : ℕ) (xs : List ℕ) → NonePrints xs → NonePrints (take n xs)
+none-take zero xs h = tt
+none-take (suc n) [] h = tt
+none-take (suc n) (x ∷ xs) h = (h.0, none-take n xs h.1)
+
+none-drop : (n : ℕ) (xs : List ℕ) → NonePrints xs → NonePrints (drop n xs)
+none-drop zero xs h = h
+none-drop (suc n) [] h = tt
+none-drop (suc n) (x ∷ xs) h = none-drop n xs h.1
+
+none-spaces : (n : ℕ) → NonePrints (replicate n space)
+none-spaces zero = tt
+none-spaces (suc n) = (omega arith, none-spaces n)
+
+-- The codes at the front of a line, or its spaces.
+none-leading : (first last : ℕ) (cells : List ℕ) → last ≤ space
+    → NonePrints (take (leading first last cells) cells)
+none-leading first last [] low = tt
+none-leading first last (c ∷ cells) low =
+    grind (arith, nat_tests, none-leading first last cells low)
+
+-- All of a line are.
+none-all : (first last : ℕ) (cells : List ℕ) → last ≤ space
+    → list_all (is_within first last) cells ≡ true
+    → NonePrints cells
+none-all first last [] low all = tt
+none-all first last (c ∷ cells) low all =
+    grind (arith, nat_tests, none-all first last cells low)
+
+-- Those at its end.
+trailing-few : (first last : ℕ) (cells : List ℕ) → trailing first last cells ≤ length cells
+trailing-few first last [] = omega arith
+trailing-few first last (c ∷ cells) = grind (arith, nat_tests, trailing-few first last cells)
+
+none-trailing-by : (first last c : ℕ) (cells : List ℕ) (all : Bool) → last ≤ space
+    → list_all (is_within first last) (c ∷ cells) ≡ all
+    → NonePrints (drop (length cells - trailing first last cells) cells)
+    → NonePrints (drop (length (c ∷ cells) - trailing first last (c ∷ cells)) (c ∷ cells))
+none-trailing-by first last c cells true low is rest =
+    none-drop _ (c ∷ cells) (none-all first last (c ∷ cells) low is)
+none-trailing-by first last c cells false low is rest =
+    rw (is, one_more)
+    rest
+  where
+    one_more : length (c ∷ cells) - trailing first last cells
+        ≡ suc (length cells - trailing first last cells)
+    one_more = omega (arith, trailing-few first last cells)
+
+none-trailing : (first last : ℕ) (cells : List ℕ) → last ≤ space
+    → NonePrints (drop (length cells - trailing first last cells) cells)
+none-trailing first last [] low = tt
+none-trailing first last (c ∷ cells) low =
+    none-trailing-by first last c cells (list_all (is_within first last) (c ∷ cells)) low refl
+    (none-trailing first last cells low)
+
+-- The codes of a list.
+attribute-low : (a : Attribute) → attribute_code a ≤ space
+unfolding attribute_code
+attribute-low a = grind (arith, nat_tests)
+
+none-codes : (places : List (Option Attribute)) → NonePrints (codes_of places)
+none-codes [] = tt
+none-codes (None ∷ places) = none-codes places
+none-codes (Some a ∷ places) = (attribute-low a, none-codes places)
+
+-- ---- what is left of a line
+
+-- Cells that don't print, before others and behind them, change nothing of it.
+from_first-none : (xs cells : List ℕ) → NonePrints xs → from_first (xs ++ cells) ≡ from_first cells
+from_first-none [] cells h = refl
+from_first-none (x ∷ xs) cells h = grind (arith, nat_tests, from_first-none xs cells h.1)
+
+to_last-nothing : (xs : List ℕ) → NonePrints xs → to_last xs ≡ []
+to_last-nothing [] h = refl
+to_last-nothing (x ∷ xs) h = grind (arith, nat_tests, to_last-nothing xs h.1)
+
+to_last-none : (cells xs : List ℕ) → NonePrints xs → to_last (cells ++ xs) ≡ to_last cells
+to_last-none [] xs h = to_last-nothing xs h
+to_last-none (c ∷ cells) xs h = ap (before_left c) (to_last-none cells xs h)
+
+printed-behind : (cells xs : List ℕ) → NonePrints xs → printed (cells ++ xs) ≡ printed cells
+unfolding printed
+printed-behind [] xs h =
+    grind (arith, nat_tests, from_first-none xs [] h, append-nil, to_last-nothing)
+printed-behind (c ∷ cells) xs h =
+    grind (arith, nat_tests, to_last-none (c ∷ cells) xs h, printed-behind cells xs h)
+
+printed-ahead : (xs cells : List ℕ) → NonePrints xs → printed (xs ++ cells) ≡ printed cells
+unfolding printed
+printed-ahead xs cells h = ap to_last (from_first-none xs cells h)
+
+-- ---- prepared lines
+
+-- The front of a line that does not print, taken off.
+printed-drop : (n : ℕ) (cells : List ℕ) → NonePrints (take n cells)
+    → printed (drop n cells) ≡ printed cells
+printed-drop n cells h =
+    sym (printed-ahead (take n cells) (drop n cells) h) ∙ ap printed (take-append-drop n cells)
+
+-- The end of one.
+printed-take : (n : ℕ) (cells : List ℕ) → NonePrints (drop n cells)
+    → printed (take n cells) ≡ printed cells
+printed-take n cells h =
+    sym (printed-behind (take n cells) (drop n cells) h) ∙ ap printed (take-append-drop n cells)
+
+printed-trimmed : (cells : List ℕ) → printed (trimmed cells) ≡ printed cells
+unfolding trimmed
+printed-trimmed cells =
+    printed-take _ (without_leading_spaces cells)
+    (none-trailing 0x20 0x20 (without_leading_spaces cells) (omega arith))
+    ∙ printed-drop _ cells (none-leading 0x20 0x20 cells (omega arith))
+
+none-whitened : (items : LayoutItems) (codes : List ℕ) → NonePrints codes
+    → NonePrints (whitened items codes)
+none-whitened items codes h =
+    grind (arith, nat_tests, none-append codes (0x07 ∷ []) h (omega arith, tt))
+
+none-ending : (items : LayoutItems) (n : ℕ) → NonePrints (ending items n)
+none-ending items n = grind (arith, nat_tests, none-codes items.after, none-take)
+
+printed-headed : (items : LayoutItems) (cells : List ℕ)
+    → printed (headed items cells) ≡ printed cells
+unfolding headed
+printed-headed items cells =
+    let leads = none-leading 0 0x1F cells (omega arith) in
+    let q = take (leading_codes cells) cells in
+    printed-ahead (codes_of items.ahead ++ whitened items q ++ codes_of items.behind)
+    (drop (leading_codes cells) cells)
+    (none-append (codes_of items.ahead ++ whitened items q) (codes_of items.behind)
+    (none-append (codes_of items.ahead) (whitened items q) (none-codes items.ahead)
+    (none-whitened items q leads)) (none-codes items.behind))
+    ∙ printed-drop (leading_codes cells) cells leads
+
+printed-framed : (items : LayoutItems) (cells : List ℕ)
+    → printed (framed items cells) ≡ printed cells
+unfolding framed
+printed-framed items [] = refl
+printed-framed items (c ∷ cells) =
+    printed-behind (headed items (c ∷ cells)) _
+    (none-ending items (length (headed items (c ∷ cells))))
+    ∙ printed-headed items (c ∷ cells)
+
+-- A prepared line has what its cells have.
+pub printed-prepared : (items : LayoutItems) (cells : List ℕ)
+    → printed (prepared_by items cells) ≡ printed cells
+unfolding prepared_by
+printed-prepared items cells =
+    grind (
+      arith,
+      nat_tests,
+      printed-framed items cells,
+      printed-framed items (trimmed cells),
+      printed-trimmed cells,
+    )
+
+-- ---- rows
+
+-- The row that shows a line has what the line has.
+pub printed-row : (start : ℕ) (line : List ℕ) → start + length line ≤ 40
+    → printed (row_from start line) ≡ printed line
+printed-row start line room =
+    let row : List ℕ = replicate 40 space in
+    let all = none-spaces 40 in
+    ap printed (sym (row_from-put start line row room refl))
+    ∙ printed-ahead (take start row) _ (none-take start row all)
+    ∙ printed-behind line _ (none-drop _ _ (none-drop start row all))
+
+-- ---- letters
+
+-- The letters of a line are those of what is left of it.
+letters-from_first : (cells : List ℕ) → filter prints (from_first cells) ≡ filter prints cells
+letters-from_first [] = refl
+letters-from_first (c ∷ cells) = grind (arith, nat_tests, letters-from_first cells)
+
+letters-before_left : (c : ℕ) (cells : List ℕ)
+    → filter prints (before_left c cells) ≡ filter prints (c ∷ cells)
+letters-before_left c [] = grind (arith, nat_tests)
+letters-before_left c (x ∷ cells) = refl
+
+letters-to_last : (cells : List ℕ) → filter prints (to_last cells) ≡ filter prints cells
+letters-to_last [] = refl
+letters-to_last (c ∷ cells) =
+    letters-before_left c (to_last cells) ∙ grind (arith, nat_tests, letters-to_last cells)
+
+letters-printed : (cells : List ℕ) → filter prints (printed cells) ≡ filter prints cells
+unfolding printed
+letters-printed cells = letters-to_last (from_first cells) ∙ letters-from_first cells
+
+-- Those of lines are those of what is left of each.
+letters-line : (line own : List ℕ) (lines : List (List ℕ))
+    → printed line ≡ own
+    → letters (printed_lines lines) ≡ letters lines
+    → letters (printed_lines (line ∷ lines)) ≡ letters (line ∷ lines)
+letters-line line [] lines is rest =
+    rw is (rest
+    ∙ ap (λ own. own ++ letters lines) (ap (filter prints) (sym is) ∙ letters-printed line))
+letters-line line (c ∷ own) lines is rest =
+    rw is (ap (λ first. first ++ letters (printed_lines lines))
+    (ap (filter prints) (sym is) ∙ letters-printed line)
+    ∙ ap (λ more. filter prints line ++ more) rest)
+
+pub letters-lines : (lines : List (List ℕ)) → letters (printed_lines lines) ≡ letters lines
+letters-lines [] = refl
+letters-lines (line ∷ lines) =
+    letters-line line (printed line) lines refl (letters-lines lines)

@@ -1,0 +1,87 @@
+-- The ends of a line, read from its end: trailing_at, trailing_all. What fits at its end:
+-- framed-fits.
+use Rattle.std.proofs.Common.{◌≡◌, ℕ, zero, suc, ◌+◌, ◌-◌, ◌<◌, ◌≤◌, true, false, List, [], ◌∷◌}
+use Rattle.std.proofs.Common.{length}
+use Rattle.std.proofs.Common.{get_or, drop, refl, arith, ◌++◌, take, max, ap, ◌∙◌}
+use Rattle.std.proofs.lemmas.Bool.Decides.{nat_tests}
+use Rattle.std.specs.List.{list_all}
+use Rattle.std.proofs.Math.Seq.{take-append-add}
+use Rattle.stl_rows.specs.declared.layout.LayoutItems.{LayoutItems}
+use Rattle.stl_rows.specs.Layout.{codes_of}
+use Rattle.stl_rows.specs.PreparedLine.{framed, headed, trailing}
+use Rattle.stl_rows.specs.TextCode.{is_within}
+
+-- Where all cells are within, all are at the end.
+pub trailing_all : (first last : ℕ) (cells : List ℕ)
+    → list_all (is_within first last) cells ≡ true
+    → trailing first last cells ≡ length cells
+trailing_all first last [] all = refl
+trailing_all first last (c ∷ cells) all = rw all refl
+
+-- Where one is not, not all are.
+not_all : (first last : ℕ) (cells : List ℕ) (at : ℕ)
+    → at < length cells
+    → is_within first last (get_or cells at 0) ≡ false
+    → list_all (is_within first last) cells ≡ false
+not_all first last [] at low not = absurd (omega (arith, low))
+not_all first last (c ∷ cells) zero low not = rw not refl
+not_all first last (c ∷ cells) (suc at) low not =
+    grind (arith, nat_tests, not_all first last cells at (omega (arith, low)) not)
+
+-- Where one is not, and those behind it are, these are at the end.
+trailing_from : (first last : ℕ) (cells : List ℕ) (at : ℕ)
+    → at < length cells
+    → is_within first last (get_or cells at 0) ≡ false
+    → list_all (is_within first last) (drop (suc at) cells) ≡ true
+    → trailing first last cells ≡ length cells - suc at
+trailing_from first last [] at low not all = omega (arith, low)
+trailing_from first last (c ∷ cells) zero low not all =
+    rw (not_all first last (c ∷ cells) 0 (omega arith) not)
+    (trailing_all first last cells all ∙ omega arith)
+trailing_from first last (c ∷ cells) (suc at) low not all =
+    rw (not_all first last (c ∷ cells) (suc at) low not)
+    (trailing_from first last cells at (omega (arith, low)) not all ∙ omega arith)
+
+-- For `trailing`.
+pub trailing_at : (first last : ℕ) (cells : List ℕ) (left : ℕ)
+    → 0 < left
+    → left ≤ length cells
+    → is_within first last (get_or cells (left - 1) 0) ≡ false
+    → list_all (is_within first last) (drop left cells) ≡ true
+    → trailing first last cells ≡ length cells - left
+trailing_at first last cells zero some low not all = absurd (omega (arith, some))
+trailing_at first last cells (suc at) some low not all =
+    trailing_from first last cells at (omega (arith, low))
+    (ap (λ k. is_within first last (get_or cells k 0)) (one_less at) ∙ not) all
+  where
+    one_less : (at : ℕ) → at ≡ suc at - 1
+    one_less at = omega arith
+
+-- What fits of two lines that are joined, where all of the first is kept.
+take_fitting : (xs ys : List ℕ)
+    → take (max (length xs) 40) (xs ++ ys) ≡ xs ++ take (40 - length xs) ys
+take_fitting xs ys =
+    ap (λ n. take n (xs ++ ys)) (room (length xs)) ∙ take-append-add xs ys (40 - length xs)
+  where
+    room : (n : ℕ) → max n 40 ≡ n + (40 - n)
+    room n = omega arith
+
+-- With `fit` a line gets what there is room for: for `push_framed`.
+pub framed-fits : (items : LayoutItems) (cells : List ℕ)
+    → 0 < length cells
+    → items.fit ≡ true
+    → take (max (length (headed items cells)) 40) (headed items cells ++ codes_of items.after)
+    ≡ framed items cells
+unfolding framed
+framed-fits items [] some fit = absurd (omega (arith, some))
+framed-fits items (c ∷ cells) some fit =
+    take_fitting (headed items (c ∷ cells)) (codes_of items.after) ∙ rw fit refl
+
+-- Else it gets all.
+pub framed-all : (items : LayoutItems) (cells : List ℕ)
+    → 0 < length cells
+    → items.fit ≡ false
+    → headed items cells ++ codes_of items.after ≡ framed items cells
+unfolding framed
+framed-all items [] some fit = absurd (omega (arith, some))
+framed-all items (c ∷ cells) some fit = rw fit refl

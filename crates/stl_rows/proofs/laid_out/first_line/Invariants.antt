@@ -1,0 +1,15 @@
+-- No new line is among the cells so far.
+use Rattle.std.proofs.Common.{◌≡◌, ◌-◌, ◌≤◌, length, drop, take}
+use Rattle.stl_rows.specs.LineByLayout.{cut_lines}
+use Rattle.stl_rows.specs.LineByLine.{onto}
+use Rattle.stl_rows.proofs.laid_out.first_line.Given as goal
+
+abbrev pub invariant-loop-at : goal.invariant-loop-at
+invariant-loop-at l = record {
+  within : l.at ≤ length l.cells;
+  lines :
+      cut_lines l.cells ≡ onto (take l.at l.cells) (cut_lines (drop l.at l.cells));
+}
+
+abbrev pub decreases-loop-at : goal.decreases-loop-at
+decreases-loop-at l = length l.cells - l.at

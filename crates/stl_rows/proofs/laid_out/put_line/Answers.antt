@@ -1,0 +1,37 @@
+-- A line with cells and without a fault fits a row of the page: sound_line.
+use Rattle.std.proofs.Common.{arith}
+use Rattle.std.proofs.lemmas.Bool.Decides.{nat_tests}
+use Rattle.stl_rows.proofs.LaidOutLemmas.{sound_line}
+use Rattle.stl_rows.proofs.laid_out.put_line.Goals as goal
+
+pub overflow_sub-row : goal.overflow_sub-row
+overflow_sub-row c =
+    grind (
+      arith,
+      nat_tests,
+      sound_line c.args.items.now c.args.off c.args.place.now c.args.line.now c.requires.sound,
+    )
+
+pub overflow_cast-row : goal.overflow_cast-row
+overflow_cast-row c =
+    grind (
+      arith,
+      nat_tests,
+      sound_line c.args.items.now c.args.off c.args.place.now c.args.line.now c.requires.sound,
+    )
+
+pub start_by-requires : goal.start_by-requires
+start_by-requires c =
+    grind (
+      arith,
+      nat_tests,
+      sound_line c.args.items.now c.args.off c.args.place.now c.args.line.now c.requires.sound,
+    )
+
+pub set_row-requires-clause-row : goal.set_row-requires-clause-row
+set_row-requires-clause-row c =
+    grind (
+      arith,
+      nat_tests,
+      sound_line c.args.items.now c.args.off c.args.place.now c.args.line.now c.requires.sound,
+    )

@@ -1,0 +1,20 @@
+-- What was read and is left to be read is all.
+use Rattle.std.proofs.Common.{◌≡◌, ◌-◌, ◌≤◌, ◌++◌, length, drop}
+use Rattle.stl_rows.specs.LineByLayout.{flat_codes}
+use Rattle.stl_rows.specs.TextCode.{refused_codes, text_codes}
+use Rattle.stl_rows.proofs.laid_out.read_cells.Given as goal
+
+abbrev pub invariant-loop-at : goal.invariant-loop-at
+invariant-loop-at l = record {
+  within : l.at ≤ length l.text;
+  few : length l.cells.items ≤ l.at;
+  cells :
+      l.cells.items ++ flat_codes (text_codes l.national l.at (drop l.at l.text))
+      ≡ flat_codes (text_codes l.national 0 l.text);
+  refused :
+      refused_codes (text_codes l.national l.at (drop l.at l.text))
+      ≡ refused_codes (text_codes l.national 0 l.text);
+}
+
+abbrev pub decreases-loop-at : goal.decreases-loop-at
+decreases-loop-at l = length l.text - l.at

@@ -1,0 +1,12 @@
+-- What was read and is left to be read is all.
+use Rattle.std.proofs.Common.{◌≡◌, ◌++◌, length, drop}
+use Rattle.stl_rows.specs.DrawnPage.{unstripped}
+use Rattle.stl_rows.proofs.laid_out.unstripped.Given as goal
+
+abbrev pub invariant-loop-byte : goal.invariant-loop-byte
+invariant-loop-byte l = record {
+  few : length l.bytes.items ≡ l.byte-index;
+  all :
+      l.bytes.items ++ unstripped l.items (drop l.byte-index l.text)
+      ≡ unstripped l.items l.text;
+}

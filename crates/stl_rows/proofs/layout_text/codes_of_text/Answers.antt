@@ -1,0 +1,55 @@
+-- One pair of digits more: codes_filled-step, codes_filled-odd, codes_filled-end.
+use Rattle.std.proofs.Common.{arith, Some}
+use Rattle.std.proofs.lemmas.Bool.Decides.{nat_tests}
+use Rattle.std.proofs.lemmas.List.{length-set}
+use Rattle.stl_rows.proofs.LayoutTextLemmas.{codes_filled-end, codes_filled-odd, codes_filled-step}
+use Rattle.stl_rows.proofs.layout_text.codes_of_text.Goals as goal
+
+pub returns-then-at-text : goal.returns-then-at-text
+returns-then-at-text g c =
+    grind (
+      arith,
+      nat_tests,
+      codes_filled-odd c.args.text.now c.loop-at.at c.loop-at.places c.loop-at.filled,
+    )
+
+pub returns-in_err-code : goal.returns-in_err-code
+returns-in_err-code g c =
+    grind (
+      arith,
+      nat_tests,
+      codes_filled-step c.args.text.now c.loop-at.at c.loop-at.places c.loop-at.filled,
+    )
+
+pub returns-in_err-attribute : goal.returns-in_err-attribute
+returns-in_err-attribute g c =
+    grind (
+      arith,
+      nat_tests,
+      codes_filled-step c.args.text.now c.loop-at.at c.loop-at.places c.loop-at.filled,
+    )
+
+pub returns-then-filled : goal.returns-then-filled
+returns-then-filled g c =
+    grind (
+      arith,
+      nat_tests,
+      codes_filled-step c.args.text.now c.loop-at.at c.loop-at.places c.loop-at.filled,
+    )
+
+pub loop-at-preserved : goal.loop-at-preserved
+loop-at-preserved g c =
+    grind (
+      arith,
+      nat_tests,
+      length-set c.loop-at.places c.loop-at.filled (Some c.in_ok-attribute.attribute),
+      codes_filled-step c.args.text.now c.loop-at.at c.loop-at.places c.loop-at.filled,
+    )
+
+pub returns : goal.returns
+returns g c =
+    grind (
+      arith,
+      nat_tests,
+      codes_filled-end c.args.text.now c.loop-at.at c.loop-at.places c.loop-at.filled,
+    )

@@ -1,0 +1,15 @@
+-- What is left gives, at the places that are left, what all gives.
+use Rattle.std.proofs.Common.{◌≡◌, ◌-◌, ◌≤◌, length, drop}
+use Rattle.stl_rows.specs.LayoutText.{codes_filled, codes_of_text}
+use Rattle.stl_rows.proofs.layout_text.codes_of_text.Given as goal
+
+abbrev pub invariant-loop-at : goal.invariant-loop-at
+invariant-loop-at g l = record {
+  within : l.at ≤ length l.text;
+  few : l.filled ≤ g.row.N;
+  places : length l.places ≡ g.row.N;
+  told : codes_filled l.places l.filled (drop l.at l.text) ≡ codes_of_text g.row.N l.text;
+}
+
+abbrev pub decreases-loop-at : goal.decreases-loop-at
+decreases-loop-at g l = length l.text - l.at

@@ -1,0 +1,44 @@
+-- One item more: items_set-more and its kin.
+use Rattle.std.proofs.Common.{arith}
+use Rattle.std.proofs.lemmas.Bool.Decides.{nat_tests}
+use Rattle.std.proofs.lemmas.List.{length-set}
+use Rattle.stl_rows.proofs.LayoutTextLemmas.{items_set-again, items_set-bad, items_set-end}
+use Rattle.stl_rows.proofs.LayoutTextLemmas.{items_set-more}
+use Rattle.stl_rows.proofs.layout_text.items_of_text.Goals as goal
+
+pub returns-in_err-number : goal.returns-in_err-number
+returns-in_err-number c =
+    grind (
+      arith,
+      nat_tests,
+      items_set-bad c.texts.items c.texts.came c.first_text.result.0.now,
+    )
+
+pub returns-then-came-number : goal.returns-then-came-number
+returns-then-came-number c =
+    grind (
+      arith,
+      nat_tests,
+      items_set-again c.texts.items c.set_item.new.items c.texts.came c.in_ok-number.number
+          c.first_text.result.0.now,
+    )
+
+pub texts-preserved : goal.texts-preserved
+texts-preserved c =
+    grind (
+      arith,
+      nat_tests,
+      length-set c.texts.came,
+      items_set-more c.texts.items c.set_item.new.items c.texts.came c.in_ok-number.number
+          c.first_text.result.0.now,
+    )
+
+pub returns-in-None : goal.returns-in-None
+returns-in-None c =
+    grind (
+      arith,
+      nat_tests,
+      items_set-end,
+      items_set-more c.texts.items c.set_item.new.items c.texts.came c.in_ok-number.number
+          c.first_text.result.0.now,
+    )

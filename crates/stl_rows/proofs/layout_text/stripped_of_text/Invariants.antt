@@ -1,0 +1,15 @@
+-- What is left gives, with the bytes so far, what all gives.
+use Rattle.std.proofs.Common.{◌≡◌, ◌-◌, ◌≤◌, false, length, drop, replicate}
+use Rattle.stl_rows.specs.LayoutText.{stripped_with}
+use Rattle.stl_rows.proofs.layout_text.stripped_of_text.Given as goal
+
+abbrev pub invariant-loop-at : goal.invariant-loop-at
+invariant-loop-at l = record {
+  within : l.at ≤ length l.text;
+  strip : length l.strip ≡ 32;
+  told :
+      stripped_with l.strip (drop l.at l.text) ≡ stripped_with (replicate 32 false) l.text;
+}
+
+abbrev pub decreases-loop-at : goal.decreases-loop-at
+decreases-loop-at l = length l.text - l.at

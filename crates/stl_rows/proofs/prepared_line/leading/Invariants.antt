@@ -1,0 +1,15 @@
+-- The cells so far are within the two codes.
+use Rattle.std.proofs.Common.{◌≡◌, ◌+◌, ◌-◌, ◌≤◌, length, drop}
+use Rattle.stl_rows.specs.PreparedLine.{leading}
+use Rattle.stl_rows.proofs.prepared_line.leading.Given as goal
+
+abbrev pub invariant-loop-count : goal.invariant-loop-count
+invariant-loop-count l = record {
+  within : l.count ≤ length l.cells;
+  value :
+      leading l.first l.last l.cells
+      ≡ l.count + leading l.first l.last (drop l.count l.cells);
+}
+
+abbrev pub decreases-loop-count : goal.decreases-loop-count
+decreases-loop-count l = length l.cells - l.count

@@ -1,0 +1,16 @@
+-- The cell before the last of these is not within: trailing_at; or all are: trailing_all.
+use Rattle.std.proofs.Common.{arith}
+use Rattle.std.proofs.lemmas.Bool.Decides.{nat_tests}
+use Rattle.stl_rows.proofs.PreparedLineLemmas.{trailing_all, trailing_at}
+use Rattle.stl_rows.proofs.prepared_line.trailing.Goals as goal
+
+pub returns-then-not-is_within-clause-value : goal.returns-then-not-is_within-clause-value
+returns-then-not-is_within-clause-value c =
+    grind (
+      arith,
+      nat_tests,
+      trailing_at c.args.first c.args.last c.args.cells.now c.loop-left.left,
+    )
+
+pub returns-clause-value : goal.returns-clause-value
+returns-clause-value c = grind (arith, nat_tests, trailing_all)

@@ -1,0 +1,93 @@
+-- Layouts: what a house may say of how its inserter draws (own). EBU Tech 3264 leaves that to it.
+use Rattle.std.specs.Prelude.{ℕ, Bool, false, List, [], ◌∷◌, Option, Some, None, ◌==◌, unwrap_or}
+use Rattle.std.specs.Prelude.{replicate, slice_index_or, nat_lt, ◌&&◌}
+use Rattle.std.specs.List.{find}
+use Rattle.stl_rows.specs.declared.layout.Attribute.{Attribute}
+use Rattle.stl_rows.specs.declared.layout.Attribute.TheVariants.{AlphaRed, AlphaGreen, AlphaYellow}
+use Rattle.stl_rows.specs.declared.layout.Attribute.TheVariants.{AlphaBlue, AlphaMagenta, AlphaCyan}
+use Rattle.stl_rows.specs.declared.layout.Attribute.TheVariants.{AlphaWhite, Flash, Steady, EndBox}
+use Rattle.stl_rows.specs.declared.layout.Attribute.TheVariants.{StartBox, NormalHeight}
+use Rattle.stl_rows.specs.declared.layout.Attribute.TheVariants.{DoubleHeight}
+use Rattle.stl_rows.specs.declared.layout.Drawing.{Drawing}
+use Rattle.stl_rows.specs.declared.layout.Layout.{Layout}
+use Rattle.stl_rows.specs.declared.layout.LayoutItems.{LayoutItems}
+use Rattle.stl_rows.specs.declared.national.National.{National}
+
+-- ---- codes
+
+-- The code of a spacing attribute (EN 300 706, spacing attributes).
+unfoldable pub attribute_code : Attribute → ℕ
+attribute_code AlphaRed = 0x01
+attribute_code AlphaGreen = 0x02
+attribute_code AlphaYellow = 0x03
+attribute_code AlphaBlue = 0x04
+attribute_code AlphaMagenta = 0x05
+attribute_code AlphaCyan = 0x06
+attribute_code AlphaWhite = 0x07
+attribute_code Flash = 0x08
+attribute_code Steady = 0x09
+attribute_code EndBox = 0x0A
+attribute_code StartBox = 0x0B
+attribute_code NormalHeight = 0x0C
+attribute_code DoubleHeight = 0x0D
+
+-- The attributes that a layout may put beside a line.
+abbrev pub attributes : List Attribute
+attributes =
+    AlphaRed ∷ AlphaGreen ∷ AlphaYellow ∷ AlphaBlue ∷ AlphaMagenta ∷ AlphaCyan ∷ AlphaWhite
+    ∷ Flash ∷ Steady ∷ EndBox ∷ StartBox ∷ NormalHeight ∷ DoubleHeight ∷ []
+
+-- The one with this code.
+unfoldable pub attribute_of : ℕ → Option Attribute
+attribute_of code = find (λ a. attribute_code a == code) attributes
+
+-- The codes of a list's places, each of which has one or none.
+abbrev pub codes_of : List (Option Attribute) → List ℕ
+codes_of [] = []
+codes_of (None ∷ places) = codes_of places
+codes_of (Some a ∷ places) = attribute_code a ∷ codes_of places
+
+-- ---- items
+
+-- A list of places without a code.
+abbrev pub no_codes : ℕ → List (Option Attribute)
+no_codes n = replicate n None
+
+-- The items where they are left out: two start boxes before a line's own leading codes, two end
+-- boxes at its end, and nothing else.
+unfoldable pub default_items : LayoutItems
+default_items = record {
+  strip = replicate 32 false;
+  ahead = Some StartBox ∷ Some StartBox ∷ None ∷ None ∷ None ∷ None ∷ [];
+  behind = None ∷ None ∷ None ∷ None ∷ None ∷ None ∷ [];
+  after = Some EndBox ∷ Some EndBox ∷ None ∷ None ∷ [];
+  fit = false;
+  white = false;
+  trim = false;
+  text = false;
+  up = false;
+  left = 0;
+  right = 0;
+  free = 1;
+  double = false;
+  pack = false;
+  last = false;
+  lower = 0;
+  higher = 0;
+}
+
+-- The layout that is taken where none is given.
+abbrev pub default_layout : Layout
+default_layout = record { items = None }
+
+-- The items of a layout.
+abbrev pub items_of : Layout → LayoutItems
+items_of layout = unwrap_or layout.items default_items
+
+-- `strip`: a byte of a text, 00 to 1F, gives no cell.
+abbrev pub strips : LayoutItems → ℕ → Bool
+strips items byte = nat_lt byte 0x20 && slice_index_or items.strip byte false
+
+-- How texts are drawn by an option and a layout.
+abbrev pub drawing_by : National → Layout → Drawing
+drawing_by national layout = record { national = national; layout = layout }

@@ -1,0 +1,185 @@
+-- Layouts as people write them (own): items joined by commas, none of them twice, in any order.
+use Rattle.std.specs.Prelude.{ℕ, ◌+◌, ◌-◌, ◌*◌, Bool, true, false, ◌&&◌, List, [], ◌∷◌, Option}
+use Rattle.std.specs.Prelude.{Some, None, codes, drop, length, nat_lt, nat_le, option_map, replicate}
+use Rattle.std.specs.Prelude.{slice_index_or, slice_set, ◌==◌, if◌then◌else◌}
+use Rattle.std.specs.List.{after_first, before_first, position_or_len, slice_split}
+use Rattle.std.specs.Str.{bytes_eq}
+use Rattle.ttx_packet.specs.PacketAddress.{◌>>=◌}
+use Rattle.stl_rows.specs.declared.layout.Attribute.{Attribute}
+use Rattle.stl_rows.specs.declared.layout.Layout.{Layout}
+use Rattle.stl_rows.specs.declared.layout.LayoutItems.{LayoutItems}
+use Rattle.stl_rows.specs.Layout.{attribute_of, default_items, no_codes}
+use Rattle.stl_rows.specs.TextCode.{is_within}
+
+-- ---- characters
+
+-- It parts items.
+abbrev pub comma : ℕ
+comma = 0x2C
+
+-- It parts the name of an item from its value.
+abbrev pub equals_sign : ℕ
+equals_sign = 0x3D
+
+-- In `before` it stands for a line's own leading codes.
+abbrev pub asterisk : ℕ
+asterisk = 0x2A
+
+-- A text up to the first of a character, and what is behind that, if there is one.
+unfoldable pub cut_at : ℕ → List ℕ → List ℕ × Option (List ℕ)
+cut_at mark text =
+    if nat_lt (position_or_len (λ c. c == mark) text) (length text)
+    then (before_first (λ c. c == mark) text, Some (after_first (λ c. c == mark) text))
+    else (text, None)
+
+-- ---- numbers
+
+-- A decimal digit.
+abbrev pub decimal_digit : ℕ → Option ℕ
+decimal_digit c = if is_within 0x30 0x39 c then Some (c - 0x30) else None
+
+-- N: one or two decimal digits.
+abbrev pub number_of_digits : List ℕ → Option ℕ
+number_of_digits (units ∷ []) = decimal_digit units
+number_of_digits (tens ∷ units ∷ []) = do
+  tens ← decimal_digit tens
+  units ← decimal_digit units
+  Some (10 * tens + units)
+number_of_digits _ = None
+
+-- N, from a least to a most.
+unfoldable pub number_within : ℕ → ℕ → List ℕ → Option ℕ
+number_within least most text = do
+  n ← number_of_digits text
+  if nat_le least n && nat_le n most then Some n else None
+
+-- N with or without `-` before it: the rows down and the rows up.
+unfoldable pub rows_of_text : List ℕ → Option (ℕ × ℕ)
+rows_of_text text =
+    if slice_index_or text 0 0 == 0x2D
+    then option_map (λ n. (0, n)) (number_within 0 22 (drop 1 text))
+    else option_map (λ n. (n, 0)) (number_within 0 22 text)
+
+-- ---- codes
+
+-- A hexadecimal digit of either case.
+unfoldable pub hex_digit : ℕ → Option ℕ
+hex_digit c =
+    if is_within 0x30 0x39 c then Some (c - 0x30)
+    else (if is_within 0x41 0x46 c then Some (c - 0x37)
+    else (if is_within 0x61 0x66 c then Some (c - 0x57) else None))
+
+-- The number that two of them are.
+abbrev pub byte_of_digits : ℕ → ℕ → Option ℕ
+byte_of_digits high low = do
+  high ← hex_digit high
+  low ← hex_digit low
+  Some (16 * high + low)
+
+-- HEX: the codes that pairs of digits give, at the front of these places; some have been filled.
+unfoldable pub codes_filled :
+    List (Option Attribute) → ℕ → List ℕ → Option (List (Option Attribute))
+codes_filled places filled [] = Some places
+codes_filled places filled (high ∷ []) = None
+codes_filled places filled (high ∷ low ∷ digits) = do
+  code ← byte_of_digits high low
+  attribute ← attribute_of code
+  if nat_lt filled (length places)
+      then codes_filled (slice_set places filled (Some attribute)) (filled + 1) digits
+      else None
+
+-- HEX: so many codes of 01 to 0D at most.
+abbrev pub codes_of_text : ℕ → List ℕ → Option (List (Option Attribute))
+codes_of_text most text = codes_filled (no_codes most) 0 text
+
+-- HEX: codes of 00 to 1F that pairs of digits give, none of which is among those before it.
+unfoldable pub stripped_with : List Bool → List ℕ → Option (List Bool)
+stripped_with strip [] = Some strip
+stripped_with strip (high ∷ []) = None
+stripped_with strip (high ∷ low ∷ digits) = do
+  code ← byte_of_digits high low
+  if slice_index_or strip code true then None
+      else stripped_with (slice_set strip code true) digits
+
+-- `before`: the codes ahead of the `*` and those behind it, 6 together at most.
+abbrev pub before_of_parts :
+    List ℕ → Option (List ℕ) → Option (List (Option Attribute) × List (Option Attribute))
+before_of_parts ahead None = option_map (λ codes. (codes, no_codes 6)) (codes_of_text 6 ahead)
+before_of_parts ahead (Some behind) = do
+  first ← codes_of_text 6 ahead
+  second ← codes_of_text 6 behind
+  if nat_le (length ahead + length behind) 12 then Some (first, second) else None
+
+unfoldable pub before_of_text :
+    List ℕ → Option (List (Option Attribute) × List (Option Attribute))
+before_of_text text =
+    let parts : List ℕ × Option (List ℕ) = cut_at asterisk text in before_of_parts parts.0 parts.1
+
+-- ---- items
+
+-- The number of the item that a text without a value names, and the items with it.
+unfoldable pub flag_set : LayoutItems → List ℕ → Option (ℕ × LayoutItems)
+flag_set items name =
+    if bytes_eq name (codes "fit") then Some (0, record items { fit = true })
+    else (if bytes_eq name (codes "white") then Some (1, record items { white = true })
+    else (if bytes_eq name (codes "trim") then Some (2, record items { trim = true })
+    else (if bytes_eq name (codes "text") then Some (3, record items { text = true })
+    else (if bytes_eq name (codes "up") then Some (4, record items { up = true })
+    else (if bytes_eq name (codes "double") then Some (5, record items { double = true })
+    else (if bytes_eq name (codes "pack") then Some (6, record items { pack = true })
+    else (if bytes_eq name (codes "last") then Some (7, record items { last = true })
+    else None)))))))
+
+-- The number of the item that a name and a value of decimal digits give, and the items with it.
+unfoldable pub number_set : LayoutItems → List ℕ → List ℕ → Option (ℕ × LayoutItems)
+number_set items name value =
+    if bytes_eq name (codes "left")
+    then option_map (λ n. (11, record items { left = n })) (number_within 0 39 value)
+    else (if bytes_eq name (codes "right")
+    then option_map (λ n. (12, record items { right = n })) (number_within 0 39 value)
+    else (if bytes_eq name (codes "free")
+    then option_map (λ n. (13, record items { free = n })) (number_within 1 3 value)
+    else (if bytes_eq name (codes "row")
+    then option_map (λ (r : ℕ × ℕ). (14, record items { lower = r.0; higher = r.1 }))
+    (rows_of_text value)
+    else None)))
+
+-- The number of the item that a name and a value give, and the items with it.
+unfoldable pub value_set : LayoutItems → List ℕ → List ℕ → Option (ℕ × LayoutItems)
+value_set items name value =
+    if bytes_eq name (codes "strip")
+    then option_map (λ s. (8, record items { strip = s })) (stripped_with (replicate 32 false) value)
+    else (if bytes_eq name (codes "before")
+    then option_map
+    (λ (b : List (Option Attribute) × List (Option Attribute)).
+    (9, record items { ahead = b.0; behind = b.1 }))
+    (before_of_text value)
+    else (if bytes_eq name (codes "after")
+    then option_map (λ a. (10, record items { after = a })) (codes_of_text 4 value)
+    else number_set items name value))
+
+-- The number of the item that a text gives, and the items with it.
+abbrev pub item_set_of : LayoutItems → List ℕ → Option (List ℕ) → Option (ℕ × LayoutItems)
+item_set_of items name None = flag_set items name
+item_set_of items name (Some value) = value_set items name value
+
+unfoldable pub item_set : LayoutItems → List ℕ → Option (ℕ × LayoutItems)
+item_set items text =
+    let parts : List ℕ × Option (List ℕ) = cut_at equals_sign text in
+    item_set_of items parts.0 parts.1
+
+-- The items with those that more texts give, where some came before. None where a text gives none,
+-- or one that came before.
+unfoldable pub items_set : LayoutItems → List Bool → List (List ℕ) → Option LayoutItems
+items_set items came [] = Some items
+items_set items came (text ∷ texts) = do
+  next ← item_set items text
+  if slice_index_or came next.0 true
+      then None
+      else items_set next.1 (slice_set came next.0 true) texts
+
+-- The layout that a text means.
+unfoldable pub layout_of_text : List ℕ → Option Layout
+layout_of_text text =
+    option_map (λ items. record { items = Some items })
+    (items_set default_items (replicate 15 false) (slice_split (λ c. c == comma) text))

@@ -1,0 +1,111 @@
+-- A line of cells as a layout has it: prepared, and the column at which it starts.
+use Rattle.std.specs.Prelude.{ℕ, suc, ◌+◌, ◌-◌, ◌/◌, not, ◌&&◌, List, [], ◌∷◌, ◌++◌, ◌==◌}
+use Rattle.std.specs.Prelude.{if◌then◌else◌, length, take, drop, map, min}
+use Rattle.std.specs.List.{list_all, list_any, range_with_len}
+use Rattle.stl_rows.specs.declared.layout.LayoutItems.{LayoutItems}
+use Rattle.stl_rows.specs.Layout.{codes_of}
+use Rattle.stl_rows.specs.Line.{code_in_column, columns, is_boxed}
+use Rattle.stl_rows.specs.TextCode.{is_within}
+
+-- ---- the ends of a line
+
+-- How many cells at the front of a line are from a first to a last code.
+abbrev pub leading : ℕ → ℕ → List ℕ → ℕ
+leading first last [] = 0
+leading first last (c ∷ cells) =
+    if is_within first last c then suc (leading first last cells) else 0
+
+-- How many cells at its end are.
+abbrev pub trailing : ℕ → ℕ → List ℕ → ℕ
+trailing first last [] = 0
+trailing first last (c ∷ cells) =
+    if list_all (is_within first last) (c ∷ cells)
+    then length (c ∷ cells)
+    else trailing first last cells
+
+-- How many codes below 20, spacing attributes, stand at the front of a line, and at its end.
+abbrev pub leading_codes : List ℕ → ℕ
+leading_codes cells = leading 0 0x1F cells
+
+abbrev pub trailing_codes : List ℕ → ℕ
+trailing_codes cells = trailing 0 0x1F cells
+
+-- A line without the spaces at its front.
+abbrev pub without_leading_spaces : List ℕ → List ℕ
+without_leading_spaces cells = drop (leading 0x20 0x20 cells) cells
+
+-- A line without those at its end.
+abbrev pub without_trailing_spaces : List ℕ → List ℕ
+without_trailing_spaces cells = take (length cells - trailing 0x20 0x20 cells) cells
+
+-- `trim`: without both.
+unfoldable pub trimmed : List ℕ → List ℕ
+trimmed cells = without_trailing_spaces (without_leading_spaces cells)
+
+-- ---- prepared lines
+
+-- `white`: the leading codes of a line, with 07, alpha white, behind them where none is a colour.
+abbrev pub whitened : LayoutItems → List ℕ → List ℕ
+whitened items codes =
+    if items.white && not (list_any (is_within 0x01 0x07) codes) then codes ++ 0x07 ∷ [] else codes
+
+-- `before`: the codes ahead of a line's leading codes, these, the codes behind them, and the rest.
+unfoldable pub headed : LayoutItems → List ℕ → List ℕ
+headed items cells =
+    codes_of items.ahead
+    ++ whitened items (take (leading_codes cells) cells)
+    ++ codes_of items.behind
+    ++ drop (leading_codes cells) cells
+
+-- `after`: the codes at the end of a line. With `fit` as many as there is room for.
+abbrev pub ending : LayoutItems → ℕ → List ℕ
+ending items n =
+    if items.fit then take (columns - n) (codes_of items.after) else codes_of items.after
+
+-- A line with the codes that a layout puts beside it. An empty one gets none.
+unfoldable pub framed : LayoutItems → List ℕ → List ℕ
+framed items [] = []
+framed items (c ∷ cells) =
+    headed items (c ∷ cells) ++ ending items (length (headed items (c ∷ cells)))
+
+-- The prepared line. One with a start box of its own stays as it is.
+unfoldable pub prepared_by : LayoutItems → List ℕ → List ℕ
+prepared_by items cells =
+    if is_boxed cells then cells
+    else framed items (if items.trim then trimmed cells else cells)
+
+-- ---- columns
+
+-- `text`: how many cells of a prepared line don't count for its column, at its front and its end.
+-- Of a line of codes alone all stand at its front.
+abbrev pub uncounted : LayoutItems → List ℕ → ℕ × ℕ
+uncounted items line =
+    if items.text
+    then (
+      leading_codes line,
+      if leading_codes line == length line then 0 else trailing_codes line,
+    )
+    else (0, 0)
+
+-- `free`: the JC that is taken for that of a subtitle (EBU Tech 3264, TTI block, field JC).
+abbrev pub jc_read : LayoutItems → ℕ → ℕ
+jc_read items jc = if jc == 0 then items.free else jc
+
+-- `left`, `right`, `up`: the column at which a line should start, of which `width` cells count and
+-- `ahead` stand before these; 0 where that is left of the row.
+abbrev pub wanted_column : LayoutItems → ℕ → ℕ → ℕ → ℕ
+wanted_column items jc ahead width =
+    if jc == 2 then (columns - width + (if items.up then 1 else 0)) / 2 - ahead
+    else (if jc == 3 then columns - (items.right + width + ahead)
+    else items.left - ahead)
+
+-- The column at which a prepared line starts, so that all of it is on its row.
+unfoldable pub start_by : LayoutItems → ℕ → List ℕ → ℕ
+start_by items jc line =
+    let free : ℕ × ℕ = uncounted items line in
+    min (wanted_column items (jc_read items jc) free.0 (length line - (free.0 + free.1)))
+    (columns - length line)
+
+-- The codes of the row that shows a line from a column on.
+unfoldable pub row_from : ℕ → List ℕ → List ℕ
+row_from start line = map (code_in_column start line) (range_with_len 0 columns)

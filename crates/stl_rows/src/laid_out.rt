@@ -1,0 +1,263 @@
+//! The drawn page of a subtitle by a layout whose items are given.
+
+ghost use Rattle.std.specs.Prelude.{◌≡◌, ◌+◌, ◌*◌, ◌-◌, ◌<◌, ◌≤◌, ◌++◌, ◌∷◌, [], length, map, Some};
+ghost use Rattle.std.specs.Prelude.{IfErr, IfSome, OnOk, None};
+ghost use Rattle.std.specs.Option.{option_map_or};
+ghost use Rattle.ttx_page.specs.Page.{AreCodes, blank};
+ghost use Rattle.stl_rows.specs.DrawnPage.{drawn_by, last_depth, placed_fault_kinds, rows_off};
+ghost use Rattle.stl_rows.specs.DrawnPage.{unstripped};
+ghost use Rattle.stl_rows.specs.LineByLayout.{HoldCodes, cut_lines, drawn_from, fault_at, flat_codes};
+ghost use Rattle.stl_rows.specs.LineByLayout.{line_at, page_with, place_behind, prepared_cut};
+ghost use Rattle.stl_rows.specs.PreparedLine.{prepared_by};
+ghost use Rattle.stl_rows.specs.TextCode.{first_of, refused_codes, text_codes};
+
+use crate::fault::{RowFault, RowFaultKind};
+use crate::layout::LayoutItems;
+use crate::line::codes_from;
+use crate::national::National;
+use crate::prepared_line::{LineCells, is_double, prepare_by, start_by};
+use crate::text_code::{TextCode, text_code_at};
+use arrayvec::ArrayVec;
+use stl_file::Subtitle;
+use ttx_page::Page;
+
+// The bytes of a text, or its cells and the new lines between them.
+type TextCells = ArrayVec<u8, 1008>;
+
+// A text in which each byte that `strip` names is read as 80, which gives no cell.
+fn unstripped(items: &LayoutItems, text: &[u8]) -> TextCells
+    requires { length text.now ≤ 1008 }
+    ensures value { result.items ≡ unstripped items.now text.now }
+    ensures few { length result.items ≤ 1008 }
+{
+    let mut bytes = TextCells::new();
+    for byte in text {
+        bytes.push(if items.strips(*byte) { 0x80 } else { *byte });
+    }
+    bytes
+}
+
+// Reads the cells of a text and the new lines between them.
+fn read_cells(national: National, text: &[u8], cells: &mut TextCells) -> Result<(), RowFault>
+    requires none { cells.old.items ≡ [] }
+    requires short { length text.now ≤ 1008 }
+    ensures cells { OnOk result (cells.new.items ≡ flat_codes (text_codes national 0 text.now)) }
+    ensures sound { OnOk result (refused_codes (text_codes national 0 text.now) ≡ []) }
+    ensures fault { IfErr result (λ fault.
+        first_of (refused_codes (text_codes national 0 text.now)) ≡ Some fault) }
+{
+    let mut at = 0;
+    while at < text.len() {
+        let (code, next) = text_code_at(national, text, at);
+        match code {
+            TextCode::Cell(cell) => cells.push(cell),
+            TextCode::NewLine => cells.push(0x8A),
+            TextCode::NoCell => {}
+            TextCode::Refused(kind) => {
+                return Err(RowFault {
+                    kind,
+                    at: at as u16,
+                });
+            }
+        }
+        at = next;
+    }
+    Ok(())
+}
+
+// The first line of these cells, and what is behind the new line that ends it.
+fn first_line(cells: &[u8]) -> (&[u8], Option<&[u8]>)
+    ensures lines { cut_lines cells.now
+        ≡ result.0.now ∷ option_map_or (λ more. cut_lines more.now) result.1 [] }
+    ensures less { option_map_or (λ more. length more.now) result.1 0 + length result.0.now
+        ≤ length cells.now }
+    ensures shorter { IfSome result.1 (λ more. length more.now < length cells.now) }
+{
+    let mut at = 0;
+    while at < cells.len() {
+        if cells[at] == 0x8A {
+            let (line, behind) = cells.split_at(at);
+            return (line, Some(behind.split_at(1).1));
+        }
+        at += 1;
+    }
+    (cells, None)
+}
+
+// The depth of the last line that is not empty, where line 0 has none.
+fn last_depth(items: &LayoutItems, cells: &[u8]) -> u16
+    requires { length cells.now ≤ 1008 }
+    ensures value { result ≡ last_depth items.now 0 0 (prepared_cut items.now cells.now) }
+    ensures small { result ≤ 2016 }
+{
+    let pitch = if items.double { 2 } else { 1 };
+    let mut depth = 0;
+    let mut last = 0;
+    let mut line = LineCells::new();
+    let mut rest = cells;
+    'lines: loop {
+        let (cells, behind) = first_line(rest);
+        prepare_by(&mut line, items, cells);
+        if !line.is_empty() {
+            last = depth;
+        }
+        if !line.is_empty() || !items.pack {
+            depth += pitch;
+        }
+        match behind {
+            Some(more) => rest = more,
+            None => return last,
+        }
+    }
+}
+
+// The rows that are taken off the depth of each line.
+fn rows_off(items: &LayoutItems, cells: &[u8]) -> u16
+    requires { length cells.now ≤ 1008 }
+    ensures value { result ≡ rows_off items.now (prepared_cut items.now cells.now) }
+    ensures small { result ≤ 2271 }
+{
+    let higher = u16::from(items.higher);
+    if items.last {
+        higher + last_depth(items, cells)
+    } else {
+        higher
+    }
+}
+
+// Where a line goes.
+#[derive(Clone, Copy)]
+struct Place {
+    // Its number among all.
+    number: u16,
+    // Its row before any is taken off.
+    depth: u16,
+    // Whether the line before it has double height.
+    is_under_double: bool,
+}
+
+impl Place {
+    // What is wrong with a line at this place first.
+    #[tactic(auto, unfolding(crate::specs::LineByLayout::fault_at))]
+    fn fault(&self, items: &LayoutItems, off: u16, line: &[u8]) -> Option<RowFault>
+        requires { off ≤ 2271 }
+        ensures { result ≡ fault_at items.now off self.now line.now }
+    {
+        if items.pack && line.is_empty() {
+            return None;
+        }
+        let kind = self.fault_kind(items, off, line)?;
+        Some(RowFault {
+            kind,
+            at: self.number,
+        })
+    }
+
+    // The kind of it.
+    #[tactic(auto, unfolding(crate::specs::DrawnPage::placed_fault_kinds))]
+    fn fault_kind(&self, items: &LayoutItems, off: u16, line: &[u8]) -> Option<RowFaultKind>
+        requires { off ≤ 2271 }
+        ensures { result ≡ first_of (placed_fault_kinds items.now off (line_at self.now line.now)) }
+    {
+        if line.len() > 40 {
+            return Some(RowFaultKind::RowTooLong);
+        }
+        if !line.is_empty() && (self.depth <= off || self.depth > off + 23) {
+            return Some(RowFaultKind::PastBottom);
+        }
+        if self.depth == off + 23 && is_double(line) {
+            return Some(RowFaultKind::DoubleRow);
+        }
+        if !line.is_empty() && self.is_under_double && !items.double {
+            return Some(RowFaultKind::Hidden);
+        }
+        None
+    }
+
+    // Goes to the place of the line behind one.
+    #[tactic(auto, unfolding(crate::specs::LineByLayout::place_behind))]
+    fn pass(&mut self, items: &LayoutItems, line: &[u8])
+        requires number { self.old.number ≤ 1008 }
+        requires depth { self.old.depth ≤ 3000 }
+        ensures { self.new ≡ place_behind items.now self.old line.now }
+    {
+        self.number += 1;
+        if items.pack && line.is_empty() {
+            return;
+        }
+        self.depth += if items.double { 2 } else { 1 };
+        self.is_under_double = is_double(line);
+    }
+}
+
+// Puts a line without a fault on its row.
+#[tactic(auto, unfolding(crate::specs::LineByLayout::page_with))]
+fn put_line(items: &LayoutItems, jc: u8, off: u16, place: &Place, line: &[u8], page: &mut Page)
+    requires sound { fault_at items.now off place.now line.now ≡ None }
+    requires codes { AreCodes line.now }
+    ensures { page.new ≡ page_with items.now jc off place.now line.now page.old }
+{
+    if line.is_empty() {
+        return;
+    }
+    let row = place.depth - off;
+    page.set_row(row as u8, &codes_from(start_by(items, jc, line), line));
+}
+
+// Draws the lines of these cells on a blank page.
+fn draw_lines(
+    items: &LayoutItems,
+    jc: u8,
+    first: Place,
+    off: u16,
+    cells: &[u8],
+) -> Result<Page, RowFault>
+    requires number { first.number ≡ 0 }
+    requires depth { first.depth ≤ 278 }
+    requires off { off ≤ 2271 }
+    requires short { length cells.now ≤ 1008 }
+    requires codes { HoldCodes (cut_lines cells.now) }
+    ensures { drawn_from items.now jc off first blank (prepared_cut items.now cells.now) ≡ result }
+{
+    let mut page = Page::blank();
+    let mut place = first;
+    let mut line = LineCells::new();
+    let mut rest = cells;
+    'lines: loop {
+        let (cells, behind) = first_line(rest);
+        prepare_by(&mut line, items, cells);
+        if let Some(fault) = place.fault(items, off, line.as_slice()) {
+            return Err(fault);
+        }
+        put_line(items, jc, off, &place, line.as_slice(), &mut page);
+        place.pass(items, line.as_slice());
+        match behind {
+            Some(more) => rest = more,
+            None => return Ok(page),
+        }
+    }
+}
+
+/// Draws a subtitle's text on a page by a national option and the items of a layout.
+///
+/// # Errors
+///
+/// Those of `draw`.
+pub(crate) fn draw_by(
+    national: National,
+    items: &LayoutItems,
+    subtitle: &Subtitle,
+) -> Result<Page, RowFault>
+    ensures { result ≡ drawn_by national items.now subtitle.now }
+{
+    let text = unstripped(items, subtitle.text());
+    let mut cells = TextCells::new();
+    read_cells(national, text.as_slice(), &mut cells)?;
+    let off = rows_off(items, cells.as_slice());
+    let first = Place {
+        number: 0,
+        depth: u16::from(subtitle.vp()) + u16::from(items.lower),
+        is_under_double: false,
+    };
+    draw_lines(items, subtitle.jc(), first, off, cells.as_slice())
+}

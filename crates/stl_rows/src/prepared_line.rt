@@ -1,0 +1,212 @@
+//! Lines of cells as a layout has them: prepared, and the row that shows one.
+
+ghost use Rattle.std.specs.Prelude.{◌≡◌, ◌+◌, ◌-◌, ◌<◌, ◌≤◌, ◌++◌, ◌∷◌, [], length};
+ghost use Rattle.std.specs.Prelude.{◌==◌};
+ghost use Rattle.std.specs.List.{list_any};
+ghost use Rattle.stl_rows.specs.Layout.{codes_of};
+ghost use Rattle.stl_rows.specs.Line.{is_double};
+ghost use Rattle.stl_rows.specs.PreparedLine.{framed, headed, leading, prepared_by, start_by};
+ghost use Rattle.stl_rows.specs.PreparedLine.{trailing, trimmed, uncounted, wanted_column};
+ghost use Rattle.stl_rows.specs.PreparedLine.{jc_read};
+ghost use Rattle.stl_rows.specs.TextCode.{is_within};
+
+use crate::layout::{Attribute, LayoutItems};
+use arrayvec::ArrayVec;
+
+/// The cells of a prepared line: those of a text, at most 1008, and what a layout puts beside them.
+pub(crate) type LineCells = ArrayVec<u8, 1025>;
+
+// Whether a code is from a first to a last.
+fn is_within(first: u8, last: u8, code: u8) -> bool
+    ensures { result ≡ is_within first last code }
+{
+    first <= code && code <= last
+}
+
+// How many cells at the front of a line are from a first to a last code.
+fn leading(first: u8, last: u8, cells: &[u8]) -> usize
+    ensures value { result ≡ leading first last cells.now }
+    ensures within { result ≤ length cells.now }
+{
+    let mut count = 0;
+    while count < cells.len() {
+        if !is_within(first, last, cells[count]) {
+            return count;
+        }
+        count += 1;
+    }
+    count
+}
+
+// How many cells at its end are.
+fn trailing(first: u8, last: u8, cells: &[u8]) -> usize
+    ensures value { result ≡ trailing first last cells.now }
+    ensures within { result ≤ length cells.now }
+{
+    let mut left = cells.len();
+    while left > 0 {
+        if !is_within(first, last, cells[left - 1]) {
+            return cells.len() - left;
+        }
+        left -= 1;
+    }
+    cells.len()
+}
+
+// A line without the spaces at both ends.
+#[tactic(auto, unfolding(crate::specs::PreparedLine::trimmed))]
+fn trimmed(cells: &[u8]) -> &[u8]
+    ensures value { result.now ≡ trimmed cells.now }
+    ensures few { length result.now ≤ length cells.now }
+{
+    let (_, rest) = cells.split_at(leading(0x20, 0x20, cells));
+    let (kept, _) = rest.split_at(rest.len() - trailing(0x20, 0x20, rest));
+    kept
+}
+
+// Whether the line has a code.
+fn has(cells: &[u8], code: u8) -> bool
+    ensures { result ≡ list_any (λ c. c == code) cells.now }
+{
+    cells.iter().any(|c| *c == code)
+}
+
+// Whether one of the cells is a colour, 01 to 07.
+fn has_colour(cells: &[u8]) -> bool
+    ensures { result ≡ list_any (is_within 0x01 0x07) cells.now }
+{
+    cells.iter().any(|c| is_within(0x01, 0x07, *c))
+}
+
+// Puts cells after those of a line.
+fn push_cells(line: &mut LineCells, cells: &[u8])
+    requires { length line.old.items + length cells.now ≤ 1025 }
+    ensures value { line.new.items ≡ line.old.items ++ cells.now }
+    ensures few { length line.new.items ≡ length line.old.items + length cells.now }
+{
+    let added = line.try_extend_from_slice(cells);
+    prove!(added.is_ok());
+}
+
+// Puts codes after the cells of a line.
+fn push_codes(line: &mut LineCells, codes: &[Option<Attribute>])
+    requires { length line.old.items + length codes.now ≤ 1025 }
+    ensures value { line.new.items ≡ line.old.items ++ codes_of codes.now }
+    ensures few { length line.new.items ≤ length line.old.items + length codes.now }
+{
+    for code in codes {
+        if let Some(attribute) = code {
+            line.push(attribute.code());
+        }
+    }
+}
+
+// Makes a line of cells and of the codes that a layout puts at their front.
+#[tactic(auto, unfolding(crate::specs::PreparedLine::headed))]
+fn push_headed(line: &mut LineCells, items: &LayoutItems, cells: &[u8])
+    requires none { line.old.items ≡ [] }
+    requires short { length cells.now ≤ 1008 }
+    ensures value { line.new.items ≡ headed items.now cells.now }
+    ensures few { length line.new.items ≤ 1021 }
+{
+    let (codes, rest) = cells.split_at(leading(0, 0x1F, cells));
+    push_codes(line, &items.ahead);
+    push_cells(line, codes);
+    if items.white && !has_colour(codes) {
+        push_cells(line, &[0x07]);
+    }
+    push_codes(line, &items.behind);
+    push_cells(line, rest);
+}
+
+// Makes a line of cells and of all the codes that a layout puts beside them. An empty one gets
+// none.
+#[tactic(auto, unfolding(crate::specs::PreparedLine::framed))]
+fn push_framed(line: &mut LineCells, items: &LayoutItems, cells: &[u8])
+    requires none { line.old.items ≡ [] }
+    requires short { length cells.now ≤ 1008 }
+    ensures { line.new.items ≡ framed items.now cells.now }
+{
+    if cells.is_empty() {
+        return;
+    }
+    push_headed(line, items, cells);
+    let len = line.len();
+    push_codes(line, &items.after);
+    if items.fit {
+        line.truncate(len.max(40));
+    }
+}
+
+/// Prepares a line of cells as a layout has it.
+#[tactic(auto, unfolding(crate::specs::PreparedLine::prepared_by, crate::specs::Line::is_boxed))]
+pub(crate) fn prepare_by(line: &mut LineCells, items: &LayoutItems, cells: &[u8])
+    requires { length cells.now ≤ 1008 }
+    ensures { line.new.items ≡ prepared_by items.now cells.now }
+{
+    line.clear();
+    if has(cells, 0x0B) {
+        push_cells(line, cells);
+        return;
+    }
+    let kept = if items.trim { trimmed(cells) } else { cells };
+    push_framed(line, items, kept);
+}
+
+/// Whether a prepared line has double height.
+#[tactic(auto, unfolding(crate::specs::Line::is_double))]
+pub(crate) fn is_double(line: &[u8]) -> bool
+    ensures { result ≡ is_double line.now }
+{
+    has(line, 0x0D)
+}
+
+// How many of its cells don't count for its column, at its front and its end.
+fn uncounted(items: &LayoutItems, line: &[u8]) -> (usize, usize)
+    ensures value { result ≡ uncounted items.now line.now }
+    ensures ahead { result.0 ≤ length line.now }
+    ensures behind { result.1 ≤ length line.now }
+{
+    if !items.text {
+        return (0, 0);
+    }
+    let ahead = leading(0, 0x1F, line);
+    if ahead == line.len() {
+        return (ahead, 0);
+    }
+    (ahead, trailing(0, 0x1F, line))
+}
+
+// The JC that is taken for that of a subtitle.
+fn jc_read(items: &LayoutItems, jc: u8) -> u8
+    ensures { result ≡ jc_read items.now jc }
+{
+    if jc == 0 { items.free } else { jc }
+}
+
+// The column at which a line should start, of which so many cells count.
+fn wanted_column(items: &LayoutItems, jc: u8, ahead: usize, width: usize) -> usize
+    requires ahead { ahead ≤ 40 }
+    requires width { width ≤ 40 }
+    ensures { result ≡ wanted_column items.now jc ahead width }
+{
+    let rounding = if items.up { 1 } else { 0 };
+    match jc {
+        2 => ((40 - width + rounding) / 2).saturating_sub(ahead),
+        3 => 40usize.saturating_sub(items.right as usize + width + ahead),
+        _ => (items.left as usize).saturating_sub(ahead),
+    }
+}
+
+/// The column at which a prepared line starts, so that all of it is on its row.
+#[tactic(auto, unfolding(crate::specs::PreparedLine::start_by))]
+pub(crate) fn start_by(items: &LayoutItems, jc: u8, line: &[u8]) -> usize
+    requires { length line.now ≤ 40 }
+    ensures value { result ≡ start_by items.now jc line.now }
+    ensures within { result + length line.now ≤ 40 }
+{
+    let (ahead, behind) = uncounted(items, line);
+    let width = line.len().saturating_sub(ahead + behind);
+    let wanted = wanted_column(items, jc_read(items, jc), ahead, width);
+    wanted.min(40 - line.len())
+}
