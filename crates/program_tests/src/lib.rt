@@ -16,6 +16,8 @@ mod files;
 #[cfg(test)]
 mod files_in_memory;
 #[cfg(test)]
+mod layouts;
+#[cfg(test)]
 mod listen;
 #[cfg(test)]
 mod lost_packets;

@@ -46,6 +46,9 @@ pub enum UsageFault {
     /// 88: the PES packets are not given as `I-J` or `I-`, or the last stands before the first.
     #[error("the PES packets are not I-J or I-")]
     Range,
+    /// 89: the layout is none of those that `Layout::parse` reads.
+    #[error("there is no such layout")]
+    BadLayout,
     /// 6: the time is not `HH:MM:SS:FF` of a day.
     #[error("the time is not HH:MM:SS:FF of a day")]
     BadTime,
@@ -88,6 +91,7 @@ impl UsageFault {
             UsageFault::Pid => FaultCode::new(86, "Pid"),
             UsageFault::PacketSize => FaultCode::new(87, "PacketSize"),
             UsageFault::Range => FaultCode::new(88, "Range"),
+            UsageFault::BadLayout => FaultCode::new(89, "Layout"),
             UsageFault::BadTime => FaultCode::new(6, "BadTime"),
             UsageFault::BadSkip => FaultCode::new(8, "BadSkip"),
             UsageFault::BadFlip => FaultCode::new(5, "BadFlip"),

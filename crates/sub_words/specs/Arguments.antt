@@ -8,7 +8,10 @@ use Rattle.sub_io.specs.Reading.{◌>>=◌}
 use Rattle.ttx_packet.specs.PageId.{page_of_text}
 use Rattle.ttx_pes.specs.PieceRange.{PieceRangeValue}
 use Rattle.mpeg_ts.specs.declared.packet_size.PacketSize.{PacketSize}
+use Rattle.stl_rows.specs.declared.layout.Layout.{Layout}
 use Rattle.stl_rows.specs.declared.national.National.{National}
+use Rattle.stl_rows.specs.Layout.{default_layout}
+use Rattle.stl_rows.specs.LayoutText.{layout_of_text}
 use Rattle.stl_rows.specs.SubSets.{option_named}
 use Rattle.sub_plan.specs.Options.{OptionsValue}
 use Rattle.sub_words.specs.PesTexts.{packet_size_of_text, pid_of_text, range_of_text}
@@ -57,6 +60,12 @@ allowing_of options rows = do
 -- `[--option O]`
 abbrev pub national_of : List Row → Result National UsageFault
 national_of rows = ok_or (option_named (argument (codes "option") rows)) fault.BadOption
+
+-- `[--layout TEXT]`: the default layout where it is left out.
+abbrev pub layout_of : List Row → Result Layout UsageFault
+layout_of rows =
+    ok_or (option_map_or layout_of_text (first_of (codes "layout") rows) (Some default_layout))
+    fault.BadLayout
 
 -- What an option that may be left out is given as: none where it is left out. None at all where its
 -- text says nothing.

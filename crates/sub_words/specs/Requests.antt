@@ -9,10 +9,9 @@ use Rattle.hex.specs.Hex.{decode_sized}
 use Rattle.sub_io.specs.Reading.{◌>>=◌}
 use Rattle.stl_rows.specs.declared.layout.Layout.{Layout}
 use Rattle.stl_rows.specs.declared.national.National.{National}
-use Rattle.stl_rows.specs.DrawnPage.{default_layout}
 use Rattle.sub_plan.specs.Options.{OptionsValue}
 use Rattle.sub_words.specs.Arguments.{PesAsked, allowing_of, argument, is_given, listed_of}
-use Rattle.sub_words.specs.Arguments.{national_of, options_of, packet_size_of, pes_packets_of}
+use Rattle.sub_words.specs.Arguments.{layout_of, national_of, options_of, packet_size_of, pes_packets_of}
 use Rattle.sub_words.specs.Arguments.{required_pid_of}
 use Rattle.sub_words.specs.Commands.{are_sound, command_in, clap_refusals}
 use Rattle.sub_words.specs.Texts.{flip_of_text, frame_of_text, is_same_byte, number_of_text}
@@ -80,25 +79,27 @@ normal_asked rows = do
   names ← unlike (argument (codes "in") rows) (argument (codes "out") rows)
   Ok (Normal names.0 names.1)
 
--- `schedule STL PES [--page P] [--every N] [--origin T] [--option O] [--serial]`
+-- `schedule STL PES [--page P] [--every N] [--origin T] [--option O] [--layout TEXT]
+-- [--serial]`
 abbrev pub schedule_asked : List Row → Result Asked UsageFault
 schedule_asked rows = do
   names ← unlike (argument (codes "stl") rows) (argument (codes "pes") rows)
   options ← options_of (number_of_text (argument (codes "every") rows)) rows
   national ← national_of rows
-  Ok (Schedule names.0 names.1 options (is_given (codes "serial") rows) national
-      default_layout)
+  layout ← layout_of rows
+  Ok (Schedule names.0 names.1 options (is_given (codes "serial") rows) national layout)
 
--- `check STL PES [--page P] [--every N] [--origin T] [--option O] [--within N] [--pid P]
--- [--packet-size S] [--pes I-J] [--complete] [--all]`
+-- `check STL PES [--page P] [--every N] [--origin T] [--option O] [--layout TEXT] [--within N]
+-- [--pid P] [--packet-size S] [--pes I-J] [--complete] [--all]`
 abbrev pub check_asked : List Row → Result Asked UsageFault
 check_asked rows = do
   plain ← options_of (number_of_text (argument (codes "every") rows)) rows
   national ← national_of rows
   options ← allowing_of plain rows
   pes ← pes_packets_of rows
+  layout ← layout_of rows
   let all = is_given (codes "all") rows in
-      Ok (Check (argument (codes "stl") rows) pes options national default_layout all)
+      Ok (Check (argument (codes "stl") rows) pes options national layout all)
 
 -- `listen PES [--page P] [--origin T] [--within N] [--complete] [--pid P] [--packet-size S]
 -- [--pes I-J] --at TIME [--skip N] [--flip F] [--lose L] [--receiver R]`: the repeat bound of the

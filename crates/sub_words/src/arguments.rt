@@ -2,7 +2,8 @@
 ghost use Rattle.std.specs.Prelude.{◌≡◌, IfErr, IfOk, option_map, true};
 ghost use Rattle.std.specs.Result.{result_map_both};
 ghost use Rattle.clap.specs.Words.{first_of, found_of, rows_of};
-ghost use Rattle.sub_words.specs.Arguments.{allowing_of, argument, is_given, listed_of, options_of};
+ghost use Rattle.sub_words.specs.Arguments.{allowing_of, argument, is_given, layout_of, listed_of};
+ghost use Rattle.sub_words.specs.Arguments.{options_of};
 ghost use Rattle.sub_words.specs.Arguments.{packet_size_of, pes_packets_of, range_given_of};
 ghost use Rattle.sub_words.specs.Arguments.{required_pid_of, stream_of};
 ghost use Rattle.sub_words.specs.Requests.{is_own, pes_asked};
@@ -13,6 +14,7 @@ use crate::pes_packets::{parse_packet_size, parse_pid, parse_range};
 use clap::ArgMatches;
 use mpeg_ts::{PacketSize, Pid};
 use std::alloc::Global;
+use stl_rows::Layout;
 use sub_plan::{OptionFault, Options};
 use sub_request::{PesPackets, TransportStream, UsageFault};
 use ttx_packet::PageId;
@@ -86,6 +88,20 @@ fn usage_fault_of(fault: OptionFault) -> UsageFault
         OptionFault::Every => UsageFault::Every,
         OptionFault::Origin => UsageFault::Origin,
         OptionFault::Within => UsageFault::Within,
+    }
+}
+
+/// The layout that `--layout` says. The default where it is left out.
+///
+/// # Errors
+///
+/// `BadLayout` alone.
+pub fn layout_at<'a>(matches: &ArgMatches<'a>) -> Result<Layout, UsageFault>
+    ensures { result ≡ layout_of (rows_of (found_of matches.now)) }
+{
+    match given_at(matches, "layout") {
+        Some(text) => Layout::parse(text).ok_or(UsageFault::BadLayout),
+        None => Ok(Layout::default()),
     }
 }
 

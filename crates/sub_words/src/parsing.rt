@@ -24,8 +24,9 @@ pub trait ParseWords<'a>: Sized {
     ///
     /// `Words` where `clap` refuses the words. Then the first fault of the command's arguments:
     /// `BadHex`, `SameFile`, `BadPage`, `Every`, `Origin`, `BadOption`, `Within`, `Pid`,
-    /// `PacketSize`, `Range`, `BadTime`, `BadSkip`, `BadFlip`, `BadLose`, `BadReceiver`. `Memory`
-    /// where memory ran out before that was known: where there are no words none is taken.
+    /// `PacketSize`, `Range`, `BadLayout`, `BadTime`, `BadSkip`, `BadFlip`, `BadLose`,
+    /// `BadReceiver`. `Memory` where memory ran out before that was known: where there are no words
+    /// none is taken.
     fn parse(alloc: Global, words: &'a [&'a str]) -> Result<Self, UsageFault>;
 }
 

@@ -5,13 +5,13 @@ ghost use Rattle.sub_words.specs.Requests.{extract_asked, listen_asked, normal_a
 ghost use Rattle.sub_words.specs.Requests.{packets_asked, schedule_asked};
 
 use crate::arguments::{
-    allowing_at, flag_at, list_at, options_at, packet_size_at, pes_at, pid_at, text_at,
+    allowing_at, flag_at, layout_at, list_at, options_at, packet_size_at, pes_at, pid_at, text_at,
 };
 use crate::numbers::parse_number;
 use crate::times::{parse_receiver, parse_time};
 use clap::ArgMatches;
 use std::alloc::Global;
-use stl_rows::{Layout, National};
+use stl_rows::National;
 use sub_request::{Listening, Request, TransportStream, UsageFault};
 
 /// Reads the arguments of a command by its name.
@@ -75,7 +75,8 @@ fn read_normal<'a>(matches: &ArgMatches<'a>) -> Result<Request<'a>, UsageFault>
     Ok(Request::Normal { input, output })
 }
 
-// `schedule STL PES [--page P] [--every N] [--origin T] [--option O] [--serial]`
+// `schedule STL PES [--page P] [--every N] [--origin T] [--option O] [--layout TEXT]
+// [--serial]`
 fn read_schedule<'a>(matches: &ArgMatches<'a>) -> Result<Request<'a>, UsageFault>
     ensures { IsReadExactly (schedule_asked (rows_of (found_of matches.now))) result }
 {
@@ -88,18 +89,19 @@ fn read_schedule<'a>(matches: &ArgMatches<'a>) -> Result<Request<'a>, UsageFault
     let Some(national) = National::parse(text_at(matches, "option")) else {
         return Err(UsageFault::BadOption);
     };
+    let layout = layout_at(matches)?;
     Ok(Request::Schedule {
         stl,
         pes,
         options,
         serial: flag_at(matches, "serial"),
         national,
-        layout: Layout::default(),
+        layout,
     })
 }
 
-// `check STL PES [--page P] [--every N] [--origin T] [--option O] [--within N] [--pid P]
-// [--packet-size S] [--pes I-J] [--complete] [--all]`
+// `check STL PES [--page P] [--every N] [--origin T] [--option O] [--layout TEXT] [--within N]
+// [--pid P] [--packet-size S] [--pes I-J] [--complete] [--all]`
 fn read_check<'a>(matches: &ArgMatches<'a>) -> Result<Request<'a>, UsageFault>
     ensures { IsReadExactly (check_asked (rows_of (found_of matches.now))) result }
 {
@@ -112,12 +114,13 @@ fn read_check<'a>(matches: &ArgMatches<'a>) -> Result<Request<'a>, UsageFault>
         Ok(pes) => pes,
         Err(fault) => return Err(fault),
     };
+    let layout = layout_at(matches)?;
     Ok(Request::Check {
         stl: text_at(matches, "stl"),
         pes,
         options,
         national,
-        layout: Layout::default(),
+        layout,
         all: flag_at(matches, "all"),
     })
 }

@@ -1,0 +1,392 @@
+//! Layouts: what `schedule` sends of a text that a layout draws, and that `check` accepts it; what
+//! it refuses, and the texts that are no layout.
+ghost use Rattle.sub_io.specs.Device.{CanFail};
+
+use crate::answers::assert_tells;
+use answer_fixtures::{ACCEPTED, answer_words};
+use fixtures::{HEAD, block, file_of};
+use std::alloc::Global;
+use std::process::Abort;
+use sub_answer::Status;
+use sub_io::{MemSink, MemSource};
+use ttx_packet::unham;
+
+// A text; VP and JC; the layout, empty for none; and then what is sent, for each row its number,
+// the column of its first cell and its cells, or else the line that is printed.
+#[rattlefmt::skip]
+const CASES: [&[&[u8]]; 146] = [
+    &[b"Hi", b"\x16\x02", b"", b"\x16\x11\x0B\x0BHi\x0A\x0A"],
+    &[b"Hi", b"\x16\x02", b"before=0D0B0B", b"\x16\x10\x0D\x0B\x0BHi\x0A\x0A"],
+    &[b"Hi", b"\x16\x02", b"white", b"\x16\x10\x0B\x0B\x07Hi\x0A\x0A"],
+    &[b"Hi", b"\x16\x02", b"before=*0B0B,white", b"\x16\x10\x07\x0B\x0BHi\x0A\x0A"],
+    &[b"Hi", b"\x16\x02", b"before=,after=", b"\x16\x13Hi"],
+    &[b"Hi", b"\x16\x02", b"row=-2", b"\x14\x11\x0B\x0BHi\x0A\x0A"],
+    &[b"Hi", b"\x16\x02", b"row=2", b"refused 53 PastBottom block 1 at 0\n"],
+    &[b"Hi", b"\x16\x02", b"row=1,before=0D0B0B", b"refused 54 DoubleRow block 1 at 0\n"],
+    &[b"\x0D\x0B\x0BHi\x0A\x0A", b"\x16\x02", b"", b"\x16\x10\x0D\x0B\x0BHi\x0A\x0A"],
+    &[b"\x0D\x0B\x0BHi\x0A\x0A", b"\x16\x02", b"before=*07,after=,white,trim",
+        b"\x16\x10\x0D\x0B\x0BHi\x0A\x0A"],
+    &[b"\x0D\x0B\x0BHi\x0A\x0A", b"\x16\x02", b"text", b"\x16\x10\x0D\x0B\x0BHi\x0A\x0A"],
+    &[b"\x0D\x0B\x0BHi\x0A\x0A", b"\x16\x02", b"strip=0A0b0d", b"\x16\x11\x0B\x0BHi\x0A\x0A"],
+    &[b"\x0D\x0B\x0BHi\x0A\x0A", b"\x16\x02", b"strip=0A0B0D,before=0D070B0B,after=0A",
+        b"\x16\x10\x0D\x07\x0B\x0BHi\x0A"],
+    &[b"Hi!", b"\x16\x02", b"", b"\x16\x10\x0B\x0BHi!\x0A\x0A"],
+    &[b"Hi!", b"\x16\x02", b"up", b"\x16\x11\x0B\x0BHi!\x0A\x0A"],
+    &[b"Hi!", b"\x16\x02", b"text", b"\x16\x10\x0B\x0BHi!\x0A\x0A"],
+    &[b"Hi!", b"\x16\x02", b"text,up", b"\x16\x11\x0B\x0BHi!\x0A\x0A"],
+    &[b" Hi ", b"\x16\x02", b"text", b"\x16\x10\x0B\x0B Hi \x0A\x0A"],
+    &[b"\x03Hi", b"\x16\x02", b"", b"\x16\x10\x0B\x0B\x03Hi\x0A\x0A"],
+    &[b"\x03Hi", b"\x16\x02", b"before=*0B0B", b"\x16\x10\x03\x0B\x0BHi\x0A\x0A"],
+    &[b"\x03Hi", b"\x16\x02", b"before=0D*0B0B,white", b"\x16\x10\x0D\x03\x0B\x0BHi\x0A\x0A"],
+    &[b"\x03Hi", b"\x16\x02", b"before=0D*", b"\x16\x11\x0D\x03Hi\x0A\x0A"],
+    &[b"\x03\x06Hi\x02", b"\x16\x02", b"before=*0B0B,text,after=0A",
+        b"\x16\x0F\x03\x06\x0B\x0BHi\x02\x0A"],
+    &[b"\x0C\x03Hi", b"\x16\x02", b"before=*0B0B,white", b"\x16\x10\x0C\x03\x0B\x0BHi\x0A\x0A"],
+    &[b"AAAAAAAAAAAAAAAAAAAAAAAAAAAAAAAAAAAA", b"\x16\x02", b"",
+        b"\x16\x00\x0B\x0BAAAAAAAAAAAAAAAAAAAAAAAAAAAAAAAAAAAA\x0A\x0A"],
+    &[b"AAAAAAAAAAAAAAAAAAAAAAAAAAAAAAAAAAAAA", b"\x16\x02", b"",
+        b"refused 52 RowTooLong block 1 at 0\n"],
+    &[b"AAAAAAAAAAAAAAAAAAAAAAAAAAAAAAAAAAAAA", b"\x16\x02", b"fit",
+        b"\x16\x00\x0B\x0BAAAAAAAAAAAAAAAAAAAAAAAAAAAAAAAAAAAAA\x0A"],
+    &[b"AAAAAAAAAAAAAAAAAAAAAAAAAAAAAAAAAAAAAA", b"\x16\x02", b"fit",
+        b"\x16\x00\x0B\x0BAAAAAAAAAAAAAAAAAAAAAAAAAAAAAAAAAAAAAA"],
+    &[b"AAAAAAAAAAAAAAAAAAAAAAAAAAAAAAAAAAAAAAA", b"\x16\x02", b"fit",
+        b"refused 52 RowTooLong block 1 at 0\n"],
+    &[b"AAAAAAAAAAAAAAAAAAAAAAAAAAAAAAAAAAAAAAA", b"\x16\x02", b"fit,before=0B",
+        b"\x16\x00\x0BAAAAAAAAAAAAAAAAAAAAAAAAAAAAAAAAAAAAAAA"],
+    &[b"AAAAAAAAAAAAAAAAAAAAAAAAAAAAAAAAAAAAAA", b"\x16\x03", b"fit,right=1",
+        b"\x16\x00\x0B\x0BAAAAAAAAAAAAAAAAAAAAAAAAAAAAAAAAAAAAAA"],
+    &[b"AAAAAAAAAAAAAAAAAAAAAAAAAAAAAA", b"\x16\x01", b"left=9",
+        b"\x16\x06\x0B\x0BAAAAAAAAAAAAAAAAAAAAAAAAAAAAAA\x0A\x0A"],
+    &[b"Hi", b"\x16\x01", b"left=2", b"\x16\x02\x0B\x0BHi\x0A\x0A"],
+    &[b"Hi", b"\x16\x01", b"left=2,text", b"\x16\x00\x0B\x0BHi\x0A\x0A"],
+    &[b"Hi", b"\x16\x01", b"left=1,text", b"\x16\x00\x0B\x0BHi\x0A\x0A"],
+    &[b"Hi", b"\x16\x01", b"left=39", b"\x16\x22\x0B\x0BHi\x0A\x0A"],
+    &[b"Hi", b"\x16\x03", b"right=2", b"\x16 \x0B\x0BHi\x0A\x0A"],
+    &[b"Hi", b"\x16\x03", b"right=2,text", b"\x16\x22\x0B\x0BHi\x0A\x0A"],
+    &[b"Hi", b"\x16\x03", b"right=1,text", b"\x16\x22\x0B\x0BHi\x0A\x0A"],
+    &[b"Hi", b"\x16\x00", b"", b"\x16\x00\x0B\x0BHi\x0A\x0A"],
+    &[b"Hi", b"\x16\x00", b"free=2", b"\x16\x11\x0B\x0BHi\x0A\x0A"],
+    &[b"Hi", b"\x16\x00", b"free=3,right=3", b"\x16\x1F\x0B\x0BHi\x0A\x0A"],
+    &[b"Hi\x8AHo", b"\x14\x02", b"double", b"\x14\x11\x0B\x0BHi\x0A\x0A",
+        b"\x16\x11\x0B\x0BHo\x0A\x0A"],
+    &[b"Hi\x8AHo", b"\x14\x02", b"before=0D0B0B", b"refused 55 Hidden block 1 at 1\n"],
+    &[b"Hi\x8AHo", b"\x14\x02", b"before=0D0B0B,double", b"\x14\x10\x0D\x0B\x0BHi\x0A\x0A",
+        b"\x16\x10\x0D\x0B\x0BHo\x0A\x0A"],
+    &[b"Hi\x8AHo", b"\x16\x02", b"double,last", b"\x14\x11\x0B\x0BHi\x0A\x0A",
+        b"\x16\x11\x0B\x0BHo\x0A\x0A"],
+    &[b"Hi\x8A\x8AHo\x8A", b"\x16\x02", b"last", b"\x14\x11\x0B\x0BHi\x0A\x0A",
+        b"\x16\x11\x0B\x0BHo\x0A\x0A"],
+    &[b"Hi\x8AHo", b"\x01\x02", b"last", b"refused 53 PastBottom block 1 at 0\n"],
+    &[b"Hi\x8A\x80\x8A", b"\x05\x02", b"last,row=1", b"\x06\x11\x0B\x0BHi\x0A\x0A"],
+    &[b"\x00Hi", b"\x16\x02", b"", b"refused 51 Control block 1 at 0\n"],
+    &[b"\x00Hi", b"\x16\x02", b"strip=00", b"\x16\x11\x0B\x0BHi\x0A\x0A"],
+    &[b"\x07", b"\x16\x02", b"text", b"\x16\x0F\x0B\x0B\x07\x0A\x0A"],
+    &[b"\x0A", b"\x16\x02", b"strip=0A"],
+    &[b"Hi", b"\x16\x02", b"fit,fit", b"usage 89 Layout\n"],
+    &[b"Hi", b"\x16\x02", b"before=0", b"usage 89 Layout\n"],
+    &[b"Hi", b"\x16\x02", b"before=0E", b"usage 89 Layout\n"],
+    &[b"Hi", b"\x16\x02", b"before=0B0B0B0B0B0B0B", b"usage 89 Layout\n"],
+    &[b"Hi", b"\x16\x02", b"after=0A0A0A0A0A", b"usage 89 Layout\n"],
+    &[b"Hi", b"\x16\x02", b"strip=20", b"usage 89 Layout\n"],
+    &[b"Hi", b"\x16\x02", b"strip=0A0A", b"usage 89 Layout\n"],
+    &[b"Hi", b"\x16\x02", b"left=40", b"usage 89 Layout\n"],
+    &[b"Hi", b"\x16\x02", b"left=007", b"usage 89 Layout\n"],
+    &[b"Hi", b"\x16\x02", b"row=-23", b"usage 89 Layout\n"],
+    &[b"Hi", b"\x16\x02", b"row=+1", b"usage 89 Layout\n"],
+    &[b"Hi", b"\x16\x02", b"pitch=1", b"usage 89 Layout\n"],
+    &[b"Hi", b"\x16\x02", b"free=0", b"usage 89 Layout\n"],
+    &[b"Hi", b"\x16\x02", b"fit=1", b"usage 89 Layout\n"],
+    &[b"Hi", b"\x16\x02", b"left", b"usage 89 Layout\n"],
+    &[b"Hi", b"\x16\x02", b"fit,", b"usage 89 Layout\n"],
+    &[b"Hi", b"\x16\x02", b"Fit", b"usage 89 Layout\n"],
+    &[b"Hi", b"\x16\x02", b"row=2,before=0D0B0B", b"refused 53 PastBottom block 1 at 0\n"],
+    &[b"AAAAAAAAAAAAAAAAAAAAAAAAAAAAAAAAAAAAA", b"\x16\x02", b"fit,after=0A0C",
+        b"\x16\x00\x0B\x0BAAAAAAAAAAAAAAAAAAAAAAAAAAAAAAAAAAAAA\x0A"],
+    &[b"Hi", b"\x16\x02", b"free=3", b"\x16\x11\x0B\x0BHi\x0A\x0A"],
+    &[b"Hi", b"\x16\x02", b"left=9", b"\x16\x11\x0B\x0BHi\x0A\x0A"],
+    &[b"Hi", b"\x16\x02", b"right=9", b"\x16\x11\x0B\x0BHi\x0A\x0A"],
+    &[b"\x08Hi", b"\x16\x02", b"before=0D*0B0B", b"\x16\x10\x0D\x08\x0B\x0BHi\x0A\x0A"],
+    &[b"\x08Hi", b"\x16\x02", b"white", b"\x16\x10\x0B\x0B\x08\x07Hi\x0A\x0A"],
+    &[b"Hi\x8A\x03Ho", b"\x15\x02", b"white", b"\x15\x10\x0B\x0B\x07Hi\x0A\x0A",
+        b"\x16\x10\x0B\x0B\x03Ho\x0A\x0A"],
+    &[b"\x1D\x1DHi\x1C", b"\x16\x02", b"text,before=,after=", b"\x16\x11\x1D\x1DHi\x1C"],
+    &[b"Hi", b"\x16\x02", b"row=-0,left=00,free=02", b"\x16\x11\x0B\x0BHi\x0A\x0A"],
+    &[b"\x0DHi\x8A\x8AHo", b"\x14\x02", b"row=0", b"\x14\x10\x0B\x0B\x0DHi\x0A\x0A",
+        b"\x16\x11\x0B\x0BHo\x0A\x0A"],
+    &[b"\x0DHi\x8AHo", b"\x15\x02", b"last", b"refused 55 Hidden block 1 at 1\n"],
+    &[b"\x0D\x0B\x0BHi\x0A\x0A", b"\x16\x02", b"strip=0B",
+        b"\x16\x0F\x0B\x0B\x0DHi\x0A\x0A\x0A\x0A"],
+    &[b"\x1F\x0EHi", b"\x16\x02", b"strip=1F0E", b"\x16\x11\x0B\x0BHi\x0A\x0A"],
+    &[b"Hi", b"\x16\x02", b"before=00", b"usage 89 Layout\n"],
+    &[b"Hi", b"\x16\x02", b"before=0B0B0D0D,after=0A0A0A0A",
+        b"\x16\x0F\x0B\x0B\x0D\x0DHi\x0A\x0A\x0A\x0A"],
+    &[b"Hi", b"\x16\x00", b"left=4", b"\x16\x04\x0B\x0BHi\x0A\x0A"],
+    &[b"Hi", b"\x17\x02", b"before=070D0B0B", b"refused 54 DoubleRow block 1 at 0\n"],
+    &[b"Hi\x8A\x0DHo", b"\x15\x02", b"double", b"refused 54 DoubleRow block 1 at 1\n"],
+    &[b"Hi", b"\x17\x02", b"before=0D0B0B,last", b"refused 54 DoubleRow block 1 at 0\n"],
+    &[b"Hi", b"\x17\x02", b"before=0D0B0B,last,row=-1", b"\x16\x10\x0D\x0B\x0BHi\x0A\x0A"],
+    &[b"Hi\x8AHo", b"\x14\x02", b"last,row=3", b"\x16\x11\x0B\x0BHi\x0A\x0A",
+        b"\x17\x11\x0B\x0BHo\x0A\x0A"],
+    &[b"Hi", b"\x01\x02", b"row=-1", b"refused 53 PastBottom block 1 at 0\n"],
+    &[b"\x03Hi", b"\x16\x02", b"before=*0B0B,before=0B0D0B", b"usage 89 Layout\n"],
+    &[b"\x07\x03Hi", b"\x16\x02", b"before=*0B0B,white", b"\x16\x10\x07\x03\x0B\x0BHi\x0A\x0A"],
+    &[b"\x0B\x0BHi\x8AHo\x0A\x0A", b"\x15\x02", b"", b"\x15\x12\x0B\x0BHi",
+        b"\x16\x10\x0B\x0BHo\x0A\x0A\x0A\x0A"],
+    &[b"\x0B\x0BHi\x8AHo\x0A\x0A", b"\x15\x02", b"strip=0A0B", b"\x15\x11\x0B\x0BHi\x0A\x0A",
+        b"\x16\x11\x0B\x0BHo\x0A\x0A"],
+    &[b"  Hi ", b"\x16\x02", b"trim", b"\x16\x11\x0B\x0BHi\x0A\x0A"],
+    &[b"\x03 Hi ", b"\x16\x02", b"trim", b"\x16\x10\x0B\x0B\x03 Hi\x0A\x0A"],
+    &[b"  ", b"\x16\x02", b"trim"],
+    &[b"  ", b"\x16\x02", b"", b"\x16\x11\x0B\x0B  \x0A\x0A"],
+    &[b" \x8AHi", b"\x14\x02", b"trim,pack", b"\x14\x11\x0B\x0BHi\x0A\x0A"],
+    &[b"Hi\x8A\x8AHo", b"\x14\x02", b"pack", b"\x14\x11\x0B\x0BHi\x0A\x0A",
+        b"\x15\x11\x0B\x0BHo\x0A\x0A"],
+    &[b"Hi\x8A\x8AHo", b"\x14\x02", b"pack,double,before=0D0B0B",
+        b"\x14\x10\x0D\x0B\x0BHi\x0A\x0A", b"\x16\x10\x0D\x0B\x0BHo\x0A\x0A"],
+    &[b"Hi\x8A\x8AHo", b"\x14\x02", b"pack,before=0D0B0B", b"refused 55 Hidden block 1 at 2\n"],
+    &[b"\x8AHi\x8A\x8AHo\x8A", b"\x16\x02", b"pack,last", b"\x15\x11\x0B\x0BHi\x0A\x0A",
+        b"\x16\x11\x0B\x0BHo\x0A\x0A"],
+    &[b"\x0D\x03Hi", b"\x16\x02", b"white,before=*0B0B", b"\x16\x10\x0D\x03\x0B\x0BHi\x0A\x0A"],
+    &[b"\x0DHi", b"\x16\x02", b"white,before=*0B0B", b"\x16\x10\x0D\x07\x0B\x0BHi\x0A\x0A"],
+    &[b"\x0DHi", b"\x16\x02", b"white", b"\x16\x10\x0B\x0B\x0D\x07Hi\x0A\x0A"],
+    &[b"Hi", b"\x16\x02", b"before=0D*0B0B", b"\x16\x10\x0D\x0B\x0BHi\x0A\x0A"],
+    &[b"Hi", b"\x16\x02", b"before=0B*0B*", b"usage 89 Layout\n"],
+    &[b"Hi", b"\x16\x02", b"before=*", b"\x16\x12Hi\x0A\x0A"],
+    &[b"Hi", b"\x16\x02", b"before=0*B", b"usage 89 Layout\n"],
+    &[b"\x03Hi", b"\x16\x02", b"before=0B*0B", b"\x16\x10\x0B\x03\x0BHi\x0A\x0A"],
+    &[b"\x03Hi", b"\x16\x02", b"before=0D07*0B0B0C0B",
+        b"\x16\x0E\x0D\x07\x03\x0B\x0B\x0C\x0BHi\x0A\x0A"],
+    &[b"\x03Hi", b"\x16\x02", b"before=0B0B0B*0B0B0B0B", b"usage 89 Layout\n"],
+    &[b"\x03Hi", b"\x16\x02", b"before=*0E", b"usage 89 Layout\n"],
+    &[b"\x03Hi", b"\x16\x02", b"before=*00", b"usage 89 Layout\n"],
+    &[b"\x03Hi", b"\x16\x02", b"after=0A*", b"usage 89 Layout\n"],
+    &[b"\x03Hi", b"\x16\x02", b"strip=*0A", b"usage 89 Layout\n"],
+    &[b"\x1D\x03 Hi", b"\x16\x02", b"before=*0B0B", b"\x16\x0F\x1D\x03\x0B\x0B Hi\x0A\x0A"],
+    &[b"\x07\x0CHi", b"\x16\x02", b"white", b"\x16\x10\x0B\x0B\x07\x0CHi\x0A\x0A"],
+    &[b"\x01Hi", b"\x16\x02", b"white", b"\x16\x10\x0B\x0B\x01Hi\x0A\x0A"],
+    &[b"Hi\x03Ho", b"\x16\x02", b"white", b"\x16\x0F\x0B\x0B\x07Hi\x03Ho\x0A\x0A"],
+    &[b"Hi", b"\x16\x02", b"before=030B0B,white", b"\x16\x10\x03\x0B\x0B\x07Hi\x0A\x0A"],
+    &[b"  Hi\x07  ", b"\x16\x02", b"trim", b"\x16\x10\x0B\x0BHi\x07\x0A\x0A"],
+    &[b"Hi  Ho \x07", b"\x16\x02", b"trim", b"\x16\x0E\x0B\x0BHi  Ho \x07\x0A\x0A"],
+    &[b"\x0B\x0BHi ", b"\x16\x03", b"trim", b"\x16#\x0B\x0BHi"],
+    &[b"  ", b"\x16\x02", b"trim,white"],
+    &[b"\x8AAAAAAAAAAAAAAAAAAAAAAAAAAAAAAAAAAAAAAAAAA", b"\x16\x02", b"pack",
+        b"refused 52 RowTooLong block 1 at 1\n"],
+    &[b"\x8AHi", b"\x16\x02", b"pack,row=2", b"refused 53 PastBottom block 1 at 1\n"],
+    &[b"\x8A\x0DHi", b"\x17\x02", b"pack", b"refused 54 DoubleRow block 1 at 1\n"],
+    &[b"Hi\x8A\x8A\x8AHo", b"\x14\x02", b"pack", b"\x14\x11\x0B\x0BHi\x0A\x0A",
+        b"\x15\x11\x0B\x0BHo\x0A\x0A"],
+    &[b" \x8A\x07\x8AHi", b"\x14\x02", b"pack", b"\x14\x11\x0B\x0B \x0A\x0A",
+        b"\x15\x11\x0B\x0B\x07\x0A\x0A", b"\x16\x11\x0B\x0BHi\x0A\x0A"],
+    &[b"\x8AHi\x8AHo", b"\x12\x02", b"double,row=1", b"\x15\x11\x0B\x0BHi\x0A\x0A",
+        b"\x17\x11\x0B\x0BHo\x0A\x0A"],
+    &[b"Hi\x8A\x8AHo", b"\x16\x02", b"double,last", b"\x12\x11\x0B\x0BHi\x0A\x0A",
+        b"\x16\x11\x0B\x0BHo\x0A\x0A"],
+    &[b"Hi", b"\x16\x02", b"colour", b"usage 89 Layout\n"],
+    &[b"Hi", b"\x16\x02", b"open", b"usage 89 Layout\n"],
+    &[b"Hi", b"\x16\x02", b"pitch=2", b"usage 89 Layout\n"],
+    &[b"Hi", b"\x16\x02", b"double=2", b"usage 89 Layout\n"],
+    &[b"Hi", b"\x16\x02", b"pack=1", b"usage 89 Layout\n"],
+    &[b"Hi", b"\x16\x02", b"trim=1", b"usage 89 Layout\n"],
+    &[b"\x03AAAAAAAAAAAAAAAAAAAAAAAAAAAAAAAAAAAA", b"\x16\x02", b"fit,before=*0B0B",
+        b"\x16\x00\x03\x0B\x0BAAAAAAAAAAAAAAAAAAAAAAAAAAAAAAAAAAAA\x0A"],
+    &[b"AAAAAAAAAAAAAAAAAAAAAAAAAAAAAAAAAAAA", b"\x16\x02", b"fit,white",
+        b"\x16\x00\x0B\x0B\x07AAAAAAAAAAAAAAAAAAAAAAAAAAAAAAAAAAAA\x0A"],
+    &[b" AAAAAAAAAAAAAAAAAAAAAAAAAAAAAAAAAAAAA ", b"\x16\x02", b"fit,trim",
+        b"\x16\x00\x0B\x0BAAAAAAAAAAAAAAAAAAAAAAAAAAAAAAAAAAAAA\x0A"],
+    &[b"\x03 Hi", b"\x16\x02", b"strip=03,trim,white", b"\x16\x10\x0B\x0B\x07Hi\x0A\x0A"],
+];
+
+// The file of one subtitle with a text, at this VP and JC.
+fn file_with(rt: &impl Abort, text: &[u8], place: &[u8]) -> [u8; 1152] {
+    assert!(rt; text.len() <= 112 && place.len() == 2);
+    let mut head = HEAD;
+    (head[13], head[14]) = (place[0], place[1]);
+    file_of(&block(&head, text))
+}
+
+// A byte of the Teletext packet of a data unit of the first PES packet, bit 1 lowest.
+fn byte_at(rt: &impl Abort, pes: &[u8], unit: usize, place: usize) -> u8 {
+    assert!(rt; unit < 100 && place < 42);
+    let at = 50 + 46 * unit + place;
+    assert!(rt; at < pes.len());
+    pes[at].reverse_bits()
+}
+
+// The number of the row of a data unit, 0 of a header.
+fn row_of(rt: &impl Abort, pes: &[u8], unit: usize) -> u8 {
+    let low = unham(byte_at(rt, pes, unit, 0)).expect(rt, "a magazine");
+    let high = unham(byte_at(rt, pes, unit, 1)).expect(rt, "a row");
+    assert!(rt; low < 16 && high < 16);
+    low / 8 + 2 * high
+}
+
+// Asserts that a data unit sends a row: its number, its first column and its cells.
+fn assert_sends(rt: &impl Abort, case: usize, pes: &[u8], unit: usize, row: &[u8]) {
+    assert!(rt; row.len() > 2);
+    assert!(rt; row_of(rt, pes, unit) == row[0], "row of case {case}");
+    let cells = &row[2..];
+    for column in 0..40 {
+        let cell = byte_at(rt, pes, unit, 2 + column) & 0x7F;
+        let first = row[1] as usize;
+        let want = if column >= first && column - first < cells.len() {
+            cells[column - first]
+        } else {
+            0x20
+        };
+        assert!(rt; cell == want, "column {column} of case {case}");
+    }
+}
+
+// Writes the schedule of a file, and asserts that it is written.
+fn assert_schedules<'a>(
+    rt: &(impl Abort + Alloc<A = Global>),
+    words: &'a [&'a str],
+    stl: &[u8],
+    file: &mut MemSink,
+)
+    requires { CanFail file.old.failure_count }
+{
+    let mut room = [0; 64];
+    let mut out = MemSink::new(&mut room);
+    let (mut stl, mut none) = (MemSource::new(stl), MemSource::new(&[]));
+    let status = answer_words(rt.alloc(), words, &mut stl, &mut none, file, &mut out);
+    assert!(rt; status == Status::Done, "{words:?}");
+}
+
+// Asserts what is scheduled and checked of a file by these words.
+fn assert_answers<'a>(
+    rt: &(impl Abort + Alloc<A = Global>),
+    number: usize,
+    stl: &[u8],
+    schedule: &'a [&'a str],
+    check: &'a [&'a str],
+    rows: &[&[u8]],
+) {
+    if rows.len() == 1 && rows[0].len() > 1 && rows[0][0] > 24 {
+        let want = std::str::from_utf8(rows[0]).expect(rt, "a line");
+        assert_tells(rt, schedule, stl, &[], want);
+        assert_tells(rt, check, stl, &[], want);
+        return;
+    }
+    let mut room = [0; 2000];
+    let mut file = MemSink::new(&mut room);
+    assert_schedules(rt, schedule, stl, &mut file);
+    assert_tells(rt, check, stl, file.written(), ACCEPTED);
+    for (unit, row) in rows.iter().enumerate() {
+        assert_sends(rt, number, file.written(), unit + 1, *row);
+    }
+    assert!(rt;
+        row_of(rt, file.written(), rows.len() + 1) == 0,
+        "end of case {number}"
+    );
+}
+
+// Asserts what is scheduled and checked of a case.
+fn assert_case(rt: &(impl Abort + Alloc<A = Global>), number: usize, case: &[&[u8]]) {
+    assert!(rt; case.len() >= 3);
+    let stl = file_with(rt, case[0], case[1]);
+    let layout = std::str::from_utf8(case[2]).expect(rt, "a text");
+    let schedule = ["subttx", "schedule", "a", "b", "--layout", layout];
+    let check = ["subttx", "check", "a", "b", "--layout", layout];
+    let len = if layout.is_empty() { 4 } else { 6 };
+    assert_answers(
+        rt,
+        number,
+        &stl,
+        &schedule[..len],
+        &check[..len],
+        &case[3..],
+    );
+}
+
+#[test]
+fn draws_texts_by_layouts(rt: HostRuntime) {
+    for (number, case) in CASES.iter().enumerate() {
+        assert_case(&rt, number, *case);
+    }
+}
+
+// Asserts what is scheduled and checked of a text in German, with the bytes 0A stripped.
+fn assert_german(rt: &(impl Abort + Alloc<A = Global>), text: &[u8], row: &[u8]) {
+    let stl = file_with(rt, text, &[22, 2]);
+    let schedule = [
+        "subttx", "schedule", "a", "b", "--option", "german", "--layout", "strip=0A",
+    ];
+    let check = [
+        "subttx", "check", "a", "b", "--option", "german", "--layout", "strip=0A",
+    ];
+    assert_answers(rt, 0, &stl, &schedule, &check, &[row]);
+}
+
+#[test]
+fn a_stripped_byte_parts_a_pair(rt: HostRuntime) {
+    let refused = b"refused 50 Character block 1 at 0\n";
+    assert_german(&rt, &[0xC8, 0x0A, 0x61], refused);
+    assert_german(&rt, b"a\x0A\xC8a", b"\x16\x11\x0B\x0Ba\x7B\x0A\x0A");
+}
+
+// A line, and the words of a check or a schedule for which it is printed: the layout is none, or a
+// fault is told before.
+const REFUSED: [&[&str]; 5] = [
+    &[
+        "usage 89 Layout\n",
+        "subttx",
+        "schedule",
+        "a",
+        "b",
+        "--layout",
+        "",
+    ],
+    &[
+        "usage 89 Layout\n",
+        "subttx",
+        "check",
+        "a",
+        "b",
+        "--layout",
+        "",
+    ],
+    &[
+        "usage 88 Range\n",
+        "subttx",
+        "check",
+        "a",
+        "b",
+        "--layout",
+        "x",
+        "--pes",
+        "x",
+    ],
+    &[
+        "usage 83 BadOption\n",
+        "subttx",
+        "schedule",
+        "a",
+        "b",
+        "--layout",
+        "x",
+        "--option",
+        "x",
+    ],
+    &[
+        "usage 0 Words\n",
+        "subttx",
+        "check",
+        "a",
+        "b",
+        "--layout",
+        "fit",
+        "--layout",
+        "up",
+    ],
+];
+
+#[test]
+fn refuses_texts_that_are_no_layout(rt: HostRuntime) {
+    for row in &REFUSED {
+        assert!(rt; row.len() > 1);
+        assert_tells(&rt, &row[1..], &[], &[], row[0]);
+    }
+}
