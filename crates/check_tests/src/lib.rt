@@ -25,6 +25,8 @@ mod national;
 #[cfg(test)]
 mod passed_over;
 #[cfg(test)]
+mod scope;
+#[cfg(test)]
 mod stopped;
 #[cfg(test)]
 mod trusted;

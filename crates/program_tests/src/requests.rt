@@ -49,6 +49,7 @@ fn assert_is_schedule(
             options,
             serial,
             national,
+            ..
         } => {
             assert!(rt; *stl == "a" && *pes == "b" && *options == *want);
             assert!(rt; *serial == is_serial && *national == option);
@@ -121,6 +122,29 @@ fn reads_the_flags_of_a_check(rt: HostRuntime) {
     assert_checks(&rt, &["subttx", "check", "a", "b", "--all"], false, true);
     let both = ["subttx", "check", "--all", "a", "b", "--complete"];
     assert_checks(&rt, &both, true, true);
+}
+
+// What of a subtitle file words ask for: whether open subtitles too, and from which frame up to
+// before which.
+fn scope_of<'a>(alloc: Global, words: &'a [&'a str]) -> Option<(bool, u32, u32)> {
+    match Request::parse(alloc, words) {
+        Ok(Request::Check { scope, .. }) => Some((scope.takes_open, scope.from, scope.to)),
+        Ok(Request::Schedule { scope, .. }) => Some((scope.takes_open, scope.from, scope.to)),
+        _ => None,
+    }
+}
+
+#[rattlefmt::skip]
+#[test]
+fn reads_what_of_a_subtitle_file_is_taken(rt: HostRuntime) {
+    let check = ["subttx", "check", "a", "b"];
+    assert_same(&rt, &scope_of(rt.alloc(), &check), &Some((false, 0, 2_160_000)));
+    let from = ["subttx", "check", "a", "b", "--from", "10:00:00:00"];
+    assert_same(&rt, &scope_of(rt.alloc(), &from), &Some((false, 900_000, 2_160_000)));
+    let part = [
+        "subttx", "schedule", "a", "b", "--to", "10:00:00:01", "--open", "--from", "00:00:00:01",
+    ];
+    assert_same(&rt, &scope_of(rt.alloc(), &part), &Some((true, 1, 900_001)));
 }
 
 // How many frames the options of a request allow.

@@ -67,6 +67,15 @@ fn schedules_one_subtitle(rt: HostRuntime) {
     assert_schedules(&rt, &words, &hi, each, "1", accepted);
 }
 
+#[test]
+fn schedules_the_subtitles_that_start_in_a_part_of_the_day(rt: HostRuntime) {
+    let hi = file_of_hi();
+    let until = ["subttx", "schedule", "a", "b", "--to", "10:00:00:01"];
+    assert_schedules(&rt, &until, &hi, (368, WRITTEN), "250", ACCEPTED);
+    let since = ["subttx", "schedule", "a", "b", "--from", "10:00:00:01"];
+    assert_tells(&rt, &since, &hi, &[], "refused 82 NoSubtitles\n");
+}
+
 // Asserts how long the schedule of one subtitle of this row and text is.
 fn assert_schedules_text(rt: &(impl Abort + Alloc<A = Global>), vp: u8, text: &[u8], len: usize) {
     assert!(rt; text.len() <= 112);

@@ -1,7 +1,7 @@
 -- `IsFile`: a file is what is read, and its first bytes decide that; main lemmas: file_read,
 -- one_file, outcome_of-first.
 use Rattle.std.proofs.Common.{◌≡◌, ◌*◌, ℕ, false, List, [], ◌++◌, length, refl, sym, ap, ◌∙◌, arith}
-use Rattle.std.proofs.Common.{length-append, take, drop, None, Result, Ok, Err, subst, ◌+◌, ◌≤◌}
+use Rattle.std.proofs.Common.{length-append, take, drop, None, Result, Ok, Err, subst, ◌+◌}
 use Rattle.std.proofs.Common.{inl, inr, length-take-le, ltb}
 use Rattle.std.proofs.lemmas.Bool.Decides.{nat_tests}
 use Rattle.std.specs.Prelude.{◌↔◌}
@@ -127,7 +127,8 @@ findings_of-first s = elim (cases_lt 12800897 (length s)) [
   | inl long ↦
       let size : length (take 12800897 s) ≡ 12800897 = length-take-le 12800897 s (omega arith) in
       rw (size, le-ltb (length s) 1024 (omega arith), take-take 1024 12800897 s (omega arith))
-      (rw (drop-take 1024 (128 * 99999 + 1) s) (opened-first whole (gsi_at false (take 1024 s)) (drop 1024 s)))
+      (rw (drop-take 1024 (128 * 99999 + 1) s)
+      (opened-first whole (gsi_at false (take 1024 s)) (drop 1024 s)))
 ]
 
 pub outcome_of-first : (s : List ℕ) → outcome_of (take 12800897 s) ≡ outcome_of s

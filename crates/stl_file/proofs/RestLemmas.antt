@@ -21,7 +21,7 @@ use Rattle.stl_file.specs.Reading.{Begun, BlockStep, More, Give, Findings, close
 use Rattle.stl_file.specs.Reading.{findings_at, kept_at, passed_by, step_at, stopped}
 use Rattle.stl_file.proofs.SubtitleBlocksLemmas.{kept_few, first_linked}
 use Rattle.stl_file.proofs.StepLemmas.{first_begun, first_kept, further_kept, longer, outside_kept}
-use Rattle.stl_file.proofs.StepLemmas.{Reaches, Represents, step_kept, step_passed, step_sound}
+use Rattle.stl_file.proofs.StepLemmas.{Represents, step_kept, step_passed, step_sound}
 use Rattle.stl_file.proofs.FindingsLemmas.{findings_full, findings_step, findings_end}
 use Rattle.stl_file.proofs.FindingsLemmas.{findings_block, findings_short}
 

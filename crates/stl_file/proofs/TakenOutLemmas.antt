@@ -1,12 +1,11 @@
 -- A file from which the blocks of subtitles outside were taken out gives the same, block numbers
 -- aside; main lemmas: scope_law, day_law.
-use Rattle.std.proofs.Common.{◌≡◌, ℕ, Bool, false, true, List, [], ◌∷◌, ◌++◌, length, refl, ap}
-use Rattle.std.proofs.Common.{arith, length-append, take, drop, Option, Some, None, Result, Ok, Err}
-use Rattle.std.proofs.Common.{zero, suc, ◌+◌, ◌-◌, ◌<◌, ◌≤◌, ◌⊎◌, inl, inr, ◌∙◌, sym, ltb}
+use Rattle.std.proofs.Common.{◌≡◌, ℕ, Bool, false, true, List, [], ◌∷◌, ◌++◌, length, refl}
+use Rattle.std.proofs.Common.{arith, length-append, Option, Some, None, Result, Ok, Err}
+use Rattle.std.proofs.Common.{zero, suc, ◌-◌, ◌<◌, ◌≤◌, ◌⊎◌, inl, inr, ◌∙◌, sym, ltb}
 use Rattle.std.proofs.lemmas.List.{take_at, drop_at}
 use Rattle.std.proofs.lemmas.Bool.{cases_Bool, le-ltb}
 use Rattle.std.proofs.lemmas.Bool.Decides.{nat_tests}
-use Rattle.std.specs.Prelude.{◌==◌}
 use Rattle.std.specs.List.{AllByRecursion, concat}
 use Rattle.stl_file.specs.declared.fault.StlFault.{StlFault}
 use Rattle.stl_file.specs.declared.scope.Scope.{Scope}
@@ -20,7 +19,7 @@ use Rattle.stl_file.specs.Subtitle.{SubtitleValue}
 use Rattle.stl_file.specs.SubtitleBlocks.{IsBlock}
 use Rattle.stl_file.specs.TakenOut.{LawOfDay, LawOfScope, all_day, is_read_whole, stays, taken_out}
 use Rattle.stl_file.specs.TakenOut.{unnumbered, within_after}
-use Rattle.stl_file.specs.Tti.{cf, ebn, is_passed_block, last_block, most_blocks, tci}
+use Rattle.stl_file.specs.Tti.{cf, ebn, is_passed_block, most_blocks, tci}
 use Rattle.stl_file.proofs.FindingsLemmas.{findings_block, findings_end, findings_full}
 use Rattle.stl_file.proofs.StepLemmas.{step_kept, step_passed}
 use Rattle.stl_file.proofs.TimeCodeLemmas.{in_day}
@@ -32,8 +31,8 @@ day_law scope b = grind (arith, nat_tests, in_day (tci b))
 
 -- ---- the two readings
 
--- What both have begun: nothing, the same subtitle, or the one of the file a subtitle that is passed
--- over, of which the other has no block.
+-- What both have begun: nothing, the same subtitle, or the one of the file a subtitle that is
+-- passed over, of which the other has no block.
 abbrev HaveBegun : Option Bool → Option Begun → Option Begun → Type 0
 HaveBegun None full cut = (full ≡ None) × (cut ≡ None)
 HaveBegun (Some true) full cut = (o : Begun) × (full ≡ Some o) × (cut ≡ Some o)
@@ -89,7 +88,8 @@ ends_first : (scope : Scope) (b : List ℕ) (n : Option Begun)
 unfolding kept_at
 ends_first scope b n inside e = grind (arith, nat_tests)
 
-gives_first : (scope : Scope) (b : List ℕ) (begun : Option Begun) (within : Option Bool) (s : SubtitleValue)
+gives_first : (scope : Scope) (b : List ℕ) (begun : Option Begun) (within : Option Bool)
+    (s : SubtitleValue)
     → kept_at scope begun b ≡ Ok (Give s)
     → HaveBegun (within_after scope within b) None None
 unfolding kept_at
@@ -182,7 +182,8 @@ module _ (scope : Scope) (b : List ℕ) (bs : List (List ℕ)) (within : Option 
       → HaveBegun (within_after scope within b) None None)
       → is_read_whole (findings_after room next b (step_at scope begun b)) ≡ true
       → unnumbered (findings_after room next b (step_at scope begun b))
-      ≡ unnumbered (findings_at (all_day scope) room' begun (concat (taken_out scope within (b ∷ bs))))
+      ≡ unnumbered (findings_at (all_day scope) room' begun
+      (concat (taken_out scope within (b ∷ bs))))
   stays_cut begun stay same more give read =
       rw (
         stays_is scope within b bs kept stay,
@@ -203,7 +204,8 @@ module _ (scope : Scope) (b : List ℕ) (bs : List (List ℕ)) (within : Option 
       → ((f : StlFault) → step ≡ Err f → is_of_first f ≡ false)
       → is_read_whole (findings_after room next b step) ≡ true
       → unnumbered (findings_after room next b step)
-      ≡ unnumbered (findings_at (all_day scope) room' None (concat (taken_out scope within (b ∷ bs))))
+      ≡ unnumbered (findings_at (all_day scope) room' None
+      (concat (taken_out scope within (b ∷ bs))))
   gone_cut (Err f) gone more give fault read =
       absurd (let no = fault f refl in grind (arith, nat_tests))
   gone_cut (Ok (Give s)) gone more give fault read = absurd (give s refl)
@@ -270,7 +272,8 @@ kept_cut scope b bs None full cut room room' size kept le begun on read =
 kept_cut scope b bs (Some true) full cut room room' size kept le begun on read =
     let o = begun.0 in
     let now = rw begun.1 at read in
-    let is = kept_block scope (Some o) b room (λ n. findings_at scope room n (concat bs)) kept now in
+    let is =
+    kept_block scope (Some o) b room (λ n. findings_at scope room n (concat bs)) kept now in
     let step = step_kept scope (Some o) b is.0 is.1 in
     let same = step_kept (all_day scope) (Some o) b is.0 is.1
     ∙ sym (kept_further_same scope o b) ∙ sym step in
@@ -281,7 +284,8 @@ kept_cut scope b bs (Some true) full cut room room' size kept le begun on read =
 kept_cut scope b bs (Some false) full cut room room' size kept le begun on read =
     let o = begun.0 in
     let now = rw begun.1 at read in
-    let is = kept_block scope (Some o) b room (λ n. findings_at scope room n (concat bs)) kept now in
+    let is =
+    kept_block scope (Some o) b room (λ n. findings_at scope room n (concat bs)) kept now in
     let step = step_kept scope (Some o) b is.0 is.1 in
     rw (begun.1, begun.3)
     (gone_cut scope b bs (Some false) room room' size kept le on (step_at scope (Some o) b) refl
@@ -296,7 +300,8 @@ ends_cut : (scope : Scope) (within : Option Bool) (full cut : Option Begun) (roo
     → unnumbered (findings_at scope room full [])
     ≡ unnumbered (findings_at (all_day scope) room' cut [])
 ends_cut scope None full cut room room' begun read =
-    rw (begun.0, begun.1, findings_end scope room None, findings_end (all_day scope) room' None) refl
+    rw (begun.0, begun.1)
+    (rw (findings_end scope room None, findings_end (all_day scope) room' None) refl)
 ends_cut scope (Some true) full cut room room' begun read =
     absurd (let e = rw (begun.1, findings_end scope room (Some begun.0)) at read in cc)
 ends_cut scope (Some false) full cut room room' begun read =
@@ -316,7 +321,8 @@ same_cut scope [] within full cut room room' each begun le read =
 same_cut scope (b ∷ bs) within full cut zero room' each begun le read =
     absurd
     (let e =
-    rw (findings_full scope full (b ++ concat bs) (omega (arith, each.0, length-append b (concat bs))))
+    rw (findings_full scope full (b ++ concat bs)
+    (omega (arith, each.0, length-append b (concat bs))))
     at read in
     cc)
 same_cut scope (b ∷ bs) within full cut (suc room) room' each begun le read =

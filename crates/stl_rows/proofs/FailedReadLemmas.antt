@@ -69,7 +69,8 @@ pub fails-next : {drawing : Drawing} {start old new : Option (List ℕ)} {before
     × GoesOn drawing all (findings_from scope reader.block reader.refused rest) before kept early)
     → FailsReading scope reader.block block reader.refused old new
     → FailsTelling drawing start new IsTold told_old told_new block
-fails-next {start = start} {old} {new} {scope = scope} reader {block} taken early_told told goes failed =
+fails-next {start = start} {old} {new} {scope = scope} reader {block} taken early_told told goes
+    failed =
     record {
       bytes = taken.bytes ++ failed.bytes;
       consumed =

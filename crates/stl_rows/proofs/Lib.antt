@@ -23,3 +23,5 @@ pub mod ProgrammeLemmas
 pub mod LoadingLemmas
 pub mod EveryFaultLemmas
 pub mod LoadingLaw
+pub mod PartLemmas
+pub mod JudgedLemmas

@@ -11,11 +11,12 @@ use Rattle.std.proofs.Math.Seq.{get_or-append_seam}
 use Rattle.std.specs.Prelude.{◌↔◌, All, IsOk, option_map}
 use Rattle.std.specs.List.{AllZip}
 use Rattle.ttx_page.specs.Page.{Rows}
-use Rattle.stl_file.specs.File.{IsFile}
+use Rattle.stl_file.specs.File.{IsFileFor}
 use Rattle.stl_file.specs.NormalForm.{cons_all, subtitles_of}
-use Rattle.stl_file.specs.Reader.{findings_of, outcome_of}
+use Rattle.stl_file.specs.Reader.{findings_for}
 use Rattle.stl_file.specs.Reading.{Findings, breaks, finds, no_more, refuses, stopped}
 use Rattle.stl_file.specs.Subtitle.{IsSubtitle, SubtitleValue}
+use Rattle.stl_file.specs.declared.scope.Scope.{Scope}
 use Rattle.stl_file.specs.SubtitleBlocks.{AreBlocksOf}
 use Rattle.stl_file.proofs.RestLemmas.{cons_ok}
 use Rattle.stl_file.proofs.SubtitleBlocksLemmas.{blocks_subtitle}
@@ -141,32 +142,34 @@ unfolding loaded
 none_of_loaded drawing file programme h = (none_told (faults drawing file) _ programme h).0
 
 -- The law, from what a file is: for `law_of_loading`.
-pub loading_is : ((s g : List ℕ) (ts : List SubtitleValue)
-    → IsFile s g ts ↔ ((g ≡ take 1024 s) × (subtitles_of (outcome_of s) ≡ Ok ts)))
+pub loading_is : ((scope : Scope) (s g : List ℕ) (ts : List SubtitleValue)
+    → IsFileFor scope s g ts
+    ↔ ((g ≡ take 1024 s) × (subtitles_of (stopped (findings_for scope s)) ≡ Ok ts)))
     → LawOfLoading
 unfolding loaded faults
 loading_is file n s ts = (there, back)
   where
-    there : unless_told (faults_behind n None (findings_of s))
-        (record { drawing = n; records = records_of (findings_of s) })
+    there : unless_told (faults_behind n None (findings_for n.scope s))
+        (record { drawing = n; records = records_of (findings_for n.scope s) })
         ≡ Ok (record { drawing = n; records = ts })
-        → (g : List ℕ) × IsFile s g ts × AreInOrder ts × All (λ t. IsOk (drawn n t)) ts
+        → (g : List ℕ) × IsFileFor n.scope s g ts × AreInOrder ts × All (λ t. IsOk (drawn n t)) ts
     there h =
-        let own = none_told (faults_behind n None (findings_of s)) _ _ h in
-        let l = faultless n [] (findings_of s) own.0 in
+        let own = none_told (faults_behind n None (findings_for n.scope s)) _ _ h in
+        let l = faultless n [] (findings_for n.scope s) own.0 in
         let same = ap (λ (p : ProgrammeValue). p.records) own.1 in
-        let is = (file s (take 1024 s) ts).1 (refl, l.all ∙ ap Ok same) in
+        let is = (file n.scope s (take 1024 s) ts).1 (refl, l.all ∙ ap Ok same) in
         let each = all_subtitles ts _ is.rest.are_of in
         let ok : IsProgramme n ts =
         rw same at (l.programme (IsProgramme-none n) (rw same each)) in
         (take 1024 s, is, ok.in_order, ok.drawable)
 
-    back : (g : List ℕ) × IsFile s g ts × AreInOrder ts × All (λ t. IsOk (drawn n t)) ts
-        → unless_told (faults_behind n None (findings_of s))
-        (record { drawing = n; records = records_of (findings_of s) })
+    back : (g : List ℕ) × IsFileFor n.scope s g ts × AreInOrder ts × All (λ t. IsOk (drawn n t)) ts
+        → unless_told (faults_behind n None (findings_for n.scope s))
+        (record { drawing = n; records = records_of (findings_for n.scope s) })
         ≡ Ok (record { drawing = n; records = ts })
     back h =
-        let all = given_faultless n [] (findings_of s) ts ((file s h.0 ts).0 h.1).1 (record {
+        let given = ((file n.scope s h.0 ts).0 h.1).1 in
+        let all = given_faultless n [] (findings_for n.scope s) ts given (record {
           each = all_subtitles ts _ h.1.rest.are_of;
           in_order = h.2;
           drawable = h.3;

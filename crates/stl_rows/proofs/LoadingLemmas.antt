@@ -1,5 +1,5 @@
 -- What is left of a file after some of its subtitles, and what was told of these; main lemmas:
--- goes_on-next, tells-stop, tells-unread.
+-- goes_on-next, tells-stopped, tells-unread.
 use Rattle.std.proofs.Common.{rules, ◌≡◌, ◌<◌, ◌≤◌, ◌+◌, ℕ, Bool, true, false, List, ◌∷◌, ◌++◌, []}
 use Rattle.std.proofs.Common.{take, length, map, Option, Some, None, Ok, refl, sym}
 use Rattle.std.proofs.Common.{◌∙◌, ap, inl, arith, length-take, append_assoc, append-nil}
@@ -22,7 +22,7 @@ use Rattle.stl_file.specs.declared.fault.StlFault.TheVariants.{Ended}
 use Rattle.stl_file.specs.Fault.{is_of_first, is_read}
 use Rattle.stl_file.specs.Reading.{Findings, breaks, finds, no_more, refuses}
 use Rattle.stl_file.specs.Subtitle.{IsSubtitle, SubtitleValue}
-use Rattle.stl_file.specs.Reader.{FindsFrom, findings_of}
+use Rattle.stl_file.specs.Reader.{FindsFrom, findings_for}
 use Rattle.stl_rows.specs.declared.layout.Drawing.{Drawing}
 use Rattle.stl_rows.specs.declared.fault.LoadFault.{LoadFault}
 use Rattle.stl_rows.specs.declared.fault.LoadFaultKind.{LoadFaultKind}
@@ -130,7 +130,7 @@ pub record GoesOn (drawing : Drawing) (file : List ℕ) (left : Findings) (befor
   pub same : faults drawing file ≡ early ++ faults_behind drawing before left
   pub loads : (records : List SubtitleValue)
       → kept ≡ Some records
-      → records_of (findings_of file) ≡ records ++ records_of left
+      → records_of (findings_for drawing.scope file) ≡ records ++ records_of left
   pub ends_record : (records : List SubtitleValue) (at : ℕ)
       → kept ≡ Some records
       → EndsBehind drawing before at left
@@ -322,7 +322,7 @@ module _ {D : Type 0} {IsTold : D → LoadFault → D → Type 0} {old mid new :
 
 -- Nothing was read yet.
 pub goes_on-start : (drawing : Drawing) (file : List ℕ)
-    → GoesOn drawing file (findings_of file) None (Some []) []
+    → GoesOn drawing file (findings_for drawing.scope file) None (Some []) []
 unfolding faults
 goes_on-start drawing file = grind (arith, nat_tests)
 
@@ -338,7 +338,7 @@ pub loads-all : {drawing : Drawing} {file : List ℕ} {left : Findings} {before 
 unfolding loaded faults_behind
 loads-all {drawing} {file} on is records h none =
     let same : faults drawing file ≡ [] = rw (is, none) at on.same in
-    let all : records_of (findings_of file) ≡ records =
+    let all : records_of (findings_for drawing.scope file) ≡ records =
     rw is at (on.loads records h) ∙ append-nil records in
     rw (same, all) refl
 

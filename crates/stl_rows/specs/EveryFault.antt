@@ -6,7 +6,7 @@ use Rattle.std.specs.Io.KnownBytes.{Consumes}
 use Rattle.sub_io.specs.Reading.{IfTold}
 use Rattle.sub_io.specs.Telling.{Tells}
 use Rattle.stl_file.specs.declared.fault.StlFault.TheVariants.{Ended, Read, Unfinished}
-use Rattle.stl_file.specs.Reader.{block_of_byte, findings_of}
+use Rattle.stl_file.specs.Reader.{block_of_byte, findings_for}
 use Rattle.stl_file.specs.Reading.{Findings, breaks, finds, no_more, refuses}
 use Rattle.stl_file.specs.Subtitle.{SubtitleValue}
 use Rattle.stl_rows.specs.declared.fault.LoadFault.{LoadFault}
@@ -36,7 +36,7 @@ faults_behind drawing before (finds t block more) =
 
 -- All that is wrong with a file, in the order of its blocks.
 unfoldable pub faults : Drawing → List ℕ → List LoadFault
-faults drawing file = faults_behind drawing None (findings_of file)
+faults drawing file = faults_behind drawing None (findings_for drawing.scope file)
 
 -- The bytes of the file are at fault, and neither the source nor the memory.
 abbrev pub is_of_file : LoadFaultKind → Bool

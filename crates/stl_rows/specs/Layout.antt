@@ -2,6 +2,8 @@
 use Rattle.std.specs.Prelude.{ℕ, Bool, false, List, [], ◌∷◌, Option, Some, None, ◌==◌, unwrap_or}
 use Rattle.std.specs.Prelude.{replicate, slice_index_or, nat_lt, ◌&&◌}
 use Rattle.std.specs.List.{find}
+use Rattle.stl_file.specs.Scope.{whole}
+use Rattle.stl_file.specs.declared.scope.Scope.{Scope}
 use Rattle.stl_rows.specs.declared.layout.Attribute.{Attribute}
 use Rattle.stl_rows.specs.declared.layout.Attribute.TheVariants.{AlphaRed, AlphaGreen, AlphaYellow}
 use Rattle.stl_rows.specs.declared.layout.Attribute.TheVariants.{AlphaBlue, AlphaMagenta, AlphaCyan}
@@ -88,6 +90,11 @@ items_of layout = unwrap_or layout.items default_items
 abbrev pub strips : LayoutItems → ℕ → Bool
 strips items byte = nat_lt byte 0x20 && slice_index_or items.strip byte false
 
--- How texts are drawn by an option and a layout.
+-- How a file becomes pages, where it is drawn by an option and a layout and this is taken of it.
+abbrev pub drawing_within : National → Layout → Scope → Drawing
+drawing_within national layout scope =
+    record { national = national; layout = layout; scope = scope }
+
+-- Where all of it is.
 abbrev pub drawing_by : National → Layout → Drawing
-drawing_by national layout = record { national = national; layout = layout }
+drawing_by national layout = drawing_within national layout whole

@@ -14,3 +14,4 @@ pub mod DuePage
 pub mod Loading
 pub mod EveryFault
 pub mod Fault
+pub mod Judged

@@ -1,11 +1,15 @@
 -- What loading a subtitle file gives: the programme of its subtitles, or the first of its faults.
 use Rattle.std.specs.Prelude.{◌≡◌, ℕ, ◌⊎◌, List, [], ◌∷◌, Result, Ok, Err, ⊤, ◌↔◌, ◌≤◌, All, IsOk}
-use Rattle.std.specs.Prelude.{Option, Some, None, length}
+use Rattle.std.specs.Prelude.{Option, Some, None, length, map, true, ◌++◌}
+use Rattle.std.specs.List.{AllByRecursion, concat}
 use Rattle.std.specs.Io.KnownBytes.{Consumes}
 use Rattle.sub_io.specs.Reading.{IfTold}
 use Rattle.stl_file.specs.declared.fault.StlFault.TheVariants.{Read, Unfinished}
-use Rattle.stl_file.specs.File.{IsFile}
-use Rattle.stl_file.specs.Reader.{block_of_byte, findings_of}
+use Rattle.stl_file.specs.File.{IsFileFor}
+use Rattle.stl_file.specs.Gsi.{gsi_size}
+use Rattle.stl_file.specs.Reader.{block_of_byte, findings_for}
+use Rattle.stl_file.specs.SubtitleBlocks.{IsBlock}
+use Rattle.stl_file.specs.TakenOut.{all_day, is_read_whole, taken_out}
 use Rattle.stl_file.specs.Subtitle.{SubtitleValue}
 use Rattle.stl_file.specs.Reading.{Findings, breaks, finds, no_more, refuses}
 use Rattle.stl_rows.specs.declared.layout.Drawing.{Drawing}
@@ -33,7 +37,7 @@ unless_told (fault ∷ more) programme = Err fault
 unfoldable pub loaded : Drawing → List ℕ → Result ProgrammeValue LoadFault
 loaded drawing file =
     unless_told (faults drawing file)
-    (record { drawing = drawing; records = records_of (findings_of file) })
+    (record { drawing = drawing; records = records_of (findings_for drawing.scope file) })
 
 -- A subtitle that follows one of these times ends at this block, and up to it nothing is wrong.
 abbrev pub EndsBehind : Drawing → Option Times → ℕ → Findings → Type 0
@@ -46,7 +50,7 @@ EndsBehind drawing before at (finds t block more) =
 
 -- A subtitle of the file ends at this block, and up to it nothing is wrong.
 abbrev pub EndsRecord : Drawing → List ℕ → ℕ → Type 0
-EndsRecord drawing file at = EndsBehind drawing None at (findings_of file)
+EndsRecord drawing file at = EndsBehind drawing None at (findings_for drawing.scope file)
 
 -- A fault of loading. Want of memory is told at the last block of a subtitle alone, where no fault
 -- comes before. That the source failed says nothing of the file.
@@ -79,6 +83,28 @@ LawOfLoading =
     (drawing : Drawing) (s : List ℕ) (ts : List SubtitleValue)
     → (loaded drawing s ≡ Ok (record { drawing = drawing; records = ts }))
     ↔ ((g : List ℕ)
-    × IsFile s g ts
+    × IsFileFor drawing.scope s g ts
     × AreInOrder ts
     × All (λ t. IsOk (drawn drawing t)) ts)
+
+-- How the whole day of a file becomes pages.
+abbrev pub of_day : Drawing → Drawing
+of_day drawing = record drawing { scope = all_day drawing.scope }
+
+-- Faults, block numbers aside.
+abbrev pub kinds_of : List LoadFault → List LoadFaultKind
+kinds_of faults = map (λ (fault : LoadFault). fault.kind) faults
+
+-- What is told of a part of a file, and what it gives, is that of the file from which the blocks of
+-- all other subtitles were taken out, block numbers aside; where nothing ends reading.
+abbrev pub LawOfParts : Type 0
+LawOfParts =
+    (drawing : Drawing) (gsi : List ℕ) (blocks : List (List ℕ))
+    → length gsi ≡ gsi_size
+    → AllByRecursion IsBlock blocks
+    → is_read_whole (findings_for drawing.scope (gsi ++ concat blocks)) ≡ true
+    → (kinds_of (faults drawing (gsi ++ concat blocks))
+    ≡ kinds_of (faults (of_day drawing) (gsi ++ concat (taken_out drawing.scope None blocks))))
+    × (records_of (findings_for drawing.scope (gsi ++ concat blocks))
+    ≡ records_of (findings_for (all_day drawing.scope)
+    (gsi ++ concat (taken_out drawing.scope None blocks))))

@@ -17,7 +17,7 @@ use crate::national::National;
 use crate::text_code::{TextCode, text_code_at};
 use crate::text_faults::first_fault;
 use arrayvec::ArrayVec;
-use stl_file::Subtitle;
+use stl_file::{Scope, Subtitle};
 use ttx_page::Page;
 
 // Adds a cell to a line that has room for it.
@@ -106,7 +106,11 @@ pub(crate) fn drawn_page(subtitle: &Subtitle, drawing: &Drawing) -> Page
 pub fn draw(subtitle: &Subtitle, national: National, layout: Layout) -> Result<Page, RowFault>
     ensures { result ≡ drawn (drawing_by national layout) subtitle.now }
 {
-    let drawing = Drawing { national, layout };
+    let drawing = Drawing {
+        national,
+        layout,
+        scope: Scope::whole(),
+    };
     match first_fault(subtitle, &drawing) {
         Some(fault) => Err(fault),
         None => Ok(drawn_page(subtitle, &drawing)),

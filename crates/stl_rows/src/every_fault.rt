@@ -15,7 +15,7 @@ ghost use Rattle.stl_rows.specs.Fault.{is_read};
 ghost use Rattle.stl_rows.specs.Loading.{EndsRecord, loaded};
 ghost use Rattle.stl_rows.specs.Programme.{IsProgramme, follow_faults, row_faults};
 ghost use Rattle.stl_rows.specs.DrawnPage.{drawn};
-ghost use Rattle.stl_rows.specs.Layout.{drawing_by};
+ghost use Rattle.stl_rows.specs.Layout.{drawing_within};
 ghost use Rattle.stl_rows.specs.TextCode.{first_of};
 ghost use Rattle.stl_rows.specs.declared.fault.LoadFaultKind.TheVariants.{File, Memory};
 
@@ -48,23 +48,25 @@ pub fn load_all<S: Source, D: Audience<LoadFault>>(
     source: &mut S,
     national: National,
     layout: Layout,
+    scope: Scope,
     audience: &mut D,
 ) -> Result<Option<Programme>, LoadFault>
     requires count { CanFail (S.failure_count source.old) }
     requires listens { D.has_stopped audience.old ≡ false }
     // Where the source tells its bytes, they decide the programme and what was told.
     ensures exact { IfTold (S.remaining source.old) (λ bytes. IfOk result (λ found.
-        IfSome found (λ programme. loaded (drawing_by national layout) bytes ≡ Ok programme))) }
+        IfSome found (λ programme.
+        loaded (drawing_within national layout scope) bytes ≡ Ok programme))) }
     ensures told { IfTold (S.remaining source.old) (λ bytes. result ≡ Ok None →
         TellsFaults D.is_told audience.old audience.new (D.has_stopped audience.new)
-        (faults (drawing_by national layout) bytes)) }
+        (faults (drawing_within national layout scope) bytes)) }
     ensures memory { IfTold (S.remaining source.old) (λ bytes. IfErr result (λ f.
-        f.kind ≡ Memory → EndsRecord (drawing_by national layout) bytes f.block)) }
+        f.kind ≡ Memory → EndsRecord (drawing_within national layout scope) bytes f.block)) }
 
     ensures programme { IfOk result (λ found. IfSome found (λ programme.
         IsProgramme programme.drawing programme.records)) }
     ensures drawing { IfOk result (λ found.
-        IfSome found (λ programme. programme.drawing ≡ drawing_by national layout)) }
+        IfSome found (λ programme. programme.drawing ≡ drawing_within national layout scope)) }
     // `None` comes where faults were told, and a programme and `Memory` where none was.
     ensures some { result ≡ Ok None →
         TellsOfFile D.is_told audience.old audience.new }
@@ -76,13 +78,18 @@ pub fn load_all<S: Source, D: Audience<LoadFault>>(
     // Whatever the source tells, the device was told some faults where it failed.
     ensures some_before { IfErr result (λ _. TellsSome D.is_told audience.old audience.new) }
     // A failed read names the block of the byte that was asked for.
-    ensures read { IfErr result (λ f. is_read f ≡ true → FailsTelling (drawing_by national layout)
+    ensures read { IfErr result (λ f. is_read f ≡ true →
+        FailsTelling (drawing_within national layout scope)
         (S.remaining source.old) (S.remaining source.new)
         D.is_told audience.old audience.new f.block) }
     ensures kinds { IfErr result (λ f. (f.kind ≡ Memory) ⊎ (f.kind ≡ File Read)) }
     ensures count { CountsIf S.failure_count source.old (failed is_read result) source.new }
 {
-    let drawing = Drawing { national, layout };
+    let drawing = Drawing {
+        national,
+        layout,
+        scope,
+    };
     match load_all_in(alloc, source, drawing, audience) {
         Ok(Some(subtitles)) => Ok(Some(Programme::of(drawing, subtitles))),
         Ok(None) => Ok(None),
@@ -127,7 +134,7 @@ pub fn load_all_in<A: Allocator + Drop, S: Source, D: Audience<LoadFault>>(
     ensures kinds { IfErr result (λ f. (f.kind ≡ Memory) ⊎ (f.kind ≡ File Read)) }
     ensures count { CountsIf S.failure_count source.old (failed is_read result) source.new }
 {
-    let mut reader = match ResumingReader::open(source, Scope::whole()) {
+    let mut reader = match ResumingReader::open(source, drawing.scope) {
         Ok(reader) => reader,
         Err(fault) => match tell_end(fault, 0, audience) {
             Ok(()) => return Ok(None),

@@ -5,6 +5,7 @@ ghost use Rattle.stl_rows.specs.Layout.{attribute_code, attribute_of, default_it
 ghost use Rattle.stl_rows.specs.Layout.{default_layout, strips};
 
 use crate::national::National;
+use stl_file::Scope;
 
 /// A spacing attribute that a layout may put beside the cells of a line (EN 300 706, spacing
 /// attributes).
@@ -166,11 +167,14 @@ impl Default for Layout {
     }
 }
 
-/// How texts are drawn: by the table of a national option, and by a layout.
+/// How a subtitle file becomes pages: what of it is taken, and how its texts are drawn, by the
+/// table of a national option and by a layout.
 #[derive(Clone, Copy, Debug)]
 pub struct Drawing {
     /// The national option.
     pub national: National,
     /// The layout.
     pub layout: Layout,
+    /// What of a file is taken. A page that is drawn does not depend on it.
+    pub scope: Scope,
 }

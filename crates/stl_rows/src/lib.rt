@@ -33,7 +33,7 @@ pub use drawing::{draw, law_of_default_layout, law_of_letters};
 pub use every_fault::{load_all, load_all_in};
 pub use fault::{LoadFault, LoadFaultKind, RowFault, RowFaultKind};
 pub use layout::{Drawing, Layout};
-pub use loading::{law_of_loading, load, load_in};
+pub use loading::{law_of_judged, law_of_loading, law_of_parts, load, load_in};
 pub use national::{National, NationalBits};
 pub use programme::{
     Programme, law_of_blank_pages, law_of_due_pages, law_of_due_subtitles, law_of_edges,

@@ -5,9 +5,11 @@ ghost use Rattle.sub_io.specs.Device.{CanFail, CountsIf, failed};
 ghost use Rattle.sub_io.specs.Reading.{IfTold};
 ghost use Rattle.stl_file.specs.declared.fault.StlFault.TheVariants.{Ended};
 ghost use Rattle.stl_rows.specs.Fault.{is_read};
-ghost use Rattle.stl_rows.specs.Layout.{drawing_by};
+ghost use Rattle.stl_rows.specs.Layout.{drawing_within};
 ghost use Rattle.stl_rows.specs.declared.fault.LoadFaultKind.TheVariants.{File};
-ghost use Rattle.stl_rows.specs.Loading.{FailsLoading, LawOfLoading, TellsFault, loaded};
+ghost use Rattle.stl_rows.specs.Loading.{FailsLoading, LawOfLoading, LawOfParts};
+ghost use Rattle.stl_rows.specs.Loading.{TellsFault, loaded};
+ghost use Rattle.stl_rows.specs.Judged.{LawOfDecided, LawOfJudged};
 ghost use Rattle.stl_rows.specs.Programme.{IsProgramme};
 
 use crate::every_fault::load_all_in;
@@ -16,12 +18,14 @@ use crate::layout::{Drawing, Layout};
 use crate::national::National;
 use crate::programme::Programme;
 use std::alloc::{Allocator, Global};
-use stl_file::{Subtitle, law_of_files};
+use stl_file::{Scope, Subtitle, law_of_files, law_of_scope};
 use sub_io::{FirstTold, Source};
 
-/// Loads the subtitles of an STL file, to be drawn by the table of a national option as a layout says.
+/// Loads the subtitles of an STL file, to be drawn by the table of a national option as a layout
+/// says.
 ///
-/// It takes about a kilobyte of memory a subtitle, and reads to the end of the source.
+/// What is outside the scope is passed over. It takes about a kilobyte of memory a subtitle, and
+/// reads to the end of the source.
 ///
 /// # Errors
 ///
@@ -35,25 +39,33 @@ pub fn load<S: Source>(
     source: &mut S,
     national: National,
     layout: Layout,
+    scope: Scope,
 ) -> Result<Programme, LoadFault>
     requires { CanFail (S.failure_count source.old) }
     // Where the source tells its bytes, they decide the programme and the fault.
     ensures exact { IfTold (S.remaining source.old) (λ bytes.
-        IfOk result (λ programme. loaded (drawing_by national layout) bytes ≡ Ok programme)) }
+        IfOk result (λ programme.
+        loaded (drawing_within national layout scope) bytes ≡ Ok programme)) }
     ensures fault { IfTold (S.remaining source.old) (λ bytes.
-        IfErr result (λ f. TellsFault (drawing_by national layout) bytes f.block f.kind)) }
+        IfErr result (λ f.
+        TellsFault (drawing_within national layout scope) bytes f.block f.kind)) }
     ensures never { IfErr result (λ f. f.kind ≢ File Ended) }
 
     ensures programme { IfOk result (λ programme.
         IsProgramme programme.drawing programme.records) }
     ensures drawing { IfOk result (λ programme.
-        programme.drawing ≡ drawing_by national layout) }
+        programme.drawing ≡ drawing_within national layout scope) }
     // A failed read names the block of the byte that was asked for, and no fault comes before it.
-    ensures read { IfErr result (λ f. is_read f ≡ true → FailsLoading (drawing_by national layout)
+    ensures read { IfErr result (λ f. is_read f ≡ true →
+        FailsLoading (drawing_within national layout scope)
         (S.remaining source.old) (S.remaining source.new) f.block) }
     ensures count { CountsIf S.failure_count source.old (failed is_read result) source.new }
 {
-    let drawing = Drawing { national, layout };
+    let drawing = Drawing {
+        national,
+        layout,
+        scope,
+    };
     match load_in(alloc, source, drawing) {
         Ok(subtitles) => Ok(Programme::of(drawing, subtitles)),
         Err(fault) => Err(fault),
@@ -99,3 +111,18 @@ pub fn law_of_loading()
 {
     law_of_files();
 }
+
+/// What is told of a part of a file, and what it gives, is that of the file from which the blocks
+/// of all other subtitles were taken out, block numbers aside.
+pub fn law_of_parts()
+    ensures { LawOfParts }
+{
+    law_of_scope();
+}
+
+/// Each subtitle that can be relied on beside what is refused draws a page; and where nothing is
+/// refused all can be, and at each frame it is known what is due.
+pub fn law_of_judged()
+    ensures drawn { LawOfJudged }
+    ensures decided { LawOfDecided }
+{}

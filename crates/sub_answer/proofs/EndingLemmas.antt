@@ -21,10 +21,12 @@ touched (ask.Packets pes) first second Untouched file out status is = is
 touched (ask.Show stl) first second Untouched file out status is = is
 touched (ask.Normal input output) first second Untouched file out status is = is
 touched
-    (ask.Schedule stl pes options serial national layout) first second Untouched file out status is =
+    (ask.Schedule stl pes options serial national layout scope) first second Untouched file out
+    status is =
     is
 touched
-    (ask.Check stl pes options national layout true) first second Untouched file out status is =
+    (ask.Check stl pes options national layout scope true) first second Untouched file out status
+    is =
     record {
       events = is.events;
       answer = is.answer;
@@ -37,7 +39,8 @@ touched
       ends = is.ends;
     }
 touched
-    (ask.Check stl pes options national layout false) first second Untouched file out status is =
+    (ask.Check stl pes options national layout scope false) first second Untouched file out status
+    is =
     record {
       answer = is.answer;
       number = is.number;

@@ -6,7 +6,7 @@ use Rattle.sub_io.specs.Reading.{IfTold}
 use Rattle.ttx_pes.specs.Reader.{FailsAtPacket}
 use Rattle.stl_rows.specs.Loading.{FailsLoading}
 use Rattle.stl_rows.specs.declared.layout.Drawing.{Drawing}
-use Rattle.stl_rows.specs.Layout.{drawing_by}
+use Rattle.stl_rows.specs.Layout.{drawing_within}
 use Rattle.sub_plan.specs.FrameTime.{clock_of}
 use Rattle.sub_plan.specs.Options.{OptionsValue}
 use Rattle.sub_check.specs.CheckedFiles.{AreChecked}
@@ -41,8 +41,8 @@ use Rattle.sub_listing.specs.declared.status.Status.{Status}
 -- Whether the answer takes memory: a programme, or a whole file, is kept in it.
 abbrev pub takes_memory : Request → Bool
 takes_memory (ask.Normal input output) = true
-takes_memory (ask.Schedule stl pes options serial national layout) = true
-takes_memory (ask.Check stl pes options national layout all) = true
+takes_memory (ask.Schedule stl pes options serial national layout scope) = true
+takes_memory (ask.Check stl pes options national layout scope all) = true
 takes_memory _ = false
 
 -- ---- what each command answers
@@ -142,15 +142,18 @@ Answers (ask.Show stl) first second Untouched file out status =
 Answers (ask.Normal input output) first second Untouched file out status =
     EndsWork first.call file out status (codes " subtitles\n") Normalizes
 Answers
-    (ask.Schedule stl pes options serial national layout) first second Untouched file out status =
+    (ask.Schedule stl pes options serial national layout scope) first second Untouched file out
+    status =
     EndsWork first.call file out status (codes " transmissions\n")
-    (Schedules (drawing_by national layout) options serial)
-Answers (ask.Check stl pes options national layout true) first second Untouched file out status =
-    AnswersAll (drawing_by national layout) options first.call second.call second.number Untouched
-    out status
-Answers (ask.Check stl pes options national layout false) first second Untouched file out status =
-    AnswersCheck (drawing_by national layout) options first.call second.call second.number Untouched
-    out status
+    (Schedules (drawing_within national layout scope) options serial)
+Answers
+    (ask.Check stl pes options national layout scope true) first second Untouched file out status =
+    AnswersAll (drawing_within national layout scope) options first.call second.call
+    second.number Untouched out status
+Answers
+    (ask.Check stl pes options national layout scope false) first second Untouched file out status =
+    AnswersCheck (drawing_within national layout scope) options first.call second.call
+    second.number Untouched out status
 Answers (ask.Listen pes listening) first second Untouched file out status =
     AnswersListen (left_by listening.receiver) listening first.call first.number out status
 Answers (ask.Extract recording pes stream) first second Untouched file out status =
@@ -160,7 +163,8 @@ Answers (ask.Extract recording pes stream) first second Untouched file out statu
 -- this is so. It is the first source of `packets`, and the second of `check --all`.
 abbrev pub HandsOnBefore : Request → Type 0 → Type 0 → Type 0 → Type 0
 HandsOnBefore (ask.Packets pes) FirstFails SecondFails IsAlone = FirstFails → IsAlone
-HandsOnBefore (ask.Check stl pes options national layout true) FirstFails SecondFails IsAlone =
+HandsOnBefore
+    (ask.Check stl pes options national layout scope true) FirstFails SecondFails IsAlone =
     SecondFails → IsAlone
 HandsOnBefore _ FirstFails SecondFails IsAlone = ⊤
 

@@ -17,7 +17,7 @@ whole_file = record { stream = None; range = None }
 -- What a request reads of its PES file, or of its recording.
 abbrev pub part_asked : Request → Part
 part_asked (ask.Packets pes) = record { stream = pes.stream; range = pes.range }
-part_asked (ask.Check stl pes options national layout all) =
+part_asked (ask.Check stl pes options national layout scope all) =
     record { stream = pes.stream; range = pes.range }
 part_asked (ask.Listen pes listening) = record { stream = pes.stream; range = pes.range }
 part_asked (ask.Extract recording pes stream) = record { stream = Some stream; range = None }

@@ -104,10 +104,12 @@ pub fn answer<N: FirstPacket<S>, M: FirstPacket<T>, S: Source, T: Source, F: Flu
             serial,
             national,
             layout,
+            scope,
             ..
         } => {
+            let (national, layout, scope) = (*national, *layout, *scope);
             write_schedule(
-                alloc, *national, *layout, options, *serial, first, file, out,
+                alloc, national, layout, scope, options, *serial, first, file, out,
             )
         }
         Request::Normal { .. } => write_normal(alloc, first, file, out),
@@ -115,15 +117,22 @@ pub fn answer<N: FirstPacket<S>, M: FirstPacket<T>, S: Source, T: Source, F: Flu
             options,
             national,
             layout,
+            scope,
             all,
             ..
         } => {
-            let (national, layout) = (*national, *layout);
+            let (national, layout, scope) = (*national, *layout, *scope);
             if *all {
-                let drawing = Drawing { national, layout };
+                let drawing = Drawing {
+                    national,
+                    layout,
+                    scope,
+                };
                 print_every_fault::<M, S, T, K>(alloc, first, second, drawing, options, out)
             } else {
-                print_verdict::<M, S, T, K>(alloc, first, second, national, layout, options, out)
+                print_verdict::<M, S, T, K>(
+                    alloc, first, second, national, layout, scope, options, out,
+                )
             }
         }
         Request::Listen { listening, .. } => match listening.receiver {

@@ -5,7 +5,7 @@ use Rattle.std.specs.Prelude.{IsTrue, ◌+◌, ◌++◌, flat_map, ⊤}
 use Rattle.sub_io.specs.Device.{failed}
 use Rattle.sub_io.specs.Reading.{IfTold}
 use Rattle.ttx_pes.specs.declared.fault.PesFault.TheVariants.{Read}
-use Rattle.stl_file.specs.File.{IsFile}
+use Rattle.stl_file.specs.File.{IsFileFor}
 use Rattle.stl_file.specs.Subtitle.{SubtitleValue}
 use Rattle.stl_rows.specs.DrawnPage.{drawn}
 use Rattle.stl_rows.specs.Loading.{loaded, TellsFault}
@@ -64,7 +64,7 @@ pub record Mean
     : Type 0 where
   -- The one is a GSI block and the TTI blocks of these subtitles (EBU Tech 3264).
   pub gsi : List ℕ
-  pub subtitle_file : IsFile stl gsi subtitles
+  pub subtitle_file : IsFileFor drawing.scope stl gsi subtitles
   -- They are in order and disjoint, and each has a page.
   pub in_order : AreInOrder subtitles
   pub drawable : All (λ t. IsOk (drawn drawing t)) subtitles
@@ -107,7 +107,7 @@ pub record MeanWithin
     (subtitles : List SubtitleValue) (transmission : Transmission)
     : Type 0 where
   pub gsi : List ℕ
-  pub subtitle_file : IsFile stl gsi subtitles
+  pub subtitle_file : IsFileFor drawing.scope stl gsi subtitles
   pub in_order : AreInOrder subtitles
   pub drawable : All (λ t. IsOk (drawn drawing t)) subtitles
   pub carries : CarriesBy (clock_of options) options.within pes transmission

@@ -3,7 +3,7 @@ ghost use Rattle.std.specs.Prelude.{◌≡◌, ℕ, ◌<◌, Err, false, true};
 ghost use Rattle.sub_io.specs.Device.{CanFail, CountsIf, failed};
 ghost use Rattle.sub_io.specs.Reading.{IfTold};
 ghost use Rattle.ttx_pes.specs.Reader.{FailsAtPacket};
-ghost use Rattle.stl_rows.specs.Layout.{drawing_by};
+ghost use Rattle.stl_rows.specs.Layout.{drawing_within};
 ghost use Rattle.stl_rows.specs.Fault.{is_read};
 ghost use Rattle.stl_rows.specs.Loading.{FailsLoading};
 ghost use Rattle.stl_rows.specs.declared.fault.LoadFault.{LoadFault};
@@ -12,6 +12,7 @@ ghost use Rattle.sub_rules.specs.Fault.{is_pes_read, is_pes_write, is_stl_read, 
 
 use crate::checking::check;
 use std::alloc::Global;
+use stl_file::Scope;
 use stl_rows::{Layout, National, law_of_loading, load};
 use sub_checker::Accepted;
 use sub_io::Source;
@@ -33,6 +34,7 @@ pub fn check_files<S: Source, P: Source>(
     pes: &mut P,
     national: National,
     layout: Layout,
+    scope: Scope,
     options: &Options,
 ) -> Result<Accepted, CheckFault>
     requires stl { CanFail (S.failure_count stl.old) }
@@ -42,21 +44,23 @@ pub fn check_files<S: Source, P: Source>(
     // subtitles, and what is accepted is robust.
     ensures accepted { options.now.within ≡ 0 → IfTold (S.remaining stl.old) (λ file.
         IfTold (P.remaining pes.old) (λ bytes.
-        AreAccepted (drawing_by national layout) options.now file bytes result)) }
+        AreAccepted (drawing_within national layout scope) options.now file bytes result)) }
     // Where the options allow for frames that are late, they are accepted exactly where that
     // transmission is good within as many of them, and what is accepted is as robust as that is.
     ensures accepted_within { IfTold (S.remaining stl.old) (λ file.
         IfTold (P.remaining pes.old) (λ bytes.
-        AreAcceptedWithin (drawing_by national layout) options.now file bytes result)) }
+        AreAcceptedWithin (drawing_within national layout scope) options.now file bytes result)) }
     // What is refused, and at which place.
     ensures checked { IfTold (S.remaining stl.old) (λ file.
-        AreChecked (drawing_by national layout) options.now file (P.remaining pes.old) result) }
+        AreChecked (drawing_within national layout scope) options.now file (P.remaining pes.old)
+        result) }
     // A failed read of the subtitle file names the block of the byte that was asked for, and no
     // fault comes before it.
     ensures stl_read { (fault : LoadFault)
         → result ≡ Err (CheckFault.Subtitles fault)
         → is_read fault ≡ true
-        → FailsLoading (drawing_by national layout) (S.remaining stl.old) (S.remaining stl.new) fault.block }
+        → FailsLoading (drawing_within national layout scope) (S.remaining stl.old)
+        (S.remaining stl.new) fault.block }
     // A failed read of the PES file names the PES packet within which it came.
     ensures pes_read { (index : ℕ)
         → result ≡ Err (CheckFault.Pes index PesFault.Read)
@@ -69,7 +73,7 @@ pub fn check_files<S: Source, P: Source>(
     ensures pes_count { CountsIf P.failure_count pes.old (failed is_pes_read result) pes.new }
 {
     law_of_loading();
-    match load(alloc, stl, national, layout) {
+    match load(alloc, stl, national, layout, scope) {
         Err(fault) => Err(CheckFault::Subtitles(fault)),
         Ok(programme) => check(&programme, pes, options),
     }

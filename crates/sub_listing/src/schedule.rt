@@ -1,7 +1,7 @@
 //! `schedule STL PES`: writes the schedule of a subtitle file.
 ghost use Rattle.std.specs.Prelude.{◌≡◌, OnOk, codes};
 ghost use Rattle.sub_io.specs.Device.{CanFail, CountsIf, failed};
-ghost use Rattle.stl_rows.specs.Layout.{drawing_by};
+ghost use Rattle.stl_rows.specs.Layout.{drawing_within};
 ghost use Rattle.sub_plan.specs.Fault.{is_plan_write};
 ghost use Rattle.sub_listing.specs.DeviceCall.{CountsFault, sink_call, source_call};
 ghost use Rattle.sub_listing.specs.Writing.{EndsWork, Schedules, WritesSchedule};
@@ -9,6 +9,7 @@ ghost use Rattle.sub_listing.specs.Writing.{EndsWork, Schedules, WritesSchedule}
 use crate::status::Status;
 use crate::writing::{Work, WriteFault, write};
 use std::alloc::Global;
+use stl_file::Scope;
 use stl_rows::{Layout, National, Programme, load};
 use sub_io::{Flush, Sink, Source};
 use sub_plan::{Options, PlanFault, schedule};
@@ -22,6 +23,7 @@ pub fn write_schedule<S: Source, F: Flush, K: Sink>(
     alloc: Global,
     national: National,
     layout: Layout,
+    scope: Scope,
     options: &Options,
     serial: bool,
     input: &mut S,
@@ -35,7 +37,8 @@ pub fn write_schedule<S: Source, F: Flush, K: Sink>(
         (source_call S.remaining S.failure_count input.old input.new)
         (sink_call F.contents F.failure_count file.old file.new)
         (sink_call K.contents K.failure_count out.old out.new) result
-        (codes " transmissions\n") (Schedules (drawing_by national layout) options.now serial) }
+        (codes " transmissions\n")
+        (Schedules (drawing_within national layout scope) options.now serial) }
     ensures input_count { CountsFault S.failure_count input.old result input.new }
     ensures file_count { CountsFault F.failure_count file.old result file.new }
     ensures out_count { CountsFault K.failure_count out.old result out.new }
@@ -46,6 +49,7 @@ pub fn write_schedule<S: Source, F: Flush, K: Sink>(
         serial,
         national,
         layout,
+        scope,
     };
     write(alloc, &work, b" transmissions\n", input, file, out)
 }
@@ -61,10 +65,13 @@ pub struct ScheduleWork<'a> {
     pub national: National,
     /// How the text is drawn.
     pub layout: Layout,
+    /// What of the subtitle file is taken.
+    pub scope: Scope,
 }
 
 impl<'a> Work for ScheduleWork<'a> {
-    ghost works = { λ w. Schedules (drawing_by w.national w.layout) w.options.now w.serial };
+    ghost works = { λ w. Schedules (drawing_within w.national w.layout w.scope) w.options.now
+        w.serial };
 
     fn work<S: Source, F: Flush>(
         &self,
@@ -72,7 +79,7 @@ impl<'a> Work for ScheduleWork<'a> {
         input: &mut S,
         file: &mut F,
     ) -> Result<u32, WriteFault> {
-        match load(alloc, input, self.national, self.layout) {
+        match load(alloc, input, self.national, self.layout, self.scope) {
             Ok(programme) => put_schedule(&programme, self.options, self.serial, file).map_err(
                 WriteFault::Plan,
             ),

@@ -11,8 +11,9 @@ files_of (ask.Packet bytes) = files.None
 files_of (ask.Packets pes) = files.ReadPes pes.name.now
 files_of (ask.Show stl) = files.ReadStl stl.now
 files_of (ask.Normal stl normal) = files.Write stl.now normal.now
-files_of (ask.Schedule stl pes options serial national layout) = files.Write stl.now pes.now
-files_of (ask.Check stl pes options national layout all) = files.ReadBoth stl.now pes.name.now
+files_of (ask.Schedule stl pes options serial national layout scope) = files.Write stl.now pes.now
+files_of (ask.Check stl pes options national layout scope all) =
+    files.ReadBoth stl.now pes.name.now
 files_of (ask.Listen pes listening) = files.ReadPes pes.name.now
 files_of (ask.Extract recording pes stream) = files.Extract recording.now pes.now
 

@@ -3,6 +3,7 @@ ghost use Rattle.std.specs.Prelude.{◌≡◌};
 
 use crate::listening::Listening;
 use crate::pes_packets::{PesPackets, TransportStream};
+use stl_file::Scope;
 use stl_rows::{Layout, National};
 use sub_io::FaultCode;
 use sub_plan::Options;
@@ -142,6 +143,8 @@ pub enum Request<'a> {
         national: National,
         /// How the text is drawn.
         layout: Layout,
+        /// What of the subtitle file is taken.
+        scope: Scope,
     },
     /// `check STL PES`: checks that a file of PES packets shows a subtitle file.
     Check {
@@ -156,6 +159,8 @@ pub enum Request<'a> {
         national: National,
         /// How the text is drawn.
         layout: Layout,
+        /// What of the subtitle file is taken.
+        scope: Scope,
         /// Whether every broken place is told, and not the first alone.
         all: bool,
     },

@@ -8,6 +8,8 @@ use Rattle.sub_io.specs.Reading.{◌>>=◌}
 use Rattle.ttx_packet.specs.PageId.{page_of_text}
 use Rattle.ttx_pes.specs.PieceRange.{PieceRangeValue}
 use Rattle.mpeg_ts.specs.declared.packet_size.PacketSize.{PacketSize}
+use Rattle.stl_file.specs.TimeCode.{day}
+use Rattle.stl_file.specs.declared.scope.Scope.{Scope}
 use Rattle.stl_rows.specs.declared.layout.Layout.{Layout}
 use Rattle.stl_rows.specs.declared.national.National.{National}
 use Rattle.stl_rows.specs.Layout.{default_layout}
@@ -15,7 +17,7 @@ use Rattle.stl_rows.specs.LayoutText.{layout_of_text}
 use Rattle.stl_rows.specs.SubSets.{option_named}
 use Rattle.sub_plan.specs.Options.{OptionsValue}
 use Rattle.sub_words.specs.PesTexts.{packet_size_of_text, pid_of_text, range_of_text}
-use Rattle.sub_words.specs.Texts.{list_of_text, number_of_text}
+use Rattle.sub_words.specs.Texts.{frame_of_text, list_of_text, number_of_text}
 use Rattle.sub_request.specs.declared.pes_packets.TransportStream.{TransportStream}
 use Rattle.sub_request.specs.declared.request.UsageFault.{UsageFault}
 use Rattle.sub_request.specs.declared.request.UsageFault.TheVariants as fault
@@ -72,6 +74,15 @@ layout_of rows =
 abbrev pub given_as : {A : Type 0} → (Text → Option A) → Text → List Row → Option (Option A)
 given_as said id rows =
     option_map_or (λ text. option_map Some (said text)) (first_of id rows) (Some None)
+
+-- `[--from TIME] [--to TIME] [--open]`: the frames at which subtitles may start, all of the day
+-- where they are left out.
+abbrev pub scope_of : List Row → Result Scope UsageFault
+scope_of rows = do
+  from ← ok_or (given_as frame_of_text (codes "from") rows) fault.BadTime
+  to ← ok_or (given_as frame_of_text (codes "to") rows) fault.BadTime
+  let takes_open = is_given (codes "open") rows in
+      Ok (record { takes_open = takes_open; from = unwrap_or from 0; to = unwrap_or to day })
 
 -- `--pid P`
 abbrev pub required_pid_of : List Row → Result ℕ UsageFault

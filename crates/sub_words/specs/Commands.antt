@@ -44,7 +44,8 @@ pair_rules second others =
     required_rule (codes "stl") ∷ required_rule second
     ∷ option_rule (codes "page") (codes "888") ∷ option_rule (codes "origin") (codes "0")
     ∷ option_rule (codes "every") (codes "250") ∷ option_rule (codes "option") (codes "english")
-    ∷ bare_option_rule (codes "layout") ∷ others
+    ∷ bare_option_rule (codes "layout") ∷ bare_option_rule (codes "from")
+    ∷ bare_option_rule (codes "to") ∷ flag_rule (codes "open") ∷ others
 
 -- `[--packet-size S]`
 abbrev pub packet_size_rule : Rule
@@ -71,10 +72,12 @@ commands =
     ∷ (codes "show", required_rule (codes "stl") ∷ [])
     -- normal IN OUT
     ∷ (codes "normal", required_rule (codes "in") ∷ required_rule (codes "out") ∷ [])
-    -- schedule STL PES [--page P] [--origin T] [--every N] [--option O] [--layout TEXT] [--serial]
+    -- schedule STL PES [--page P] [--origin T] [--every N] [--option O] [--layout TEXT]
+    -- [--from TIME] [--to TIME] [--open] [--serial]
     ∷ (codes "schedule", pair_rules (codes "pes") (flag_rule (codes "serial") ∷ []))
-    -- check STL PES [--page P] [--origin T] [--every N] [--option O] [--layout TEXT] [--within N]
-    -- [--pid P] [--packet-size S] [--pes I-J] [--complete] [--all]
+    -- check STL PES [--page P] [--origin T] [--every N] [--option O] [--layout TEXT]
+    -- [--from TIME] [--to TIME] [--open] [--within N] [--pid P] [--packet-size S] [--pes I-J]
+    -- [--complete] [--all]
     ∷ (
       codes "check",
       pair_rules (codes "recording") (within_rule

@@ -7,12 +7,13 @@ use Rattle.std.specs.Str.{bytes_eq}
 use Rattle.clap.specs.Words.{Text, Row}
 use Rattle.hex.specs.Hex.{decode_sized}
 use Rattle.sub_io.specs.Reading.{◌>>=◌}
+use Rattle.stl_file.specs.declared.scope.Scope.{Scope}
 use Rattle.stl_rows.specs.declared.layout.Layout.{Layout}
 use Rattle.stl_rows.specs.declared.national.National.{National}
 use Rattle.sub_plan.specs.Options.{OptionsValue}
 use Rattle.sub_words.specs.Arguments.{PesAsked, allowing_of, argument, is_given, listed_of}
-use Rattle.sub_words.specs.Arguments.{layout_of, national_of, options_of, packet_size_of, pes_packets_of}
-use Rattle.sub_words.specs.Arguments.{required_pid_of}
+use Rattle.sub_words.specs.Arguments.{layout_of, national_of, options_of, packet_size_of}
+use Rattle.sub_words.specs.Arguments.{pes_packets_of, required_pid_of, scope_of}
 use Rattle.sub_words.specs.Commands.{are_sound, command_in, clap_refusals}
 use Rattle.sub_words.specs.Texts.{flip_of_text, frame_of_text, is_same_byte, number_of_text}
 use Rattle.sub_words.specs.Texts.{receiver_of_text}
@@ -31,8 +32,9 @@ pub data Asked : Type 0 where
   Packets : (pes : PesAsked) → Asked
   Show : (stl : Text) → Asked
   Normal : (input output : Text) → Asked
-  Schedule : (stl pes : Text) → OptionsValue → (serial : Bool) → National → Layout → Asked
-  Check : (stl : Text) → (pes : PesAsked) → OptionsValue → National → Layout → (all : Bool) → Asked
+  Schedule : (stl pes : Text) → OptionsValue → (serial : Bool) → National → Layout → Scope → Asked
+  Check : (stl : Text) → (pes : PesAsked) → OptionsValue → National → Layout → Scope → (all : Bool)
+      → Asked
   Listen : (pes : PesAsked) → OptionsValue → (at skip : ℕ) → List Flip → (lost : List ℕ)
       → ReceiverKind → Asked
   Extract : (recording pes : Text) → TransportStream → Asked
@@ -47,10 +49,10 @@ asked_by (ask.Packet bytes) = Packet bytes
 asked_by (ask.Packets pes) = Packets (pes_asked pes)
 asked_by (ask.Show stl) = Show stl.now
 asked_by (ask.Normal input output) = Normal input.now output.now
-asked_by (ask.Schedule stl pes options serial national layout) =
-    Schedule stl.now pes.now options serial national layout
-asked_by (ask.Check stl pes options national layout all) =
-    Check stl.now (pes_asked pes) options national layout all
+asked_by (ask.Schedule stl pes options serial national layout scope) =
+    Schedule stl.now pes.now options serial national layout scope
+asked_by (ask.Check stl pes options national layout scope all) =
+    Check stl.now (pes_asked pes) options national layout scope all
 asked_by (ask.Listen pes l) =
     Listen (pes_asked pes) l.options l.at l.skip l.flips.items l.lost.items l.receiver
 asked_by (ask.Extract recording pes stream) = Extract recording.now pes.now stream
@@ -79,18 +81,20 @@ normal_asked rows = do
   names ← unlike (argument (codes "in") rows) (argument (codes "out") rows)
   Ok (Normal names.0 names.1)
 
--- `schedule STL PES [--page P] [--every N] [--origin T] [--option O] [--layout TEXT]
--- [--serial]`
+-- `schedule STL PES [--page P] [--every N] [--origin T] [--option O] [--serial] [--layout TEXT]
+-- [--from TIME] [--to TIME] [--open]`
 abbrev pub schedule_asked : List Row → Result Asked UsageFault
 schedule_asked rows = do
   names ← unlike (argument (codes "stl") rows) (argument (codes "pes") rows)
   options ← options_of (number_of_text (argument (codes "every") rows)) rows
   national ← national_of rows
   layout ← layout_of rows
-  Ok (Schedule names.0 names.1 options (is_given (codes "serial") rows) national layout)
+  scope ← scope_of rows
+  Ok (Schedule names.0 names.1 options (is_given (codes "serial") rows) national layout scope)
 
--- `check STL PES [--page P] [--every N] [--origin T] [--option O] [--layout TEXT] [--within N]
--- [--pid P] [--packet-size S] [--pes I-J] [--complete] [--all]`
+-- `check STL PES [--page P] [--every N] [--origin T] [--option O] [--within N] [--pid P]
+-- [--packet-size S] [--pes I-J] [--layout TEXT] [--from TIME] [--to TIME] [--open] [--complete]
+-- [--all]`
 abbrev pub check_asked : List Row → Result Asked UsageFault
 check_asked rows = do
   plain ← options_of (number_of_text (argument (codes "every") rows)) rows
@@ -98,8 +102,9 @@ check_asked rows = do
   options ← allowing_of plain rows
   pes ← pes_packets_of rows
   layout ← layout_of rows
+  scope ← scope_of rows
   let all = is_given (codes "all") rows in
-      Ok (Check (argument (codes "stl") rows) pes options national layout all)
+      Ok (Check (argument (codes "stl") rows) pes options national layout scope all)
 
 -- `listen PES [--page P] [--origin T] [--within N] [--complete] [--pid P] [--packet-size S]
 -- [--pes I-J] --at TIME [--skip N] [--flip F] [--lose L] [--receiver R]`: the repeat bound of the

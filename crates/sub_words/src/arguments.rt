@@ -1,19 +1,22 @@
 //! The arguments of a command, read one by one.
-ghost use Rattle.std.specs.Prelude.{◌≡◌, IfErr, IfOk, option_map, true};
+ghost use Rattle.std.specs.Prelude.{◌≡◌, IfErr, IfOk, ok_or, option_map, true};
 ghost use Rattle.std.specs.Result.{result_map_both};
 ghost use Rattle.clap.specs.Words.{first_of, found_of, rows_of};
 ghost use Rattle.sub_words.specs.Arguments.{allowing_of, argument, is_given, layout_of, listed_of};
 ghost use Rattle.sub_words.specs.Arguments.{options_of};
 ghost use Rattle.sub_words.specs.Arguments.{packet_size_of, pes_packets_of, range_given_of};
-ghost use Rattle.sub_words.specs.Arguments.{required_pid_of, stream_of};
+ghost use Rattle.sub_words.specs.Arguments.{given_as, required_pid_of, scope_of, stream_of};
+ghost use Rattle.sub_words.specs.Texts.{frame_of_text};
 ghost use Rattle.sub_words.specs.Requests.{is_own, pes_asked};
 
 use crate::lists::{Item, parse_list};
 use crate::numbers::parse_number;
 use crate::pes_packets::{parse_packet_size, parse_pid, parse_range};
+use crate::times::parse_time;
 use clap::ArgMatches;
 use mpeg_ts::{PacketSize, Pid};
 use std::alloc::Global;
+use stl_file::Scope;
 use stl_rows::Layout;
 use sub_plan::{OptionFault, Options};
 use sub_request::{PesPackets, TransportStream, UsageFault};
@@ -102,6 +105,35 @@ pub fn layout_at<'a>(matches: &ArgMatches<'a>) -> Result<Layout, UsageFault>
     match given_at(matches, "layout") {
         Some(text) => Layout::parse(text).ok_or(UsageFault::BadLayout),
         None => Ok(Layout::default()),
+    }
+}
+
+/// What of a subtitle file is taken: by `--from` and `--to` the frames at which subtitles may
+/// start, by `--open` whether open subtitles are taken too.
+///
+/// # Errors
+///
+/// `BadTime` alone.
+pub fn scope_at<'a>(matches: &ArgMatches<'a>) -> Result<Scope, UsageFault>
+    ensures { result ≡ scope_of (rows_of (found_of matches.now)) }
+{
+    let from = frame_at(matches, "from")?;
+    let to = frame_at(matches, "to")?;
+    Ok(Scope {
+        takes_open: flag_at(matches, "open"),
+        from: from.unwrap_or(0),
+        to: to.unwrap_or(2_160_000),
+    })
+}
+
+// The frame of the TIME that an option says. `None` where it is left out. The fault is `BadTime`.
+fn frame_at<'a>(matches: &ArgMatches<'a>, id: &str) -> Result<Option<u32>, UsageFault>
+    ensures { result ≡ ok_or (given_as frame_of_text id.now (rows_of (found_of matches.now)))
+        UsageFault.BadTime }
+{
+    match given_at(matches, id) {
+        Some(text) => Ok(Some(parse_time(text).ok_or(UsageFault::BadTime)?)),
+        None => Ok(None),
     }
 }
 

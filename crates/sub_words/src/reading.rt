@@ -5,7 +5,8 @@ ghost use Rattle.sub_words.specs.Requests.{extract_asked, listen_asked, normal_a
 ghost use Rattle.sub_words.specs.Requests.{packets_asked, schedule_asked};
 
 use crate::arguments::{
-    allowing_at, flag_at, layout_at, list_at, options_at, packet_size_at, pes_at, pid_at, text_at,
+    allowing_at, flag_at, layout_at, list_at, options_at, packet_size_at, pes_at, pid_at, scope_at,
+    text_at,
 };
 use crate::numbers::parse_number;
 use crate::times::{parse_receiver, parse_time};
@@ -75,8 +76,8 @@ fn read_normal<'a>(matches: &ArgMatches<'a>) -> Result<Request<'a>, UsageFault>
     Ok(Request::Normal { input, output })
 }
 
-// `schedule STL PES [--page P] [--every N] [--origin T] [--option O] [--layout TEXT]
-// [--serial]`
+// `schedule STL PES [--page P] [--every N] [--origin T] [--option O] [--serial] [--layout TEXT]
+// [--from TIME] [--to TIME] [--open]`
 fn read_schedule<'a>(matches: &ArgMatches<'a>) -> Result<Request<'a>, UsageFault>
     ensures { IsReadExactly (schedule_asked (rows_of (found_of matches.now))) result }
 {
@@ -90,6 +91,7 @@ fn read_schedule<'a>(matches: &ArgMatches<'a>) -> Result<Request<'a>, UsageFault
         return Err(UsageFault::BadOption);
     };
     let layout = layout_at(matches)?;
+    let scope = scope_at(matches)?;
     Ok(Request::Schedule {
         stl,
         pes,
@@ -97,11 +99,13 @@ fn read_schedule<'a>(matches: &ArgMatches<'a>) -> Result<Request<'a>, UsageFault
         serial: flag_at(matches, "serial"),
         national,
         layout,
+        scope,
     })
 }
 
-// `check STL PES [--page P] [--every N] [--origin T] [--option O] [--layout TEXT] [--within N]
-// [--pid P] [--packet-size S] [--pes I-J] [--complete] [--all]`
+// `check STL PES [--page P] [--every N] [--origin T] [--option O] [--within N] [--pid P]
+// [--packet-size S] [--pes I-J] [--layout TEXT] [--from TIME] [--to TIME] [--open] [--complete]
+// [--all]`
 fn read_check<'a>(matches: &ArgMatches<'a>) -> Result<Request<'a>, UsageFault>
     ensures { IsReadExactly (check_asked (rows_of (found_of matches.now))) result }
 {
@@ -115,12 +119,14 @@ fn read_check<'a>(matches: &ArgMatches<'a>) -> Result<Request<'a>, UsageFault>
         Err(fault) => return Err(fault),
     };
     let layout = layout_at(matches)?;
+    let scope = scope_at(matches)?;
     Ok(Request::Check {
         stl: text_at(matches, "stl"),
         pes,
         options,
         national,
         layout,
+        scope,
         all: flag_at(matches, "all"),
     })
 }

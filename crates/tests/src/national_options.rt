@@ -5,7 +5,7 @@ use fixtures::{TEN, block, file_of_two, gsi, head, put};
 use std::alloc::Global;
 use std::process::Abort;
 use std::test::Fail;
-use stl_file::{Subtitle, TimeCode};
+use stl_file::{Scope, Subtitle, TimeCode};
 use stl_rows::{Layout, National, RowFault, RowFaultKind, draw, load};
 use sub_io::MemSource;
 
@@ -220,6 +220,7 @@ fn assert_shows_e(rt: &(impl Abort + Alloc<A = Global>), file: &[u8], row: u8) -
         &mut MemSource::new(file),
         National::French,
         Layout::default(),
+        Scope::whole(),
     )?;
     assert_same(rt, programme.due_page(TEN).row(row), &boxed(rt, 0, &[0x23]));
     Ok(())

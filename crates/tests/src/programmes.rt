@@ -6,6 +6,7 @@ use linked_list_allocator::LocalHeap;
 use std::alloc::Global;
 use std::process::Abort;
 use std::test::Fail;
+use stl_file::Scope;
 use stl_rows::{Drawing, Layout, LoadFaultKind, National, Programme, load, load_in};
 use sub_io::MemSource;
 use ttx_page::Page;
@@ -63,6 +64,7 @@ fn loads_subtitles_in_order(rt: HostRuntime) -> Result<(), Fail> {
         &mut MemSource::new(&file),
         National::German,
         Layout::default(),
+        Scope::whole(),
     )?;
     assert_holds(&rt, &programme);
     assert!(rt; programme.len() == 2);
@@ -90,6 +92,7 @@ fn refused_block(rt: &(impl Abort + Alloc<A = Global>), file: &[u8], size: usize
     let drawing = Drawing {
         national: National::English,
         layout: Layout::default(),
+        scope: Scope::whole(),
     };
     match load_in(&heap, &mut MemSource::new(file), drawing) {
         Ok(subtitles) => {

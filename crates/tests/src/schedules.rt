@@ -5,6 +5,7 @@ use fixtures::{every, file_of_hi, schedule_of_hi};
 use std::alloc::Global;
 use std::process::Abort;
 use std::test::Fail;
+use stl_file::Scope;
 use stl_rows::{Layout, National, load};
 use sub_io::{MemSink, MemSource};
 use sub_plan::schedule;
@@ -23,6 +24,7 @@ fn assert_writes(
         &mut MemSource::new(&file_of_hi()),
         national,
         Layout::default(),
+        Scope::whole(),
     )?;
     let mut room = [0; 368];
     let result = schedule(

@@ -3,7 +3,7 @@ ghost use Rattle.std.specs.Prelude.{◌≡◌, ◌+◌, ℕ, Err, false, true};
 ghost use Rattle.sub_io.specs.Device.{CountsIf, failed};
 ghost use Rattle.sub_io.specs.Reading.{IfTold};
 ghost use Rattle.ttx_pes.specs.Reader.{FailsAtPacket};
-ghost use Rattle.stl_rows.specs.Layout.{drawing_by};
+ghost use Rattle.stl_rows.specs.Layout.{drawing_within};
 ghost use Rattle.stl_rows.specs.Fault.{is_read};
 ghost use Rattle.stl_rows.specs.Loading.{FailsLoading};
 ghost use Rattle.stl_rows.specs.declared.fault.LoadFault.{LoadFault};
@@ -16,6 +16,7 @@ ghost use Rattle.sub_listing.specs.FirstPacket.{StartsAt};
 ghost use Rattle.sub_listing.specs.Listing.{PrintsOrFails, done};
 
 use std::alloc::Global;
+use stl_file::Scope;
 use stl_rows::{Layout, National, Programme, load};
 use sub_check::{Accepted, CheckFault, check};
 use sub_io::{Sink, Source};
@@ -37,13 +38,14 @@ pub fn print_verdict<N: FirstPacket<T>, S: Source, T: Source, K: Sink>(
     pes: &mut T,
     national: National,
     layout: Layout,
+    scope: Scope,
     options: &Options,
     out: &mut K,
 ) -> Status
     requires stl { CanFail (S.failure_count stl.old) }
     requires pes { CanFail (T.failure_count pes.old) }
     requires out { CanFail (K.failure_count out.old) }
-    ensures check { AnswersCheck (drawing_by national layout) options.now
+    ensures check { AnswersCheck (drawing_within national layout scope) options.now
         (source_call S.remaining S.failure_count stl.old stl.new)
         (source_call T.remaining T.failure_count pes.old pes.new) (N.number pes.old)
         (pes.new ≡ pes.old)
@@ -52,7 +54,7 @@ pub fn print_verdict<N: FirstPacket<T>, S: Source, T: Source, K: Sink>(
     ensures pes_count { CountsFault T.failure_count pes.old result pes.new }
     ensures out_count { CountsFault K.failure_count out.old result out.new }
 {
-    let answer = check_files::<N, S, T>(alloc, stl, pes, national, layout, options);
+    let answer = check_files::<N, S, T>(alloc, stl, pes, national, layout, scope, options);
     print_answer(answer.first, answer.result, out)
 }
 
@@ -70,12 +72,13 @@ fn check_files<N: FirstPacket<T>, S: Source, T: Source>(
     pes: &mut T,
     national: National,
     layout: Layout,
+    scope: Scope,
     options: &Options,
 ) -> Answer
     requires stl { CanFail (S.failure_count stl.old) }
     requires pes { CanFail (T.failure_count pes.old) }
     ensures checked { IfTold (S.remaining stl.old) (λ file.
-        AreChecked (drawing_by national layout) options.now file (T.remaining pes.old)
+        AreChecked (drawing_within national layout scope) options.now file (T.remaining pes.old)
         result.result) }
     ensures starts { failed is_subtitle_fault result.result ≡ false
         → StartsAt (N.number pes.old) (source_call T.remaining T.failure_count pes.old pes.new)
@@ -83,7 +86,8 @@ fn check_files<N: FirstPacket<T>, S: Source, T: Source>(
     ensures stl_read { (fault : LoadFault)
         → result.result ≡ Err (CheckFault.Subtitles fault)
         → is_read fault ≡ true
-        → FailsLoading (drawing_by national layout) (S.remaining stl.old) (S.remaining stl.new)
+        → FailsLoading (drawing_within national layout scope) (S.remaining stl.old)
+        (S.remaining stl.new)
         fault.block }
     ensures pes_read { (index : ℕ)
         → result.result ≡ Err (CheckFault.Pes index PesFault.Read)
@@ -94,7 +98,7 @@ fn check_files<N: FirstPacket<T>, S: Source, T: Source>(
     ensures pes_count { CountsIf T.failure_count pes.old (failed is_pes_read result.result)
         pes.new }
 {
-    match load(alloc, stl, national, layout) {
+    match load(alloc, stl, national, layout, scope) {
         Err(fault) => Answer {
             first: 0,
             result: Err(CheckFault::Subtitles(fault)),

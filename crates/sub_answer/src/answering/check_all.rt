@@ -104,7 +104,8 @@ fn tell_every_fault<N: FirstPacket<T>, S: Source, T: Source, K: Flush>(
     ensures asked { K.held printer.old.out.now ≡ 0
         → failed is_pes_read result ≡ true → K.held printer.new.out.now ≡ 0 }
 {
-    match load_all(alloc, stl, drawing.national, drawing.layout, printer) {
+    let (national, layout, scope) = (drawing.national, drawing.layout, drawing.scope);
+    match load_all(alloc, stl, national, layout, scope, printer) {
         Err(fault) => Err(CheckFault::Subtitles(fault)),
         Ok(None) => Ok(None),
         Ok(Some(programme)) => match N::find(pes) {

@@ -12,7 +12,6 @@ use Rattle.stl_rows.specs.EveryFault.{load_fault}
 use Rattle.stl_rows.specs.Loading.{loaded}
 use Rattle.stl_rows.specs.Programme.{follow_faults}
 use Rattle.std.proofs.lemmas.List.Elements.{All-nil}
-use Rattle.stl_file.specs.Scope.{whole}
 use Rattle.stl_file.proofs.FileLemmas.{findings_for-begun, findings_for-refused}
 use Rattle.stl_file.proofs.ReaderLemmas.{left-then}
 use Rattle.stl_rows.proofs.FailedReadLemmas.{fails-next, has_taken-next, reads-nothing}
@@ -34,7 +33,7 @@ subtitles-init g c = rw c.new.ensures.items (record {
   some = λ h. absurd cc;
   listens = c.requires.listens;
   reading = rw c.in-Ok.ensures.start refl;
-  scope = rw c.in-Ok.ensures.start c.whole.ensures;
+  scope = rw c.in-Ok.ensures.start refl;
   count = search rules;
   taken = rw c.in-Ok.ensures.start (record {
     bytes = c.in-Ok.ensures.taken.0;
@@ -45,8 +44,7 @@ subtitles-init g c = rw c.new.ensures.items (record {
     drop 1024 bytes,
     c.in-Ok.ensures.left bytes e,
     rw c.in-Ok.ensures.start
-        (rw (findings_for-begun whole bytes _
-        (rw c.whole.ensures at (c.in-Ok.ensures.exact bytes e refl)))
+        (rw (findings_for-begun c.args.drawing.scope bytes _ (c.in-Ok.ensures.exact bytes e refl))
         at (goes_on-start c.args.drawing bytes)),
   );
 })
@@ -104,10 +102,9 @@ subtitles-preserved-in-Ok-Refused g c =
 
 pub returns-in-Ok-tell_end-clause-told : goal.returns-in-Ok-tell_end-clause-told
 returns-in-Ok-tell_end-clause-told g c = λ bytes e none.
-    let refused =
-    rw c.whole.ensures at (c.in-Err.ensures.exact bytes e c.in-Ok-tell_end.ensures.file) in
+    let refused = c.in-Err.ensures.exact bytes e c.in-Ok-tell_end.ensures.file in
     tells-end (goes_on-start c.args.drawing bytes) (Tells-none _)
-    (findings_for-refused whole bytes _ refused) c.in-Ok-tell_end.ensures.told
+    (findings_for-refused c.args.drawing.scope bytes _ refused) c.in-Ok-tell_end.ensures.told
 
 pub returns-in-Err-tell_end-clause-read : goal.returns-in-Err-tell_end-clause-read
 returns-in-Err-tell_end-clause-read g c = grind (arith, nat_tests, lt-ltb, reads-nothing)

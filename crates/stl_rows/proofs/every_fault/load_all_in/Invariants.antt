@@ -6,7 +6,6 @@ use Rattle.std.specs.List.{All}
 use Rattle.sub_io.specs.Telling.{Tells}
 use Rattle.stl_file.specs.declared.progress.Progress.TheVariants.{Reading}
 use Rattle.stl_file.specs.Reading.{findings_from}
-use Rattle.stl_file.specs.Scope.{whole}
 use Rattle.stl_file.specs.Subtitle.{SubtitleValue}
 use Rattle.stl_rows.specs.declared.fault.LoadFault.{LoadFault}
 use Rattle.stl_rows.proofs.FailedReadLemmas.{HasTaken}
@@ -24,13 +23,13 @@ invariant-subtitles g l = record {
   some : option_map (λ v. v.items) l.kept ≡ None → 0 < length early;
   listens : g.D.Audience.has_stopped l.audience ≡ false;
   reading : l.reader.progress ≡ Reading;
-  scope : l.reader.scope ≡ whole;
+  scope : l.reader.scope ≡ l.drawing.scope;
   count : g.S.Source.failure_count l.source ≡ g.S.Source.failure_count l.fn.source;
   taken : HasTaken (g.S.Source.remaining l.fn.source) (g.S.Source.remaining l.source)
       l.reader.block;
   goes_on : (bytes : List ℕ) → g.S.Source.remaining l.fn.source ≡ Some bytes
       → (rest : List ℕ) × (g.S.Source.remaining l.source ≡ Some rest)
-      × GoesOn l.drawing bytes (findings_from whole l.reader.block l.reader.refused rest)
+      × GoesOn l.drawing bytes (findings_from l.drawing.scope l.reader.block l.reader.refused rest)
       l.before (option_map (λ v. v.items) l.kept) early;
 }
 

@@ -2,7 +2,7 @@
 -- `files_accepted`, `files_refused`, and within frames.
 use Rattle.std.proofs.lemmas.Bool.Decides.{nat_tests}
 use Rattle.std.proofs.Common.{arith}
-use Rattle.stl_rows.specs.Layout.{drawing_by}
+use Rattle.stl_rows.specs.Layout.{drawing_within}
 use Rattle.sub_check.proofs.FilesLemmas.{files_accepted, files_accepted_within, files_refused}
 use Rattle.sub_check.proofs.FilesLemmas.{files_refused_within}
 use Rattle.sub_check.proofs.files.check_files.Goals as goal
@@ -15,12 +15,16 @@ returns-in-Err-clause-accepted_within g c = grind (arith, nat_tests, files_refus
 
 pub returns-in-Ok-clause-accepted : goal.returns-in-Ok-clause-accepted
 returns-in-Ok-clause-accepted g c = λ none file told bytes heard.
-    files_accepted (drawing_by c.args.national c.args.layout) c.args.options.now file bytes
-    c.law_of_loading.ensures c.in-Ok.programme (c.in-Ok.ensures.exact file told) c.in-Ok.ensures.drawing c.check.result
+    files_accepted (drawing_within c.args.national c.args.layout c.args.scope)
+    c.args.options.now file bytes
+    c.law_of_loading.ensures c.in-Ok.programme (c.in-Ok.ensures.exact file told)
+    c.in-Ok.ensures.drawing c.check.result
     c.check.ensures.own (c.check.ensures.checked none bytes heard)
 
 pub returns-in-Ok-clause-accepted_within : goal.returns-in-Ok-clause-accepted_within
 returns-in-Ok-clause-accepted_within g c = λ file told bytes heard.
-    files_accepted_within (drawing_by c.args.national c.args.layout) c.args.options.now file bytes
-    c.law_of_loading.ensures c.in-Ok.programme (c.in-Ok.ensures.exact file told) c.in-Ok.ensures.drawing c.check.result
+    files_accepted_within (drawing_within c.args.national c.args.layout c.args.scope)
+    c.args.options.now file bytes
+    c.law_of_loading.ensures c.in-Ok.programme (c.in-Ok.ensures.exact file told)
+    c.in-Ok.ensures.drawing c.check.result
     c.check.ensures.own (c.check.ensures.within bytes heard)
